@@ -1,0 +1,4 @@
+pub mod Same
+pub mod Search
+pub mod Total
+pub mod formers

@@ -1,0 +1,5 @@
+pub mod Tree
+pub mod TreeLaws
+pub mod States
+pub mod Start
+pub mod Laws

@@ -1,0 +1,36 @@
+//! Payments.
+use collections::{Memory, TryClone};
+use names::{Party, Payee, Token};
+
+/// A payment that a transaction makes (Marlowe specification version 3, "Compute transaction"): from
+/// the account of `from` to the payee `to`, of an amount of a token, in its smallest unit.
+#[derive(Debug, Drop, Hash)]
+pub struct Payment {
+    pub from: Party,
+    pub to: Payee,
+    pub token: Token,
+    pub amount: i128,
+}
+
+impl TryClone for Payment {
+    fn try_clone(&self) -> Result<Payment, Memory> {
+        let from = self.from.try_clone()?;
+        let to = self.to.try_clone()?;
+        let token = self.token.try_clone()?;
+        Ok(Payment {
+            from,
+            to,
+            token,
+            amount: self.amount,
+        })
+    }
+}
+
+#[derived]
+impl Hash for Payment {
+    ghost use Rattle.std.specs.Hash.{same_Alike};
+    ghost use Rattle.collections.specs.Same.{same_by_decides};
+    ghost use Rattle.contract.specs.contracts.payment.Payment as it;
+
+    ghost respects_eq = { (same_Alike _ (same_by_decides it.the_row.coded)).fed };
+}

@@ -1,0 +1,17 @@
+//! Who and what a contract speaks of: parties, tokens, accounts, payees and choices. Flat values,
+//! each equal to another exactly where the two are the same.
+#![tactic(auto)]
+
+mod account;
+mod choice_id;
+mod equal;
+mod party;
+mod payee;
+mod token;
+
+pub use account::{Account, compare_accounts};
+pub use choice_id::{ChoiceId, compare_choice_ids};
+pub use equal::{same_account, same_choice_id, same_party, same_payee, same_token};
+pub use party::Party;
+pub use payee::Payee;
+pub use token::{Token, compare_tokens};
