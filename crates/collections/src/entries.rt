@@ -73,6 +73,7 @@ impl<K: Ord + Drop, V: Copy> Entries<K, V> {
     pub fn take(&mut self) -> Vec<(K, V)>
         ensures taken { result.items ≡ self.old }
         ensures empty { self.new ≡ [] }
+        ensures sorted { T (is_sorted K.cmp self.old) }
     {
         let none = Vec::new(*self.items.allocator());
         mem::replace(&mut self.items, none)

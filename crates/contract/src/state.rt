@@ -85,6 +85,24 @@ impl State {
         }
     }
 
+    /// The state with these entries, the accounts all above 0; takes no memory.
+    pub fn from_entries(
+        accounts: Entries<Account, i128>,
+        choices: Entries<ChoiceId, i128>,
+        bound_values: Entries<Text, i128>,
+        min_time: i64,
+    ) -> State
+        requires { AllPositive accounts }
+        ensures { result ≡ record { accounts = map.from_sorted accounts; choices = map.from_sorted choices; bound_values = map.from_sorted bound_values; min_time = min_time } }
+    {
+        State {
+            accounts,
+            choices,
+            bound_values,
+            min_time,
+        }
+    }
+
     /// What the account of an owner and a token holds: 0 where it has no entry.
     pub fn money(&self, owner: &Party, token: &Token) -> i128
         ensures { result ≡ money_of self.now (record { owner = owner.now; token = token.now }) }
@@ -126,6 +144,14 @@ impl State {
         ensures { option_copied result ≡ slice_get (map.entries self.now.accounts) 0 }
     {
         self.accounts().first()
+    }
+
+    /// Takes all accounts out, by owner and then token; takes no memory.
+    pub fn take_accounts(&mut self) -> Vec<(Account, i128)>
+        ensures taken { result.items ≡ map.entries self.old.accounts }
+        ensures left { self.new ≡ record self.old { accounts = map.empty } }
+    {
+        self.accounts.take()
     }
 
     /// The numbers that were chosen, by name and then owner.
