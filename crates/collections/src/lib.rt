@@ -9,6 +9,7 @@ mod boxed;
 mod bytes;
 mod entries;
 mod items;
+mod same;
 mod text;
 mod try_clone;
 
@@ -16,5 +17,6 @@ pub use boxed::Boxed;
 pub use bytes::Bytes;
 pub use entries::{Entries, Probe};
 pub use items::Items;
+pub use same::{Same, same_entries};
 pub use text::Text;
 pub use try_clone::{Memory, TryClone};

@@ -1,2 +1,6 @@
+pub mod Accounts
 pub mod Positive
+pub mod SameStates
 pub mod Starting
+pub mod States
+pub mod Trees

@@ -1,53 +1,52 @@
--- What a state has after its accounts are changed.
-use Rattle.std.proofs.Common.{◌≡◌, ℤ, pos, ◌+ℤ◌, Bool, true, false, cond, List, ◌∷◌, Option, Some, None, refl, ap, sym, ◌∙◌, arith}
-use Rattle.std.proofs.lemmas.Int.{ints}
-use Rattle.std.proofs.lemmas.Bool.Decides.{Decides-int_eq}
-use Rattle.std.specs.Option.{unwrap_or}
-use Rattle.std.specs.Ordering.{int_eq, eq_by_cmp}
-use Rattle.std.specs.FinMap.{entries, get, insert, remove, get-insert, get-remove}
+-- What holds of every state: what is found after a set, which account is the first, and what the
+-- accounts hold of a token together.
+use Rattle.std.specs.Prelude.{◌≡◌, ◌≢◌, ℕ, ℤ, pos, ◌+ℤ◌, List, ◌∷◌, Some, All}
+use Rattle.std.specs.declared.cmp.Ordering.{Ordering}
+use Rattle.std.specs.FinMap as map
 use Rattle.names.specs.declared.token.Token.{Token}
 use Rattle.names.specs.declared.account.Account.{Account}
-use Rattle.names.specs.Orders.{token_cmp, account_cmp}
-use Rattle.names.specs.Totals.{account_total}
+use Rattle.names.specs.declared.choice_id.ChoiceId.{ChoiceId}
+use Rattle.names.specs.Orders.{account_cmp}
 use Rattle.contract.specs.States.{StateMaps, money_of, with_money, in_token, total_of}
-use Rattle.names.specs.Exact.{account_exact}
-use Rattle.collections.proofs.Total.{total-insert, total-remove, entries-remove_first}
 
--- a change of one account: what stands after it depends on whether the amount is 0
-by_zero : (s : StateMaps) (a : Account) (v : ℤ) (P : StateMaps → Type 0) → (v ≡ pos 0 → P (record s { accounts = remove s.accounts a })) → P (record s { accounts = insert s.accounts a v }) → P (with_money s a v)
-by_zero s a v P removed inserted =
-    elim (int_eq v (pos 0)) as (λ b. int_eq v (pos 0) ≡ b → P (record s { accounts = cond b (remove s.accounts a) (insert s.accounts a v) })) [
-      | true ↦ λ e. removed ((Decides-int_eq v (pos 0)).0 e)
-      | false ↦ λ e. inserted
-    ] refl
+-- an account holds what was set
+abbrev pub MoneyIsFound : Type 0
+MoneyIsFound = (s : StateMaps) (account : Account) (amount : ℤ) → money_of (with_money s account amount) account ≡ amount
 
-held_after : (b : Bool) (v : ℤ) (o : Option ℤ) → unwrap_or (cond b (Some v) o) (pos 0) ≡ cond b v (unwrap_or o (pos 0))
-held_after true v o = refl
-held_after false v o = refl
+-- and each other account holds what it held
+abbrev pub OtherMoneyStays : Type 0
+OtherMoneyStays = (s : StateMaps) (account : Account) (amount : ℤ) (other : Account) → other ≢ account
+    → money_of (with_money s account amount) other ≡ money_of s other
 
-held_without : (b : Bool) (v : ℤ) (o : Option ℤ) → v ≡ pos 0 → unwrap_or (cond b None o) (pos 0) ≡ cond b v (unwrap_or o (pos 0))
-held_without true v o e = sym e
-held_without false v o e = refl
+-- a choice has the number that was set
+abbrev pub ChoiceIsFound : Type 0
+ChoiceIsFound = (s : StateMaps) (id : ChoiceId) (number : ℤ) → map.get (map.insert s.choices id number) id ≡ Some number
 
--- the account has the amount, and each other has what it had
-pub money_of-with_money : (s : StateMaps) (a : Account) (v : ℤ) (b : Account) → money_of (with_money s a v) b ≡ cond (eq_by_cmp account_cmp b a) v (money_of s b)
-money_of-with_money s a v b = by_zero s a v (λ t. money_of t b ≡ cond (eq_by_cmp account_cmp b a) v (money_of s b))
-    (λ e. ap (λ o. unwrap_or o (pos 0)) (get-remove account_total s.accounts a b) ∙ held_without (eq_by_cmp account_cmp b a) v (get s.accounts b) e)
-    (ap (λ o. unwrap_or o (pos 0)) (get-insert account_total s.accounts a v b) ∙ held_after (eq_by_cmp account_cmp b a) v (get s.accounts b))
+-- and each other choice has the number that it had
+abbrev pub OtherChoicesStay : Type 0
+OtherChoicesStay = (s : StateMaps) (id : ChoiceId) (number : ℤ) (other : ChoiceId) → other ≢ id
+    → map.get (map.insert s.choices id number) other ≡ map.get s.choices other
 
-nothing : (t : Token) (a : Account) → in_token t a (pos 0) ≡ pos 0
-nothing t a = elim (eq_by_cmp token_cmp t a.token) as (λ b. cond b (pos 0) (pos 0) ≡ pos 0) [ true ↦ refl | false ↦ refl ]
+-- a name has the value that was bound
+abbrev pub BoundValueIsFound : Type 0
+BoundValueIsFound = (s : StateMaps) (name : List ℕ) (value : ℤ) → map.get (map.insert s.bound_values name value) name ≡ Some value
 
-none_more : (x y z w : ℤ) → x +ℤ y ≡ z → w ≡ pos 0 → x +ℤ y ≡ z +ℤ w
-none_more x y z w e h = omega (arith, ints)
+-- and each other name has the value that it had
+abbrev pub OtherBoundValuesStay : Type 0
+OtherBoundValuesStay = (s : StateMaps) (name : List ℕ) (value : ℤ) (other : List ℕ) → other ≢ name
+    → map.get (map.insert s.bound_values name value) other ≡ map.get s.bound_values other
 
--- a token's total changes by what the account has more
-pub total_of-with_money : (t : Token) (s : StateMaps) (a : Account) (v : ℤ) → total_of t (with_money s a v) +ℤ in_token t a (money_of s a) ≡ total_of t s +ℤ in_token t a v
-total_of-with_money t s a v = by_zero s a v (λ u. total_of t u +ℤ in_token t a (money_of s a) ≡ total_of t s +ℤ in_token t a v)
-    (λ e. none_more (total_of t (record s { accounts = remove s.accounts a })) (in_token t a (money_of s a)) (total_of t s) (in_token t a v)
-    (total-remove account_cmp account_total account_exact (in_token t) (nothing t) s.accounts a) (ap (in_token t a) e ∙ nothing t a))
-    (total-insert account_cmp account_total account_exact (in_token t) (nothing t) s.accounts a v)
+-- the first account stands before all others
+abbrev pub FirstAccountIsLeast : Type 0
+FirstAccountIsLeast = (s : StateMaps) (first : Account × ℤ) (others : List (Account × ℤ)) → map.entries s.accounts ≡ first ∷ others
+    → All (λ other. account_cmp first.0 other.0 ≡ Ordering.Less) others
 
--- to empty the first account leaves the others
-pub entries-refund : (s : StateMaps) (e : Account × ℤ) (es : List (Account × ℤ)) → entries s.accounts ≡ e ∷ es → entries (with_money s e.0 (pos 0)).accounts ≡ es
-entries-refund s e es is = entries-remove_first account_cmp account_total account_exact s.accounts e es is
+-- once it is emptied, the others are left
+abbrev pub OthersAreLeft : Type 0
+OthersAreLeft = (s : StateMaps) (first : Account × ℤ) (others : List (Account × ℤ)) → map.entries s.accounts ≡ first ∷ others
+    → map.entries (with_money s first.0 (pos 0)).accounts ≡ others
+
+-- a set changes a token's total by what the account holds more of it
+abbrev pub TotalFollowsSet : Type 0
+TotalFollowsSet = (token : Token) (s : StateMaps) (account : Account) (amount : ℤ)
+    → total_of token (with_money s account amount) +ℤ in_token token account (money_of s account) ≡ total_of token s +ℤ in_token token account amount

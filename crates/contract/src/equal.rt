@@ -4,38 +4,52 @@ ghost use Rattle.std.specs.Prelude.{◌≡◌, ◌↔◌, IsTrue};
 use crate::input::Input;
 use crate::payment::Payment;
 use crate::tree::{Action, Case, Contract, Observation};
-use collections::{Boxed, Items};
-use names::{same_party, same_payee, same_token};
+use crate::warning::Warning;
+use collections::{Boxed, Items, Same};
 
-/// Whether two observations are the same: as `==` answers.
-pub fn same_observation(a: &Observation, b: &Observation) -> bool
-    ensures { IsTrue result ↔ (a.now ≡ b.now) }
-{
-    *a == *b
+impl Same for Observation {
+    fn same(&self, other: &Observation) -> bool {
+        *self == *other
+    }
 }
 
-/// Whether two actions are the same: as `==` answers.
-pub fn same_action(a: &Action, b: &Action) -> bool
-    ensures { IsTrue result ↔ (a.now ≡ b.now) }
-{
-    *a == *b
+impl Same for Action {
+    fn same(&self, other: &Action) -> bool {
+        *self == *other
+    }
 }
 
-/// Whether two inputs are the same: as `==` answers.
-pub fn same_input(a: &Input, b: &Input) -> bool
-    ensures { IsTrue result ↔ (a.now ≡ b.now) }
-{
-    *a == *b
+impl Same for Input {
+    fn same(&self, other: &Input) -> bool {
+        *self == *other
+    }
 }
 
-/// Whether two payments are the same: as `==` answers.
-pub fn same_payment(a: &Payment, b: &Payment) -> bool
-    ensures { IsTrue result ↔ (a.now ≡ b.now) }
-{
-    same_party(&a.from, &b.from)
-        && same_payee(&a.to, &b.to)
-        && same_token(&a.token, &b.token)
-        && a.amount == b.amount
+impl Same for Warning {
+    fn same(&self, _other: &Warning) -> bool {
+        match *self {}
+    }
+}
+
+impl Same for Payment {
+    fn same(&self, other: &Payment) -> bool {
+        self.from.same(&other.from)
+            && self.to.same(&other.to)
+            && self.token.same(&other.token)
+            && self.amount == other.amount
+    }
+}
+
+impl Same for Case {
+    fn same(&self, other: &Case) -> bool {
+        same_case(self, other)
+    }
+}
+
+impl Same for Contract {
+    fn same(&self, other: &Contract) -> bool {
+        same_contract(self, other)
+    }
 }
 
 #[cycle(same_contract)]
@@ -45,12 +59,11 @@ fn same_boxed(a: &Boxed<Contract>, b: &Boxed<Contract>) -> bool
     same_contract(a.get(), b.get())
 }
 
-/// Whether two cases are the same: as `==` answers.
 #[cycle(same_contract)]
-pub fn same_case(a: &Case, b: &Case) -> bool
+fn same_case(a: &Case, b: &Case) -> bool
     ensures { IsTrue result ↔ (a.now ≡ b.now) }
 {
-    same_action(&a.action, &b.action) && same_contract(&a.then, &b.then)
+    a.action.same(&b.action) && same_contract(&a.then, &b.then)
 }
 
 #[cycle(same_contract)]
@@ -70,9 +83,8 @@ fn same_cases(a: &Items<Case>, b: &Items<Case>) -> bool
     true
 }
 
-/// Whether two contracts are the same: as `==` answers.
 #[cycle(same_contract)]
-pub fn same_contract(a: &Contract, b: &Contract) -> bool
+fn same_contract(a: &Contract, b: &Contract) -> bool
     ensures { IsTrue result ↔ (a.now ≡ b.now) }
 {
     match a {
@@ -93,7 +105,7 @@ impl PartialEq for Payment {
     ghost laws = { same_by-partial it.the_row.coded };
 
     fn eq(&self, other: &Payment) -> bool {
-        same_payment(self, other)
+        self.same(other)
     }
 }
 

@@ -6,20 +6,20 @@ mod equal;
 mod fault;
 mod input;
 mod interval;
+mod laws;
 mod outcome;
 mod payment;
 mod start;
 mod state;
+mod state_equal;
 mod tree;
 mod warning;
 
-pub use collections::{Boxed, Bytes, Entries, Items, Memory, Text, TryClone};
-pub use equal::{
-    same_action, same_case, same_contract, same_input, same_observation, same_payment,
-};
+pub use collections::{Boxed, Bytes, Entries, Items, Memory, Same, Text, TryClone};
 pub use fault::{SemFault, StateFault};
 pub use input::Input;
 pub use interval::Interval;
+pub use laws::{contracts_are_trees, first_account_is_least, sets_are_found, totals_follow_sets};
 pub use names::{Account, ChoiceId, Party, Payee, Token};
 pub use outcome::Outcome;
 pub use payment::Payment;

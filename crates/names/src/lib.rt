@@ -11,7 +11,6 @@ mod token;
 
 pub use account::{Account, compare_accounts};
 pub use choice_id::{ChoiceId, compare_choice_ids};
-pub use equal::{same_account, same_choice_id, same_party, same_payee, same_token};
 pub use party::Party;
 pub use payee::Payee;
 pub use token::{Token, compare_tokens};

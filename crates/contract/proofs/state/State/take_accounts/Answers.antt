@@ -11,5 +11,5 @@ returns-clause-taken c = c.take.ensures.taken ∙ sym (entries-from_sorted accou
 pub returns-clause-left : goal.returns-clause-left
 returns-clause-left c =
     ap (λ (m : FinMap account_cmp ℤ). record { accounts = m; choices = from_sorted c.self.inside.choices; bound_values = from_sorted c.self.inside.bound_values; min_time = c.self.inside.min_time })
-      (ap (from_sorted {R = account_cmp}) c.take.ensures.empty ∙ no_entries account_cmp)
+    (ap (from_sorted {R = account_cmp}) c.take.ensures.empty ∙ no_entries account_cmp)
     ∙ ap (λ (s : StateMaps). record s { accounts = empty }) c.self.view_is
