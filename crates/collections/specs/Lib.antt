@@ -1,3 +1,4 @@
+pub mod Repeats
 pub mod Same
 pub mod Search
 pub mod Total

@@ -21,12 +21,12 @@ impl<T> Model for Boxed<T> {
 }
 
 impl<T> Boxed<T> {
-    /// The allocator of the value's home.
+    /// The allocator that the value's memory is from.
     pub fn allocator(&self) -> Global {
         *Box::allocator(&self.home)
     }
 
-    /// Puts a value on the heap, or is refused for memory and drops it.
+    /// Puts a value on the heap, or is refused for memory and drops the value.
     pub fn new(alloc: Global, value: T) -> Result<Boxed<T>, Memory>
     where
         T: Drop,

@@ -24,7 +24,7 @@ impl Model for Bytes {
 }
 
 impl Bytes {
-    /// Takes no memory.
+    /// The string of a vector's bytes. Takes no memory.
     pub fn from_vec(bytes: Vec<u8>) -> Bytes
         ensures { result ≡ bytes.items }
     {
@@ -39,7 +39,7 @@ impl Bytes {
         bytes
     }
 
-    /// The bytes.
+    /// The bytes in order.
     pub fn as_slice(&self) -> &[u8]
         ensures value { result.now ≡ self.now }
         ensures below_256 { (i : ℕ) → slice_index self.now i < 256 }

@@ -26,14 +26,14 @@ impl<T> Model for Items<T> {
 }
 
 impl<T> Items<T> {
-    /// No items yet.
+    /// No items yet, in a list that will take memory from `alloc`.
     pub fn new(alloc: Global) -> Items<T>
         ensures { result ≡ [] }
     {
         Items::from_vec(Vec::new(alloc))
     }
 
-    /// Takes no memory.
+    /// The list of a vector's items. Takes no memory.
     pub fn from_vec(vec: Vec<T>) -> Items<T>
         ensures { result ≡ vec.items }
     {

@@ -24,14 +24,14 @@ impl Model for Text {
 }
 
 impl Text {
-    /// Takes no memory.
+    /// The text of a string. Takes no memory.
     pub fn from_string(text: String) -> Text
         ensures { result ≡ string_bytes text }
     {
         Text { text }
     }
 
-    /// Gives the text back, and takes no memory.
+    /// Gives the string back, and takes no memory.
     pub fn into_string(self) -> String
         ensures { string_bytes result ≡ self }
     {
@@ -39,7 +39,7 @@ impl Text {
         text
     }
 
-    /// The text.
+    /// The text as a slice.
     pub fn as_str(&self) -> &str
         ensures { result.now ≡ self.now }
     {

@@ -1,15 +1,24 @@
--- How the accounts of a start are added, the last first.
-use Rattle.std.proofs.Common.{◌≡◌, ℕ, zero, suc, ◌<◌, ℤ, pos, List, [], ◌∷◌, Bool, true, false, ◌&&◌, cond, drop, length, get_or, int_lt, refl, ap, sym, subst, arith}
+-- How the accounts of a start become a map.
+use Rattle.std.proofs.Common.{◌≡◌, ℤ, pos, ◌<ℤ◌, List, [], ◌∷◌, Bool, true, false, ◌&&◌, refl, sym, ◌∙◌, All, subst}
+use Rattle.std.proofs.Math.Dec.{T}
 use mathlib.Core.Bool.{false≢true}
-use Rattle.std.specs.declared.cmp.Ordering.TheVariants.{Less, Equal, Greater}
+use Rattle.std.specs.Int.Signed.{lt_z_yes}
 use Rattle.std.specs.List.{list_all}
-use Rattle.std.specs.Ordering.{is_eq, int_eq}
-use Rattle.std.specs.FinMap.{insert, remove}
-use Rattle.contract.specs.Start.{Row, account_of, is_positive, start_of}
-use Rattle.contract.specs.States.{with_money}
+use Rattle.std.specs.List.Sorted.{IsPermutation}
+use Rattle.std.specs.FinMap.{from_sorted, from_entries, same_map, get-from_sorted, get-from_entries}
+use Rattle.std.specs.FinMap.Entries.{find, is_sorted}
+use Rattle.std.proofs.lemmas.List.Elements.{All-nil, All-cons, All-head, All-tail}
+use Rattle.std.proofs.lemmas.List.Sorted.{All-permutation}
+use Rattle.names.specs.declared.account.Account.{Account}
+use Rattle.names.specs.Orders.{account_cmp}
+use Rattle.names.specs.Totals.{account_total}
+use Rattle.names.specs.Exact.{account_exact}
+use Rattle.contract.specs.Start.{is_positive}
+use Rattle.contract.specs.States.{AllPositive}
 
-not_zero : (v : ℤ) → int_lt (pos 0) v ≡ true → int_eq v (pos 0) ≡ false
-not_zero v h = elim (int_lt v (pos 0)) as (λ b. is_eq (cond b Less (cond (int_lt (pos 0) v) Greater Equal)) ≡ false) [ true ↦ refl | false ↦ ap (λ b. is_eq (cond b Greater Equal)) h ]
+-- an entry above 0
+abbrev IsPositive : Account × ℤ → Type 0
+IsPositive e = pos 0 <ℤ e.1
 
 left_of : (a b : Bool) → (a && b) ≡ true → a ≡ true
 left_of true b h = refl
@@ -19,12 +28,20 @@ right_of : (a b : Bool) → (a && b) ≡ true → b ≡ true
 right_of true b h = h
 right_of false b h = absurd (false≢true h)
 
--- one more row, before the others
-pub start_with : (row : Row) (rows : List Row) (t : ℤ) → is_positive row ≡ true → with_money (start_of rows t) (account_of row) row.2 ≡ start_of (row ∷ rows) t
-start_with row rows t h = ap (λ b. record (start_of rows t) { accounts = cond b (remove (start_of rows t).accounts (account_of row)) (insert (start_of rows t).accounts (account_of row) row.2) }) (not_zero row.2 h)
+all_positive : (es : List (Account × ℤ)) → list_all is_positive es ≡ true → All IsPositive es
+all_positive [] h = All-nil _
+all_positive (e ∷ es) h = All-cons IsPositive e es (lt_z_yes (subst T (sym (left_of _ _ h)) tt)) (all_positive es (right_of _ _ h))
 
-pub start_step : (rows : List Row) (n : ℕ) (row : Row) (t : ℤ) → list_all is_positive rows ≡ true → n < length rows → row ≡ get_or rows n row → with_money (start_of (drop (suc n) rows) t) (account_of row) row.2 ≡ start_of (drop n rows) t
-start_step [] n row t h lt is = absurd (omega arith)
-start_step (r ∷ rows) zero row t h lt is =
-    subst (λ (x : Row). with_money (start_of rows t) (account_of x) x.2 ≡ start_of (r ∷ rows) t) (sym is) (start_with r rows t (left_of _ _ h))
-start_step (r ∷ rows) (suc n) row t h lt is = start_step rows n row t (right_of _ _ h) (omega arith) is
+positive_all : (es : List (Account × ℤ)) → All IsPositive es → AllPositive es
+positive_all [] h = tt
+positive_all (e ∷ es) h = (All-head IsPositive e es h, positive_all es (All-tail IsPositive e es h))
+
+-- the sorted entries are above 0, as those given are
+pub sorted_positive : (es m : List (Account × ℤ)) → list_all is_positive es ≡ true → IsPermutation es m → AllPositive m
+sorted_positive es m h moved = positive_all m (All-permutation IsPositive es m moved (all_positive es h))
+
+-- the sorted entries are the map of those given
+pub sorted_map : (es m : List (Account × ℤ)) → T (is_sorted account_cmp m) → ((k : Account) → find account_cmp k m ≡ find account_cmp k es)
+    → from_sorted {R = account_cmp} m ≡ from_entries es
+sorted_map es m sorted found = same_map account_total account_exact _ _ (λ q.
+    get-from_sorted account_cmp m q sorted ∙ found q ∙ sym (get-from_entries account_total es q))

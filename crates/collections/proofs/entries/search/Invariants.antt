@@ -1,13 +1,15 @@
-use Rattle.std.proofs.Common.{◌≡◌, ◌-◌, ◌≤◌, length, drop}
-use Rattle.collections.specs.Search.{search, later}
+use Rattle.std.proofs.Common.{◌-◌, ◌≤◌, length}
+use Rattle.collections.proofs.Halving.{AllSmaller, AllGreater}
 use Rattle.collections.proofs.entries.search.Given as goal
 
--- the place of the key is its place in what is left, counted from the start
-abbrev pub invariant-loop-at : goal.invariant-loop-at
-invariant-loop-at g l = record {
-  within : l.at ≤ length l.entries;
-  rest : search g.K.Ord.cmp (g.Q.Probe.sought l.key) l.entries ≡ later l.at (search g.K.Ord.cmp (g.Q.Probe.sought l.key) (drop l.at l.entries));
+-- the keys before `low` are smaller, and those from `high` on are greater
+abbrev pub invariant-loop-low : goal.invariant-loop-low
+invariant-loop-low g l = record {
+  order : l.low ≤ l.high;
+  within : l.high ≤ length l.entries;
+  smaller : AllSmaller g.K.Ord.cmp (g.Q.Probe.sought l.key) l.entries l.low;
+  greater : AllGreater g.K.Ord.cmp (g.Q.Probe.sought l.key) l.entries l.high;
 }
 
-abbrev pub decreases-loop-at : goal.decreases-loop-at
-decreases-loop-at g l = length l.entries - l.at
+abbrev pub decreases-loop-low : goal.decreases-loop-low
+decreases-loop-low g l = l.high - l.low

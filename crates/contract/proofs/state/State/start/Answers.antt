@@ -1,22 +1,21 @@
-use mir.Syntax.{w64}
-use Rattle.std.proofs.Common.{◌≡◌, ◌-◌, true, drop, suc, to_z, of_z, ap, sym, ◌∙◌, arith}
+use Rattle.std.proofs.Common.{◌≡◌, true, sym, ◌∙◌, ap}
+use Rattle.std.proofs.Math.Facts.{to_z-of_z}
 use Rattle.std.specs.List.{list_all}
-use Rattle.contract.specs.Start.{Row, account_of, is_positive, start_of}
-use Rattle.contract.specs.States.{StateMaps, with_money}
-use Rattle.contract.proofs.Starting.{start_step}
+use Rattle.std.specs.FinMap.{from_sorted, from_entries}
+use Rattle.names.specs.Orders.{account_cmp, choice_id_cmp, bytes_cmp}
+use Rattle.collections.proofs.Maps.{no_entries}
+use Rattle.contract.specs.Start.{is_positive, entries_of}
+use Rattle.contract.proofs.Starting.{sorted_positive, sorted_map}
 use Rattle.contract.proofs.state.State.start.Goals as goal
 
-pub loop-left-preserved : goal.loop-left-preserved
-loop-left-preserved c =
-    let rows = c.args.accounts.now in
-    let n = c.loop-left.left - 1 in
-    let row : Row = c.index-accounts-left.result in
-    let positive : list_all is_positive rows ≡ true = sym c.all_positive.ensures ∙ c.if-not-all_positive.false in
-    let t = to_z w64 (of_z w64 c.args.min_time) in
-    let one_less : c.loop-left.left ≡ suc n = omega arith in
-    record {
-      within = omega arith;
-      done = c.in_ok-add.ensures
-          ∙ ap (λ (s : StateMaps). with_money s (account_of row) row.2) (c.loop-left.invariant.done ∙ ap (λ m. start_of (drop m rows) t) one_less)
-          ∙ start_step rows n row t positive (omega arith) c.index-accounts-left.is;
-    }
+pub from_entries-requires : goal.from_entries-requires
+from_entries-requires c =
+    let all : list_all is_positive c.in-Ok.entries.items ≡ true = ap (list_all is_positive) c.in-Ok.ensures ∙ sym c.all_positive.ensures ∙ c.if-not-all_positive.false in
+    sorted_positive c.in-Ok.entries.items c.in-Some.accounts all c.in-Some.ensures.same_entries
+
+pub returns-clause-value : goal.returns-clause-value
+returns-clause-value c =
+    let time = to_z-of_z c.ranges.min_time in
+    let accounts : from_sorted {R = account_cmp} c.in-Some.accounts ≡ from_entries (entries_of c.args.accounts.now) =
+    sorted_map c.in-Ok.entries.items c.in-Some.accounts c.in-Some.ensures.sorted c.in-Some.ensures.found ∙ ap (from_entries {R = account_cmp}) c.in-Ok.ensures in
+    rw (c.from_entries.ensures, accounts, c.new.ensures, c.new-2.ensures, no_entries choice_id_cmp, no_entries bytes_cmp, time)
