@@ -1,0 +1,6 @@
+pub mod ContractSteps
+pub mod Deep
+pub mod Lists
+pub mod Pairs
+pub mod TextSteps
+pub mod Hexes

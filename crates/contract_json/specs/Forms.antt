@@ -1,0 +1,62 @@
+-- Which form a JSON value has: for each sort the first form whose keys are all there. The whole
+-- language stands here, also the forms that aren't read yet.
+use Rattle.std.specs.Prelude.{ℕ, List, Bool, true, false, ◌&&◌, Option, Some, None, codes, is_some, if◌then◌else◌}
+use Rattle.std.specs.Str.{bytes_eq}
+use Rattle.serde_json.specs.Data.{Data}
+use Rattle.serde_json.specs.Find.{get, as_str}
+use Rattle.contract_json.specs.declared.forms.ContractForm.{ContractForm}
+use Rattle.contract_json.specs.declared.forms.ContractForm.TheVariants as contracts
+use Rattle.contract_json.specs.declared.forms.CaseForm.{CaseForm}
+use Rattle.contract_json.specs.declared.forms.CaseForm.TheVariants as cases
+use Rattle.contract_json.specs.declared.forms.ActionForm.{ActionForm}
+use Rattle.contract_json.specs.declared.forms.ActionForm.TheVariants as actions
+use Rattle.contract_json.specs.declared.forms.InputForm.{InputForm}
+use Rattle.contract_json.specs.declared.forms.InputForm.TheVariants as inputs
+
+-- the value is an object with this key
+abbrev pub has : List ℕ → Data → Bool
+has key d = is_some (get key d)
+
+abbrev pub has_two : List ℕ → List ℕ → Data → Bool
+has_two a b d = has a d && has b d
+
+abbrev pub has_three : List ℕ → List ℕ → List ℕ → Data → Bool
+has_three a b c d = has a d && has_two b c d
+
+abbrev same_text : List ℕ → Option (List ℕ) → Bool
+same_text word None = false
+same_text word (Some text) = bytes_eq text word
+
+-- the value is this text
+abbrev pub is_word : List ℕ → Data → Bool
+is_word word d = same_text word (as_str d)
+
+unfoldable pub contract_form : Data → ContractForm
+contract_form d =
+    if is_word (codes "close") d then contracts.Close
+    else (if has_two (codes "pay") (codes "token") d && has_three (codes "from_account") (codes "to") (codes "then") d then contracts.Pay
+    else (if has_three (codes "if") (codes "then") (codes "else") d then contracts.If
+    else (if has_three (codes "when") (codes "timeout") (codes "timeout_continuation") d then contracts.When
+    else (if has_three (codes "let") (codes "be") (codes "then") d then contracts.Let
+    else (if has_two (codes "assert") (codes "then") d then contracts.Assert
+    else contracts.Nothing)))))
+
+unfoldable pub case_form : Data → CaseForm
+case_form d =
+    if has_two (codes "case") (codes "then") d then cases.Plain
+    else (if has_two (codes "case") (codes "merkleized_then") d then cases.Merkleized
+    else cases.Nothing)
+
+unfoldable pub action_form : Data → ActionForm
+action_form d =
+    if has_two (codes "party") (codes "deposits") d && has_two (codes "of_token") (codes "into_account") d then actions.Deposit
+    else (if has_two (codes "for_choice") (codes "choose_between") d then actions.Choice
+    else (if has (codes "notify_if") d then actions.Notify
+    else actions.Nothing))
+
+unfoldable pub input_form : Data → InputForm
+input_form d =
+    if is_word (codes "input_notify") d then inputs.Notify
+    else (if has_two (codes "input_from_party") (codes "that_deposits") d && has_two (codes "of_token") (codes "into_account") d then inputs.Deposit
+    else (if has_two (codes "for_choice_id") (codes "input_that_chooses_num") d then inputs.Choice
+    else inputs.Nothing))

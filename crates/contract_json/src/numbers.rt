@@ -1,0 +1,60 @@
+//! Numbers as JSON values.
+ghost use Rattle.std.specs.Prelude.{◌≡◌, true, IfOk, Ok};
+ghost use Rattle.serde_json.specs.View.{view};
+ghost use Rattle.contract_json.specs.Parts.{Gives, whole, time};
+ghost use Rattle.contract_json.specs.Written.{number_json, wide_json, time_fits};
+
+use crate::fault::JsonFault;
+use contract::Memory;
+use serde_json::Value as Json;
+use std::alloc::Global;
+
+// A whole number from -2^63 to 2^64 - 1.
+pub(crate) fn read_whole(json: &Json) -> Result<i128, JsonFault>
+    ensures { Gives result (whole (view json.now)) }
+{
+    if let Some(n) = json.as_u64() {
+        Ok(i128::from(n))
+    } else if let Some(n) = json.as_i64() {
+        Ok(i128::from(n))
+    } else if json.is_number() {
+        Err(JsonFault::NotWhole)
+    } else {
+        Err(JsonFault::NoForm)
+    }
+}
+
+// A whole number from -2^63 to 2^63 - 1.
+pub(crate) fn read_time(json: &Json) -> Result<i64, JsonFault>
+    ensures { Gives result (time (view json.now)) }
+{
+    if let Some(n) = json.as_i64() {
+        Ok(n)
+    } else if json.as_u64().is_some() {
+        Err(JsonFault::OutOfRange)
+    } else if json.is_number() {
+        Err(JsonFault::NotWhole)
+    } else {
+        Err(JsonFault::NoForm)
+    }
+}
+
+pub(crate) fn time_json(time: i64) -> Json
+    ensures json { view result ≡ number_json time }
+    ensures fits { time_fits time ≡ true }
+{
+    Json::from(time)
+}
+
+// A number of any size: where JSON doesn't have it, a text of its decimal digits.
+pub(crate) fn wide_json(alloc: Global, n: i128) -> Result<Json, Memory>
+    ensures { IfOk result (λ v. view v ≡ wide_json n) }
+{
+    if let Ok(n) = u64::try_from(n) {
+        Ok(Json::from(n))
+    } else if let Ok(n) = i64::try_from(n) {
+        Ok(Json::from(n))
+    } else {
+        Ok(Json::from(format!(in alloc; "{n}")?))
+    }
+}

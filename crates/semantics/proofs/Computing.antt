@@ -1,0 +1,129 @@
+-- The parts of a transaction.
+use Rattle.std.proofs.Common.{◌≡◌, ℕ, ◌+◌, ◌<◌, ◌≤◌, ◌==◌, ℤ, Bool, true, false, cond, ◌&&◌, List, [], ◌∷◌, ◌++◌, length, get_or, drop, map, int_lt, int_le, refl, sym, ap, ◌∙◌, Result, Ok, Err, is_ok, Option, Some, None, inl, inr, subst, arith}
+use Rattle.std.proofs.lemmas.List.{at_drop_more, drop_all}
+use Rattle.std.proofs.lemmas.Bool.Decides.{nat_tests}
+use Rattle.std.specs.FinMap.{entries, empty}
+use Rattle.names.specs.declared.account.Account.{Account}
+use Rattle.contract.specs.declared.fault.SemFault.{SemFault}
+use Rattle.contract.specs.declared.fault.SemFault.TheVariants.{Useless, Ambiguous}
+use Rattle.contract.specs.declared.input.Input.{Input}
+use Rattle.contract.specs.declared.interval.Interval.{Interval}
+use Rattle.contract.specs.States.{StateMaps}
+use Rattle.contract.specs.Tree.{ContractTree, close, when}
+use Rattle.semantics.specs.Walk.{Turn, refund, At, at, Walk, ended, joined, then_from, then_walk, answer_of, Aside}
+use Rattle.semantics.specs.Path.{waits_for}
+use Rattle.semantics.specs.Reduction.{Reduction, refund_of, timing_out}
+use Rattle.semantics.specs.Transaction.{no_turns, finished}
+use Rattle.semantics.specs.Computed.{Step, stops, goes, go_on, settled, refunds, first_match, first_place, tried_to_match, take_match, applied, one_input, all_inputs, fixed, from_start, from_fixed, computed}
+use Rattle.semantics.specs.Reduced.{is_quiet, is_none_left}
+use Rattle.semantics.proofs.Walks.{Follows, follows, fails_first, finished_fails, finished_busy, Busy, busy_then, and_false}
+
+-- ---- whether anything was done
+
+busy_match : (s : StateMaps) (x : Input) (ns : List ℤ) (n : ℕ) (o : Option ContractTree) → Busy (take_match s x ns n o)
+busy_match s x ns n None = refl
+busy_match s x ns n (Some c) = refl
+
+busy_input : (i : Interval) (x : Input) (a : At) → Busy (one_input i x a)
+unfolding one_input applied
+busy_input i x a =
+    let ks = waits_for a.contract in
+    busy_then _ _ (busy_match a.state x (tried_to_match i a.state x ks) (first_place i a.state x ks) (first_match i a.state x ks))
+
+-- a contract that isn't quiet takes a turn, or ends with a fault
+busy_refunds : (s : StateMaps) (es : List (Account × ℤ)) → is_none_left es ≡ false → true && no_turns (map (λ _. refund) es) ≡ false
+busy_refunds s [] h = absurd (cc)
+busy_refunds s (e ∷ es) h = refl
+
+busy_when : (go : StateMaps → Walk) (b d : Bool) (a : At) (r : Reduction) → b ≡ false → Busy (go_on go (cond b (stops (ended (Ok a))) (cond d (goes r) (stops (ended (Err Ambiguous))))))
+busy_when go true d a r h = absurd (cc)
+busy_when go false true a r h = and_false (is_ok (go r.state).end) false refl
+busy_when go false false a r h = refl
+
+busy_settled : (i : Interval) (s : StateMaps) (c : ContractTree) → is_quiet i s c ≡ false → Busy (settled i s c)
+busy_settled i s close h = busy_refunds s (entries s.accounts) h
+busy_settled i s (when ks t c) h = busy_when (λ u. settled i u c) (int_lt i.to t) (int_le t i.from) (at s (when ks t c)) (timing_out s c) h
+
+turns_after : (b : Bool) (ts us : List Turn) → b && no_turns us ≡ false → b && no_turns (ts ++ us) ≡ false
+turns_after b [] us h = h
+turns_after b (t ∷ ts) us h = and_false b false refl
+
+-- what is done later counts, too
+busy_after : (w : Walk) (end : Result At SemFault) (f : At → Walk) → w.end ≡ end → ((a : At) → Busy (f a)) → Busy (then_from w end f)
+busy_after w (Ok a) f q h = turns_after (is_ok (f a).end) w.turns (f a).turns (h a)
+busy_after w (Err e) f q h = rw q refl
+
+-- where an input is brought, or the contract isn't quiet, something is done or a fault is met
+busy_by : (i : Interval) (s : StateMaps) (c : ContractTree) (xs : List Input) (b : Bool) → is_quiet i s c ≡ b → (length xs == 0) && b ≡ false → Busy (then_walk (settled i s c) (all_inputs i xs))
+busy_by i s c xs false q h = busy_then (settled i s c) (all_inputs i xs) (busy_settled i s c q)
+busy_by i s c [] true q h = absurd (cc)
+busy_by i s c (x ∷ xs) true q h =
+    busy_after (settled i s c) (settled i s c).end (all_inputs i (x ∷ xs)) refl (λ a. busy_then (one_input i x a) (all_inputs i xs) (busy_input i x a))
+
+-- where nothing is done, the transaction is useless
+useless_refunds : (es : List (Account × ℤ)) (a : At) → is_none_left es ≡ true →
+    answer_of (finished (joined (record { numbers = []; warnings = []; payments = map refund_of es; turns = map (λ _. refund) es; end = Ok a }) (ended (Ok a)))) ≡ Err Useless
+useless_refunds [] a h = refl
+useless_refunds (e ∷ es) a h = absurd (cc)
+
+useless_when : (i : Interval) (go : StateMaps → Walk) (b d : Bool) (a : At) (r : Reduction) → b ≡ true →
+    answer_of (finished (then_walk (go_on go (cond b (stops (ended (Ok a))) (cond d (goes r) (stops (ended (Err Ambiguous)))))) (all_inputs i []))) ≡ Err Useless
+useless_when i go true d a r h = refl
+useless_when i go false d a r h = absurd (cc)
+
+useless : (i : Interval) (s : StateMaps) (c : ContractTree) → is_quiet i s c ≡ true → answer_of (finished (then_walk (settled i s c) (all_inputs i []))) ≡ Err Useless
+useless i s close h = useless_refunds (entries s.accounts) (at (record s { accounts = empty }) close) h
+useless i s (when ks t c) h = useless_when i (λ u. settled i u c) (int_lt i.to t) (int_le t i.from) (at s (when ks t c)) (timing_out s c) h
+
+none_brought : (xs : List Input) → true ≡ (length xs == 0) → xs ≡ []
+none_brought [] h = refl
+none_brought (x ∷ xs) h = absurd (omega (arith, eqb_zero h))
+  where
+  eqb_zero : true ≡ (length (x ∷ xs) == 0) → length (x ∷ xs) ≡ 0
+  eqb_zero k = grind (arith, nat_tests)
+
+-- ---- from the interval on
+
+pub computed_refused : (i : Interval) (s : StateMaps) (c : ContractTree) (xs : List Input) (f : SemFault) → Err f ≡ fixed i s → Aside {A = At} (Err f) (answer_of (computed i s c xs))
+unfolding computed
+computed_refused i s c xs f h = inl (ap (λ r. answer_of (from_fixed r s c xs)) h)
+
+pub computed_fixed : (i : Interval) (s : StateMaps) (j : Interval) (t : StateMaps) (c : ContractTree) (xs : List Input) → Ok j ≡ fixed i s → t ≡ record s { min_time = j.from } →
+    computed i s c xs ≡ finished (then_walk (settled j t c) (all_inputs j xs))
+unfolding computed from_start
+computed_fixed i s j t c xs h k = ap (λ r. from_fixed r s c xs) (sym h) ∙ ap (λ u. finished (then_walk (settled j u c) (all_inputs j xs))) (sym k)
+
+pub computed_useless : (i : Interval) (s : StateMaps) (j : Interval) (t : StateMaps) (c : ContractTree) (xs : List Input) → Ok j ≡ fixed i s → t ≡ record s { min_time = j.from } →
+    true ≡ (length xs == 0) → true ≡ is_quiet j t c → Aside {A = At} (Err Useless) (answer_of (computed i s c xs))
+computed_useless i s j t c xs h k p q =
+    inl (sym (ap answer_of (computed_fixed i s j t c xs h k) ∙ (ap (λ ys. answer_of (finished (then_walk (settled j t c) (all_inputs j ys)))) (none_brought xs p) ∙ useless j t c (sym q))))
+
+pub computed_fails : (i : Interval) (s : StateMaps) (j : Interval) (t : StateMaps) (c : ContractTree) (xs : List Input) (f : SemFault) → Ok j ≡ fixed i s → t ≡ record s { min_time = j.from } →
+    Aside {A = At} (Err f) (answer_of (settled j t c)) → Aside {A = At} (Err f) (answer_of (computed i s c xs))
+computed_fails i s j t c xs f h k q =
+    rw (computed_fixed i s j t c xs h k) (finished_fails (then_walk (settled j t c) (all_inputs j xs)) f (fails_first (settled j t c) (all_inputs j xs) f q))
+
+-- something is done
+pub computed_busy : (i : Interval) (s : StateMaps) (j : Interval) (t : StateMaps) (c : ContractTree) (xs : List Input) (a : At) → Ok j ≡ fixed i s → t ≡ record s { min_time = j.from } →
+    (length xs == 0) && is_quiet j t c ≡ false → Aside (Ok a) (answer_of (settled j t c)) →
+    Follows (computed i s c xs) (all_inputs j xs a) (settled j t c).warnings (settled j t c).payments
+computed_busy i s j t c xs a h k q r =
+    let b = finished_busy (then_walk (settled j t c) (all_inputs j xs)) (busy_by j t c xs (is_quiet j t c) refl q) in
+    let e = computed_fixed i s j t c xs h k ∙ b in
+    subst (λ w. Follows w (all_inputs j xs a) (settled j t c).warnings (settled j t c).payments) (sym e) (follows (settled j t c) (all_inputs j xs) a r)
+
+pub not_left : (a b : Bool) → false ≡ a → a && b ≡ false
+not_left true b h = absurd (cc)
+not_left false b h = refl
+
+pub not_right : (a b : Bool) → false ≡ b → a && b ≡ false
+not_right true b h = sym h
+not_right false b h = refl
+
+-- ---- one input after another
+
+pub inputs_here : (i : Interval) (xs : List Input) (n : ℕ) (d : Input) (a : At) → n < length xs → all_inputs i (drop n xs) a ≡ then_walk (one_input i (get_or xs n d) a) (all_inputs i (drop (n + 1) xs))
+inputs_here i xs n d a h = at_drop_more (λ ys. all_inputs i ys a) xs n d h
+
+pub inputs_done : (i : Interval) (xs : List Input) (n : ℕ) (a : At) → length xs ≤ n → all_inputs i (drop n xs) a ≡ ended (Ok a)
+inputs_done i xs n a h = ap (λ ys. all_inputs i ys a) (drop_all n xs h)

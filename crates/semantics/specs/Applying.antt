@@ -1,0 +1,60 @@
+-- One input (Marlowe specification version 3, "Apply input" and "Apply cases").
+use Rattle.std.specs.Prelude.{◌≡◌, ℕ, suc, ◌<◌, ℤ, Bool, true, false, List, [], ◌∷◌, ◌++◌, take, slice_get, ◌⊎◌, Some, Ok, Err}
+use Rattle.contract.specs.declared.fault.SemFault.TheVariants.{NoMatch}
+use Rattle.contract.specs.declared.input.Input.{Input}
+use Rattle.contract.specs.declared.input.Input.TheVariants.{Notify}
+use Rattle.contract.specs.declared.interval.Interval.{Interval}
+use Rattle.contract.specs.declared.warning.Warning.{Warning}
+use Rattle.contract.specs.States.{StateMaps}
+use Rattle.contract.specs.Tree.{ActionTree, notify, ContractTree}
+use Rattle.semantics.specs.Evaluation.{holds, looked}
+use Rattle.semantics.specs.Walk.{Turn, in_case, At, at, Walk}
+use Rattle.semantics.specs.Path.{waits_for}
+
+-- an input matches an action
+abbrev pub matches : Interval → StateMaps → Input → ActionTree → Bool
+matches i s Notify (notify o) = holds i s o
+
+-- the numbers that are visited when an action is tried: none unless it is of the input's kind
+abbrev pub tried : Interval → StateMaps → Input → ActionTree → List ℤ
+tried i s Notify (notify o) = looked i s o
+
+-- the numbers that are visited when all of these cases are tried
+abbrev pub all_tried : Interval → StateMaps → Input → List (ActionTree × ContractTree) → List ℤ
+all_tried i s x [] = []
+all_tried i s x (k ∷ ks) = tried i s x k.0 ++ all_tried i s x ks
+
+-- the case at the place matches, and none before it does
+pub record IsFirstMatch (i : Interval) (s : StateMaps) (x : Input) (ks : List (ActionTree × ContractTree)) (n : ℕ) (k : ActionTree × ContractTree) : Type 0 where
+  pub stands : slice_get ks n ≡ Some k
+  pub matched : matches i s x k.0 ≡ true
+  pub first : (m : ℕ) (j : ActionTree × ContractTree) → m < n → slice_get ks m ≡ Some j → matches i s x j.0 ≡ false
+
+-- no case matches
+abbrev pub NoneMatches : Interval → StateMaps → Input → List (ActionTree × ContractTree) → Type 0
+NoneMatches i s x ks = (m : ℕ) (j : ActionTree × ContractTree) → slice_get ks m ≡ Some j → matches i s x j.0 ≡ false
+
+-- what an input does to the state, the sums that it makes, and what it warns of
+abbrev pub taken : StateMaps → Input → StateMaps
+taken s Notify = s
+
+abbrev pub taken_numbers : StateMaps → Input → List ℤ
+taken_numbers s Notify = []
+
+abbrev pub taken_warnings : Input → List Warning
+taken_warnings Notify = []
+
+-- the case at a place is taken
+abbrev pub taking : StateMaps → Input → List ℤ → ℕ → ContractTree → Walk
+taking s x ns n c = record { numbers = ns ++ taken_numbers s x; warnings = taken_warnings x; payments = []; turns = in_case n ∷ []; end = Ok (at (taken s x) c) }
+
+-- no case is taken
+abbrev pub refused : List ℤ → Walk
+refused ns = record { numbers = ns; warnings = []; payments = []; turns = []; end = Err NoMatch }
+
+-- an input applies so: the first case that matches is taken, where there is one
+abbrev pub Applies : Interval → Input → At → Walk → Type 0
+Applies i x a w =
+    ((n : ℕ) × (k : ActionTree × ContractTree) × IsFirstMatch i a.state x (waits_for a.contract) n k
+    × (w ≡ taking a.state x (all_tried i a.state x (take (suc n) (waits_for a.contract))) n k.1))
+    ⊎ (NoneMatches i a.state x (waits_for a.contract) × (w ≡ refused (all_tried i a.state x (waits_for a.contract))))

@@ -1,0 +1,94 @@
+-- The one walk that the relations of a transaction allow, as a function of contract, state, interval and inputs.
+use Rattle.std.specs.Prelude.{ℕ, suc, ℤ, int_lt, int_le, Bool, true, false, List, [], ◌∷◌, ◌++◌, map, if◌then◌else◌, Option, Some, None, Result, Ok, Err}
+use Rattle.std.specs.FinMap.{entries, empty}
+use Rattle.names.specs.declared.account.Account.{Account}
+use Rattle.contract.specs.declared.fault.SemFault.{SemFault}
+use Rattle.contract.specs.declared.fault.SemFault.TheVariants.{InvalidInterval, IntervalInPast, Ambiguous}
+use Rattle.contract.specs.declared.input.Input.{Input}
+use Rattle.contract.specs.declared.interval.Interval.{Interval}
+use Rattle.contract.specs.declared.payment.Payment.{Payment}
+use Rattle.contract.specs.declared.warning.Warning.{Warning}
+use Rattle.contract.specs.States.{StateMaps}
+use Rattle.contract.specs.Tree.{ActionTree, ContractTree, close, when}
+use Rattle.semantics.specs.Walk.{Turn, refund, At, at, Walk, ended, then_walk}
+use Rattle.semantics.specs.Path.{waits_for}
+use Rattle.semantics.specs.Reduction.{Reduction, refund_of, refunded, timing_out, first_account}
+use Rattle.semantics.specs.Settling.{after}
+use Rattle.semantics.specs.Applying.{matches, tried, taking, refused}
+use Rattle.semantics.specs.Transaction.{trimmed, begun, finished}
+
+-- all refunds of a Close, in order
+abbrev pub refunds : StateMaps → Walk
+refunds s = record { numbers = []; warnings = []; payments = map refund_of (entries s.accounts); turns = map (λ _. refund) (entries s.accounts); end = Ok (at (record s { accounts = empty }) close) }
+
+-- what there is to do: all that is left, or a reduction that enters a part of the contract
+pub data Step : Type 0 where
+  stops : Walk → Step
+  goes : Reduction → Step
+
+-- what a When does: it waits, it goes on with its timeout continuation, or its interval is ambiguous
+abbrev pub when_step : Interval → ℤ → At → Reduction → Step
+when_step i timeout here r = if int_lt i.to timeout then stops (ended (Ok here)) else (if int_le timeout i.from then goes r else stops (ended (Err Ambiguous)))
+
+abbrev pub step : Interval → StateMaps → ContractTree → Step
+step i s close = stops (refunds s)
+step i s (when ks timeout c) = when_step i timeout (at s (when ks timeout c)) (timing_out s c)
+
+-- a step, and how it goes on
+abbrev pub go_on : (StateMaps → Walk) → Step → Walk
+go_on go (stops w) = w
+go_on go (goes r) = after r (go r.state)
+
+-- how a contract settles
+abbrev pub settled : Interval → StateMaps → ContractTree → Walk
+settled i s close = refunds s
+settled i s (when ks timeout c) = go_on (λ t. settled i t c) (when_step i timeout (at s (when ks timeout c)) (timing_out s c))
+
+-- where the first case that matches goes on
+abbrev pub first_match : Interval → StateMaps → Input → List (ActionTree × ContractTree) → Option ContractTree
+first_match i s x [] = None
+first_match i s x (k ∷ ks) = if matches i s x k.0 then Some k.1 else first_match i s x ks
+
+-- how many cases stand before it
+abbrev pub first_place : Interval → StateMaps → Input → List (ActionTree × ContractTree) → ℕ
+first_place i s x [] = 0
+first_place i s x (k ∷ ks) = if matches i s x k.0 then 0 else suc (first_place i s x ks)
+
+-- the numbers that are visited up to it
+abbrev pub tried_to_match : Interval → StateMaps → Input → List (ActionTree × ContractTree) → List ℤ
+tried_to_match i s x [] = []
+tried_to_match i s x (k ∷ ks) = tried i s x k.0 ++ (if matches i s x k.0 then [] else tried_to_match i s x ks)
+
+abbrev pub take_match : StateMaps → Input → List ℤ → ℕ → Option ContractTree → Walk
+take_match s x ns n None = refused ns
+take_match s x ns n (Some c) = taking s x ns n c
+
+-- how an input applies
+unfoldable pub applied : Interval → Input → At → Walk
+applied i x a =
+    take_match a.state x (tried_to_match i a.state x (waits_for a.contract)) (first_place i a.state x (waits_for a.contract)) (first_match i a.state x (waits_for a.contract))
+
+-- an input, and the contract settles again
+unfoldable pub one_input : Interval → Input → At → Walk
+one_input i x a = then_walk (applied i x a) (λ b. settled i b.state b.contract)
+
+-- each input in turn
+abbrev pub all_inputs : Interval → List Input → At → Walk
+all_inputs i [] a = ended (Ok a)
+all_inputs i (x ∷ xs) a = then_walk (one_input i x a) (all_inputs i xs)
+
+-- why the interval is refused, or how it is fixed
+abbrev pub fixed : Interval → StateMaps → Result Interval SemFault
+fixed i s = if int_lt i.to i.from then Err InvalidInterval else (if int_lt i.to s.min_time then Err IntervalInPast else Ok (trimmed i s))
+
+-- what follows the interval
+unfoldable pub from_start : Interval → StateMaps → ContractTree → List Input → Walk
+from_start i s c xs = finished (then_walk (settled i s c) (all_inputs i xs))
+
+abbrev pub from_fixed : Result Interval SemFault → StateMaps → ContractTree → List Input → Walk
+from_fixed (Err f) s c xs = ended (Err f)
+from_fixed (Ok i) s c xs = from_start i (record s { min_time = i.from }) c xs
+
+-- the transaction
+unfoldable pub computed : Interval → StateMaps → ContractTree → List Input → Walk
+computed i s c xs = from_fixed (fixed i s) s c xs

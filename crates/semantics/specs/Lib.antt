@@ -1,0 +1,11 @@
+pub mod Numbers
+pub mod Evaluation
+pub mod Walk
+pub mod Path
+pub mod Reduction
+pub mod Settling
+pub mod Applying
+pub mod Transaction
+pub mod Computed
+pub mod Same
+pub mod Reduced

@@ -1,0 +1,45 @@
+//! Transactions on contracts, however these are kept.
+ghost use Rattle.std.specs.Prelude.{◌≡◌, ◌↔◌, true, IsTrue, List, Some};
+ghost use Rattle.contract.specs.Tree.{ContractTree, close};
+ghost use Rattle.semantics.specs.Walk.{Turn};
+ghost use Rattle.semantics.specs.Path.{along};
+
+use contract::{Input, Interval, Outcome, SemFault, State};
+use std::alloc::Global;
+
+/// Contracts that transactions are computed on.
+pub trait Steps {
+    /// A contract, or a part of one. Equal places are the same.
+    type Place: Eq;
+
+    /// A place is one of this object.
+    ghost contains: { Self → Self.Place → Type 0 };
+
+    /// The contract at a place.
+    ghost tree: { Self → Self.Place → ContractTree };
+
+    /// The place that turns lead to from a place.
+    ghost leads: { Self → Self.Place → List Turn → Self.Place → Type 0 };
+
+    /// Computes one transaction.
+    fn compute(
+        &self,
+        alloc: Global,
+        place: &Self::Place,
+        state: &State,
+        interval: Interval,
+        inputs: &[Input],
+    ) -> Result<Outcome<Self::Place>, SemFault>
+        requires { contains self.now place.now };
+
+    /// Whether the contract at a place is Close.
+    fn is_closed(&self, place: &Self::Place) -> bool
+        requires { contains self.now place.now }
+        ensures { IsTrue result ↔ (tree self.now place.now ≡ close) };
+
+    /// Equal places are of one object, and have one contract.
+    ghost same: { (s : Self) (p q : Self.Place) → Self.Place.eq p q ≡ true → contains s p → contains s q × (tree s q ≡ tree s p) };
+
+    /// Turns lead to a place of the object, which has the contract that they lead to.
+    ghost led: { (s : Self) (p : Self.Place) (ts : List Turn) (q : Self.Place) → contains s p → leads s p ts q → contains s q × (along (tree s p) ts ≡ Some (tree s q)) };
+}
