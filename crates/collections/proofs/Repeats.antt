@@ -14,7 +14,7 @@ use Rattle.std.specs.List.{list_any, AllAdjacentBelow, IsAllAdjacentAnswer}
 use Rattle.std.specs.List.Sorted.{IsSortedBy}
 use Rattle.std.specs.Ordering.{eq_by_cmp, is_eq, is_lt, ordering_reverse}
 use Rattle.collections.specs.Repeats.{has_key, has_repeat}
-use Rattle.collections.proofs.Places.{both, second, third, below_head, below_tail, below_cons, below_less}
+use Rattle.collections.proofs.Places.{both, second, third, less, below_head, below_tail, below_cons, below_less}
 
 -- what no element passes is counted nowhere
 none_counted : {X : Type 0} (p : X → Bool) (xs : List X) → list_any p xs ≡ false → count_by p xs ≡ 0
@@ -23,7 +23,7 @@ none_counted p (x ∷ xs) h =
     let parts = or_parts (p x) (list_any p xs) h in
     sum_by-cons (λ y. cond (p y) 1 0) x xs ∙ ap (λ b. cond b 1 0 + count_by p xs) parts.0 ∙ ap (λ n. 0 + n) (none_counted p xs parts.1)
 
--- what an element passes is counted
+-- what is counted nowhere, no element passes
 some_counted : {X : Type 0} (p : X → Bool) (xs : List X) → count_by p xs ≡ 0 → list_any p xs ≡ false
 some_counted p [] h = refl
 some_counted p (x ∷ xs) h =
@@ -37,16 +37,13 @@ some_counted p (x ∷ xs) h =
 none_passes : {X : Type 0} (p : X → Bool) (xs : List X) → list_any p xs ≡ false → All (λ x. p x ≡ false) xs
 none_passes p xs h k d l = false_from_ne_true (p (get_or xs k d)) (λ t. both_ways (list_any p xs) h (list_any_at p xs k d l t))
 
+-- the first of two counts that make one is the whole
 only_one : (a b c : ℕ) → a ≡ b + c → a ≡ 1 → b ≡ 1 → c ≡ 0
 only_one a b c e f g = omega arith
 
+-- the second of two counts that make one is the whole
 only_other : (a b c : ℕ) → a ≡ b + c → a ≡ 1 → b ≡ 0 → c ≡ 1
 only_other a b c e f g = omega arith
-
-less : (r : Ordering) → is_lt r ≡ true → r ≡ Less
-less Less p = refl
-less Equal p = cc
-less Greater p = cc
 
 module _ {K : Type 0} (R : K → K → Ordering) (o : IsTotalOrder R) where
   -- of two keys neither is less
@@ -63,6 +60,7 @@ module _ {K X : Type 0} (R : K → K → Ordering) where
   abbrev with_key : List (K × X) → K → ℕ
   with_key es k = count_by (λ e. eq_by_cmp R k e.0) es
 
+  -- how many entries have a key, counted from the first on
   with_key-cons : (e : K × X) (es : List (K × X)) (k : K) → with_key (e ∷ es) k ≡ cond (eq_by_cmp R k e.0) 1 0 + with_key es k
   with_key-cons e es k = sum_by-cons (λ x. cond (eq_by_cmp R k x.0) 1 0) e es
 
@@ -70,11 +68,13 @@ module _ {K X : Type 0} (R : K → K → Ordering) where
   abbrev AllOnce : List (K × X) → Type 0
   AllOnce es = All (λ e. with_key es e.0 ≡ 1) es
 
+  -- the same entries in another order have each key once
   AllOnce-permutation : (xs ys : List (K × X)) → IsPermutation xs ys → AllOnce xs → AllOnce ys
   AllOnce-permutation xs ys p h k d l =
       sum_by-IsPermutation (λ x. cond (eq_by_cmp R (get_or ys k d).0 x.0) 1 0) xs ys p ∙ All-permutation (λ e. with_key xs e.0 ≡ 1) xs ys p h k d l
 
   module _ (o : IsTotalOrder R) where
+    -- where no key is repeated, each stands once
     once_from : (es : List (K × X)) → has_repeat R es ≡ false → AllOnce es
     once_from [] h = λ k d l. absurd (omega arith)
     once_from (e ∷ es) h =
@@ -86,6 +86,7 @@ module _ {K X : Type 0} (R : K → K → Ordering) where
         (λ k d l. let x = get_or es k d in
         with_key-cons e es x.0 ∙ ap (λ b. cond b 1 0 + with_key es x.0) ((eq_by_cmp_equiv o).symm x.0 e.0 ∙ others k d l) ∙ ap (λ n. 0 + n) (rest k d l))
 
+    -- where each key stands once, none is repeated
     from_once : (es : List (K × X)) → AllOnce es → has_repeat R es ≡ false
     from_once [] h = refl
     from_once (e ∷ es) h =
@@ -104,6 +105,7 @@ module _ {K X : Type 0} (R : K → K → Ordering) where
     below_apart k [] h = refl
     below_apart k (e ∷ es) h = or_from _ _ (ap is_eq (below_head R k e es h)) (below_apart k es (below_tail R k e es h))
 
+    -- where the keys strictly rise, none is repeated
     pub sorted_apart : (es : List (K × X)) → T (is_sorted R es) → has_repeat R es ≡ false
     sorted_apart [] h = refl
     sorted_apart (e ∷ es) h = or_from _ _ (below_apart e.0 es (second _ _ h)) (sorted_apart es (third _ _ h))
@@ -114,7 +116,7 @@ module _ {K X : Type 0} (R : K → K → Ordering) where
     sorted_from (e ∷ []) h = tt
     sorted_from (e ∷ f ∷ es) h =
         let rest = sorted_from (f ∷ es) (λ k d l. rw (suc-add k 1) at (h (suc k) d (omega arith))) in
-        let step = less _ (h 0 e (omega arith)) in
+        let step = less _ (subst T (sym (h 0 e (omega arith))) tt) in
         both _ _ (below_cons R e.0 f es step (below_less R e.0 o f.0 es step (second _ _ rest))) rest
 
     -- two neighbours with one key repeat it
@@ -124,12 +126,13 @@ module _ {K X : Type 0} (R : K → K → Ordering) where
     repeat_at (e ∷ f ∷ es) zero l h = or_left _ _ (or_left _ _ (h e))
     repeat_at (e ∷ f ∷ es) (suc k) l h = or_right _ _ (repeat_at (f ∷ es) k (omega arith) (λ d. rw (suc-add k 1) at (h d)))
 
-    -- what a pass over neighbours tells of a sorted list
+    -- where a pass over neighbours succeeds, the keys strictly rise
     pub rising : (ys zs : List (K × X)) (r : Bool) → IsAllAdjacentAnswer (λ x y b. b ≡ is_lt (R x.0 y.0)) zs r → zs ≡ ys → r ≡ true → T (is_sorted R ys)
     rising ys zs r h same is =
         let all = subst₂ (λ xs b. IsAllAdjacentAnswer (λ x y b. b ≡ is_lt (R x.0 y.0)) xs b) same is h in
         sorted_from ys (λ k d l. sym (all k d l))
 
+    -- where it fails in a sorted list, a key is repeated
     pub falling : (ys zs : List (K × X)) (r : Bool) → IsAllAdjacentAnswer (λ x y b. b ≡ is_lt (R x.0 y.0)) zs r → zs ≡ ys → r ≡ false → IsSortedBy (λ x y. is_lt (R x.0 y.0)) ys → has_repeat R ys ≡ true
     falling ys zs r h same is s =
         let step = subst₂ (λ xs b. IsAllAdjacentAnswer (λ x y b. b ≡ is_lt (R x.0 y.0)) xs b) same is h in

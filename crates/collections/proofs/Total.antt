@@ -15,24 +15,31 @@ use Rattle.collections.specs.Total.{total}
 use Rattle.collections.proofs.Places.{second, third, find_below, below_less, without_below, below_equal, without_at}
 use Rattle.collections.proofs.Maps.{without_is_remove}
 
+-- a sum of both sides
 more : (a b c d e : ℤ) → b +ℤ c ≡ d +ℤ e → (a +ℤ b) +ℤ c ≡ (a +ℤ d) +ℤ e
 more a b c d e h = omega (arith, ints)
 
+-- the first term moves to the end
 first_new : (a b c z : ℤ) → z ≡ pos 0 → (a +ℤ (b +ℤ c)) +ℤ z ≡ (b +ℤ c) +ℤ a
 first_new a b c z h = omega (arith, ints)
 
+-- one value takes another's place in a sum
 replaced : (a b c x y : ℤ) → x ≡ a → y ≡ b → (x +ℤ c) +ℤ b ≡ (y +ℤ c) +ℤ a
 replaced a b c x y h k = omega (arith, ints)
 
+-- a value is taken out of a sum
 taken : (b c y : ℤ) → y ≡ b → c +ℤ b ≡ y +ℤ c
 taken b c y k = omega (arith, ints)
 
+-- a sum of both sides, where nothing is added
 left_more : (a b c d : ℤ) → b +ℤ c ≡ d → (a +ℤ b) +ℤ c ≡ a +ℤ d
 left_more a b c d h = omega (arith, ints)
 
+-- one value makes a sum
 only : (a z : ℤ) → z ≡ pos 0 → (a +ℤ pos 0) +ℤ z ≡ pos 0 +ℤ a
 only a z h = omega (arith, ints)
 
+-- nothing makes no sum
 none : (z : ℤ) → z ≡ pos 0 → pos 0 +ℤ z ≡ pos 0
 none z h = omega (arith, ints)
 
@@ -51,6 +58,7 @@ module _ {K : Type 0} (R : K → K → Ordering) (o : IsTotalOrder R) (exact : C
       entries-remove m e.0 ∙ ap (without R e.0) is ∙ without_at R e.0 o (e ∷ es) 0 (subst (λ xs. T (is_sorted R xs)) is (entries_sorted m)) (tied_itself o e.0)
 
   module _ (w : K → ℤ → ℤ) (nothing : (k : K) → w k (pos 0) ≡ pos 0) where
+    -- the total after an entry is put in its place
     total-put : (k : K) (v : ℤ) (es : List (K × ℤ)) → T (is_sorted R es) → total w (put R k v es) +ℤ w k (unwrap_or (find R k es) (pos 0)) ≡ total w es +ℤ w k v
     total-put k v [] s = only (w k v) (w k (pos 0)) (nothing k)
     total-put k v (e ∷ es) s =
@@ -62,6 +70,7 @@ module _ {K : Type 0} (R : K → K → Ordering) (o : IsTotalOrder R) (exact : C
           | Greater ↦ λ p. more (w e.0 e.1) (total w (put R k v es)) (w k (unwrap_or (find R k es) (pos 0))) (total w es) (w k v) (total-put k v es (third _ _ s))
         ] refl
 
+    -- the total without a key
     total-without : (k : K) (es : List (K × ℤ)) → T (is_sorted R es) → total w (without R k es) +ℤ w k (unwrap_or (find R k es) (pos 0)) ≡ total w es
     total-without k [] s = none (w k (pos 0)) (nothing k)
     total-without k (e ∷ es) s =
@@ -72,8 +81,10 @@ module _ {K : Type 0} (R : K → K → Ordering) (o : IsTotalOrder R) (exact : C
           | Greater ↦ λ p. left_more (w e.0 e.1) (total w (without R k es)) (w k (unwrap_or (find R k es) (pos 0))) (total w es) (total-without k es (third _ _ s))
         ] refl
 
+    -- the total after an insert
     pub total-insert : (m : FinMap R ℤ) (k : K) (v : ℤ) → total w (entries (insert m k v)) +ℤ w k (unwrap_or (get m k) (pos 0)) ≡ total w (entries m) +ℤ w k v
     total-insert m k v = rw (entries-insert o m k v, get-entries m k) (total-put k v (entries m) (entries_sorted m))
 
+    -- the total after a removal
     pub total-remove : (m : FinMap R ℤ) (k : K) → total w (entries (remove m k)) +ℤ w k (unwrap_or (get m k) (pos 0)) ≡ total w (entries m)
     total-remove m k = rw (entries-remove m k, get-entries m k) (total-without k (entries m) (entries_sorted m))

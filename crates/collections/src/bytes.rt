@@ -11,7 +11,8 @@ use std::cmp::Ordering;
 use std::hash::{Hash, Hasher};
 use std::marker::Model;
 
-/// A string of bytes, which clauses see as their list. Such strings stand in the order of their bytes.
+/// A string of bytes, which clauses see as their list. Such strings stand in the order of their
+/// bytes.
 #[derive(Debug, Drop)]
 pub struct Bytes {
     bytes: Vec<u8>,

@@ -14,8 +14,8 @@ use std::cmp::Ordering;
 use std::marker::Model;
 use std::mem;
 
-/// What stands for a key of type `K`, as its borrowed parts do. The key itself is made only where it
-/// is new to a map.
+/// What stands for a key of type `K`, as its borrowed parts do. The key itself is made only where
+/// it is new to a map.
 pub trait Probe<K: Ord> {
     /// The key that it stands for.
     ghost sought: { Self → K };
@@ -109,25 +109,6 @@ impl<K: Ord, V> Entries<K, V> {
     }
 }
 
-impl<K: Ord + Drop, V: Drop> Entries<K, V> {
-    /// The map of n entries in any order, or nothing if a key is given twice. It takes no memory and
-    /// n log n steps.
-    pub fn from_vec(mut entries: Vec<(K, V)>) -> Option<Self>
-        ensures unique { IsSome result ↔ (has_repeat K.cmp entries.items ≡ false) }
-        ensures found { IfSome result
-            (λ map. (key : K) → find K.cmp key map ≡ find K.cmp key entries.items) }
-        ensures same_entries { IfSome result (λ map. IsPermutation entries.items map) }
-        ensures sorted { IfSome result (λ map. T (is_sorted K.cmp map)) }
-    {
-        entries.sort_unstable_by(|a, b| a.0.cmp(&b.0));
-        if rises(&entries) {
-            Some(Entries { items: entries })
-        } else {
-            None
-        }
-    }
-}
-
 impl<K: Ord, V: Copy> Entries<K, V> {
     /// The value of a key, if it is there. It takes logarithmic time and no memory.
     pub fn get<Q: Probe<K>>(&self, key: &Q) -> Option<V>
@@ -142,8 +123,25 @@ impl<K: Ord, V: Copy> Entries<K, V> {
 }
 
 impl<K: Ord + Drop, V: Drop> Entries<K, V> {
-    /// Sets the value of a key. Memory is taken only for a new key: where it is refused, the map is as
-    /// before. A known key keeps its place, and takes logarithmic time.
+    /// The map of n entries in any order, or nothing if a key is given twice. It takes no memory
+    /// and n log n steps.
+    pub fn from_vec(mut entries: Vec<(K, V)>) -> Option<Self>
+        ensures unique { IsSome result ↔ (has_repeat K.cmp entries.items ≡ false) }
+        ensures found { IfSome result
+            (λ map. (key : K) → find K.cmp key map ≡ find K.cmp key entries.items) }
+        ensures same_entries { IfSome result (λ map. IsPermutation entries.items map) }
+        ensures sorted { IfSome result (λ map. T (is_sorted K.cmp map)) }
+    {
+        entries.sort_unstable_by(|a, b| a.0.cmp(&b.0));
+        if rises(&entries) {
+            Some(Entries { items: entries })
+        } else {
+            None
+        }
+    }
+
+    /// Sets the value of a key. Memory is taken only for a new key: where it is refused, the map is
+    /// as before. A known key keeps its place, and takes logarithmic time.
     pub fn set<Q: Probe<K>>(&mut self, key: &Q, value: V) -> Result<(), Memory>
         ensures ok { OnOk result (self.new ≡ put K.cmp (Q.sought key.now) value self.old) }
         ensures err { OnErr result (self.new ≡ self.old) }

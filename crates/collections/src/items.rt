@@ -69,7 +69,8 @@ impl<T> Items<T> {
         self.vec.is_empty()
     }
 
-    /// Puts an item at the end, or is refused for memory, drops it and leaves the others as they were.
+    /// Puts an item at the end, or is refused for memory, drops it and leaves the others as they
+    /// were.
     pub fn push(&mut self, item: T) -> Result<(), Memory>
     where
         T: Drop,

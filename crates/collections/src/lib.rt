@@ -1,5 +1,6 @@
 //! Owners that clauses see as plain data: a text or a string of bytes as its list of bytes, a
-//! vector as the list of its items, a box as what is in it, a sorted map as the list of its entries.
+//! vector as the list of its items, a box as what is in it, a sorted map as the list of its
+//! entries.
 //!
 //! A value that is built of them has no address and no capacity in what clauses see, so two such
 //! values are equal there exactly when they are the same value.

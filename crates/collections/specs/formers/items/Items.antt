@@ -23,15 +23,19 @@ use Rattle.collections.specs.contracts.items.Items.TheInside as kept
 abbrev pub the_former : Former {0} → Former {0}
 the_former = list
 
+-- a list weighs what its items weigh
 abbrev pub the_weighed : {element : Former {0}} → Weighed element → Weighed (the_former element)
 the_weighed = w_list
 
+-- the list with no item
 pub the_empty : List ⊥
 the_empty = []
 
+-- the items of a list
 abbrev pub the_items : (X : Type 0) → List X → List X
 the_items X xs = xs
 
+-- the children of a list are its items
 pub the_items_listed : (X : Type 0) (xs : List X) → listed _ (children (the_former this) X xs) ≡ the_items X xs
 the_items_listed = list-listed
 
@@ -46,11 +50,13 @@ module _ (A B : RattleType) (f : A.Denot → B.Denot) where
       let inner : Alike _ _ (vec.mapped f) = vec.the_places global.the_row ghosts A B f same in
       struct_places (kept.the_type A) (kept.the_type B) (vec.mapped f, tt) _ (λ own. refl) refl (laid _ _ _ inner, tt)
 
+  -- and so is the struct, seen as the list
   pub the_places : Alike A B f → Alike (seen.the_row A) (seen.the_row B) ((the_former this).map A.Denot B.Denot f)
   the_places same = view_places vector (list this) view (λ X Y g own. refl) (λ X own. refl)
       A.Denot B.Denot f (seen.the_row A).coded (seen.the_row B).coded
       (invariant A.Denot) (invariant B.Denot) (λ own p q. refl) (λ own p q. refl) (λ own p. tt) (λ own p. tt)
       (over (kept.the_row A)) (over (kept.the_row B)) (fields_alike same)
 
+  -- codes go along item by item
   pub the_codes_placed : Recodes A B f → Recodes (seen.the_row A) (seen.the_row B) ((the_former this).map A.Denot B.Denot f)
   the_codes_placed same xs = sym (code_map A.coded.code B.coded.code f (λ x. sym (same x)) xs)
