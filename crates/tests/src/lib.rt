@@ -1,0 +1,14 @@
+//! Tests of the libraries, each against values that a person knows. They stand in a crate of their
+//! own, since a crate with tests is proved twice.
+#![tactic(auto)]
+
+#[cfg(test)]
+mod made;
+#[cfg(test)]
+mod names_of;
+#[cfg(test)]
+mod owners;
+#[cfg(test)]
+mod states;
+#[cfg(test)]
+mod trees;
