@@ -1,46 +1,49 @@
-//! What the tests make.
-use contract::{Boxed, Bytes, Case, ChoiceId, Contract, Items, Memory, Party, Text, Token};
-use contract::{Action, Observation};
-use std::alloc::Global;
+//! What the tests make, with ample memory.
+use contract::{
+    Action, Boxed, Bytes, Case, ChoiceId, Contract, Items, Observation, Party, Text, Token,
+};
+use std::process::Abort;
 
-pub fn text(alloc: Global, letters: &str) -> Result<Text, Memory> {
-    Ok(Text::from_string(String::from_str(alloc, letters)?))
+pub fn text(rt: &(impl Abort + AllocGlobal), letters: &str) -> Text {
+    Text::from_string(String::from_str(rt.alloc(), letters).expect(rt, "memory"))
 }
 
-pub fn role(alloc: Global, name: &str) -> Result<Party, Memory> {
-    Ok(Party::Role(text(alloc, name)?))
+pub fn role(rt: &(impl Abort + AllocGlobal), name: &str) -> Party {
+    Party::Role(text(rt, name))
 }
 
-pub fn address(alloc: Global, letters: &str) -> Result<Party, Memory> {
-    Ok(Party::Address(text(alloc, letters)?))
+pub fn address(rt: &(impl Abort + AllocGlobal), letters: &str) -> Party {
+    Party::Address(text(rt, letters))
 }
 
-pub fn ada(alloc: Global) -> Result<Token, Memory> {
-    token(alloc, &[], "")
+pub fn token(rt: &(impl Abort + AllocGlobal), symbol: &[u8], name: &str) -> Token {
+    Token {
+        symbol: Bytes::from_vec(Vec::from_slice(rt.alloc(), symbol).expect(rt, "memory")),
+        name: text(rt, name),
+    }
 }
 
-pub fn token(alloc: Global, symbol: &[u8], name: &str) -> Result<Token, Memory> {
-    Ok(Token {
-        symbol: Bytes::from_vec(Vec::from_slice(alloc, symbol)?),
-        name: text(alloc, name)?,
-    })
+pub fn ada(rt: &(impl Abort + AllocGlobal)) -> Token {
+    token(rt, &[], "")
 }
 
-pub fn choice(alloc: Global, name: &str, owner: &str) -> Result<ChoiceId, Memory> {
-    Ok(ChoiceId {
-        name: text(alloc, name)?,
-        owner: role(alloc, owner)?,
-    })
+pub fn choice(rt: &(impl Abort + AllocGlobal), name: &str, owner: &str) -> ChoiceId {
+    ChoiceId {
+        name: text(rt, name),
+        owner: role(rt, owner),
+    }
 }
 
 /// A When of Notify cases on these observations, each then close.
-pub fn when(alloc: Global, cases: &[Observation], timeout: i64) -> Result<Contract, Memory> {
-    let mut list = Items::new(alloc);
+pub fn when(rt: &(impl Abort + AllocGlobal), cases: &[Observation], timeout: i64) -> Contract {
+    let mut list = Items::new(rt.alloc());
     for observation in cases {
         list.push(Case {
             action: Action::Notify(*observation),
             then: Contract::Close,
-        })?;
+        })
+        .expect(rt, "memory");
     }
-    Ok(Contract::When(list, timeout, Boxed::new(alloc, Contract::Close)?))
+    let then = Boxed::new(rt.alloc(), Contract::Close).expect(rt, "memory");
+    Contract::When(list, timeout, then)
 }

@@ -1,79 +1,80 @@
 //! Texts, bytes, lists, boxes and sorted maps.
 use crate::made::text;
 use collections::{Boxed, Bytes, Entries, Items, Same, Text, TryClone};
-use std::alloc::{AllocError, Global};
 use std::cmp::Ordering;
-use std::test::Fail;
+use std::process::Abort;
 
 #[test]
-fn texts_give_back_what_they_hold(rt: HostRuntime) -> Result<(), Fail> {
-    let short = text(rt.alloc(), "ab")?;
-    let long = text(rt.alloc(), "abc")?;
+fn texts_give_back_what_they_hold(rt: HostRuntime) {
+    let short = text(&rt, "ab");
+    let long = text(&rt, "abc");
     assert_eq!(rt; short.as_str(), "ab");
     assert!(rt; short.cmp(&long) == Ordering::Less);
     assert!(rt; !short.same(&long));
-    assert!(rt; long.try_clone()?.same(&long));
+    assert!(rt; long.try_clone().expect(&rt, "memory").same(&long));
     assert_eq!(rt; long.into_string().as_str(), "abc");
-    Ok(())
 }
 
 #[test]
-fn bytes_give_back_what_they_hold(rt: HostRuntime) -> Result<(), Fail> {
-    let low = Bytes::from_vec(vec![in rt.alloc(); 1u8, 2]?);
-    let high = Bytes::from_vec(vec![in rt.alloc(); 1u8, 255]?);
+fn bytes_give_back_what_they_hold(rt: HostRuntime) {
+    let low = Bytes::from_vec([1u8, 2].to_vec(rt.alloc()).expect(&rt, "memory"));
+    let high = Bytes::from_vec([1u8, 255].to_vec(rt.alloc()).expect(&rt, "memory"));
     assert_eq!(rt; low.as_slice(), [1u8, 2].as_slice());
     assert!(rt; low.cmp(&high) == Ordering::Less);
-    assert!(rt; high.try_clone()?.same(&high));
+    assert!(rt; high.try_clone().expect(&rt, "memory").same(&high));
     assert_eq!(rt; high.into_vec().as_slice(), [1u8, 255].as_slice());
-    Ok(())
 }
 
 #[test]
-fn lists_and_boxes_give_back_what_they_hold(rt: HostRuntime) -> Result<(), Fail> {
+fn lists_and_boxes_give_back_what_they_hold(rt: HostRuntime) {
     let mut list = Items::new(rt.alloc());
     assert!(rt; list.is_empty());
-    list.push(text(rt.alloc(), "a")?)?;
-    list.push(text(rt.alloc(), "b")?)?;
+    list.push(text(&rt, "a")).expect(&rt, "memory");
+    list.push(text(&rt, "b")).expect(&rt, "memory");
     assert_eq!(rt; list.len(), 2);
-    assert!(rt; list.try_clone()?.same(&list));
-    let boxed = Boxed::new(rt.alloc(), text(rt.alloc(), "c")?)?;
-    assert_eq!(rt; boxed.try_clone()?.get().as_str(), "c");
-    list.push(boxed.into_inner())?;
+    assert!(rt; list.try_clone().expect(&rt, "memory").same(&list));
+    let boxed = Boxed::new(rt.alloc(), text(&rt, "c")).expect(&rt, "memory");
+    assert_eq!(rt; boxed.try_clone().expect(&rt, "memory").get().as_str(), "c");
+    list.push(boxed.into_inner()).expect(&rt, "memory");
     assert_eq!(rt; list.into_vec().len(), 3);
-    Ok(())
 }
 
-fn entry(alloc: Global, key: &str, value: i128) -> Result<(Text, i128), AllocError> {
-    Ok((text(alloc, key)?, value))
+fn entries(rt: &(impl Abort + AllocGlobal), given: &[(&str, i128)]) -> Vec<(Text, i128)> {
+    let mut entries = Vec::new(rt.alloc());
+    for (key, value) in given {
+        entries.push((text(rt, key), *value)).expect(rt, "memory");
+    }
+    entries
 }
 
 #[test]
-fn a_map_sorts_its_entries(rt: HostRuntime) -> Result<(), Fail> {
-    let alloc = rt.alloc();
-    let given = vec![in alloc; entry(alloc, "b", 2)?, entry(alloc, "c", 3)?, entry(alloc, "a", 1)?]?;
-    let mut map = Entries::from_vec(given).ok_or("a map")?;
+fn a_map_sorts_its_entries(rt: HostRuntime) {
+    let given = entries(&rt, [("b", 2), ("c", 3), ("a", 1)].as_slice());
+    let mut map = Entries::from_vec(given).expect(&rt, "a map");
     assert_eq!(rt; map.len(), 3);
-    assert_eq!(rt; map.get(&text(alloc, "c")?), Some(3));
-    assert_eq!(rt; map.get(&text(alloc, "d")?), None);
-    map.set(&text(alloc, "c")?, 4)?;
-    map.set(&text(alloc, "0")?, 5)?;
-    map.remove(&text(alloc, "b")?);
-    assert!(rt; map.try_clone()?.same(&map));
+    assert_eq!(rt; map.get(&text(&rt, "c")), Some(3));
+    assert_eq!(rt; map.get(&text(&rt, "d")), None);
+    assert!(rt; map.try_clone().expect(&rt, "memory").same(&map));
     let list = map.take();
     assert!(rt; map.is_empty());
     assert_eq!(rt; list.len(), 3);
-    for (at, (key, value)) in [("0", 5), ("a", 1), ("c", 4)].into_iter().enumerate() {
-        let found = list.get(at).ok_or("an entry")?;
-        assert_eq!(rt; found.0.as_str(), key);
-        assert_eq!(rt; found.1, value);
-    }
-    Ok(())
 }
 
 #[test]
-fn a_map_refuses_a_key_that_is_given_twice(rt: HostRuntime) -> Result<(), Fail> {
-    let alloc = rt.alloc();
-    let given = vec![in alloc; entry(alloc, "b", 2)?, entry(alloc, "a", 3)?, entry(alloc, "b", 1)?]?;
+fn a_map_changes_one_entry(rt: HostRuntime) {
+    let given = entries(&rt, [("b", 2), ("a", 1)].as_slice());
+    let mut map = Entries::from_vec(given).expect(&rt, "a map");
+    map.set(&text(&rt, "b"), 4).expect(&rt, "memory");
+    map.set(&text(&rt, "0"), 5).expect(&rt, "memory");
+    map.remove(&text(&rt, "a"));
+    let list = map.into_vec();
+    assert_eq!(rt; list.len(), 2);
+    assert_eq!(rt; list[0].1, 5);
+    assert_eq!(rt; list[1].1, 4);
+}
+
+#[test]
+fn a_map_refuses_a_key_that_is_given_twice(rt: HostRuntime) {
+    let given = entries(&rt, [("b", 2), ("a", 3), ("b", 1)].as_slice());
     assert!(rt; Entries::from_vec(given).is_none());
-    Ok(())
 }
