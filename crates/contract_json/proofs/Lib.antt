@@ -4,3 +4,9 @@ pub mod Lists
 pub mod Pairs
 pub mod TextSteps
 pub mod Hexes
+pub mod MapReading
+pub mod Listed
+pub mod Returns
+pub mod RowSteps
+pub mod MapWriting
+pub mod Floats

@@ -4,5 +4,6 @@ pub mod ReadsNames
 pub mod ReadsContract
 pub mod ReadsInput
 pub mod ReadsState
+pub mod Rows
 pub mod ReadsText
 pub mod Written

@@ -1,6 +1,7 @@
 -- The JSON value that is written: members in the order of their keys' bytes.
 use Rattle.std.specs.Prelude.{◌≡◌, ℕ, ℤ, pos, negsuc, List, [], ◌∷◌, map, Bool, true, false, ◌&&◌, ◌^◌, nat_lt, nat_le, Result, Ok, Err, codes, if◌then◌else◌, ⊤}
 use Rattle.std.specs.Fmt.{signed_decimal}
+use Rattle.std.specs.List.{list_all}
 use Rattle.std.specs.FinMap.{entries}
 use Rattle.serde_json.specs.Data.{Data, boolean, number, string, array, object, Items, no_items, item, no_members, member}
 use Rattle.serde_json.specs.Find.{of_integer}
@@ -107,6 +108,9 @@ abbrev mutual
   cases_fit no_cases = true
   cases_fit (case_then a c ks) = contract_fits c && cases_fit ks
 
+abbrev pub case_fits : ActionTree × ContractTree → Bool
+case_fits k = contract_fits k.1
+
 -- ---- inputs and transactions
 
 abbrev pub input_json : Input → Data
@@ -134,6 +138,10 @@ state_json s = four (codes "accounts") (array (items_of (map account_row_json (e
     (codes "boundValues") (array (items_of (map bound_row_json (entries s.bound_values))))
     (codes "choices") (array (items_of (map choice_row_json (entries s.choices))))
     (codes "minTime") (number_json s.min_time)
+
+-- whether JSON has each number of a state's maps
+abbrev pub state_fits : StateMaps → Bool
+state_fits s = list_all (λ e. number_fits e.1) (entries s.accounts) && (list_all (λ e. number_fits e.1) (entries s.choices) && list_all (λ e. number_fits e.1) (entries s.bound_values))
 
 -- ---- outcomes
 

@@ -1,16 +1,20 @@
 //! Cases and contracts as JSON values.
-ghost use Rattle.std.specs.Prelude.{◌≡◌};
+ghost use Rattle.std.specs.Prelude.{◌≡◌, IfOk, Ok};
 ghost use Rattle.serde_json.specs.View.{view};
+ghost use Rattle.contract.specs.Tree.{contract_tree, case_tree};
 ghost use Rattle.contract_json.specs.Parts.{Gives, list};
 ghost use Rattle.contract_json.specs.ReadsContract as reads;
+ghost use Rattle.contract_json.specs.Written as written;
+ghost use Rattle.contract_json.specs.Written.{Written, contract_fits, case_fits};
 
-use crate::actions::{action_from_json, action_to_json};
+use crate::actions::action_from_json;
 use crate::fault::{JsonFault, WriteFault};
 use crate::forms::{CaseForm, ContractForm, case_form, contract_form};
 use crate::look::member;
-use crate::numbers::{read_time, time_json};
+use crate::numbers::read_time;
+use crate::writing::{case_json, contract_json};
 use contract::{Boxed, Case, Contract, Items};
-use serde_json::{Value as Json, json};
+use serde_json::Value as Json;
 use std::alloc::Global;
 
 /// The contract that a JSON value stands for.
@@ -66,32 +70,19 @@ fn cases_from_json(alloc: Global, json: &Json) -> Result<Items<Case>, JsonFault>
 }
 
 /// A contract as a JSON value.
-#[cycle(contract_to_json)]
-pub fn contract_to_json(alloc: Global, contract: &Contract) -> Result<Json, WriteFault> {
-    match contract {
-        Contract::Close => Ok(Json::try_from_str(alloc, "close")?),
-        Contract::When(cases, timeout, then) => {
-            let cases = cases_to_json(alloc, cases)?;
-            let then = contract_to_json(alloc, then.get())?;
-            let timeout = time_json(*timeout);
-            Ok(json!(in alloc; {"timeout": timeout, "timeout_continuation": then, "when": cases})?)
-        }
-    }
+#[tactic(auto, using(crate::proofs::Returns::returns))]
+pub fn contract_to_json(alloc: Global, contract: &Contract) -> Result<Json, WriteFault>
+    ensures written { Written view result (contract_fits (contract_tree contract.now)) (written.contract_json (contract_tree contract.now)) }
+    ensures reads_back { IfOk result (λ v. reads.contract (view v) ≡ Ok contract.now) }
+{
+    contract_json(alloc, contract)
 }
 
 /// A case as a JSON value.
-#[cycle(contract_to_json)]
-pub fn case_to_json(alloc: Global, case: &Case) -> Result<Json, WriteFault> {
-    let action = action_to_json(alloc, &case.action)?;
-    let then = contract_to_json(alloc, &case.then)?;
-    Ok(json!(in alloc; {"case": action, "then": then})?)
-}
-
-#[cycle(contract_to_json)]
-fn cases_to_json(alloc: Global, cases: &Items<Case>) -> Result<Json, WriteFault> {
-    let mut items = Vec::new(alloc);
-    for case in cases.as_slice() {
-        items.push(case_to_json(alloc, case)?)?;
-    }
-    Ok(Json::from(items))
+#[tactic(auto, using(crate::proofs::Returns::returns))]
+pub fn case_to_json(alloc: Global, case: &Case) -> Result<Json, WriteFault>
+    ensures written { Written view result (case_fits (case_tree case.now)) (written.case_json (case_tree case.now)) }
+    ensures reads_back { IfOk result (λ v. reads.case (view v) ≡ Ok case.now) }
+{
+    case_json(alloc, case)
 }

@@ -1,6 +1,7 @@
 //! Inputs and transactions as JSON values.
-ghost use Rattle.std.specs.Prelude.{◌≡◌, true, IfOk, Ok};
-ghost use Rattle.serde_json.specs.View.{view};
+ghost use Rattle.std.specs.Prelude.{◌≡◌, true, map, IfOk, Ok};
+ghost use Rattle.serde_json.specs.Data.{array};
+ghost use Rattle.serde_json.specs.View.{view, items_of};
 ghost use Rattle.contract_json.specs.Parts.{Gives, list};
 ghost use Rattle.contract_json.specs.ReadsInput as reads;
 ghost use Rattle.contract_json.specs.Written as written;
@@ -10,9 +11,10 @@ use crate::fault::{JsonFault, WriteFault};
 use crate::forms::{InputForm, input_form};
 use crate::look::{has_two, member};
 use crate::numbers::{read_time, time_json};
+use crate::objects::two;
 use crate::transaction::Transaction;
 use contract::{Input, Interval, Items, Memory};
-use serde_json::{Value as Json, json};
+use serde_json::Value as Json;
 use std::alloc::Global;
 
 /// The input that a JSON value stands for.
@@ -61,23 +63,29 @@ pub fn transaction_from_json(alloc: Global, json: &Json) -> Result<Transaction, 
 }
 
 /// An input as a JSON value.
+#[tactic(auto, unfolding(crate::specs::ReadsInput::input_by, crate::specs::Forms::input_form))]
 pub fn input_to_json(alloc: Global, input: &Input) -> Result<Json, WriteFault>
     ensures written { Written view result true (written.input_json input.now) }
+    ensures reads_back { IfOk result (λ v. reads.input (view v) ≡ Ok input.now) }
 {
     match input {
         Input::Notify => Ok(Json::try_from_str(alloc, "input_notify")?),
     }
 }
 
-fn interval_to_json(alloc: Global, interval: Interval) -> Result<Json, Memory>
-    ensures { IfOk result (λ v. view v ≡ written.interval_json interval) }
+fn interval_json(alloc: Global, interval: Interval) -> Result<Json, Memory>
+    ensures json { IfOk result (λ v. view v ≡ written.interval_json interval) }
+    ensures reads_back { IfOk result (λ v. reads.interval (view v) ≡ Ok interval) }
 {
     let from = time_json(interval.from);
     let to = time_json(interval.to);
-    json!(in alloc; {"from": from, "to": to})
+    two(alloc, "from", from, "to", to)
 }
 
-fn inputs_to_json(alloc: Global, inputs: &Items<Input>) -> Result<Json, WriteFault> {
+fn inputs_json(alloc: Global, inputs: &Items<Input>) -> Result<Json, WriteFault>
+    ensures written { Written view result true (array (items_of (map written.input_json inputs.now))) }
+    ensures reads_back { IfOk result (λ v. list reads.input (view v) ≡ Ok inputs.now) }
+{
     let mut items = Vec::new(alloc);
     for input in inputs.as_slice() {
         items.push(input_to_json(alloc, input)?)?;
@@ -86,11 +94,11 @@ fn inputs_to_json(alloc: Global, inputs: &Items<Input>) -> Result<Json, WriteFau
 }
 
 /// A transaction as a JSON value.
-pub fn transaction_to_json(
-    alloc: Global,
-    transaction: &Transaction,
-) -> Result<Json, WriteFault> {
-    let interval = interval_to_json(alloc, transaction.interval)?;
-    let inputs = inputs_to_json(alloc, &transaction.inputs)?;
-    Ok(json!(in alloc; {"tx_inputs": inputs, "tx_interval": interval})?)
+pub fn transaction_to_json(alloc: Global, transaction: &Transaction) -> Result<Json, WriteFault>
+    ensures written { Written view result true (written.transaction_json transaction.now) }
+    ensures reads_back { IfOk result (λ v. reads.transaction (view v) ≡ Ok transaction.now) }
+{
+    let interval = interval_json(alloc, transaction.interval)?;
+    let inputs = inputs_json(alloc, &transaction.inputs)?;
+    Ok(two(alloc, "tx_inputs", inputs, "tx_interval", interval)?)
 }

@@ -9,11 +9,13 @@ mod inputs;
 mod look;
 mod names;
 mod numbers;
+mod objects;
 mod outcomes;
 mod rows;
 mod states;
 mod texts;
 mod transaction;
+mod writing;
 
 pub use actions::{action_from_json, action_to_json, observation_from_json, observation_to_json};
 pub use contracts::{case_from_json, case_to_json, contract_from_json, contract_to_json};

@@ -1,8 +1,9 @@
 //! Numbers as JSON values.
 ghost use Rattle.std.specs.Prelude.{◌≡◌, true, IfOk, Ok};
 ghost use Rattle.serde_json.specs.View.{view};
-ghost use Rattle.contract_json.specs.Parts.{Gives, whole, time};
-ghost use Rattle.contract_json.specs.Written.{number_json, wide_json, time_fits};
+ghost use Rattle.contract_json.specs.Parts.{Gives, whole};
+ghost use Rattle.contract_json.specs.Parts as reads;
+ghost use Rattle.contract_json.specs.Written.{number_json, wide_json, number_fits, time_fits};
 
 use crate::fault::JsonFault;
 use contract::Memory;
@@ -26,7 +27,7 @@ pub(crate) fn read_whole(json: &Json) -> Result<i128, JsonFault>
 
 // A whole number from -2^63 to 2^63 - 1.
 pub(crate) fn read_time(json: &Json) -> Result<i64, JsonFault>
-    ensures { Gives result (time (view json.now)) }
+    ensures { Gives result (reads.time (view json.now)) }
 {
     if let Some(n) = json.as_i64() {
         Ok(n)
@@ -42,13 +43,15 @@ pub(crate) fn read_time(json: &Json) -> Result<i64, JsonFault>
 pub(crate) fn time_json(time: i64) -> Json
     ensures json { view result ≡ number_json time }
     ensures fits { time_fits time ≡ true }
+    ensures reads_back { reads.time (view result) ≡ Ok time }
 {
     Json::from(time)
 }
 
 // A number of any size: where JSON doesn't have it, a text of its decimal digits.
 pub(crate) fn wide_json(alloc: Global, n: i128) -> Result<Json, Memory>
-    ensures { IfOk result (λ v. view v ≡ wide_json n) }
+    ensures json { IfOk result (λ v. view v ≡ wide_json n) }
+    ensures reads_back { IfOk result (λ v. number_fits n ≡ true → whole (view v) ≡ Ok n) }
 {
     if let Ok(n) = u64::try_from(n) {
         Ok(Json::from(n))

@@ -1,28 +1,42 @@
 //! Outcomes as JSON values.
+ghost use Rattle.std.specs.Prelude.{◌≡◌, map, IfOk};
+ghost use Rattle.serde_json.specs.Data.{array};
+ghost use Rattle.serde_json.specs.View.{view, items_of};
+ghost use Rattle.contract.specs.Tree.{contract_tree};
+ghost use Rattle.contract_json.specs.Written as written;
+ghost use Rattle.contract_json.specs.Written.{Written, contract_fits};
+
 use crate::contracts::contract_to_json;
 use crate::fault::WriteFault;
 use crate::names::{party_to_json, payee_to_json, token_to_json};
 use crate::numbers::wide_json;
+use crate::objects::four;
 use crate::states::state_to_json;
 use contract::{Contract, Items, Memory, Outcome, Payment, Warning};
-use serde_json::{Value as Json, json};
+use serde_json::Value as Json;
 use std::alloc::Global;
 
-/// A payment as a JSON value.
-pub fn payment_to_json(alloc: Global, payment: &Payment) -> Result<Json, Memory> {
+/// A payment as a JSON value. An amount that JSON doesn't have is a text of its decimal digits.
+pub fn payment_to_json(alloc: Global, payment: &Payment) -> Result<Json, Memory>
+    ensures json { IfOk result (λ v. view v ≡ written.payment_json payment.now) }
+{
     let amount = wide_json(alloc, payment.amount)?;
     let from = party_to_json(alloc, &payment.from)?;
     let to = payee_to_json(alloc, &payment.to)?;
     let token = token_to_json(alloc, &payment.token)?;
-    json!(in alloc; {"amount": amount, "payment_from": from, "to": to, "token": token})
+    four(alloc, ("amount", amount), ("payment_from", from), ("to", to), ("token", token))
 }
 
-/// A warning as a JSON value.
-pub fn warning_to_json(_alloc: Global, warning: &Warning) -> Result<Json, Memory> {
+/// A warning as a JSON value. There is no warning yet.
+pub fn warning_to_json(_alloc: Global, warning: &Warning) -> Result<Json, Memory>
+    ensures json { IfOk result (λ v. view v ≡ written.warning_json warning.now) }
+{
     match *warning {}
 }
 
-fn payments_to_json(alloc: Global, payments: &Items<Payment>) -> Result<Json, Memory> {
+fn payments_json(alloc: Global, payments: &Items<Payment>) -> Result<Json, Memory>
+    ensures { IfOk result (λ v. view v ≡ array (items_of (map written.payment_json payments.now))) }
+{
     let mut items = Vec::new(alloc);
     for payment in payments.as_slice() {
         items.push(payment_to_json(alloc, payment)?)?;
@@ -30,7 +44,9 @@ fn payments_to_json(alloc: Global, payments: &Items<Payment>) -> Result<Json, Me
     Ok(Json::from(items))
 }
 
-fn warnings_to_json(alloc: Global, warnings: &Items<Warning>) -> Result<Json, Memory> {
+fn warnings_json(alloc: Global, warnings: &Items<Warning>) -> Result<Json, Memory>
+    ensures { IfOk result (λ v. view v ≡ array (items_of (map written.warning_json warnings.now))) }
+{
     let mut items = Vec::new(alloc);
     for warning in warnings.as_slice() {
         items.push(warning_to_json(alloc, warning)?)?;
@@ -38,14 +54,22 @@ fn warnings_to_json(alloc: Global, warnings: &Items<Warning>) -> Result<Json, Me
     Ok(Json::from(items))
 }
 
-/// An outcome as a JSON value: the contract that remains, the payments, the state and the warnings.
-pub fn outcome_to_json(
-    alloc: Global,
-    outcome: &Outcome<&Contract>,
-) -> Result<Json, WriteFault> {
+/// An outcome as a JSON value: the contract that remains, the payments and the warnings in order, and
+/// the state.
+pub fn outcome_to_json(alloc: Global, outcome: &Outcome<&Contract>) -> Result<Json, WriteFault>
+    ensures written { Written view result (contract_fits (contract_tree outcome.now.place.now))
+        (written.outcome_json outcome.now.warnings outcome.now.payments outcome.now.state (contract_tree outcome.now.place.now)) }
+{
     let contract = contract_to_json(alloc, outcome.place)?;
-    let payments = payments_to_json(alloc, &outcome.payments)?;
+    let payments = payments_json(alloc, &outcome.payments)?;
     let state = state_to_json(alloc, &outcome.state)?;
-    let warnings = warnings_to_json(alloc, &outcome.warnings)?;
-    Ok(json!(in alloc; {"contract": contract, "payments": payments, "state": state, "warnings": warnings})?)
+    let warnings = warnings_json(alloc, &outcome.warnings)?;
+    let whole = four(
+        alloc,
+        ("contract", contract),
+        ("payments", payments),
+        ("state", state),
+        ("warnings", warnings),
+    )?;
+    Ok(whole)
 }

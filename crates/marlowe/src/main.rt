@@ -11,6 +11,8 @@ mod line;
 mod load;
 mod refusal;
 mod run;
+#[cfg(test)]
+mod tests;
 
 use crate::fault::{Fault, RunFault};
 use crate::line::{Task, line};

@@ -1,5 +1,5 @@
 -- The parts of a transaction.
-use Rattle.std.proofs.Common.{◌≡◌, ℕ, ◌+◌, ◌<◌, ◌≤◌, ◌==◌, ℤ, Bool, true, false, cond, ◌&&◌, List, [], ◌∷◌, ◌++◌, length, get_or, drop, map, int_lt, int_le, refl, sym, ap, ◌∙◌, Result, Ok, Err, is_ok, Option, Some, None, inl, inr, subst, arith}
+use Rattle.std.proofs.Common.{◌≡◌, ℕ, ◌+◌, ◌<◌, ◌≤◌, ◌==◌, ℤ, Bool, true, false, cond, ◌&&◌, List, [], ◌∷◌, ◌++◌, length, get_or, drop, map, int_lt, int_le, refl, sym, ap, ◌∙◌, Result, Ok, Err, is_ok, Option, Some, None, inl, subst, arith}
 use Rattle.std.proofs.lemmas.List.{at_drop_more, drop_all}
 use Rattle.std.proofs.lemmas.Bool.Decides.{nat_tests}
 use Rattle.std.specs.FinMap.{entries, empty}
@@ -14,7 +14,7 @@ use Rattle.semantics.specs.Walk.{Turn, refund, At, at, Walk, ended, joined, then
 use Rattle.semantics.specs.Path.{waits_for}
 use Rattle.semantics.specs.Reduction.{Reduction, refund_of, timing_out}
 use Rattle.semantics.specs.Transaction.{no_turns, finished}
-use Rattle.semantics.specs.Computed.{Step, stops, goes, go_on, settled, refunds, first_match, first_place, tried_to_match, take_match, applied, one_input, all_inputs, fixed, from_start, from_fixed, computed}
+use Rattle.semantics.specs.Computed.{stops, goes, go_on, settled, first_match, first_place, tried_to_match, take_match, applied, one_input, all_inputs, fixed, from_start, from_fixed, computed}
 use Rattle.semantics.specs.Reduced.{is_quiet, is_none_left}
 use Rattle.semantics.proofs.Walks.{Follows, follows, fails_first, finished_fails, finished_busy, Busy, busy_then, and_false}
 
@@ -79,8 +79,8 @@ none_brought : (xs : List Input) → true ≡ (length xs == 0) → xs ≡ []
 none_brought [] h = refl
 none_brought (x ∷ xs) h = absurd (omega (arith, eqb_zero h))
   where
-  eqb_zero : true ≡ (length (x ∷ xs) == 0) → length (x ∷ xs) ≡ 0
-  eqb_zero k = grind (arith, nat_tests)
+    eqb_zero : true ≡ (length (x ∷ xs) == 0) → length (x ∷ xs) ≡ 0
+    eqb_zero k = grind (arith, nat_tests)
 
 -- ---- from the interval on
 

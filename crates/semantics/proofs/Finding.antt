@@ -1,5 +1,5 @@
 -- The cases of a When, one after another.
-use Rattle.std.proofs.Common.{◌≡◌, ℕ, ◌+◌, ◌<◌, ℤ, Bool, true, false, cond, ◌&&◌, List, [], ◌∷◌, ◌++◌, length, get_or, drop, map, refl, sym, ap, ◌∙◌, Result, Ok, Err, Option, Some, None}
+use Rattle.std.proofs.Common.{◌≡◌, ℕ, ◌+◌, ◌<◌, ℤ, Bool, true, false, cond, ◌&&◌, List, [], ◌∷◌, length, get_or, drop, map, refl, sym, ap, ◌∙◌, Ok, Err, Option, Some}
 use Rattle.std.proofs.lemmas.List.{at_drop_more}
 use Rattle.contract.specs.declared.fault.SemFault.{SemFault}
 use Rattle.contract.specs.declared.fault.SemFault.TheVariants.{Leaves128}
@@ -29,10 +29,10 @@ module _ (i : Interval) (s : StateMaps) (x : Input) (ks : List Case) (n : ℕ) (
       let w = within_ok _ _ _ q in
       here (λ ys. all_fit (tried_to_match i s x ys)) ∙ (all_fit_append (tried i s x (action_tree k.action)) _ ∙ past (all_fit (tried i s x (action_tree k.action))) (matches i s x (action_tree k.action)) (tried_to_match i s x (map case_tree (drop (n + 1) ks))) w.0 w.1)
     where
-    past : (b m : Bool) (ns : List ℤ) → b ≡ true → false ≡ m → b && all_fit (cond m [] ns) ≡ all_fit ns
-    past true true ns p r = absurd (cc)
-    past true false ns p r = refl
-    past false m ns p r = absurd (cc)
+      past : (b m : Bool) (ns : List ℤ) → b ≡ true → false ≡ m → b && all_fit (cond m [] ns) ≡ all_fit ns
+      past true true ns p r = absurd (cc)
+      past true false ns p r = refl
+      past false m ns p r = absurd (cc)
 
   pub first_past : Ok false ≡ within (tried i s x (action_tree k.action)) (matches i s x (action_tree k.action)) → first_match i s x (map case_tree (drop n ks)) ≡ first_match i s x (map case_tree (drop (n + 1) ks))
   first_past q = let w = within_ok _ _ _ q in here (first_match i s x) ∙ ap (λ m. cond m (Some (contract_tree k.then)) (first_match i s x (map case_tree (drop (n + 1) ks)))) (sym w.1)
@@ -55,6 +55,6 @@ module _ (i : Interval) (s : StateMaps) (x : Input) (ks : List Case) (n : ℕ) (
   pub fault_here : (f : SemFault) (b : Bool) (y : Option ContractTree) → Err f ≡ within (tried i s x (action_tree k.action)) (matches i s x (action_tree k.action)) → b ≡ all_fit (tried_to_match i s x (map case_tree (drop n ks))) → Err f ≡ cond b (Ok y) (Err Leaves128)
   fault_here f b y q r = bad (all_fit (tried i s x (action_tree k.action))) _ b f y _ q (r ∙ (here (λ ys. all_fit (tried_to_match i s x ys)) ∙ all_fit_append (tried i s x (action_tree k.action)) _))
     where
-    bad : (a d b : Bool) (f : SemFault) (y : Option ContractTree) (m : Bool) → Err f ≡ cond a (Ok m) (Err Leaves128) → b ≡ a && d → Err f ≡ cond b (Ok y) (Err Leaves128)
-    bad true d b f y m q r = absurd (cc)
-    bad false d b f y m q r = let g : f ≡ Leaves128 = cc in rw (r, g)
+      bad : (a d b : Bool) (f : SemFault) (y : Option ContractTree) (m : Bool) → Err f ≡ cond a (Ok m) (Err Leaves128) → b ≡ a && d → Err f ≡ cond b (Ok y) (Err Leaves128)
+      bad true d b f y m q r = absurd (cc)
+      bad false d b f y m q r = let g : f ≡ Leaves128 = cc in rw (r, g)

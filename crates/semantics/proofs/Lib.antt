@@ -4,3 +4,11 @@ pub mod Settling
 pub mod Finding
 pub mod Walks
 pub mod Computing
+pub mod Paths
+pub mod Integers
+pub mod Relations
+pub mod Taking
+pub mod Allowed
+pub mod Ends
+pub mod Examples
+pub mod Faults

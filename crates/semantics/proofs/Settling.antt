@@ -1,7 +1,7 @@
 -- How a contract settles, one step at a time.
-use Rattle.std.proofs.Common.{◌≡◌, ℕ, suc, ◌<◌, ℤ, Bool, true, false, cond, ◌&&◌, List, [], ◌∷◌, ◌++◌, refl, sym, ap, ◌∙◌, arith, int_lt, int_le, Option, Some, None, Result, Ok, Err, inl, inr, subst, append_assoc}
+use Rattle.std.proofs.Common.{◌≡◌, suc, ◌<◌, Bool, true, false, cond, ◌&&◌, ◌++◌, refl, sym, ap, ◌∙◌, arith, int_lt, int_le, Option, Some, None, Result, Ok, Err, inl, inr, subst}
 use Rattle.contract.specs.declared.fault.SemFault.{SemFault}
-use Rattle.contract.specs.declared.fault.SemFault.TheVariants.{Ambiguous, Leaves128, Memory}
+use Rattle.contract.specs.declared.fault.SemFault.TheVariants.{Ambiguous, Leaves128}
 use Rattle.contract.specs.declared.interval.Interval.{Interval}
 use Rattle.contract.specs.States.{StateMaps}
 use Rattle.contract.specs.Tree.{ContractTree, close, when}
@@ -9,7 +9,9 @@ use Rattle.semantics.specs.Walk.{At, at, Walk, ended, answer_of, Aside}
 use Rattle.semantics.specs.Numbers.{all_fit}
 use Rattle.semantics.specs.Reduction.{Reduction, timing_out}
 use Rattle.semantics.specs.Settling.{after}
-use Rattle.semantics.specs.Computed.{Step, stops, goes, when_step, step, go_on, settled, refunds}
+use Rattle.semantics.specs.Computed.{Step, stops, goes, step, go_on, settled}
+use Rattle.semantics.proofs.Numbers.{all_fit_append, from_cond}
+use Rattle.semantics.proofs.Walks.{not_memory, ok_answer, same_end}
 use Rattle.semantics.specs.Reduced.{reply, stop_reply, state_after, end_state, warnings_of, payments_of, height}
 
 -- ---- each form
@@ -46,3 +48,92 @@ pub stops_here : (i : Interval) (s : StateMaps) (c : ContractTree) (w : Walk) (a
 stops_here i s close w a e h = cc
 stops_here i s (when ks t c) w a e h =
     ap (λ x. x.contract) (when_stops (int_lt i.to t) (int_le t i.from) w (timing_out s c) (at s (when ks t c)) a e h)
+
+-- ---- what a step's reply tells
+
+reply_some : (t : Step) (next : ContractTree) → Ok (Some next) ≡ reply t → (r : Reduction) × (t ≡ goes r) × (all_fit r.numbers ≡ true) × (next ≡ r.contract)
+reply_some (stops w) next h = absurd (by_end (answer_of w) h)
+  where
+    by_end : (end : Result At SemFault) → Ok (Some next) ≡ stop_reply end → ⊥
+    by_end (Ok a) k = cc
+    by_end (Err f) k = cc
+reply_some (goes r) next h = let k = from_cond (all_fit r.numbers) (Some r.contract) (Some next) h in (r, refl, k.0, cc)
+
+reply_none : (t : Step) → Ok None ≡ reply t → (w : Walk) × (a : At) × (t ≡ stops w) × (answer_of w ≡ Ok a)
+reply_none (stops w) h = by_end (answer_of w) refl h
+  where
+    by_end : (end : Result At SemFault) → answer_of w ≡ end → Ok None ≡ stop_reply end → (v : Walk) × (a : At) × (stops w ≡ stops v) × (answer_of v ≡ Ok a)
+    by_end (Ok a) q k = (w, a, refl, q)
+    by_end (Err f) q k = absurd (cc)
+reply_none (goes r) h = absurd (let k = from_cond (all_fit r.numbers) (Some r.contract) None h in cc)
+
+-- how it settles, and how it settles from after one reduction
+pub record More (i : Interval) (s : StateMaps) (c : ContractTree) (t : StateMaps) (d : ContractTree) : Type 0 where
+  pub fits : all_fit (settled i s c).numbers ≡ all_fit (settled i t d).numbers
+  pub warnings : (settled i s c).warnings ≡ warnings_of (step i s c) ++ (settled i t d).warnings
+  pub payments : (settled i s c).payments ≡ payments_of (step i s c) ++ (settled i t d).payments
+  pub end : (settled i s c).end ≡ (settled i t d).end
+  pub less : height d < height c
+
+one_more : (i : Interval) (s : StateMaps) (c : ContractTree) (r : Reduction) → step i s c ≡ goes r → all_fit r.numbers ≡ true → More i s c r.state r.contract
+one_more i s c r q k =
+    let e = settled_goes i s c r q in
+    record {
+      fits = ap (λ w. all_fit w.numbers) e ∙ (all_fit_append r.numbers _ ∙ ap (λ b. b && all_fit (settled i r.state r.contract).numbers) k);
+      warnings = ap (λ w. w.warnings) e ∙ ap (λ t. warnings_of t ++ (settled i r.state r.contract).warnings) (sym q);
+      payments = ap (λ w. w.payments) e ∙ ap (λ t. payments_of t ++ (settled i r.state r.contract).payments) (sym q);
+      end = ap (λ w. w.end) e;
+      less = step_less i s c r q;
+    }
+
+-- after a reduction
+pub goes_on : (i : Interval) (s : StateMaps) (c : ContractTree) (t : StateMaps) (next : ContractTree) → Aside (Ok (Some next)) (reply (step i s c)) → t ≡ state_after s (step i s c) → More i s c t next
+goes_on i s c t next h e =
+    let k = reply_some (step i s c) next (not_memory _ _ h) in
+    let m = one_more i s c (k.0) k.1 k.2 in
+    let e' : t ≡ (k.0).state = e ∙ ap (state_after s) k.1 in
+    subst (λ x. More i s c t x) (sym k.3) (subst (λ x. More i s c x (k.0).contract) (sym e') m)
+
+-- where all is quiet
+pub record Last (i : Interval) (s : StateMaps) (c : ContractTree) (t : StateMaps) : Type 0 where
+  pub fits : all_fit (settled i s c).numbers ≡ true
+  pub warnings : (settled i s c).warnings ≡ warnings_of (step i s c)
+  pub payments : (settled i s c).payments ≡ payments_of (step i s c)
+  pub end : (settled i s c).end ≡ Ok (at t c)
+
+pub stops_well : (i : Interval) (s : StateMaps) (c : ContractTree) (t : StateMaps) → Aside (Ok None) (reply (step i s c)) → t ≡ state_after s (step i s c) → Last i s c t
+stops_well i s c t h e =
+    let k = reply_none (step i s c) (not_memory _ _ h) in
+    let q = settled_stops i s c (k.0) k.2 in
+    let well = ok_answer (all_fit (k.0).numbers) (k.0).end (k.1) (sym k.3) in
+    let here = stops_here i s c (k.0) (k.1) k.2 well.1 in
+    let there : (k.1).state ≡ t = sym (e ∙ (ap (state_after s) k.2 ∙ ap (end_state s) well.1)) in
+    record {
+      fits = ap (λ w. all_fit w.numbers) q ∙ well.0;
+      warnings = ap (λ w. w.warnings) q ∙ ap warnings_of (sym k.2);
+      payments = ap (λ w. w.payments) q ∙ ap payments_of (sym k.2);
+      end = ap (λ w. w.end) q ∙ (well.1 ∙ (λ j. Ok (at (there j) (here j))));
+    }
+
+fault_reply : (i : Interval) (s : StateMaps) (c : ContractTree) (e : SemFault) (t : Step) → step i s c ≡ t → Err e ≡ reply t → Err e ≡ answer_of (settled i s c)
+fault_reply i s c e (stops w) q h = rw (settled_stops i s c w q) (by_end (answer_of w) h)
+  where
+    by_end : (end : Result At SemFault) → ◌≡◌ {A = Result (Option ContractTree) SemFault} (Err e) (stop_reply end) → Err e ≡ end
+    by_end (Ok a) k = absurd (cc)
+    by_end (Err f) k = cc
+fault_reply i s c e (goes r) q h =
+    rw (settled_goes i s c r q, all_fit_append r.numbers (settled i r.state r.contract).numbers) (bad (all_fit r.numbers) _ (Some r.contract) _ h)
+  where
+    bad : (b d : Bool) (x : Option ContractTree) (y : Result At SemFault) → Err e ≡ cond b (Ok x) (Err Leaves128) → Err e ≡ cond (b && d) y (Err Leaves128)
+    bad true d x y h = absurd (cc)
+    bad false d x y h = cc
+
+-- a fault on the way is the answer of the whole
+pub fails : (i : Interval) (s : StateMaps) (c : ContractTree) (e : SemFault) (w : Walk) → Aside {A = Option ContractTree} (Err e) (reply (step i s c)) →
+    all_fit w.numbers ≡ all_fit (settled i s c).numbers → w.end ≡ (settled i s c).end → Aside {A = At} (Err e) (answer_of w)
+fails i s c e w (inl h) f g = same_end w (settled i s c) (Err e) f g (inl (fault_reply i s c e (step i s c) refl h))
+fails i s c e w (inr h) f g = inr (cc)
+
+-- where all is quiet, the whole has ended
+pub ends_whole : (i : Interval) (s : StateMaps) (c : ContractTree) (t : StateMaps) (w : Walk) → Last i s c t → all_fit w.numbers ≡ all_fit (settled i s c).numbers → w.end ≡ (settled i s c).end → Aside (Ok (at t c)) (answer_of w)
+ends_whole i s c t w h f g = inl (sym (ap (λ b. cond b w.end (Err Leaves128)) (f ∙ h.fits) ∙ (g ∙ h.end)))

@@ -1,11 +1,11 @@
 -- One part of a transaction after another.
 use Rattle.std.proofs.Common.{◌≡◌, Bool, true, false, cond, ◌&&◌, List, [], ◌∷◌, ◌++◌, refl, sym, ap, ◌∙◌, Result, Ok, Err, OnOk, inl, inr, append_assoc, subst, is_ok}
 use Rattle.contract.specs.declared.fault.SemFault.{SemFault}
-use Rattle.contract.specs.declared.fault.SemFault.TheVariants.{Leaves128, Memory, Useless}
+use Rattle.contract.specs.declared.fault.SemFault.TheVariants.{Leaves128, Useless}
 use Rattle.contract.specs.declared.payment.Payment.{Payment}
 use Rattle.contract.specs.declared.warning.Warning.{Warning}
 use Rattle.semantics.specs.Numbers.{all_fit}
-use Rattle.semantics.specs.Walk.{Turn, At, at, Walk, ended, joined, then_from, then_walk, answer_of, Aside}
+use Rattle.semantics.specs.Walk.{Turn, At, Walk, then_from, then_walk, answer_of, Aside}
 use Rattle.semantics.specs.Transaction.{no_turns, finished}
 use Rattle.semantics.proofs.Numbers.{all_fit_append}
 
@@ -29,7 +29,7 @@ ok_answer false end a h = absurd (cc)
 follows_at : (w : Walk) (f : At → Walk) (a : At) (end : Result At SemFault) → all_fit w.numbers ≡ true → end ≡ Ok a → Follows (then_from w end f) (f a) w.warnings w.payments
 follows_at w f a end h k =
     subst (λ e. Follows (then_from w e f) (f a) w.warnings w.payments) (sym k)
-        (record { fits = all_fit_append w.numbers (f a).numbers ∙ ap (λ b. b && all_fit (f a).numbers) h; warnings = refl; payments = refl; end = refl })
+    (record { fits = all_fit_append w.numbers (f a).numbers ∙ ap (λ b. b && all_fit (f a).numbers) h; warnings = refl; payments = refl; end = refl })
 
 -- a part that ended well
 pub follows : (w : Walk) (f : At → Walk) (a : At) → Aside (Ok a) (answer_of w) → Follows (then_walk w f) (f a) w.warnings w.payments
@@ -39,12 +39,12 @@ follows w f a h = let k = ok_answer (all_fit w.numbers) w.end a (not_memory _ _ 
 pub fails_first : (w : Walk) (f : At → Walk) (e : SemFault) → Aside (Err e) (answer_of w) → Aside (Err e) (answer_of (then_walk w f))
 fails_first w f e (inl h) = inl (by_end w.end (all_fit w.numbers) refl refl h)
   where
-  by_end : (end : Result At SemFault) (b : Bool) → w.end ≡ end → all_fit w.numbers ≡ b → Err e ≡ cond (all_fit w.numbers) w.end (Err Leaves128) → Err e ≡ answer_of (then_from w w.end f)
-  by_end (Ok a) true p q h = absurd (let g : ◌≡◌ {A = Result At SemFault} (Err e) (Ok a) = rw (q, p) at h in cc)
-  by_end (Ok a) false p q h =
-      let g : ◌≡◌ {A = Result At SemFault} (Err e) (Err Leaves128) = rw q at h in
-      rw (p, all_fit_append w.numbers (f a).numbers, q) g
-  by_end (Err d) b p q h = rw p (rw p at h)
+    by_end : (end : Result At SemFault) (b : Bool) → w.end ≡ end → all_fit w.numbers ≡ b → Err e ≡ cond (all_fit w.numbers) w.end (Err Leaves128) → Err e ≡ answer_of (then_from w w.end f)
+    by_end (Ok a) true p q h = absurd (let g : ◌≡◌ {A = Result At SemFault} (Err e) (Ok a) = rw (q, p) at h in cc)
+    by_end (Ok a) false p q h =
+        let g : ◌≡◌ {A = Result At SemFault} (Err e) (Err Leaves128) = rw q at h in
+        rw (p, all_fit_append w.numbers (f a).numbers, q) g
+    by_end (Err d) b p q h = rw p (rw p at h)
 fails_first w f e (inr h) = inr h
 
 -- one answer, by its two parts
@@ -95,10 +95,10 @@ busy_then w f h = busy_from w w.end f refl h
 pub finished_fails : (w : Walk) (e : SemFault) → Aside (Err e) (answer_of w) → Aside (Err e) (answer_of (finished w))
 finished_fails w e (inl h) = inl (by_busy (is_ok w.end && no_turns w.turns) (all_fit w.numbers) w.end h refl)
   where
-  by_busy : (b d : Bool) (end : Result At SemFault) → Err e ≡ cond d end (Err Leaves128) → b ≡ is_ok end && no_turns w.turns → Err e ≡ cond d (cond b (Err Useless) end) (Err Leaves128)
-  by_busy true true (Ok a) h q = absurd (cc)
-  by_busy true true (Err f) h q = absurd (cc)
-  by_busy true false end h q = h
-  by_busy false true end h q = h
-  by_busy false false end h q = h
+    by_busy : (b d : Bool) (end : Result At SemFault) → Err e ≡ cond d end (Err Leaves128) → b ≡ is_ok end && no_turns w.turns → Err e ≡ cond d (cond b (Err Useless) end) (Err Leaves128)
+    by_busy true true (Ok a) h q = absurd (cc)
+    by_busy true true (Err f) h q = absurd (cc)
+    by_busy true false end h q = h
+    by_busy false true end h q = h
+    by_busy false false end h q = h
 finished_fails w e (inr h) = inr h

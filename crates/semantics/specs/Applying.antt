@@ -8,7 +8,7 @@ use Rattle.contract.specs.declared.warning.Warning.{Warning}
 use Rattle.contract.specs.States.{StateMaps}
 use Rattle.contract.specs.Tree.{ActionTree, notify, ContractTree}
 use Rattle.semantics.specs.Evaluation.{holds, looked}
-use Rattle.semantics.specs.Walk.{Turn, in_case, At, at, Walk}
+use Rattle.semantics.specs.Walk.{in_case, At, at, Walk}
 use Rattle.semantics.specs.Path.{waits_for}
 
 -- an input matches an action

@@ -1,21 +1,18 @@
 -- The one walk that the relations of a transaction allow, as a function of contract, state, interval and inputs.
-use Rattle.std.specs.Prelude.{ℕ, suc, ℤ, int_lt, int_le, Bool, true, false, List, [], ◌∷◌, ◌++◌, map, if◌then◌else◌, Option, Some, None, Result, Ok, Err}
+use Rattle.std.specs.Prelude.{ℕ, suc, ℤ, int_lt, int_le, List, [], ◌∷◌, ◌++◌, map, if◌then◌else◌, Option, Some, None, Result, Ok, Err}
 use Rattle.std.specs.FinMap.{entries, empty}
-use Rattle.names.specs.declared.account.Account.{Account}
 use Rattle.contract.specs.declared.fault.SemFault.{SemFault}
 use Rattle.contract.specs.declared.fault.SemFault.TheVariants.{InvalidInterval, IntervalInPast, Ambiguous}
 use Rattle.contract.specs.declared.input.Input.{Input}
 use Rattle.contract.specs.declared.interval.Interval.{Interval}
-use Rattle.contract.specs.declared.payment.Payment.{Payment}
-use Rattle.contract.specs.declared.warning.Warning.{Warning}
 use Rattle.contract.specs.States.{StateMaps}
 use Rattle.contract.specs.Tree.{ActionTree, ContractTree, close, when}
-use Rattle.semantics.specs.Walk.{Turn, refund, At, at, Walk, ended, then_walk}
+use Rattle.semantics.specs.Walk.{refund, At, at, Walk, ended, then_walk}
 use Rattle.semantics.specs.Path.{waits_for}
-use Rattle.semantics.specs.Reduction.{Reduction, refund_of, refunded, timing_out, first_account}
+use Rattle.semantics.specs.Reduction.{Reduction, refund_of, timing_out}
 use Rattle.semantics.specs.Settling.{after}
 use Rattle.semantics.specs.Applying.{matches, tried, taking, refused}
-use Rattle.semantics.specs.Transaction.{trimmed, begun, finished}
+use Rattle.semantics.specs.Transaction.{trimmed, finished}
 
 -- all refunds of a Close, in order
 abbrev pub refunds : StateMaps → Walk

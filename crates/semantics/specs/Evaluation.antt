@@ -6,11 +6,11 @@ use Rattle.contract.specs.States.{StateMaps}
 use Rattle.contract.specs.declared.interval.Interval.{Interval}
 
 -- whether an observation is true
-abbrev pub holds : Interval → StateMaps → ObservationTree → Bool
+unfoldable pub holds : Interval → StateMaps → ObservationTree → Bool
 holds i s true_obs = true
 holds i s false_obs = false
 
 -- the numbers that its evaluation visits, in order
-abbrev pub looked : Interval → StateMaps → ObservationTree → List ℤ
+unfoldable pub looked : Interval → StateMaps → ObservationTree → List ℤ
 looked i s true_obs = []
 looked i s false_obs = []

@@ -9,3 +9,6 @@ pub mod Transaction
 pub mod Computed
 pub mod Same
 pub mod Reduced
+pub mod Laws
+pub mod Answer
+pub mod Rows

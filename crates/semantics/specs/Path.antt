@@ -1,5 +1,5 @@
 -- The part of a contract that turns lead to.
-use Rattle.std.specs.Prelude.{ℕ, List, [], ◌∷◌, slice_get, Option, Some, None, option_map}
+use Rattle.std.specs.Prelude.{List, [], ◌∷◌, slice_get, Option, Some, None, option_map}
 use Rattle.std.specs.Option.{option_and_then}
 use Rattle.contract.specs.Tree.{ActionTree, ContractTree, CaseTrees, close, when, no_cases, case_then}
 use Rattle.semantics.specs.Walk.{Turn, refund, timed_out, in_case}

@@ -1,5 +1,5 @@
 -- What one step of the code answers and leaves, and how far the contract is from its end.
-use Rattle.std.specs.Prelude.{◌≡◌, ℕ, suc, max, Bool, true, false, List, [], ◌∷◌, if◌then◌else◌, int_lt, Option, Some, None, Result, Ok, Err}
+use Rattle.std.specs.Prelude.{ℕ, suc, Bool, true, false, List, [], ◌∷◌, if◌then◌else◌, int_lt, Option, Some, None, Result, Ok, Err}
 use Rattle.std.specs.Borrow.{Bor}
 use Rattle.std.specs.FinMap.{entries}
 use Rattle.contract.specs.declared.fault.SemFault.{SemFault}
@@ -11,7 +11,7 @@ use Rattle.contract.specs.declared.tree.Contract.{Contract}
 use Rattle.contract.specs.States.{StateMaps}
 use Rattle.contract.specs.Tree.{ContractTree, close, when, contract_tree}
 use Rattle.semantics.specs.Numbers.{all_fit}
-use Rattle.semantics.specs.Walk.{At, at, Walk}
+use Rattle.semantics.specs.Walk.{At, at, answer_of}
 use Rattle.semantics.specs.Computed.{Step, stops, goes}
 
 abbrev pub stop_reply : Result At SemFault → Result (Option ContractTree) SemFault
@@ -20,7 +20,7 @@ stop_reply (Err f) = Err f
 
 -- the part that is gone on with, none where all is quiet, or a fault
 abbrev pub reply : Step → Result (Option ContractTree) SemFault
-reply (stops w) = stop_reply w.end
+reply (stops w) = stop_reply (answer_of w)
 reply (goes r) = if all_fit r.numbers then Ok (Some r.contract) else Err Leaves128
 
 abbrev pub end_state : StateMaps → Result At SemFault → StateMaps

@@ -1,5 +1,5 @@
 -- One reduction (Marlowe specification version 3, "Reduce contract step").
-use Rattle.std.specs.Prelude.{◌≡◌, ℤ, pos, ◌≤ℤ◌, ◌<ℤ◌, List, [], ◌∷◌, slice_get, Option, Some, None}
+use Rattle.std.specs.Prelude.{◌≡◌, ℤ, pos, ◌≤ℤ◌, ◌<ℤ◌, List, [], ◌∷◌, slice_get, Option, Some}
 use Rattle.std.specs.FinMap.{entries}
 use Rattle.names.specs.declared.account.Account.{Account}
 use Rattle.names.specs.declared.payee.Payee.TheVariants.{Party as ToParty}

@@ -1,5 +1,5 @@
 -- A part of a transaction: what it visits, says and pays, the turns that it takes, and how it ends.
-use Rattle.std.specs.Prelude.{◌≡◌, ℕ, ℤ, List, [], ◌∷◌, ◌++◌, if◌then◌else◌, ◌⊎◌, Result, Ok, Err}
+use Rattle.std.specs.Prelude.{◌≡◌, ℕ, ℤ, List, [], ◌++◌, if◌then◌else◌, ◌⊎◌, Result, Ok, Err}
 use Rattle.contract.specs.declared.fault.SemFault.{SemFault}
 use Rattle.contract.specs.declared.fault.SemFault.TheVariants.{Leaves128, Memory}
 use Rattle.contract.specs.declared.warning.Warning.{Warning}

@@ -7,6 +7,7 @@ ghost use Rattle.semantics.specs.Evaluation.{holds, looked};
 use contract::{Interval, Observation, SemFault, State};
 
 /// Whether an observation is true, or `Leaves128`; takes no memory.
+#[tactic(auto, unfolding(crate::specs::Evaluation::holds, crate::specs::Evaluation::looked))]
 pub fn holds(observation: &Observation, state: &State, interval: Interval) -> Result<bool, SemFault>
     ensures { result ≡ within (looked interval state.now (observation_tree observation.now)) (holds interval state.now (observation_tree observation.now)) }
 {

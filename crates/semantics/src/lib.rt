@@ -3,6 +3,7 @@
 
 mod apply;
 mod evaluate;
+pub mod laws;
 mod log;
 mod plain;
 mod reduce;

@@ -1,8 +1,10 @@
 //! Transactions on contracts, however these are kept.
-ghost use Rattle.std.specs.Prelude.{◌≡◌, ◌↔◌, true, IsTrue, List, Some};
+ghost use Rattle.std.specs.Prelude.{◌≡◌, ◌↔◌, true, IsTrue, IfOk, List, Some};
 ghost use Rattle.contract.specs.Tree.{ContractTree, close};
-ghost use Rattle.semantics.specs.Walk.{Turn};
+ghost use Rattle.semantics.specs.Walk.{Turn, Aside, answer_of};
 ghost use Rattle.semantics.specs.Path.{along};
+ghost use Rattle.semantics.specs.Computed.{computed};
+ghost use Rattle.semantics.specs.Answer.{answered};
 
 use contract::{Input, Interval, Outcome, SemFault, State};
 use std::alloc::Global;
@@ -30,7 +32,11 @@ pub trait Steps {
         interval: Interval,
         inputs: &[Input],
     ) -> Result<Outcome<Self::Place>, SemFault>
-        requires { contains self.now place.now };
+        requires { contains self.now place.now }
+        ensures answer { Aside (answered (tree self.now) result) (answer_of (computed interval state.now (tree self.now place.now) inputs.now)) }
+        ensures warnings { IfOk result (λ outcome. outcome.warnings ≡ (computed interval state.now (tree self.now place.now) inputs.now).warnings) }
+        ensures payments { IfOk result (λ outcome. outcome.payments ≡ (computed interval state.now (tree self.now place.now) inputs.now).payments) }
+        ensures place { IfOk result (λ outcome. leads self.now place.now (computed interval state.now (tree self.now place.now) inputs.now).turns outcome.place) };
 
     /// Whether the contract at a place is Close.
     fn is_closed(&self, place: &Self::Place) -> bool

@@ -17,13 +17,13 @@ returns-in_err-fixed-clause-reply c =
 pub returns-then-is_quiet-clause-reply : goal.returns-then-is_quiet-clause-reply
 returns-then-is_quiet-clause-reply c =
     computed_useless c.args.interval c.args.state.now c.in_ok-fixed.fixed c.fix.new.state (contract_tree c.args.contract.now) c.args.inputs.now
-        c.in_ok-fixed.ensures.reply c.in_ok-fixed.ensures.state c.if-is_empty.ensures c.if-is_quiet.ensures
+    c.in_ok-fixed.ensures.reply c.in_ok-fixed.ensures.state c.if-is_empty.ensures c.if-is_quiet.ensures
 
 pub returns-in_err-at-clause-reply : goal.returns-in_err-at-clause-reply
 returns-in_err-at-clause-reply c =
     let p = err_from_is_err_and c.from_residual-in_err-at.result c.from_residual-in_err-at.ensures.1 in
     rw (p.1, p.2) (computed_fails c.args.interval c.args.state.now c.in_ok-fixed.fixed c.fix.new.state (contract_tree c.args.contract.now) c.args.inputs.now _
-        c.in_ok-fixed.ensures.reply c.in_ok-fixed.ensures.state c.in_err-at.ensures.reply)
+    c.in_ok-fixed.ensures.reply c.in_ok-fixed.ensures.state c.in_err-at.ensures.reply)
 
 something : (c : After-take_inputs) → (length c.args.inputs.now == 0) && is_quiet c.in_ok-fixed.fixed c.fix.new.state (contract_tree c.args.contract.now) ≡ false
 something c = elim c.else-is_empty.branch [ else-is_empty-via-then-is_empty+else-is_quiet w ↦ not_right _ _ w.if-is_quiet.ensures | else-is_empty-via-else-is_empty w ↦ not_left _ _ w.if-is_empty.ensures ]
@@ -32,7 +32,7 @@ whole : (c : After-take_inputs) → Follows (computed c.args.interval c.args.sta
     (settled c.in_ok-fixed.fixed c.fix.new.state (contract_tree c.args.contract.now)).warnings (settled c.in_ok-fixed.fixed c.fix.new.state (contract_tree c.args.contract.now)).payments
 whole c =
     computed_busy c.args.interval c.args.state.now c.in_ok-fixed.fixed c.fix.new.state (contract_tree c.args.contract.now) c.args.inputs.now (at c.settle.new.state (contract_tree c.in_ok-at.at.now))
-        c.in_ok-fixed.ensures.reply c.in_ok-fixed.ensures.state (something c) c.in_ok-at.ensures.reply
+    c.in_ok-fixed.ensures.reply c.in_ok-fixed.ensures.state (something c) c.in_ok-at.ensures.reply
 
 pub returns : goal.returns
 returns c =

@@ -1,0 +1,156 @@
+-- What holds where a transaction ends.
+use Rattle.std.proofs.Common.{◌≡◌, ℕ, ℤ, ◌≤ℤ◌, ◌<ℤ◌, int_lt, Bool, true, false, cond, ◌&&◌, List, [], ◌∷◌, refl, sym, ap, ◌∙◌, subst, arith, Result, Ok, Err, is_ok, Option, Some, None, inl, inr, ◌⊎◌}
+use Rattle.std.specs.Int.{int_max}
+use Rattle.std.proofs.lemmas.Int.{ints}
+use Rattle.std.specs.FinMap.{entries}
+use Rattle.contract.specs.declared.fault.SemFault.{SemFault}
+use Rattle.contract.specs.declared.fault.SemFault.TheVariants.{Useless, Ambiguous}
+use Rattle.contract.specs.declared.input.Input.{Input}
+use Rattle.contract.specs.declared.input.Input.TheVariants.{Notify}
+use Rattle.contract.specs.declared.interval.Interval.{Interval}
+use Rattle.contract.specs.States.{StateMaps}
+use Rattle.contract.specs.Tree.{ContractTree, CaseTrees, close, when}
+use Rattle.semantics.specs.Walk.{At, at, Walk, ended, then_from, then_walk}
+use Rattle.semantics.specs.Path.{waits_for}
+use Rattle.semantics.specs.Reduction.{Reduction, Reduces, Quiet}
+use Rattle.semantics.specs.Settling.{Runs, Ends}
+use Rattle.semantics.specs.Applying.{taken}
+use Rattle.semantics.specs.Transaction.{no_turns, finished, trimmed}
+use Rattle.semantics.specs.Computed.{settled, first_match, first_place, tried_to_match, take_match, applied, one_input, all_inputs, from_start, from_fixed, computed}
+use Rattle.semantics.proofs.Integers.{true_lt}
+use Rattle.semantics.proofs.Relations.{settles_so}
+
+ok_same : (a b : At) → ◌≡◌ {A = Result At SemFault} (Ok a) (Ok b) → a ≡ b
+ok_same a b e = cc
+
+-- what holds wherever a walk ends well
+abbrev AtEnd : (At → Type 0) → Walk → Type 0
+AtEnd P w = (a : At) → w.end ≡ Ok a → P a
+
+at_ended : (P : At → Type 0) (a : At) → P a → AtEnd P (ended (Ok a))
+at_ended P a h b e = subst P (ok_same a b e) h
+
+at_fault : (P : At → Type 0) (w : Walk) (f : SemFault) → w.end ≡ Err f → AtEnd P w
+at_fault P w f q a e = absurd (let k : ◌≡◌ {A = Result At SemFault} (Err f) (Ok a) = sym q ∙ e in cc)
+
+at_then_from : (P Q : At → Type 0) (w : Walk) (end : Result At SemFault) (f : At → Walk) → w.end ≡ end → AtEnd P w → ((a : At) → P a → AtEnd Q (f a)) → AtEnd Q (then_from w end f)
+at_then_from P Q w (Ok a) f q h k = k a (h a q)
+at_then_from P Q w (Err e) f q h k = at_fault Q w e q
+
+at_then : (P Q : At → Type 0) (w : Walk) (f : At → Walk) → AtEnd P w → ((a : At) → P a → AtEnd Q (f a)) → AtEnd Q (then_walk w f)
+at_then P Q w f h k = at_then_from P Q w w.end f refl h k
+
+at_match : (P : At → Type 0) (s : StateMaps) (x : Input) (ns : List ℤ) (n : ℕ) (o : Option ContractTree) → ((c : ContractTree) → P (at (taken s x) c)) → AtEnd P (take_match s x ns n o)
+at_match P s x ns n None h a e = absurd (cc)
+at_match P s x ns n (Some c) h a e = subst P (ok_same (at (taken s x) c) a e) (h c)
+
+at_finished : (P : At → Type 0) (w : Walk) → AtEnd P w → AtEnd P (finished w)
+at_finished P w h = by_turns (is_ok w.end && no_turns w.turns)
+  where
+    by_turns : (b : Bool) → AtEnd P (record w { end = cond b (Err Useless) w.end })
+    by_turns true = at_fault P (record w { end = Err Useless }) Useless refl
+    by_turns false = h
+
+-- a property that a settling has, that inputs keep, holds at the end
+module _ (i : Interval) (P : At → Type 0) (settles : (a : At) → P a → AtEnd P (settled i a.state a.contract)) (takes : (x : Input) (a : At) (c : ContractTree) → P a → P (at (taken a.state x) c)) where
+  at_input : (x : Input) (a : At) → P a → AtEnd P (one_input i x a)
+  unfolding one_input applied
+  at_input x a h =
+      let ks = waits_for a.contract in
+      at_then P P (applied i x a) (λ b. settled i b.state b.contract)
+      (at_match P a.state x (tried_to_match i a.state x ks) (first_place i a.state x ks) (first_match i a.state x ks) (λ c. takes x a c h)) settles
+
+  at_inputs : (xs : List Input) (a : At) → P a → AtEnd P (all_inputs i xs a)
+  at_inputs [] a h = at_ended P a h
+  at_inputs (x ∷ xs) a h = at_then P P (one_input i x a) (all_inputs i xs) (at_input x a h) (λ b. at_inputs xs b)
+
+  at_start : (s : StateMaps) (c : ContractTree) (xs : List Input) → P (at s c) → AtEnd P (from_start i s c xs)
+  unfolding from_start
+  at_start s c xs h =
+      at_finished P (then_walk (settled i s c) (all_inputs i xs)) (at_then P P (settled i s c) (all_inputs i xs) (settles (at s c) h) (λ b. at_inputs xs b))
+
+-- ---- the minimum time
+
+-- a reduction keeps it
+reduces_time : (i : Interval) (s : StateMaps) (c : ContractTree) (r : Reduction) → Reduces i s c r → r.state.min_time ≡ s.min_time
+reduces_time i s close r h = ap (λ (q : Reduction). q.state.min_time) h.2
+reduces_time i s (when ks t c) r h = ap (λ (q : Reduction). q.state.min_time) h.1
+
+-- an input keeps it
+taken_time : (s : StateMaps) (x : Input) → (taken s x).min_time ≡ s.min_time
+taken_time s Notify = refl
+
+runs_time : (i : Interval) (a : At) (rs : List Reduction) (b : At) → Runs i a rs b → b.state.min_time ≡ a.state.min_time
+runs_time i a [] b h = ap (λ (x : At). x.state.min_time) h
+runs_time i a (r ∷ rs) b h = runs_time i (at r.state r.contract) rs b h.1 ∙ reduces_time i a.state a.contract r h.0
+
+-- where a settling ends
+ends_at : (i : Interval) (b a : At) (end : Result At SemFault) → Ends i b end → end ≡ Ok a → (b ≡ a) × Quiet i a.state a.contract
+ends_at i b a end (inl h) e = let q = ok_same b a (sym h.1 ∙ e) in (q, subst (λ (x : At). Quiet i x.state x.contract) q h.0)
+ends_at i b a end (inr h) e = absurd (let k : ◌≡◌ {A = Result At SemFault} (Err Ambiguous) (Ok a) = sym h.1 ∙ e in cc)
+
+settled_time : (i : Interval) (t : ℤ) (b : At) → b.state.min_time ≡ t → AtEnd (λ a. a.state.min_time ≡ t) (settled i b.state b.contract)
+settled_time i t b h a e =
+    let g = settles_so i b.state b.contract in
+    ap (λ (x : At). x.state.min_time) (sym (ends_at i g.last a _ g.ends e).0) ∙ (runs_time i b g.reductions g.last g.runs ∙ h)
+
+greater : (a b : ℤ) → b ≤ℤ int_max a b
+greater a b = by_test (int_lt b a) refl
+  where
+    at_least : (t : Bool) → int_lt b a ≡ t → b ≤ℤ cond t a b
+    at_least true h = let k = true_lt b a h in omega (arith, ints)
+    at_least false h = omega (arith, ints)
+
+    by_test : (t : Bool) → int_lt b a ≡ t → b ≤ℤ cond (int_lt b a) a b
+    by_test t h = at_least (int_lt b a) refl
+
+time_fixed : (i : Interval) (s : StateMaps) (c : ContractTree) (xs : List Input) (b d : Bool) (r q : SemFault) →
+    AtEnd (λ a. a.state.min_time ≡ int_max i.from s.min_time) (from_fixed (cond b (Err r) (cond d (Err q) (Ok (trimmed i s)))) s c xs)
+time_fixed i s c xs true d r q = at_fault _ (ended (Err r)) r refl
+time_fixed i s c xs false true r q = at_fault _ (ended (Err q)) q refl
+time_fixed i s c xs false false r q =
+    at_start (trimmed i s) (λ a. a.state.min_time ≡ int_max i.from s.min_time) (λ a. settled_time (trimmed i s) (int_max i.from s.min_time) a) (λ x a k h. taken_time a.state x ∙ h)
+    (record s { min_time = int_max i.from s.min_time }) c xs refl
+
+pub time_goes_on : (i : Interval) (s : StateMaps) (c : ContractTree) (xs : List Input) (a : At) → (computed i s c xs).end ≡ Ok a → (a.state.min_time ≡ int_max i.from s.min_time) × (s.min_time ≤ℤ a.state.min_time)
+unfolding computed
+time_goes_on i s c xs a e =
+    let h = time_fixed i s c xs (int_lt i.to i.from) (int_lt i.to s.min_time) _ _ a e in
+    (h, subst (λ t. s.min_time ≤ℤ t) (sym h) (greater i.from s.min_time))
+
+-- ---- at rest
+
+abbrev QuietAt : Interval → At → Type 0
+QuietAt i a = Quiet i a.state a.contract
+
+settled_quiet : (i : Interval) (b : At) → AtEnd (QuietAt i) (settled i b.state b.contract)
+settled_quiet i b a e = let g = settles_so i b.state b.contract in (ends_at i g.last a _ g.ends e).1
+
+quiet_input : (i : Interval) (x : Input) (a : At) → AtEnd (QuietAt i) (one_input i x a)
+unfolding one_input
+quiet_input i x a = at_then (λ _. Unit {0}) (QuietAt i) (applied i x a) (λ b. settled i b.state b.contract) (λ _ _. tt) (λ b _. settled_quiet i b)
+
+quiet_inputs : (i : Interval) (xs : List Input) (a : At) → QuietAt i a → AtEnd (QuietAt i) (all_inputs i xs a)
+quiet_inputs i [] a h = at_ended (QuietAt i) a h
+quiet_inputs i (x ∷ xs) a h = at_then (QuietAt i) (QuietAt i) (one_input i x a) (all_inputs i xs) (quiet_input i x a) (λ b. quiet_inputs i xs b)
+
+quiet_start : (i : Interval) (s : StateMaps) (c : ContractTree) (xs : List Input) → AtEnd (QuietAt i) (from_start i s c xs)
+unfolding from_start
+quiet_start i s c xs =
+    at_finished (QuietAt i) (then_walk (settled i s c) (all_inputs i xs)) (at_then (QuietAt i) (QuietAt i) (settled i s c) (all_inputs i xs) (settled_quiet i (at s c)) (λ b. quiet_inputs i xs b))
+
+quiet_fixed : (i : Interval) (s : StateMaps) (c : ContractTree) (xs : List Input) (b d : Bool) (r q : SemFault) →
+    AtEnd (QuietAt (trimmed i s)) (from_fixed (cond b (Err r) (cond d (Err q) (Ok (trimmed i s)))) s c xs)
+quiet_fixed i s c xs true d r q = at_fault _ (ended (Err r)) r refl
+quiet_fixed i s c xs false true r q = at_fault _ (ended (Err q)) q refl
+quiet_fixed i s c xs false false r q = quiet_start (trimmed i s) (record s { min_time = int_max i.from s.min_time }) c xs
+
+quiet_forms : (i : Interval) (s : StateMaps) (c : ContractTree) → Quiet i s c →
+    ((c ≡ close) × (entries s.accounts ≡ [])) ⊎ ((ks : CaseTrees) × (timeout : ℤ) × (then : ContractTree) × (c ≡ when ks timeout then) × (i.to <ℤ timeout))
+quiet_forms i s close h = inl (refl, h)
+quiet_forms i s (when ks t c) h = inr (ks, t, c, refl, h)
+
+pub ends_quiet : (i : Interval) (s : StateMaps) (c : ContractTree) (xs : List Input) (a : At) → (computed i s c xs).end ≡ Ok a →
+    ((a.contract ≡ close) × (entries a.state.accounts ≡ [])) ⊎ ((ks : CaseTrees) × (timeout : ℤ) × (then : ContractTree) × (a.contract ≡ when ks timeout then) × (i.to <ℤ timeout))
+unfolding computed
+ends_quiet i s c xs a e = quiet_forms (trimmed i s) a.state a.contract (quiet_fixed i s c xs (int_lt i.to i.from) (int_lt i.to s.min_time) _ _ a e)

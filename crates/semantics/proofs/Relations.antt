@@ -1,0 +1,129 @@
+-- A reduction has one result, and so has a settling.
+use Rattle.std.proofs.Common.{◌≡◌, ℤ, pos, ◌≤ℤ◌, int_lt, int_le, Bool, true, false, cond, List, [], ◌∷◌, map, length, refl, sym, ap, ◌∙◌, subst, Result, Ok, Err, Option, Some, inl, inr, ◌⊎◌}
+use Rattle.std.specs.Prelude.{slice_get}
+use Rattle.std.specs.FinMap.{entries, empty, empty_of_len, len-entries}
+use Rattle.names.specs.declared.account.Account.{Account}
+use Rattle.contract.specs.declared.fault.SemFault.{SemFault}
+use Rattle.contract.specs.declared.fault.SemFault.TheVariants.{Ambiguous}
+use Rattle.contract.specs.declared.interval.Interval.{Interval}
+use Rattle.contract.specs.States.{StateMaps, with_money}
+use Rattle.contract.proofs.States.{others_are_left}
+use Rattle.contract.specs.Tree.{ContractTree, CaseTrees, close, when}
+use Rattle.semantics.specs.Walk.{refund, At, at, Walk, ended}
+use Rattle.semantics.specs.Reduction.{Reduction, Reduces, Quiet, IsAmbiguous, refund_of, refunded, timing_out}
+use Rattle.semantics.specs.Settling.{Runs, Ends, after, walk_of, Settles}
+use Rattle.semantics.specs.Computed.{stops, goes, go_on, settled, refunds}
+use Rattle.semantics.proofs.Integers.{lt_true, lt_false, le_true, le_false, true_lt, false_lt, true_le, false_le, before_both, not_both, reaches}
+
+-- ---- one reduction
+
+pub one_reduction : (i : Interval) (s : StateMaps) (c : ContractTree) (r q : Reduction) → Reduces i s c r → Reduces i s c q → q ≡ r
+one_reduction i s close r q h k =
+    let e : h.0 ≡ k.0 = let f : ◌≡◌ {A = Option (Account × ℤ)} (Some (h.0)) (Some (k.0)) = sym h.1 ∙ k.1 in cc in
+    k.2 ∙ (ap (refunded s) (sym e) ∙ sym h.2)
+one_reduction i s (when ks t c) r q h k = k.1 ∙ sym h.1
+
+none_when_empty : (es : List (Account × ℤ)) (e : Account × ℤ) → slice_get es 0 ≡ Some e → es ≡ [] → ⊥
+none_when_empty [] e h k = cc
+none_when_empty (d ∷ es) e h k = cc
+
+pub quiet_stays : (i : Interval) (s : StateMaps) (c : ContractTree) (r : Reduction) → i.from ≤ℤ i.to → Reduces i s c r → (Quiet i s c ⊎ IsAmbiguous i s c) → ⊥
+quiet_stays i s close r v h (inl k) = none_when_empty (entries s.accounts) (h.0) h.1 k
+quiet_stays i s close r v h (inr k) = k
+quiet_stays i s (when ks t c) r v h (inl k) = before_both _ _ _ v k h.0
+quiet_stays i s (when ks t c) r v h (inr k) = not_both _ _ k.0 h.0
+
+refunds_unless_empty : (i : Interval) (s : StateMaps) (es : List (Account × ℤ)) → entries s.accounts ≡ es → ((r : Reduction) × Reduces i s close r) ⊎ (Quiet i s close ⊎ IsAmbiguous i s close)
+refunds_unless_empty i s [] h = inr (inl h)
+refunds_unless_empty i s (e ∷ es) h = inl (refunded s e, (e, ap (λ xs. slice_get xs 0) h, refl))
+
+waits_unless_late : (i : Interval) (s : StateMaps) (ks : CaseTrees) (t : ℤ) (c : ContractTree) (b d : Bool) → int_lt i.to t ≡ b → int_le t i.from ≡ d →
+    ((r : Reduction) × Reduces i s (when ks t c) r) ⊎ (Quiet i s (when ks t c) ⊎ IsAmbiguous i s (when ks t c))
+waits_unless_late i s ks t c true d h k = inr (inl (true_lt _ _ h))
+waits_unless_late i s ks t c false true h k = inl (timing_out s c, (true_le _ _ k, refl))
+waits_unless_late i s ks t c false false h k = inr (inr (false_le _ _ k, false_lt _ _ h))
+
+pub reduces_unless_quiet : (i : Interval) (s : StateMaps) (c : ContractTree) → ((r : Reduction) × Reduces i s c r) ⊎ (Quiet i s c ⊎ IsAmbiguous i s c)
+reduces_unless_quiet i s close = refunds_unless_empty i s (entries s.accounts) refl
+reduces_unless_quiet i s (when ks t c) = waits_unless_late i s ks t c (int_lt i.to t) (int_le t i.from) refl refl
+
+-- ---- how a settling goes on
+
+-- without entries there is no account
+no_account : (s : StateMaps) → entries s.accounts ≡ [] → record s { accounts = empty } ≡ s
+no_account s h = ap (λ m. record s { accounts = m }) (sym (empty_of_len s.accounts (len-entries s.accounts ∙ ap length h)))
+
+refunds_of : StateMaps → List (Account × ℤ) → StateMaps → Walk
+refunds_of s es t = record { numbers = []; warnings = []; payments = map refund_of es; turns = map (λ _. refund) es; end = Ok (at t close) }
+
+quiet_close : (s : StateMaps) → entries s.accounts ≡ [] → refunds s ≡ ended (Ok (at s close))
+unfolding refunds_of
+quiet_close s h = ap (λ es. refunds_of s es (record s { accounts = empty })) h ∙ ap (λ t. refunds_of s [] t) (no_account s h)
+
+first_refund : (s : StateMaps) (e : Account × ℤ) (es : List (Account × ℤ)) → entries s.accounts ≡ es → slice_get es 0 ≡ Some e → refunds s ≡ after (refunded s e) (refunds (with_money s e.0 (pos 0)))
+unfolding refunds_of
+first_refund s e [] h k = absurd (cc)
+first_refund s e (d ∷ es) h k =
+    let f : d ≡ e = cc in
+    let rest = others_are_left s d es h in
+    ap (λ xs. refunds_of s xs (record s { accounts = empty })) (h ∙ ap (λ x. d ∷ x) (sym rest))
+    ∙ ap (λ x. after (refunded s x) (refunds (with_money s x.0 (pos 0)))) f
+
+pub goes_by_reduction : (i : Interval) (s : StateMaps) (c : ContractTree) (r : Reduction) → i.from ≤ℤ i.to → Reduces i s c r → settled i s c ≡ after r (settled i r.state r.contract)
+goes_by_reduction i s close r v h =
+    first_refund s (h.0) (entries s.accounts) refl h.1 ∙ ap (λ (q : Reduction). after q (settled i q.state q.contract)) (sym h.2)
+goes_by_reduction i s (when ks t c) r v h =
+    ap (λ b. go_on (λ u. settled i u c) (cond b (stops (ended (Ok (at s (when ks t c))))) (cond (int_le t i.from) (goes (timing_out s c)) (stops (ended (Err Ambiguous)))))) (lt_false i.to t (reaches _ _ _ h.0 v))
+    ∙ (ap (λ d. go_on (λ u. settled i u c) (cond d (goes (timing_out s c)) (stops (ended (Err Ambiguous))))) (le_true t i.from h.0)
+    ∙ ap (λ (q : Reduction). after q (settled i q.state q.contract)) (sym h.1))
+
+pub rests_when_quiet : (i : Interval) (s : StateMaps) (c : ContractTree) → Quiet i s c → settled i s c ≡ ended (Ok (at s c))
+rests_when_quiet i s close h = quiet_close s h
+rests_when_quiet i s (when ks t c) h =
+    ap (λ b. go_on (λ u. settled i u c) (cond b (stops (ended (Ok (at s (when ks t c))))) (cond (int_le t i.from) (goes (timing_out s c)) (stops (ended (Err Ambiguous)))))) (lt_true i.to t h)
+
+pub fails_when_ambiguous : (i : Interval) (s : StateMaps) (c : ContractTree) → IsAmbiguous i s c → settled i s c ≡ ended (Err Ambiguous)
+fails_when_ambiguous i s close h = absurd h
+fails_when_ambiguous i s (when ks t c) h =
+    ap (λ b. go_on (λ u. settled i u c) (cond b (stops (ended (Ok (at s (when ks t c))))) (cond (int_le t i.from) (goes (timing_out s c)) (stops (ended (Err Ambiguous)))))) (lt_false i.to t h.1)
+    ∙ ap (λ d. go_on (λ u. settled i u c) (cond d (goes (timing_out s c)) (stops (ended (Err Ambiguous))))) (le_false t i.from h.0)
+
+-- ---- each settling is this one
+
+ends_so : (i : Interval) (a : At) (end : Result At SemFault) → Ends i a end → settled i a.state a.contract ≡ ended end
+ends_so i a end (inl h) = rests_when_quiet i a.state a.contract h.0 ∙ ap ended (sym h.1)
+ends_so i a end (inr h) = fails_when_ambiguous i a.state a.contract h.0 ∙ ap ended (sym h.1)
+
+runs_so : (i : Interval) (a : At) (rs : List Reduction) (b : At) (end : Result At SemFault) → i.from ≤ℤ i.to → Runs i a rs b → Ends i b end → settled i a.state a.contract ≡ walk_of rs end
+runs_so i a [] b end v h k = ends_so i a end (subst (λ x. Ends i x end) h k)
+runs_so i a (r ∷ rs) b end v h k =
+    goes_by_reduction i a.state a.contract r v h.0 ∙ ap (after r) (runs_so i (at r.state r.contract) rs b end v h.1 k)
+
+pub settles_only : (i : Interval) (s : StateMaps) (c : ContractTree) (w : Walk) → i.from ≤ℤ i.to → Settles i s c w → w ≡ settled i s c
+settles_only i s c w v h = h.walk ∙ sym (runs_so i (at s c) h.reductions h.last w.end v h.runs h.ends)
+
+-- ---- and this one is a settling
+
+stays : (i : Interval) (a : At) (end : Result At SemFault) → Ends i a end → Settles i a.state a.contract (ended end)
+stays i a end h = record { reductions = []; last = a; runs = refl; ends = h; walk = refl }
+
+goes_first : (i : Interval) (s : StateMaps) (c : ContractTree) (r : Reduction) (w : Walk) → Reduces i s c r → Settles i r.state r.contract w → Settles i s c (after r w)
+goes_first i s c r w h k = record { reductions = r ∷ k.reductions; last = k.last; runs = (h, k.runs); ends = k.ends; walk = ap (after r) k.walk }
+
+close_settles : (i : Interval) (s : StateMaps) (es : List (Account × ℤ)) → entries s.accounts ≡ es → Settles i s close (refunds s)
+close_settles i s [] h = subst (λ w. Settles i s close w) (sym (quiet_close s h)) (stays i (at s close) (Ok (at s close)) (inl (h, refl)))
+close_settles i s (e ∷ es) h =
+    let first : slice_get (entries s.accounts) 0 ≡ Some e = ap (λ xs. slice_get xs 0) h in
+    subst (λ w. Settles i s close w) (sym (first_refund s e (entries s.accounts) refl first))
+    (goes_first i s close (refunded s e) (refunds (with_money s e.0 (pos 0))) (e, first, refl)
+    (close_settles i (with_money s e.0 (pos 0)) es (others_are_left s e es h)))
+
+when_settles : (i : Interval) (s : StateMaps) (ks : CaseTrees) (t : ℤ) (c : ContractTree) (go : StateMaps → Walk) (b d : Bool) → int_lt i.to t ≡ b → int_le t i.from ≡ d → Settles i s c (go s) →
+    Settles i s (when ks t c) (go_on go (cond b (stops (ended (Ok (at s (when ks t c))))) (cond d (goes (timing_out s c)) (stops (ended (Err Ambiguous))))))
+when_settles i s ks t c go true d h k g = stays i (at s (when ks t c)) (Ok (at s (when ks t c))) (inl (true_lt _ _ h, refl))
+when_settles i s ks t c go false true h k g = goes_first i s (when ks t c) (timing_out s c) (go s) (true_le _ _ k, refl) g
+when_settles i s ks t c go false false h k g = stays i (at s (when ks t c)) (Err Ambiguous) (inr ((false_le _ _ k, false_lt _ _ h), refl))
+
+pub settles_so : (i : Interval) (s : StateMaps) (c : ContractTree) → Settles i s c (settled i s c)
+settles_so i s close = close_settles i s (entries s.accounts) refl
+settles_so i s (when ks t c) = when_settles i s ks t c (λ u. settled i u c) (int_lt i.to t) (int_le t i.from) refl refl (settles_so i s c)
