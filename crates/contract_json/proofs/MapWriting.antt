@@ -1,9 +1,13 @@
 -- A map that was written is read as it was, and so is a state.
-use Rattle.std.proofs.Common.{◌≡◌, ℤ, pos, ◌<ℤ◌, Bool, true, false, cond, ◌&&◌, List, [], ◌∷◌, ◌++◌, Option, Some, None, Ok, Err, refl, sym, ap, ◌∙◌, append_assoc, append-nil, arith}
+use Rattle.std.proofs.Common.{◌≡◌, ℤ, pos, ◌<ℤ◌, Bool, true, false, cond, ◌&&◌, ◌||◌, List, [], ◌∷◌, ◌++◌, Option, Some, None, Ok, Err, refl, sym, ap, ◌∙◌, append_assoc, append-nil, arith}
 use Rattle.std.proofs.lemmas.Int.{ints}
 use Rattle.std.specs.Prelude.{codes, int_lt}
 use Rattle.std.specs.List.{list_all}
+use Rattle.std.proofs.Math.Dec.{T}
 use Rattle.std.specs.declared.cmp.Ordering.{Ordering}
+use Rattle.std.specs.declared.cmp.Ordering.TheVariants.{Less, Equal, Greater}
+use Rattle.std.specs.Ordering.{is_lt, is_eq}
+use Rattle.std.specs.FinMap.Entries.{below_all, is_sorted}
 use Rattle.std.specs.Cmp.{IsTotalOrder}
 use Rattle.std.specs.FinMap.{FinMap, IsAntisymmetric, empty, entries, entries_sorted, from_entries, get-entries, get-from_entries, same_map}
 use Rattle.names.specs.declared.account.Account.{Account}
@@ -11,8 +15,7 @@ use Rattle.names.specs.Orders.{bytes_cmp, account_cmp, choice_id_cmp}
 use Rattle.names.specs.Totals.{bytes_total, account_total, choice_id_total}
 use Rattle.names.specs.Exact.{bytes_exact, account_exact, choice_id_exact}
 use Rattle.contract.specs.States.{StateMaps, AllPositive}
-use Rattle.collections.specs.Repeats.{has_repeat}
-use Rattle.collections.proofs.Repeats.{sorted_apart}
+use Rattle.collections.specs.Repeats.{has_key, has_repeat}
 use Rattle.serde_json.specs.Data.{Data, Items, no_items, item}
 use Rattle.serde_json.specs.Find.{as_array}
 use Rattle.contract_json.specs.Parts.{Reading, ◌>>=◌, found, all_items, list, time}
@@ -40,11 +43,34 @@ until_fault-all {E = E} row (item d ds) before es h =
       ] refl
     ] h
 
+parts_of : (a b : Bool) → T (a && b) → T a × T b
+parts_of true b h = (tt, h)
+parts_of false b h = absurd h
+
+less_apart : (r : Ordering) → T (is_lt r) → is_eq r ≡ false
+less_apart Less h = refl
+less_apart Equal h = absurd h
+less_apart Greater h = absurd h
+
+module _ {K : Type 0} (R : K → K → Ordering) where
+  below_apart : (k : K) (es : List (K × ℤ)) → T (below_all R k es) → has_key R k es ≡ false
+  below_apart k [] h = refl
+  below_apart k (e ∷ es) h =
+      let p = parts_of (is_lt (R k e.0)) (below_all R k es) h in
+      λ i. less_apart (R k e.0) p.0 i || below_apart k es p.1 i
+
+  -- where the keys rise, none is repeated
+  rising_apart : (es : List (K × ℤ)) → T (is_sorted R es) → has_repeat R es ≡ false
+  rising_apart [] h = refl
+  rising_apart (e ∷ es) h =
+      let p = parts_of (below_all R e.0 es) (is_sorted R es) h in
+      λ i. below_apart e.0 es p.0 i || rising_apart es p.1 i
+
 module _ {K : Type 0} (R : K → K → Ordering) (o : IsTotalOrder R) (exact : IsAntisymmetric R) where
   rows_into-entries : (row : Data → Reading (K × ℤ)) (ds : Items) (m : FinMap R ℤ) → all_items row ds ≡ Ok (entries m) → rows_into row (empty {R = R}) ds ≡ Ok m
   rows_into-entries row ds m h =
       rows_into-until_fault R o exact row [] ds refl ∙ ap (looked_at R o) (until_fault-all row ds [] (entries m) h)
-      ∙ ap (λ b. cond b (Err BadState) (Ok (from_entries (entries m)))) (sorted_apart R o (entries m) (entries_sorted m))
+      ∙ ap (λ b. cond b (Err BadState) (Ok (from_entries (entries m)))) (rising_apart R (entries m) (entries_sorted m))
       ∙ ap Ok (same_map o exact (from_entries (entries m)) m (λ q. get-from_entries o (entries m) q ∙ sym (get-entries m q)))
 
   either_way : (row : Data → Reading (K × ℤ)) (r : Reading Items) (m : FinMap R ℤ) → (r >>= all_items row) ≡ Ok (entries m) → (r >>= rows_into row (empty {R = R})) ≡ Ok m

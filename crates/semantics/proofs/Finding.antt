@@ -43,14 +43,14 @@ module _ (i : Interval) (s : StateMaps) (x : Input) (ks : List Case) (n : ℕ) (
   found_here y q f g =
       let w = within_ok _ _ _ q in
       let all : all_fit (tried_to_match i s x (map case_tree ks)) ≡ true =
-          f ∙ (here (λ ys. all_fit (tried_to_match i s x ys)) ∙ (all_fit_append (tried i s x (action_tree k.action)) _ ∙ done (all_fit (tried i s x (action_tree k.action))) (matches i s x (action_tree k.action)) (tried_to_match i s x (map case_tree (drop (n + 1) ks))) w.0 w.1)) in
+      f ∙ (here (λ ys. all_fit (tried_to_match i s x ys)) ∙ (all_fit_append (tried i s x (action_tree k.action)) _ ∙ done (all_fit (tried i s x (action_tree k.action))) (matches i s x (action_tree k.action)) (tried_to_match i s x (map case_tree (drop (n + 1) ks))) w.0 w.1)) in
       let that : y ≡ Some (contract_tree k.then) = g ∙ (here (first_match i s x) ∙ ap (λ m. cond m (Some (contract_tree k.then)) (first_match i s x (map case_tree (drop (n + 1) ks)))) (sym w.1)) in
       rw (all, that) refl
     where
-    done : (b m : Bool) (ns : List ℤ) → b ≡ true → true ≡ m → b && all_fit (cond m [] ns) ≡ true
-    done true true ns p r = refl
-    done true false ns p r = absurd (cc)
-    done false m ns p r = absurd (cc)
+      done : (b m : Bool) (ns : List ℤ) → b ≡ true → true ≡ m → b && all_fit (cond m [] ns) ≡ true
+      done true true ns p r = refl
+      done true false ns p r = absurd (cc)
+      done false m ns p r = absurd (cc)
 
   pub fault_here : (f : SemFault) (b : Bool) (y : Option ContractTree) → Err f ≡ within (tried i s x (action_tree k.action)) (matches i s x (action_tree k.action)) → b ≡ all_fit (tried_to_match i s x (map case_tree (drop n ks))) → Err f ≡ cond b (Ok y) (Err Leaves128)
   fault_here f b y q r = bad (all_fit (tried i s x (action_tree k.action))) _ b f y _ q (r ∙ (here (λ ys. all_fit (tried_to_match i s x ys)) ∙ all_fit_append (tried i s x (action_tree k.action)) _))

@@ -12,3 +12,4 @@ pub mod Allowed
 pub mod Ends
 pub mod Examples
 pub mod Faults
+pub mod Refunds

@@ -7,12 +7,12 @@ use Rattle.contract.specs.declared.fault.SemFault.{SemFault}
 use Rattle.contract.specs.declared.fault.SemFault.TheVariants.{Ambiguous}
 use Rattle.contract.specs.declared.interval.Interval.{Interval}
 use Rattle.contract.specs.States.{StateMaps, with_money}
-use Rattle.contract.proofs.States.{others_are_left}
 use Rattle.contract.specs.Tree.{ContractTree, CaseTrees, close, when}
 use Rattle.semantics.specs.Walk.{refund, At, at, Walk, ended}
 use Rattle.semantics.specs.Reduction.{Reduction, Reduces, Quiet, IsAmbiguous, refund_of, refunded, timing_out}
 use Rattle.semantics.specs.Settling.{Runs, Ends, after, walk_of, Settles}
 use Rattle.semantics.specs.Computed.{stops, goes, go_on, settled, refunds}
+use Rattle.semantics.proofs.Refunds.{entries-refund}
 use Rattle.semantics.proofs.Integers.{lt_true, lt_false, le_true, le_false, true_lt, false_lt, true_le, false_le, before_both, not_both, reaches}
 
 -- ---- one reduction
@@ -65,7 +65,7 @@ unfolding refunds_of
 first_refund s e [] h k = absurd (cc)
 first_refund s e (d ∷ es) h k =
     let f : d ≡ e = cc in
-    let rest = others_are_left s d es h in
+    let rest = entries-refund s d es h in
     ap (λ xs. refunds_of s xs (record s { accounts = empty })) (h ∙ ap (λ x. d ∷ x) (sym rest))
     ∙ ap (λ x. after (refunded s x) (refunds (with_money s x.0 (pos 0)))) f
 
@@ -116,7 +116,7 @@ close_settles i s (e ∷ es) h =
     let first : slice_get (entries s.accounts) 0 ≡ Some e = ap (λ xs. slice_get xs 0) h in
     subst (λ w. Settles i s close w) (sym (first_refund s e (entries s.accounts) refl first))
     (goes_first i s close (refunded s e) (refunds (with_money s e.0 (pos 0))) (e, first, refl)
-    (close_settles i (with_money s e.0 (pos 0)) es (others_are_left s e es h)))
+    (close_settles i (with_money s e.0 (pos 0)) es (entries-refund s e es h)))
 
 when_settles : (i : Interval) (s : StateMaps) (ks : CaseTrees) (t : ℤ) (c : ContractTree) (go : StateMaps → Walk) (b d : Bool) → int_lt i.to t ≡ b → int_le t i.from ≡ d → Settles i s c (go s) →
     Settles i s (when ks t c) (go_on go (cond b (stops (ended (Ok (at s (when ks t c))))) (cond d (goes (timing_out s c)) (stops (ended (Err Ambiguous))))))
