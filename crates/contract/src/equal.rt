@@ -4,7 +4,6 @@ ghost use Rattle.std.specs.Prelude.{◌≡◌, ◌↔◌, IsTrue};
 use crate::input::Input;
 use crate::payment::Payment;
 use crate::tree::{Action, Case, Contract, Observation};
-use crate::warning::Warning;
 use collections::{Boxed, Items, Same};
 
 impl Same for Observation {
@@ -22,12 +21,6 @@ impl Same for Action {
 impl Same for Input {
     fn same(&self, other: &Input) -> bool {
         *self == *other
-    }
-}
-
-impl Same for Warning {
-    fn same(&self, _other: &Warning) -> bool {
-        match *self {}
     }
 }
 

@@ -10,3 +10,4 @@ pub mod Returns
 pub mod RowSteps
 pub mod MapWriting
 pub mod Floats
+pub mod Warnings

@@ -25,7 +25,7 @@ pub use names::{
     choice_id_from_json, choice_id_to_json, party_from_json, party_to_json, payee_from_json,
     payee_to_json, token_from_json, token_to_json,
 };
-pub use outcomes::{outcome_to_json, payment_to_json, warning_to_json};
+pub use outcomes::{outcome_to_json, payment_to_json};
 pub use states::{state_from_json, state_to_json};
 pub use texts::{
     read_contract, read_input, read_state, read_transaction, write_contract, write_outcome,

@@ -27,13 +27,6 @@ pub fn payment_to_json(alloc: Global, payment: &Payment) -> Result<Json, Memory>
     four(alloc, ("amount", amount), ("payment_from", from), ("to", to), ("token", token))
 }
 
-/// A warning as a JSON value. There is no warning yet.
-pub fn warning_to_json(_alloc: Global, warning: &Warning) -> Result<Json, Memory>
-    ensures json { IfOk result (λ v. view v ≡ written.warning_json warning.now) }
-{
-    match *warning {}
-}
-
 fn payments_json(alloc: Global, payments: &Items<Payment>) -> Result<Json, Memory>
     ensures { IfOk result (λ v. view v ≡ array (items_of (map written.payment_json payments.now))) }
 {
@@ -44,14 +37,12 @@ fn payments_json(alloc: Global, payments: &Items<Payment>) -> Result<Json, Memor
     Ok(Json::from(items))
 }
 
-fn warnings_json(alloc: Global, warnings: &Items<Warning>) -> Result<Json, Memory>
-    ensures { IfOk result (λ v. view v ≡ array (items_of (map written.warning_json warnings.now))) }
+// There is no warning yet, so no list of them holds one.
+fn warnings_json(alloc: Global, warnings: &Items<Warning>) -> Json
+    ensures { view result ≡ array (items_of (map written.warning_json warnings.now)) }
 {
-    let mut items = Vec::new(alloc);
-    for warning in warnings.as_slice() {
-        items.push(warning_to_json(alloc, warning)?)?;
-    }
-    Ok(Json::from(items))
+    let _none = warnings;
+    Json::from(Vec::new(alloc))
 }
 
 /// An outcome as a JSON value: the contract that remains, the payments and the warnings in order, and
@@ -63,7 +54,7 @@ pub fn outcome_to_json(alloc: Global, outcome: &Outcome<&Contract>) -> Result<Js
     let contract = contract_to_json(alloc, outcome.place)?;
     let payments = payments_json(alloc, &outcome.payments)?;
     let state = state_to_json(alloc, &outcome.state)?;
-    let warnings = warnings_json(alloc, &outcome.warnings)?;
+    let warnings = warnings_json(alloc, &outcome.warnings);
     let whole = four(
         alloc,
         ("contract", contract),

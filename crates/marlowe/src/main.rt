@@ -19,6 +19,7 @@ use crate::line::{Task, line};
 use crate::load::{LoadFault, load};
 use crate::refusal::refusal;
 use crate::run::run;
+use clap::error::ErrorKind;
 use std::alloc::Global;
 use std::process::ExitCode;
 use std::rt::{Env, Files};
@@ -41,11 +42,16 @@ fn main(rt: HostRuntime) -> ExitCode {
                 ExitCode::from(2)
             }
         },
-        Err(error) => {
-            let status = if error.use_stderr() { 2 } else { 0 };
-            let _ = error.print(&rt);
-            ExitCode::from(status)
-        }
+        Err(error) => match error.kind() {
+            ErrorKind::OutOfMemory => {
+                refuse(rt.alloc(), &rt.stderr(), &Fault::Run(RunFault::Memory))
+            }
+            _ => {
+                let status = if error.use_stderr() { 2 } else { 0 };
+                let _ = error.print(&rt);
+                ExitCode::from(status)
+            }
+        },
     }
 }
 

@@ -21,9 +21,12 @@ pub fn apply<'c>(
     interval: Interval,
     log: &mut Log,
 ) -> Result<&'c Contract, SemFault>
-    ensures reply { Aside (seen result state.new) (answer_of (applied interval input.now (at state.old (contract_tree contract.now)))) }
-    ensures warnings { OnOk result (log.new.warnings ≡ log.old.warnings ++ (applied interval input.now (at state.old (contract_tree contract.now))).warnings) }
-    ensures payments { OnOk result (log.new.payments ≡ log.old.payments ++ (applied interval input.now (at state.old (contract_tree contract.now))).payments) }
+    ensures reply { Aside (seen result state.new)
+        (answer_of (applied interval input.now (at state.old (contract_tree contract.now)))) }
+    ensures warnings { OnOk result (log.new.warnings
+        ≡ log.old.warnings ++ (applied interval input.now (at state.old (contract_tree contract.now))).warnings) }
+    ensures payments { OnOk result (log.new.payments
+        ≡ log.old.payments ++ (applied interval input.now (at state.old (contract_tree contract.now))).payments) }
 {
     let Some(then) = find(input, cases(contract), state, interval)? else {
         return Err(SemFault::NoMatch);
@@ -50,7 +53,8 @@ fn find<'c>(
     state: &State,
     interval: Interval,
 ) -> Result<Option<&'c Contract>, SemFault>
-    ensures { tree_of_next result ≡ within (tried_to_match interval state.now input.now (map case_tree cases.now)) (first_match interval state.now input.now (map case_tree cases.now)) }
+    ensures { tree_of_next result
+        ≡ within (tried_to_match interval state.now input.now (map case_tree cases.now)) (first_match interval state.now input.now (map case_tree cases.now)) }
 {
     for case in cases {
         if matches(input, &case.action, state, interval)? {
@@ -67,7 +71,8 @@ fn matches(
     state: &State,
     interval: Interval,
 ) -> Result<bool, SemFault>
-    ensures { result ≡ within (tried interval state.now input.now (action_tree action.now)) (matches interval state.now input.now (action_tree action.now)) }
+    ensures { result
+        ≡ within (tried interval state.now input.now (action_tree action.now)) (matches interval state.now input.now (action_tree action.now)) }
 {
     match (input, action) {
         (Input::Notify, Action::Notify(observation)) => holds(observation, state, interval),
@@ -78,7 +83,8 @@ fn matches(
 fn take(input: &Input, state: &mut State, log: &mut Log) -> Result<(), SemFault>
     ensures reply { Aside result (within (taken_numbers state.old input.now) tt) }
     ensures state { OnOk result (state.new ≡ taken state.old input.now) }
-    ensures warnings { OnOk result (log.new.warnings ≡ log.old.warnings ++ taken_warnings input.now) }
+    ensures warnings { OnOk result (log.new.warnings
+        ≡ log.old.warnings ++ taken_warnings input.now) }
     ensures payments { OnOk result (log.new.payments ≡ log.old.payments) }
 {
     match input {

@@ -18,9 +18,12 @@ pub fn settle<'c>(
     interval: Interval,
     log: &mut Log,
 ) -> Result<&'c Contract, SemFault>
-    ensures reply { Aside (seen result state.new) (answer_of (settled interval state.old (contract_tree contract.now))) }
-    ensures warnings { OnOk result (log.new.warnings ≡ log.old.warnings ++ (settled interval state.old (contract_tree contract.now)).warnings) }
-    ensures payments { OnOk result (log.new.payments ≡ log.old.payments ++ (settled interval state.old (contract_tree contract.now)).payments) }
+    ensures reply { Aside (seen result state.new)
+        (answer_of (settled interval state.old (contract_tree contract.now))) }
+    ensures warnings { OnOk result (log.new.warnings
+        ≡ log.old.warnings ++ (settled interval state.old (contract_tree contract.now)).warnings) }
+    ensures payments { OnOk result (log.new.payments
+        ≡ log.old.payments ++ (settled interval state.old (contract_tree contract.now)).payments) }
 {
     let mut at = contract;
     while let Some(next) = reduce(at, state, interval, log)? {
@@ -37,10 +40,14 @@ fn reduce<'c>(
     interval: Interval,
     log: &mut Log,
 ) -> Result<Option<&'c Contract>, SemFault>
-    ensures reply { Aside (tree_of_next result) (reply (step interval state.old (contract_tree contract.now))) }
-    ensures state { OnOk result (state.new ≡ state_after state.old (step interval state.old (contract_tree contract.now))) }
-    ensures warnings { OnOk result (log.new.warnings ≡ log.old.warnings ++ warnings_of (step interval state.old (contract_tree contract.now))) }
-    ensures payments { OnOk result (log.new.payments ≡ log.old.payments ++ payments_of (step interval state.old (contract_tree contract.now))) }
+    ensures reply { Aside (tree_of_next result)
+        (reply (step interval state.old (contract_tree contract.now))) }
+    ensures state { OnOk result (state.new
+        ≡ state_after state.old (step interval state.old (contract_tree contract.now))) }
+    ensures warnings { OnOk result (log.new.warnings
+        ≡ log.old.warnings ++ warnings_of (step interval state.old (contract_tree contract.now))) }
+    ensures payments { OnOk result (log.new.payments
+        ≡ log.old.payments ++ payments_of (step interval state.old (contract_tree contract.now))) }
 {
     match contract {
         Contract::Close => {
@@ -63,7 +70,8 @@ fn reduce<'c>(
 fn refund_all(state: &mut State, log: &mut Log) -> Result<(), Memory>
     ensures state { OnOk result (state.new ≡ record state.old { accounts = empty }) }
     ensures warnings { OnOk result (log.new.warnings ≡ log.old.warnings) }
-    ensures payments { OnOk result (log.new.payments ≡ log.old.payments ++ map refund_of (entries state.old.accounts)) }
+    ensures payments { OnOk result (log.new.payments
+        ≡ log.old.payments ++ map refund_of (entries state.old.accounts)) }
 {
     for (account, amount) in state.take_accounts() {
         log.pay(refund(account, amount)?)?;

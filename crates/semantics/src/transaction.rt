@@ -18,9 +18,12 @@ pub fn compute_from<'c>(
     inputs: &[Input],
     log: &mut Log,
 ) -> Result<&'c Contract, SemFault>
-    ensures reply { Aside (seen result state.new) (answer_of (computed interval state.old (contract_tree contract.now) inputs.now)) }
-    ensures warnings { OnOk result (log.new.warnings ≡ log.old.warnings ++ (computed interval state.old (contract_tree contract.now) inputs.now).warnings) }
-    ensures payments { OnOk result (log.new.payments ≡ log.old.payments ++ (computed interval state.old (contract_tree contract.now) inputs.now).payments) }
+    ensures reply { Aside (seen result state.new)
+        (answer_of (computed interval state.old (contract_tree contract.now) inputs.now)) }
+    ensures warnings { OnOk result (log.new.warnings
+        ≡ log.old.warnings ++ (computed interval state.old (contract_tree contract.now) inputs.now).warnings) }
+    ensures payments { OnOk result (log.new.payments
+        ≡ log.old.payments ++ (computed interval state.old (contract_tree contract.now) inputs.now).payments) }
 {
     let fixed = fix(interval, state)?;
     if inputs.is_empty() && is_quiet(contract, state, fixed) {
@@ -69,9 +72,12 @@ fn take_inputs<'c>(
     interval: Interval,
     log: &mut Log,
 ) -> Result<&'c Contract, SemFault>
-    ensures reply { Aside (seen result state.new) (answer_of (all_inputs interval inputs.now (at state.old (contract_tree contract.now)))) }
-    ensures warnings { OnOk result (log.new.warnings ≡ log.old.warnings ++ (all_inputs interval inputs.now (at state.old (contract_tree contract.now))).warnings) }
-    ensures payments { OnOk result (log.new.payments ≡ log.old.payments ++ (all_inputs interval inputs.now (at state.old (contract_tree contract.now))).payments) }
+    ensures reply { Aside (seen result state.new)
+        (answer_of (all_inputs interval inputs.now (at state.old (contract_tree contract.now)))) }
+    ensures warnings { OnOk result (log.new.warnings
+        ≡ log.old.warnings ++ (all_inputs interval inputs.now (at state.old (contract_tree contract.now))).warnings) }
+    ensures payments { OnOk result (log.new.payments
+        ≡ log.old.payments ++ (all_inputs interval inputs.now (at state.old (contract_tree contract.now))).payments) }
 {
     let mut at = contract;
     for input in inputs {
@@ -88,9 +94,12 @@ fn take_input<'c>(
     interval: Interval,
     log: &mut Log,
 ) -> Result<&'c Contract, SemFault>
-    ensures reply { Aside (seen result state.new) (answer_of (one_input interval input.now (at state.old (contract_tree contract.now)))) }
-    ensures warnings { OnOk result (log.new.warnings ≡ log.old.warnings ++ (one_input interval input.now (at state.old (contract_tree contract.now))).warnings) }
-    ensures payments { OnOk result (log.new.payments ≡ log.old.payments ++ (one_input interval input.now (at state.old (contract_tree contract.now))).payments) }
+    ensures reply { Aside (seen result state.new)
+        (answer_of (one_input interval input.now (at state.old (contract_tree contract.now)))) }
+    ensures warnings { OnOk result (log.new.warnings
+        ≡ log.old.warnings ++ (one_input interval input.now (at state.old (contract_tree contract.now))).warnings) }
+    ensures payments { OnOk result (log.new.payments
+        ≡ log.old.payments ++ (one_input interval input.now (at state.old (contract_tree contract.now))).payments) }
 {
     let then = apply(input, contract, state, interval, log)?;
     settle(then, state, interval, log)
