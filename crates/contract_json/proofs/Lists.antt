@@ -21,6 +21,6 @@ pub front_step : {X : Type 0} (reading : Data → Reading X) (ys zs : List X) (y
 front_step reading ys zs y vs i v pushed below is read =
     let rest = all_items reading (items_view (drop (i + 1) vs)) in
     let next : all_items reading (items_view (drop i vs)) ≡ (reading (view v) >>= λ x. rest >>= λ xs. Ok (x ∷ xs)) =
-        at_drop_more (λ us. all_items reading (items_view us)) vs i v below ∙ ap (λ u. reading (view u) >>= λ x. rest >>= λ xs. Ok (x ∷ xs)) (sym is) in
+    at_drop_more (λ us. all_items reading (items_view us)) vs i v below ∙ ap (λ u. reading (view u) >>= λ x. rest >>= λ xs. Ok (x ∷ xs)) (sym is) in
     ap (λ l. with_front l rest) pushed ∙ put_back ys y rest
     ∙ ap (with_front ys) (sym (next ∙ ap (λ r. r >>= λ x. rest >>= λ xs. Ok (x ∷ xs)) read))

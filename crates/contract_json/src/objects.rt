@@ -50,7 +50,7 @@ pub(crate) fn four(
 ) -> Result<Json, Memory>
     ensures { IfOk result (λ v. view v
         ≡ object (put fourth.entry.0.now (view fourth.entry.1) (put third.entry.0.now (view third.entry.1)
-            (put second.entry.0.now (view second.entry.1) (put first.entry.0.now (view first.entry.1) no_members))))) }
+        (put second.entry.0.now (view second.entry.1) (put first.entry.0.now (view first.entry.1) no_members))))) }
 {
     let (a, x) = first;
     let (b, y) = second;

@@ -24,7 +24,13 @@ pub fn payment_to_json(alloc: Global, payment: &Payment) -> Result<Json, Memory>
     let from = party_to_json(alloc, &payment.from)?;
     let to = payee_to_json(alloc, &payment.to)?;
     let token = token_to_json(alloc, &payment.token)?;
-    four(alloc, ("amount", amount), ("payment_from", from), ("to", to), ("token", token))
+    four(
+        alloc,
+        ("amount", amount),
+        ("payment_from", from),
+        ("to", to),
+        ("token", token),
+    )
 }
 
 fn payments_json(alloc: Global, payments: &Items<Payment>) -> Result<Json, Memory>

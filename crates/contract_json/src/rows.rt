@@ -36,6 +36,7 @@ pub(crate) trait RowKey: Ord {
 
     // How a row is written, and whether that stands for it.
     ghost written: { Self × ℤ → Data };
+
     ghost can_read: { Self × ℤ → Bool };
 
     fn row_to_json(alloc: Global, row: &(Self, i128)) -> Result<Json, Memory>

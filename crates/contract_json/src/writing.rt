@@ -26,7 +26,15 @@ pub(crate) fn contract_json(alloc: Global, contract: &Contract) -> Result<Json, 
             let cases = cases_json(alloc, cases)?;
             let timeout = time_json(*timeout);
             let then = contract_json(alloc, then.get())?;
-            let whole = three(alloc, "timeout", timeout, "timeout_continuation", then, "when", cases)?;
+            let whole = three(
+                alloc,
+                "timeout",
+                timeout,
+                "timeout_continuation",
+                then,
+                "when",
+                cases,
+            )?;
             Ok(whole)
         }
     }

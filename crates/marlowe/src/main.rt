@@ -30,11 +30,13 @@ fn main(rt: HostRuntime) -> ExitCode {
         return refuse(rt.alloc(), &rt.stderr(), &Fault::Run(RunFault::Memory));
     };
     match line(rt.alloc(), words.as_slice()) {
-        Ok(Task::Run {
-            contract,
-            state,
-            transaction,
-        }) => match run_files(&rt, contract, state, transaction) {
+        Ok(
+            Task::Run {
+                contract,
+                state,
+                transaction,
+            },
+        ) => match run_files(&rt, contract, state, transaction) {
             Ok(text) => print(&rt, text.as_slice()),
             Err(Stop::Refused(fault)) => refuse(rt.alloc(), &rt.stderr(), &fault),
             Err(Stop::Unreadable(path)) => {

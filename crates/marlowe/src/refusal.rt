@@ -16,7 +16,11 @@ pub fn refusal(alloc: Global, fault: &Fault) -> Result<Vec<u8>, Memory>
         Fault::Run(RunFault::Contract(fault)) => {
             told(alloc, "refused contract ", json_fault_name(*fault))
         }
-        Fault::Run(RunFault::State(fault)) => told(alloc, "refused state ", json_fault_name(*fault)),
+        Fault::Run(RunFault::State(fault)) => told(
+            alloc,
+            "refused state ",
+            json_fault_name(*fault),
+        ),
         Fault::Run(RunFault::Transaction(fault)) => {
             told(alloc, "refused transaction ", json_fault_name(*fault))
         }

@@ -9,6 +9,10 @@ mod names_of;
 #[cfg(test)]
 mod owners;
 #[cfg(test)]
+mod readings;
+#[cfg(test)]
 mod states;
+#[cfg(test)]
+mod transactions;
 #[cfg(test)]
 mod trees;

@@ -4,7 +4,10 @@ use contract::{Entries, State, StateFault, TryClone};
 
 #[test]
 fn a_state_starts_with_its_accounts(rt: HostRuntime) {
-    let rows = [(role(&rt, "a"), ada(&rt), 5), (address(&rt, "x"), ada(&rt), 7)];
+    let rows = [
+        (role(&rt, "a"), ada(&rt), 5),
+        (address(&rt, "x"), ada(&rt), 7),
+    ];
     let state = State::start(rt.alloc(), rows.as_slice(), 6).expect(&rt, "a state");
     assert_eq!(rt; state.accounts().len(), 2);
     assert_eq!(rt; state.money(&role(&rt, "a"), &ada(&rt)), 5);
@@ -37,9 +40,15 @@ fn an_account_that_is_given_twice_is_repeated(rt: HostRuntime) {
 #[test]
 fn an_account_that_is_emptied_is_gone(rt: HostRuntime) {
     let mut state = State::new(rt.alloc(), 0);
-    state.set_money(&role(&rt, "a"), &ada(&rt), 5).expect(&rt, "memory");
-    state.set_money(&role(&rt, "b"), &ada(&rt), 3).expect(&rt, "memory");
-    state.set_money(&role(&rt, "a"), &ada(&rt), 0).expect(&rt, "memory");
+    state
+        .set_money(&role(&rt, "a"), &ada(&rt), 5)
+        .expect(&rt, "memory");
+    state
+        .set_money(&role(&rt, "b"), &ada(&rt), 3)
+        .expect(&rt, "memory");
+    state
+        .set_money(&role(&rt, "a"), &ada(&rt), 0)
+        .expect(&rt, "memory");
     assert_eq!(rt; state.accounts().len(), 1);
     assert_eq!(rt; state.money(&role(&rt, "b"), &ada(&rt)), 3);
 }
@@ -47,7 +56,9 @@ fn an_account_that_is_emptied_is_gone(rt: HostRuntime) {
 #[test]
 fn a_choice_is_recorded(rt: HostRuntime) {
     let mut state = State::new(rt.alloc(), 0);
-    state.set_choice(&choice(&rt, "release", "b"), -1).expect(&rt, "memory");
+    state
+        .set_choice(&choice(&rt, "release", "b"), -1)
+        .expect(&rt, "memory");
     assert_eq!(rt; state.choice(&choice(&rt, "release", "b")), Some(-1));
     assert_eq!(rt; state.choice(&choice(&rt, "release", "a")), None);
     assert_eq!(rt; state.choices().len(), 1);
@@ -68,7 +79,10 @@ fn a_value_is_bound_anew(rt: HostRuntime) {
 
 #[test]
 fn all_accounts_are_taken_out_in_order(rt: HostRuntime) {
-    let rows = [(role(&rt, "a"), ada(&rt), 5), (address(&rt, "x"), ada(&rt), 7)];
+    let rows = [
+        (role(&rt, "a"), ada(&rt), 5),
+        (address(&rt, "x"), ada(&rt), 7),
+    ];
     let mut state = State::start(rt.alloc(), rows.as_slice(), 0).expect(&rt, "a state");
     let taken = state.take_accounts();
     assert_eq!(rt; taken.len(), 2);
@@ -78,6 +92,11 @@ fn all_accounts_are_taken_out_in_order(rt: HostRuntime) {
 
 #[test]
 fn a_state_is_made_of_sorted_maps(rt: HostRuntime) {
-    let state = State::from_entries(Entries::new(rt.alloc()), Entries::new(rt.alloc()), Entries::new(rt.alloc()), 9);
+    let state = State::from_entries(
+        Entries::new(rt.alloc()),
+        Entries::new(rt.alloc()),
+        Entries::new(rt.alloc()),
+        9,
+    );
     assert!(rt; state == State::new(rt.alloc(), 9));
 }
