@@ -7,7 +7,7 @@ mod fault;
 mod forms;
 mod inputs;
 mod look;
-mod names;
+mod name_forms;
 mod numbers;
 mod objects;
 mod outcomes;
@@ -21,7 +21,7 @@ pub use actions::{action_from_json, action_to_json, observation_from_json, obser
 pub use contracts::{case_from_json, case_to_json, contract_from_json, contract_to_json};
 pub use fault::{JsonFault, WriteFault};
 pub use inputs::{input_from_json, input_to_json, transaction_from_json, transaction_to_json};
-pub use names::{
+pub use name_forms::{
     choice_id_from_json, choice_id_to_json, party_from_json, party_to_json, payee_from_json,
     payee_to_json, token_from_json, token_to_json,
 };

@@ -8,7 +8,7 @@ ghost use Rattle.contract_json.specs.Written.{Written, contract_fits};
 
 use crate::contracts::contract_to_json;
 use crate::fault::WriteFault;
-use crate::names::{party_to_json, payee_to_json, token_to_json};
+use crate::name_forms::{party_to_json, payee_to_json, token_to_json};
 use crate::numbers::wide_json;
 use crate::objects::four;
 use crate::states::state_to_json;

@@ -16,7 +16,7 @@ ghost use Rattle.contract_json.specs.declared.fault.JsonFault.TheVariants as fau
 
 use crate::fault::JsonFault;
 use crate::look::{pair, read_text};
-use crate::names::{
+use crate::name_forms::{
     choice_id_from_json, choice_id_to_json, party_from_json, party_to_json, token_from_json,
     token_to_json,
 };

@@ -1,7 +1,7 @@
 use Rattle.std.proofs.lemmas.Result.{IfOk-weaker}
 use Rattle.serde_json.specs.View.{view}
 use Rattle.contract_json.proofs.Hexes.{token-token_json}
-use Rattle.contract_json.proofs.names.token_to_json.Goals as goal
+use Rattle.contract_json.proofs.name_forms.token_to_json.Goals as goal
 
 pub returns-clause-reads_back : goal.returns-clause-reads_back
 returns-clause-reads_back c =
