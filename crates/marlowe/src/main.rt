@@ -99,10 +99,13 @@ fn text_of<'a, R: Files + AllocGlobal>(rt: &R, path: &'a str) -> Result<Vec<u8>,
 }
 
 // Prints the outcome.
-fn print(rt: &impl Print, text: &[u8]) -> ExitCode {
+fn print(rt: &(impl Print + Eprint), text: &[u8]) -> ExitCode {
     match rt.write_all(text) {
         Ok(()) => ExitCode::SUCCESS,
-        Err(_) => ExitCode::from(2),
+        Err(_) => {
+            let _ = eprintln!(rt; "unwritable");
+            ExitCode::from(2)
+        }
     }
 }
 

@@ -3,6 +3,8 @@
 #![tactic(auto)]
 
 #[cfg(test)]
+mod ledger;
+#[cfg(test)]
 mod made;
 #[cfg(test)]
 mod names_of;

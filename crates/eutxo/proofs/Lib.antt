@@ -1,0 +1,11 @@
+pub mod Places
+pub mod Adding
+pub mod References
+pub mod Judging
+pub mod Passing
+pub mod Laying
+pub mod Spine
+pub mod Conserving
+pub mod Growth
+pub mod Single
+pub mod Deciding
