@@ -262,7 +262,9 @@ fn the_worked_run(rt: HostRuntime) {
     );
     assert!(rt; is_accepted(submit(&rt, &mut first, to_a)));
     assert_eq!(rt; first.accepted().len(), 3);
-    assert!(rt; first.accepted()[2].inputs.as_slice()[0].reference == made(1, 0));
+    let inputs = first.accepted()[2].inputs.as_slice();
+    assert_eq!(rt; inputs.len(), 1);
+    assert!(rt; inputs[0].reference == made(1, 0));
 }
 
 #[test]

@@ -50,7 +50,9 @@ fn an_interval_is_fixed_by_the_minimum_time(rt: HostRuntime) {
 fn a_notify_takes_a_case_that_is_true(rt: HostRuntime) {
     let waits = when(&rt, [Observation::TrueObs].as_slice(), 100);
     let paid = outcome(&rt, &waits, 0, 0, 10, [Input::Notify].as_slice()).expect(&rt, "an outcome");
-    let payment = &paid.payments.as_slice()[0];
+    let payments = paid.payments.as_slice();
+    assert_eq!(rt; payments.len(), 1);
+    let payment = &payments[0];
     assert!(rt; payment.from == role(&rt, "a"));
     assert!(rt; payment.to == Payee::Party(role(&rt, "a")));
     assert_eq!(rt; payment.amount, 1);
