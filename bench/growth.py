@@ -49,6 +49,44 @@ def many_values(n):
     return "close", state, transaction(0, 10, [])
 
 
+def balanced(values):
+    """The sum of values, as a balanced tree of additions."""
+    while len(values) > 1:
+        pairs = [{"add": a, "and": b} for a, b in zip(values[::2], values[1::2])]
+        values = pairs + values[len(pairs) * 2:]
+    return values[0]
+
+
+def deep_arithmetic(n):
+    """A Let whose value has n operations: sums of differences that are nested a hundred deep."""
+    chains = []
+    for _ in range(n // 100):
+        value = 1
+        for _ in range(100):
+            value = {"value": value, "minus": 1}
+        chains.append(value)
+    return {"let": "x", "be": balanced(chains), "then": "close"}, NO_STATE, transaction(0, 10, [])
+
+
+def many_forms(n):
+    """A When of n cases of which each waits for a deposit of its own, and the last matches."""
+    cases = []
+    for i in range(n):
+        deposit = {"party": {"role_token": "a"}, "deposits": i, "of_token": ADA, "into_account": {"role_token": "a"}}
+        cases.append({"case": deposit, "then": "close"})
+    contract = {"when": cases, "timeout": 100, "timeout_continuation": "close"}
+    last = {"input_from_party": {"role_token": "a"}, "that_deposits": n - 1, "of_token": ADA, "into_account": {"role_token": "a"}}
+    return contract, NO_STATE, transaction(0, 10, [last])
+
+
+def only_json(parts):
+    """The same texts, of which the first that is long has no form: they are read as JSON and no further."""
+    contract, state, inputs = parts
+    if contract == "close":
+        return contract, {"json": state}, inputs
+    return {"json": contract}, state, inputs
+
+
 def child(paths):
     """Runs the program once; gives seconds, peak memory in KiB and status."""
     begin = time.perf_counter()
@@ -62,8 +100,8 @@ def child(paths):
     return seconds, int(run.stderr.split()[-1]), run.returncode
 
 
-def measure(parts):
-    """The least time and peak memory of five runs."""
+def measure(parts, status=0):
+    """The least time and peak memory of five runs, which end with this status."""
     with tempfile.TemporaryDirectory() as folder:
         paths = []
         for name, value in zip(("contract", "state", "transaction"), parts):
@@ -74,15 +112,16 @@ def measure(parts):
             with open(paths[-1], "w") as file:
                 file.write(text)
         runs = [child(paths) for _ in range(5)]
-    if any(run[2] != 0 for run in runs):
-        sys.exit("the program refused its input")
+    if any(run[2] != status for run in runs):
+        sys.exit(f"the program ended with another status than {status}")
     return min(run[0] for run in runs), min(run[1] for run in runs)
 
 
 def main():
     start = measure(("close", dict(NO_STATE, accounts=[[[{"role_token": "a"}, ADA], 1]]), transaction(0, 10, [])))
     print(f"start-up: {start[0] * 1000:.1f} ms, {start[1]} KiB")
-    for make, least in ((wide_when, 5_500), (many_accounts, 2_250), (many_values, 10_000)):
+    families = ((wide_when, 5_500), (many_forms, 1_300), (deep_arithmetic, 11_000), (many_accounts, 2_250), (many_values, 10_000))
+    for make, least in families:
         print(make.__doc__)
         before = None
         for n in (least, 2 * least, 4 * least):
@@ -93,6 +132,8 @@ def main():
                 line += f", times {seconds / before[0]:.2f} and {peak / before[1]:.2f}"
             print(line)
             before = (seconds, peak)
+        alone = measure(only_json(make(4 * least)), 1)[1] - start[1]
+        print(f"  of which reading the JSON alone takes {alone} KiB: {before[1] / alone:.2f} times that in all")
 
 
 main()

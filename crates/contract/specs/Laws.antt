@@ -1,5 +1,5 @@
--- What holds of every state: what is found after a set, which account is the first, and what the
--- accounts hold of a token together.
+-- What holds of every contract: it and its tree determine each other; and of every state: what is found after a
+-- set, which account is the first, and what the accounts hold of a token together.
 use Rattle.std.specs.Prelude.{◌≡◌, ◌≢◌, ℕ, ℤ, pos, ◌+ℤ◌, List, ◌∷◌, Some, All}
 use Rattle.std.specs.declared.cmp.Ordering.{Ordering}
 use Rattle.std.specs.FinMap as map
@@ -8,6 +8,10 @@ use Rattle.names.specs.declared.account.Account.{Account}
 use Rattle.names.specs.declared.choice_id.ChoiceId.{ChoiceId}
 use Rattle.names.specs.Orders.{account_cmp}
 use Rattle.contract.specs.States.{StateMaps, money_of, with_money, in_token, total_of}
+
+-- there and back, either way, and one value for each tree
+abbrev pub OneTreeEach : {X T : Type 0} → (X → T) → (T → X) → Type 0
+OneTreeEach {X} {T} tree of = ((t : T) → tree (of t) ≡ t) × ((x : X) → of (tree x) ≡ x) × ((x y : X) → tree x ≡ tree y → x ≡ y)
 
 -- an account holds what was set
 abbrev pub MoneyIsFound : Type 0

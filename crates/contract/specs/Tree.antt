@@ -1,8 +1,18 @@
--- Contracts as trees, over which all definitions go by cases (Marlowe specification version 3, "Types").
--- Each form has the name of the specification. A contract and its tree determine each other.
-use Rattle.std.specs.Prelude.{ℤ, List, [], ◌∷◌}
-use Rattle.contract.specs.declared.tree.Observation.{Observation}
-use Rattle.contract.specs.declared.tree.Observation.TheVariants as observations
+-- Contracts as trees, over which all definitions go by cases (Marlowe specification version 3, "Values and
+-- observations", "Actions and inputs", "Contracts"). Each form has the name of the specification. A contract
+-- and its tree determine each other.
+use Rattle.std.specs.Prelude.{ℕ, ℤ, List, [], ◌∷◌}
+use Rattle.names.specs.declared.party.Party.{Party}
+use Rattle.names.specs.declared.payee.Payee.{Payee}
+use Rattle.names.specs.declared.token.Token.{Token}
+use Rattle.names.specs.declared.choice_id.ChoiceId.{ChoiceId}
+use Rattle.names.specs.declared.bound.Bound.{Bound}
+use Rattle.contract.specs.declared.value.Value.{Value}
+use Rattle.contract.specs.declared.value.Value as values
+use Rattle.contract.specs.declared.value.Observation.{Observation}
+use Rattle.contract.specs.declared.value.Observation as observations
+use Rattle.contract.specs.declared.value.Observation.TheOpen.{Value-F, Observation-F}
+use Rattle.contract.specs.declared.value.Observation.TheFolds.{fold-Value, fold-Observation}
 use Rattle.contract.specs.declared.tree.Action.{Action}
 use Rattle.contract.specs.declared.tree.Action.TheVariants as actions
 use Rattle.contract.specs.declared.tree.Case.{Case}
@@ -11,20 +21,50 @@ use Rattle.contract.specs.declared.tree.Contract as contracts
 use Rattle.contract.specs.declared.tree.Contract.TheFolds.{fold-Contract, fold-Case}
 use Rattle.contract.specs.declared.tree.Contract.TheOpen.{Contract-F, Case-F}
 
--- observations
-pub data ObservationTree : Type 0 where
-  true_obs : ObservationTree
-  false_obs : ObservationTree
+-- values and observations
+mutual
+  pub data ValueTree : Type 0 where
+    available_money : Party → Token → ValueTree
+    constant : ℤ → ValueTree
+    neg_value : ValueTree → ValueTree
+    add_value : ValueTree → ValueTree → ValueTree
+    sub_value : ValueTree → ValueTree → ValueTree
+    mul_value : ValueTree → ValueTree → ValueTree
+    div_value : ValueTree → ValueTree → ValueTree
+    choice_value : ChoiceId → ValueTree
+    time_interval_start : ValueTree
+    time_interval_end : ValueTree
+    use_value : List ℕ → ValueTree
+    cond_value : ObservationTree → ValueTree → ValueTree → ValueTree
 
--- actions
+  pub data ObservationTree : Type 0 where
+    and_obs : ObservationTree → ObservationTree → ObservationTree
+    or_obs : ObservationTree → ObservationTree → ObservationTree
+    not_obs : ObservationTree → ObservationTree
+    chose_something : ChoiceId → ObservationTree
+    value_ge : ValueTree → ValueTree → ObservationTree
+    value_gt : ValueTree → ValueTree → ObservationTree
+    value_lt : ValueTree → ValueTree → ObservationTree
+    value_le : ValueTree → ValueTree → ObservationTree
+    value_eq : ValueTree → ValueTree → ObservationTree
+    true_obs : ObservationTree
+    false_obs : ObservationTree
+
+-- actions: a deposit's account, party, token and value
 pub data ActionTree : Type 0 where
+  deposit : Party → Party → Token → ValueTree → ActionTree
+  choice : ChoiceId → List Bound → ActionTree
   notify : ObservationTree → ActionTree
 
 -- contracts, and the cases of a When in order
 mutual
   pub data ContractTree : Type 0 where
     close : ContractTree
+    pay : Party → Payee → Token → ValueTree → ContractTree → ContractTree
+    if_obs : ObservationTree → ContractTree → ContractTree → ContractTree
     when : CaseTrees → ℤ → ContractTree → ContractTree
+    let_be : List ℕ → ValueTree → ContractTree → ContractTree
+    assert : ObservationTree → ContractTree → ContractTree
 
   pub data CaseTrees : Type 0 where
     no_cases : CaseTrees
@@ -32,11 +72,43 @@ mutual
 
 -- ---- the tree of a contract
 
+-- one level of a value or an observation, over the trees of its parts
+abbrev pub value_level : Value-F ObservationTree ValueTree → ValueTree
+value_level (Value-F.AvailableMoney p t) = available_money p t
+value_level (Value-F.Constant n) = constant n
+value_level (Value-F.NegValue v) = neg_value v
+value_level (Value-F.AddValue v w) = add_value v w
+value_level (Value-F.SubValue v w) = sub_value v w
+value_level (Value-F.MulValue v w) = mul_value v w
+value_level (Value-F.DivValue v w) = div_value v w
+value_level (Value-F.ChoiceValue id) = choice_value id
+value_level Value-F.TimeIntervalStart = time_interval_start
+value_level Value-F.TimeIntervalEnd = time_interval_end
+value_level (Value-F.UseValue x) = use_value x
+value_level (Value-F.Cond o v w) = cond_value o v w
+
+abbrev pub observation_level : Observation-F ObservationTree ValueTree → ObservationTree
+observation_level (Observation-F.AndObs o p) = and_obs o p
+observation_level (Observation-F.OrObs o p) = or_obs o p
+observation_level (Observation-F.NotObs o) = not_obs o
+observation_level (Observation-F.ChoseSomething id) = chose_something id
+observation_level (Observation-F.ValueGE v w) = value_ge v w
+observation_level (Observation-F.ValueGT v w) = value_gt v w
+observation_level (Observation-F.ValueLT v w) = value_lt v w
+observation_level (Observation-F.ValueLE v w) = value_le v w
+observation_level (Observation-F.ValueEQ v w) = value_eq v w
+observation_level Observation-F.TrueObs = true_obs
+observation_level Observation-F.FalseObs = false_obs
+
+abbrev pub value_tree : Value → ValueTree
+value_tree = fold-Value ObservationTree ValueTree observation_level value_level
+
 abbrev pub observation_tree : Observation → ObservationTree
-observation_tree observations.TrueObs = true_obs
-observation_tree observations.FalseObs = false_obs
+observation_tree = fold-Observation ObservationTree ValueTree observation_level value_level
 
 abbrev pub action_tree : Action → ActionTree
+action_tree (actions.Deposit a p t v) = deposit a p t (value_tree v)
+action_tree (actions.Choice id bounds) = choice id bounds
 action_tree (actions.Notify o) = notify (observation_tree o)
 
 abbrev pub case_trees : List (ActionTree × ContractTree) → CaseTrees
@@ -46,7 +118,11 @@ case_trees (k ∷ ks) = case_then k.0 k.1 (case_trees ks)
 -- one level of a contract, over the trees of its parts
 abbrev pub contract_level : Contract-F ContractTree (ActionTree × ContractTree) → ContractTree
 contract_level Contract-F.Close = close
+contract_level (Contract-F.Pay a p t v c) = pay a p t (value_tree v) c
+contract_level (Contract-F.If o c d) = if_obs (observation_tree o) c d
 contract_level (Contract-F.When ks t c) = when (case_trees ks) t c
+contract_level (Contract-F.Let x v c) = let_be x (value_tree v) c
+contract_level (Contract-F.Assert o c) = assert (observation_tree o) c
 
 abbrev pub case_level : Case-F ContractTree (ActionTree × ContractTree) → ActionTree × ContractTree
 case_level k = (action_tree k.action, k.then)
@@ -59,17 +135,47 @@ case_tree = fold-Case ContractTree (ActionTree × ContractTree) contract_level c
 
 -- ---- the contract of a tree
 
-abbrev pub observation_of : ObservationTree → Observation
-observation_of true_obs = observations.TrueObs
-observation_of false_obs = observations.FalseObs
+abbrev mutual
+  pub value_of : ValueTree → Value
+  value_of (available_money p t) = values.AvailableMoney p t
+  value_of (constant n) = values.Constant n
+  value_of (neg_value v) = values.NegValue (value_of v)
+  value_of (add_value v w) = values.AddValue (value_of v) (value_of w)
+  value_of (sub_value v w) = values.SubValue (value_of v) (value_of w)
+  value_of (mul_value v w) = values.MulValue (value_of v) (value_of w)
+  value_of (div_value v w) = values.DivValue (value_of v) (value_of w)
+  value_of (choice_value id) = values.ChoiceValue id
+  value_of time_interval_start = values.TimeIntervalStart
+  value_of time_interval_end = values.TimeIntervalEnd
+  value_of (use_value x) = values.UseValue x
+  value_of (cond_value o v w) = values.Cond (observation_of o) (value_of v) (value_of w)
+
+  pub observation_of : ObservationTree → Observation
+  observation_of (and_obs o p) = observations.AndObs (observation_of o) (observation_of p)
+  observation_of (or_obs o p) = observations.OrObs (observation_of o) (observation_of p)
+  observation_of (not_obs o) = observations.NotObs (observation_of o)
+  observation_of (chose_something id) = observations.ChoseSomething id
+  observation_of (value_ge v w) = observations.ValueGE (value_of v) (value_of w)
+  observation_of (value_gt v w) = observations.ValueGT (value_of v) (value_of w)
+  observation_of (value_lt v w) = observations.ValueLT (value_of v) (value_of w)
+  observation_of (value_le v w) = observations.ValueLE (value_of v) (value_of w)
+  observation_of (value_eq v w) = observations.ValueEQ (value_of v) (value_of w)
+  observation_of true_obs = observations.TrueObs
+  observation_of false_obs = observations.FalseObs
 
 abbrev pub action_of : ActionTree → Action
+action_of (deposit a p t v) = actions.Deposit a p t (value_of v)
+action_of (choice id bounds) = actions.Choice id bounds
 action_of (notify o) = actions.Notify (observation_of o)
 
 abbrev mutual
   pub contract_of : ContractTree → Contract
   contract_of close = contracts.Close
+  contract_of (pay a p t v c) = contracts.Pay a p t (value_of v) (contract_of c)
+  contract_of (if_obs o c d) = contracts.If (observation_of o) (contract_of c) (contract_of d)
   contract_of (when ks t c) = contracts.When (cases_of ks) t (contract_of c)
+  contract_of (let_be x v c) = contracts.Let x (value_of v) (contract_of c)
+  contract_of (assert o c) = contracts.Assert (observation_of o) (contract_of c)
 
   pub cases_of : CaseTrees → List Case
   cases_of no_cases = []

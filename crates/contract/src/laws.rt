@@ -1,16 +1,14 @@
 //! Laws of contracts and states, each the contract of a function that does nothing.
-ghost use Rattle.std.specs.Prelude.{◌≡◌};
-ghost use Rattle.contract.specs.Tree.{ContractTree, contract_tree, contract_of};
-ghost use Rattle.contract.specs.Laws.{MoneyIsFound, OtherMoneyStays, ChoiceIsFound, OtherChoicesStay, BoundValueIsFound, OtherBoundValuesStay, FirstAccountIsLeast, OthersAreLeft, TotalFollowsSet};
+ghost use Rattle.contract.specs.Tree.{value_tree, value_of, observation_tree, observation_of, action_tree, action_of, contract_tree, contract_of};
+ghost use Rattle.contract.specs.Laws.{OneTreeEach, MoneyIsFound, OtherMoneyStays, ChoiceIsFound, OtherChoicesStay, BoundValueIsFound, OtherBoundValuesStay, FirstAccountIsLeast, OthersAreLeft, TotalFollowsSet};
 
-use crate::tree::Contract;
-
-/// A contract and its tree determine each other.
-#[tactic(auto, using(crate::proofs::Trees::tree_of_contract, crate::proofs::Trees::contract_of_tree, crate::specs::TreeLaws::same_contract_by_tree))]
-pub fn contracts_are_trees(a: &Contract, b: &Contract)
-    ensures every_tree { (t : ContractTree) → contract_tree (contract_of t) ≡ t }
-    ensures every_contract { contract_of (contract_tree a.now) ≡ a.now }
-    ensures one_contract { contract_tree a.now ≡ contract_tree b.now → a.now ≡ b.now }
+/// A contract and its tree determine each other; so do a value, an observation or an action and its own.
+#[tactic(auto, using(crate::proofs::Trees::value_trees, crate::proofs::Trees::observation_trees, crate::proofs::Trees::action_trees, crate::proofs::Trees::contract_trees))]
+pub fn contracts_are_trees()
+    ensures values { OneTreeEach value_tree value_of }
+    ensures observations { OneTreeEach observation_tree observation_of }
+    ensures actions { OneTreeEach action_tree action_of }
+    ensures contracts { OneTreeEach contract_tree contract_of }
 {}
 
 /// What was set is found, and nothing else is changed.

@@ -1,4 +1,5 @@
-//! Marlowe contracts as trees, and their states.
+//! Marlowe contracts as trees, with their values, observations and actions; their states; and what goes into a
+//! transaction and comes out of it.
 #![tactic(auto)]
 
 mod copies;
@@ -13,6 +14,7 @@ mod start;
 mod state;
 mod state_equal;
 mod tree;
+mod value;
 mod warning;
 
 pub use collections::{Boxed, Bytes, Entries, Items, Memory, Same, Text, TryClone};
@@ -20,9 +22,10 @@ pub use fault::{SemFault, StateFault};
 pub use input::Input;
 pub use interval::Interval;
 pub use laws::{contracts_are_trees, first_account_is_least, sets_are_found, totals_follow_sets};
-pub use names::{Account, ChoiceId, Party, Payee, Token};
+pub use names::{Account, Bound, ChoiceId, Party, Payee, Token};
 pub use outcome::Outcome;
 pub use payment::Payment;
 pub use state::State;
-pub use tree::{Action, Case, Contract, Observation};
+pub use tree::{Action, Case, Contract};
+pub use value::{Observation, Value};
 pub use warning::Warning;

@@ -1,3 +1,4 @@
+pub mod ValueSteps
 pub mod ContractSteps
 pub mod Deep
 pub mod Lists
@@ -6,8 +7,12 @@ pub mod TextSteps
 pub mod Hexes
 pub mod MapReading
 pub mod Listed
-pub mod Returns
+pub mod ListedValues
+pub mod ListedContract
+pub mod ReturnsNames
+pub mod ReturnsValue
+pub mod ReturnsContract
+pub mod ReturnsInput
 pub mod RowSteps
 pub mod MapWriting
 pub mod Floats
-pub mod Warnings

@@ -1,19 +1,12 @@
 -- Writing a list, item by item.
-use Rattle.std.proofs.Common.{◌≡◌, ℕ, ℤ, ◌+◌, ◌<◌, Bool, true, false, ◌&&◌, List, [], ◌∷◌, ◌++◌, length, get_or, take, map, Ok, Err, refl, sym, ap, ◌∙◌, add-one, arith}
+use Rattle.std.proofs.Common.{◌≡◌, ℕ, ◌+◌, ◌<◌, Bool, true, false, ◌&&◌, List, [], ◌∷◌, ◌++◌, length, get_or, take, map, Ok, Err, refl, sym, ap, ◌∙◌, add-one}
 use Rattle.std.proofs.Math.Seq.{take-suc}
-use Rattle.std.proofs.lemmas.List.Folds.{list_all-append, list_all-map, list_all_at}
+use Rattle.std.proofs.lemmas.List.Folds.{list_all-append}
 use Rattle.std.specs.List.{list_all}
-use Rattle.std.specs.Prelude.{codes}
-use Rattle.serde_json.specs.Data.{Data, string, array, item}
+use Rattle.serde_json.specs.Data.{Data}
 use Rattle.serde_json.specs.View.{view, items_view, items_of}
 use Rattle.serde_json.specs.declared.value.Value.{Value}
-use Rattle.contract.specs.declared.tree.Case.{Case}
-use Rattle.contract.specs.declared.tree.Contract.{Contract}
-use Rattle.contract.specs.declared.tree.Contract as made
-use Rattle.contract.specs.Tree.{ActionTree, ContractTree, action_tree, case_trees, case_tree, contract_tree}
-use Rattle.contract.specs.TreeLaws.{contract_tree-Close, contract_tree-When, case_tree-parts}
 use Rattle.contract_json.specs.Parts.{Reading, ◌>>=◌, all_items}
-use Rattle.contract_json.specs.Written.{two, three, number_json, time_fits, action_json, contract_json, cases_json, case_json, contract_fits, cases_fit, case_fits}
 
 map-push : {A B : Type 0} (f : A → B) (xs : List A) (x : A) → map f (xs ++ x ∷ []) ≡ map f xs ++ f x ∷ []
 map-push f [] x = refl
@@ -62,40 +55,10 @@ read-more reading p xs i x vs ws v below is pushed one so_far all =
     ap (λ us. all_items reading (items_of us)) (ap (map view) pushed ∙ map-push view vs v) ∙ all_items-push reading (map view vs) (view v)
     ∙ ap (λ r. r >>= λ ys. reading (view v) >>= λ y. Ok (ys ++ y ∷ [])) (so_far parts.0) ∙ ap (λ r. r >>= λ y. Ok (take i xs ++ y ∷ [])) (one here.0) ∙ ap Ok (sym taken)
 
--- ---- contracts
-
-cases-json : (ks : List (ActionTree × ContractTree)) → cases_json (case_trees ks) ≡ items_of (map case_json ks)
-cases-json [] = refl
-cases-json (k ∷ ks) = ap (λ ds. item (case_json k) ds) (cases-json ks)
-
-cases-fit : (ks : List (ActionTree × ContractTree)) → cases_fit (case_trees ks) ≡ list_all case_fits ks
-cases-fit [] = refl
-cases-fit (k ∷ ks) = ap (λ b. case_fits k && b) (cases-fit ks)
-
-map-map : {A B C : Type 0} (f : B → C) (g : A → B) (xs : List A) → map f (map g xs) ≡ map (λ x. f (g x)) xs
-map-map f g [] = refl
-map-map f g (x ∷ xs) = ap (λ ys. f (g x) ∷ ys) (map-map f g xs)
-
--- the JSON value of each form, and whether its numbers fit
-pub contract_json-Close : contract_json (contract_tree made.Close) ≡ string (codes "close")
-contract_json-Close = ap contract_json contract_tree-Close
-
-pub contract_fits-Close : contract_fits (contract_tree made.Close) ≡ true
-contract_fits-Close = ap contract_fits contract_tree-Close
-
-pub contract_json-When : (ks : List Case) (t : ℤ) (c : Contract) → contract_json (contract_tree (made.When ks t c))
-    ≡ three (codes "timeout") (number_json t) (codes "timeout_continuation") (contract_json (contract_tree c)) (codes "when") (array (items_of (map (λ k. case_json (case_tree k)) ks)))
-contract_json-When ks t c =
-    ap contract_json (contract_tree-When ks t c)
-    ∙ ap (λ ds. three (codes "timeout") (number_json t) (codes "timeout_continuation") (contract_json (contract_tree c)) (codes "when") (array ds)) (cases-json (map case_tree ks) ∙ ap items_of (map-map case_json case_tree ks))
-
-pub contract_fits-When : (ks : List Case) (t : ℤ) (c : Contract) → contract_fits (contract_tree (made.When ks t c)) ≡ (list_all (λ k. case_fits (case_tree k)) ks && time_fits t && contract_fits (contract_tree c))
-contract_fits-When ks t c = ap contract_fits (contract_tree-When ks t c) ∙ ap (λ b. b && time_fits t && contract_fits (contract_tree c)) (cases-fit (map case_tree ks) ∙ list_all-map case_fits case_tree ks)
-
-pub case_json-parts : (k : Case) → case_json (case_tree k) ≡ two (codes "case") (action_json (action_tree k.action)) (codes "then") (contract_json (contract_tree k.then))
-case_json-parts k = ap case_json (case_tree-parts k)
-
-pub case_fits-parts : (k : Case) → case_fits (case_tree k) ≡ contract_fits (contract_tree k.then)
-case_fits-parts k = ap case_fits (case_tree-parts k)
-
-pub ruleset tree_steps = (contract_json-Close, contract_fits-Close, contract_json-When, contract_fits-When, case_json-parts, case_fits-parts)
+-- one more of what was written is read as it was
+pub returns-more : {X : Type 0} (reading : Data → Reading X) (json : X → Data) (xs : List X) (i : ℕ) (x : X) → i < length xs → x ≡ get_or xs i x → reading (json x) ≡ Ok x
+    → all_items reading (items_of (map json (take i xs))) ≡ Ok (take i xs) → all_items reading (items_of (map json (take (i + 1) xs))) ≡ Ok (take (i + 1) xs)
+returns-more reading json xs i x below is one so_far =
+    let taken = take-more xs i x below is in
+    ap (λ ys. all_items reading (items_of (map json ys))) taken ∙ ap (λ ds. all_items reading (items_of ds)) (map-push json (take i xs) x) ∙ all_items-push reading (map json (take i xs)) (json x)
+    ∙ ap (λ r. r >>= λ ys. reading (json x) >>= λ y. Ok (ys ++ y ∷ [])) so_far ∙ ap (λ r. r >>= λ y. Ok (take i xs ++ y ∷ [])) one ∙ ap Ok (sym taken)

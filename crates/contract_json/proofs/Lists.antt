@@ -1,7 +1,7 @@
 -- Reading a list, item by item.
 use Rattle.std.proofs.Common.{◌≡◌, ℕ, ◌+◌, ◌<◌, List, [], ◌∷◌, ◌++◌, length, get_or, drop, Ok, Err, refl, sym, ap, ◌∙◌, append_assoc}
 use Rattle.std.proofs.lemmas.List.{at_drop_more}
-use Rattle.serde_json.specs.Data.{Data, item}
+use Rattle.serde_json.specs.Data.{Data}
 use Rattle.serde_json.specs.View.{view, items_view}
 use Rattle.serde_json.specs.declared.value.Value.{Value}
 use Rattle.contract_json.specs.Parts.{Reading, ◌>>=◌, all_items}

@@ -1,5 +1,5 @@
 -- A map that is read in one pass, and its keys looked at after it, is the map of its rows.
-use Rattle.std.proofs.Common.{◌≡◌, ℕ, ℤ, pos, ◌<ℤ◌, Bool, true, false, cond, ◌||◌, List, [], ◌∷◌, ◌++◌, length, Option, Some, None, Ok, Err, refl, sym, ap, subst, ◌∙◌, arith}
+use Rattle.std.proofs.Common.{◌≡◌, ℤ, pos, ◌<ℤ◌, Bool, true, false, cond, ◌||◌, List, [], ◌∷◌, ◌++◌, length, Option, Some, None, Ok, Err, refl, sym, ap, subst, ◌∙◌, arith}
 use Rattle.std.proofs.Math.Dec.{T}
 use Rattle.std.proofs.lemmas.Int.{ints}
 use Rattle.std.specs.Prelude.{is_some, int_lt}
@@ -7,7 +7,7 @@ use Rattle.std.specs.declared.cmp.Ordering.{Ordering}
 use Rattle.std.specs.declared.cmp.Ordering.TheVariants.{Less, Equal, Greater}
 use Rattle.std.specs.Cmp.{IsTotalOrder, eq_by_cmp_equiv}
 use Rattle.std.specs.Ordering.{eq_by_cmp}
-use Rattle.std.specs.FinMap.{FinMap, IsAntisymmetric, empty, entries, get, insert, contains_key, from_entries, from_sorted, find, is_sorted, entries-insert, entries-from_sorted, len-entries, len-empty, get-from_entries, get-from_sorted, from_entries_push, same_map}
+use Rattle.std.specs.FinMap.{FinMap, IsAntisymmetric, empty, entries, insert, contains_key, from_entries, from_sorted, find, is_sorted, entries-insert, entries-from_sorted, len-entries, len-empty, get-from_entries, get-from_sorted, from_entries_push, same_map}
 use Rattle.std.specs.FinMap.Entries.{put, by_order}
 use Rattle.names.specs.declared.account.Account.{Account}
 use Rattle.names.specs.Orders.{account_cmp}

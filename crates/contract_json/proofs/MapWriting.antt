@@ -1,5 +1,5 @@
 -- A map that was written is read as it was, and so is a state.
-use Rattle.std.proofs.Common.{◌≡◌, ℤ, pos, ◌<ℤ◌, Bool, true, false, cond, ◌&&◌, ◌||◌, List, [], ◌∷◌, ◌++◌, Option, Some, None, Ok, Err, refl, sym, ap, ◌∙◌, append_assoc, append-nil, arith}
+use Rattle.std.proofs.Common.{◌≡◌, ℤ, pos, ◌<ℤ◌, Bool, true, false, cond, ◌&&◌, ◌||◌, List, [], ◌∷◌, ◌++◌, Option, None, Ok, Err, refl, sym, ap, ◌∙◌, append_assoc, append-nil, arith}
 use Rattle.std.proofs.lemmas.Int.{ints}
 use Rattle.std.specs.Prelude.{codes, int_lt}
 use Rattle.std.specs.List.{list_all}
@@ -24,7 +24,7 @@ use Rattle.contract_json.specs.Rows.{and_then, until_fault}
 use Rattle.contract_json.specs.Written.{four, number_fits, state_fits}
 use Rattle.contract_json.specs.declared.fault.JsonFault.{JsonFault}
 use Rattle.contract_json.specs.declared.fault.JsonFault.TheVariants.{BadState}
-use Rattle.contract_json.proofs.MapReading.{looked_at, ending, rows_into-until_fault}
+use Rattle.contract_json.proofs.MapReading.{looked_at, rows_into-until_fault}
 
 both : (a b : Bool) → (a && b) ≡ true → (a ≡ true) × (b ≡ true)
 both true b h = (refl, h)

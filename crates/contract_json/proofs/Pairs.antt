@@ -1,10 +1,10 @@
 -- A list of two, by its length.
 use Rattle.std.proofs.Common.{◌≡◌, ◌<◌, List, [], ◌∷◌, length, Some, Err, refl, arith}
-use Rattle.serde_json.specs.Data.{Data, null, boolean, number, string, array, object}
+use Rattle.serde_json.specs.Data.{Data}
 use Rattle.serde_json.specs.Find.{as_array}
 use Rattle.serde_json.specs.View.{items_view}
 use Rattle.serde_json.specs.declared.value.Value.{Value}
-use Rattle.contract_json.specs.Parts.{◌>>=◌, two_items, found, pair}
+use Rattle.contract_json.specs.Parts.{two_items, pair}
 use Rattle.contract_json.specs.declared.fault.JsonFault.TheVariants.{NoForm}
 
 fewer : (vs : List Value) → length vs < 2 → two_items (items_view vs) ≡ Err NoForm

@@ -1,19 +1,13 @@
 -- A row that was written is read as it was, and so are inputs.
-use Rattle.std.proofs.Common.{◌≡◌, ℤ, pos, Bool, true, cond, ◌&&◌, List, [], ◌∷◌, map, ℕ, Ok, Err, refl, ap, ◌∙◌}
+use Rattle.std.proofs.Common.{◌≡◌, ℤ, pos, true, List, ℕ, Ok, refl, ap, ◌∙◌}
 use Rattle.std.specs.Prelude.{int_lt}
-use Rattle.serde_json.specs.Data.{Data, array}
-use Rattle.serde_json.specs.View.{items_of}
-use Rattle.contract.specs.declared.input.Input.{Input}
-use Rattle.contract.specs.declared.input.Input.TheVariants.{Notify}
+use Rattle.serde_json.specs.Data.{Data}
 use Rattle.names.specs.declared.account.Account.{Account}
 use Rattle.names.specs.declared.choice_id.ChoiceId.{ChoiceId}
-use Rattle.contract_json.specs.Parts.{Reading, ◌>>=◌, text, whole, all_items, list}
+use Rattle.contract_json.specs.Parts.{text, whole}
 use Rattle.contract_json.specs.ReadsNames.{party, token, choice_id}
-use Rattle.contract_json.specs.Forms.{input_form}
-use Rattle.contract_json.specs.ReadsInput.{input, input_by}
 use Rattle.contract_json.specs.ReadsState.{account_row, choice_row, bound_row}
-use Rattle.contract_json.specs.Written.{pair_json, input_json}
-use Rattle.contract_json.specs.declared.fault.JsonFault.TheVariants.{BadState}
+use Rattle.contract_json.specs.Written.{pair_json}
 
 pub account_row-pair_json : (d o t n : Data) (e : Account × ℤ) → d ≡ pair_json (pair_json o t) n → party o ≡ Ok e.0.owner → token t ≡ Ok e.0.token → whole n ≡ Ok e.1 → int_lt (pos 0) e.1 ≡ true → account_row d ≡ Ok e
 unfolding account_row
@@ -26,17 +20,5 @@ choice_row-pair_json d i n e is h k = ap choice_row is ∙ rw (h, k) refl
 pub bound_row-pair_json : (d t n : Data) (e : List ℕ × ℤ) → d ≡ pair_json t n → text t ≡ Ok e.0 → whole n ≡ Ok e.1 → bound_row d ≡ Ok e
 unfolding bound_row
 bound_row-pair_json d t n e is h k = ap bound_row is ∙ rw (h, k) refl
-
-input-input_json : (i : Input) → input (input_json i) ≡ Ok i
-unfolding input_by input_form
-input-input_json Notify = refl
-
-all_items-inputs : (is : List Input) → all_items input (items_of (map input_json is)) ≡ Ok is
-all_items-inputs [] = refl
-all_items-inputs (i ∷ is) = rw (input-input_json i, all_items-inputs is) refl
-
--- inputs that were written are read as they were
-pub list-inputs : (d : Data) (is : List Input) → d ≡ array (items_of (map input_json is)) → list input d ≡ Ok is
-list-inputs d is e = ap (list input) e ∙ all_items-inputs is
 
 pub ruleset row_steps = (account_row-pair_json, choice_row-pair_json, bound_row-pair_json)

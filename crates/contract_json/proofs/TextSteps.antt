@@ -1,10 +1,9 @@
 -- What a text stands for, case by case.
-use Rattle.std.proofs.Common.{◌≡◌, ℕ, ◌<◌, ◌≤◌, List, length, Bool, true, false, cond, nat_lt, Option, Some, None, Ok, Err, refl, ap, ◌∙◌, arith}
+use Rattle.std.proofs.Common.{◌≡◌, ℕ, ◌<◌, ◌≤◌, List, length, Bool, true, false, cond, Some, None, Ok, Err, refl, ap, ◌∙◌, arith}
 use Rattle.std.specs.Str.{is_utf8, IsUtf8}
 use Rattle.std.proofs.lemmas.Str.{is_utf8-from_IsUtf8, IsUtf8-from_is_utf8}
 use Rattle.serde_json.specs.Data.{Data}
 use Rattle.serde_json.specs.Read.{read}
-use Rattle.contract_json.specs.Parts.{Reading}
 use Rattle.contract_json.specs.ReadsText.{json_of, json_or_not}
 use Rattle.contract_json.specs.declared.fault.JsonFault.TheVariants.{NotJson, TooLong}
 

@@ -1,9 +1,12 @@
--- Which form a JSON value has: for each sort the first form whose keys are all there. The whole
--- language stands here, also the forms that aren't read yet.
+-- Which form a JSON value has: for each sort the first form whose keys are all there.
 use Rattle.std.specs.Prelude.{ℕ, List, Bool, true, false, ◌&&◌, Option, Some, None, codes, is_some, if◌then◌else◌}
 use Rattle.std.specs.Str.{bytes_eq}
 use Rattle.serde_json.specs.Data.{Data}
-use Rattle.serde_json.specs.Find.{get, as_str}
+use Rattle.serde_json.specs.Find.{get, as_bool, as_number, as_str}
+use Rattle.contract_json.specs.declared.forms.ValueForm.{ValueForm}
+use Rattle.contract_json.specs.declared.forms.ValueForm.TheVariants as values
+use Rattle.contract_json.specs.declared.forms.ObservationForm.{ObservationForm}
+use Rattle.contract_json.specs.declared.forms.ObservationForm.TheVariants as observations
 use Rattle.contract_json.specs.declared.forms.ContractForm.{ContractForm}
 use Rattle.contract_json.specs.declared.forms.ContractForm.TheVariants as contracts
 use Rattle.contract_json.specs.declared.forms.CaseForm.{CaseForm}
@@ -30,6 +33,45 @@ same_text word (Some text) = bytes_eq text word
 -- the value is this text
 abbrev pub is_word : List ℕ → Data → Bool
 is_word word d = same_text word (as_str d)
+
+abbrev pub is_number : Data → Bool
+is_number d = is_some (as_number d)
+
+unfoldable pub value_form : Data → ValueForm
+value_form d =
+    if is_number d then values.Constant
+    else (if is_word (codes "time_interval_start") d then values.TimeIntervalStart
+    else (if is_word (codes "time_interval_end") d then values.TimeIntervalEnd
+    else (if has_two (codes "amount_of_token") (codes "in_account") d then values.AvailableMoney
+    else (if has (codes "negate") d then values.NegValue
+    else (if has_two (codes "add") (codes "and") d then values.AddValue
+    else (if has_two (codes "value") (codes "minus") d then values.SubValue
+    else (if has_two (codes "multiply") (codes "times") d then values.MulValue
+    else (if has_two (codes "divide") (codes "by") d then values.DivValue
+    else (if has (codes "value_of_choice") d then values.ChoiceValue
+    else (if has (codes "use_value") d then values.UseValue
+    else (if has_three (codes "if") (codes "then") (codes "else") d then values.Cond
+    else values.Nothing)))))))))))
+
+-- `true`, `false`, or another form
+abbrev truth_or : ObservationForm → Option Bool → ObservationForm
+truth_or other (Some true) = observations.TrueObs
+truth_or other (Some false) = observations.FalseObs
+truth_or other None = other
+
+unfoldable pub observation_form : Data → ObservationForm
+observation_form d = truth_or
+    (if has_two (codes "both") (codes "and") d then observations.AndObs
+    else (if has_two (codes "either") (codes "or") d then observations.OrObs
+    else (if has (codes "not") d then observations.NotObs
+    else (if has (codes "chose_something_for") d then observations.ChoseSomething
+    else (if has_two (codes "value") (codes "ge_than") d then observations.ValueGE
+    else (if has_two (codes "value") (codes "gt") d then observations.ValueGT
+    else (if has_two (codes "value") (codes "lt") d then observations.ValueLT
+    else (if has_two (codes "value") (codes "le_than") d then observations.ValueLE
+    else (if has_two (codes "value") (codes "equal_to") d then observations.ValueEQ
+    else observations.Nothing)))))))))
+    (as_bool d)
 
 unfoldable pub contract_form : Data → ContractForm
 contract_form d =

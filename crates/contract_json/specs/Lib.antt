@@ -1,9 +1,14 @@
 pub mod Parts
 pub mod Forms
 pub mod ReadsNames
+pub mod ReadsValue
 pub mod ReadsContract
 pub mod ReadsInput
 pub mod ReadsState
 pub mod Rows
 pub mod ReadsText
+pub mod WrittenNames
+pub mod WrittenValues
+pub mod WrittenContract
+pub mod WrittenOutcome
 pub mod Written

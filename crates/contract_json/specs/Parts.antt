@@ -1,8 +1,8 @@
 -- What a reading is, and the readings of the parts that all forms share: members, texts, bytes, whole
 -- numbers, times and lists.
-use Rattle.std.specs.Prelude.{◌≡◌, ℕ, ℤ, pos, List, [], ◌∷◌, Bool, true, false, ◌^◌, nat_lt, Option, Some, None, Result, Ok, Err, codes, if◌then◌else◌, ⊤}
-use Rattle.serde_json.specs.Data.{Num, unsigned, negative, float, Data, null, boolean, number, string, array, object, Items, no_items, item}
-use Rattle.serde_json.specs.Find.{get, at, as_str, as_array, as_number, as_integer}
+use Rattle.std.specs.Prelude.{◌≡◌, ℕ, ℤ, pos, List, [], ◌∷◌, ◌^◌, nat_lt, Option, Some, None, Result, Ok, Err, if◌then◌else◌, ⊤}
+use Rattle.serde_json.specs.Data.{Num, unsigned, negative, float, Data, Items, no_items, item}
+use Rattle.serde_json.specs.Find.{get, as_str, as_array, as_number, as_integer}
 use Rattle.hex.specs.Hex.{decode_of}
 use Rattle.hex.specs.declared.error.FromHexError.{FromHexError}
 use Rattle.contract_json.specs.declared.fault.JsonFault.{JsonFault}
@@ -39,6 +39,25 @@ found (Some x) = Ok x
 -- the member at a key
 abbrev pub member_at : List ℕ → Data → Reading Data
 member_at key d = found (get key d)
+
+-- the readings of an object's members, by key
+abbrev pub At : Type 0 → Type 0
+At X = List ℕ → Reading X
+
+-- the reading of the member at a key
+abbrev pub reading_at : {X : Type 0} → (Data → Reading X) → Data → At X
+reading_at reading d key = member_at key d >>= reading
+
+-- two readings, the first before the second
+abbrev pub both : {A B : Type 0} → Reading A → Reading B → Reading (A × B)
+both first second = do
+  a ← first
+  b ← second
+  Ok (a, b)
+
+-- nothing is inside
+abbrev pub nowhere : {X : Type 0} → At X
+nowhere key = Err faults.NoForm
 
 -- a text
 abbrev pub text : Data → Reading (List ℕ)

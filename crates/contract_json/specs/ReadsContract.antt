@@ -1,18 +1,18 @@
--- What a JSON value stands for as an observation, an action, a case and a contract.
-use Rattle.std.specs.Prelude.{ℕ, List, [], ◌∷◌, Bool, true, false, Option, Some, None, Ok, Err, codes}
+-- What a JSON value stands for as an action, a case and a contract (Marlowe specification version 3, "Actions
+-- and inputs", "Contracts").
+use Rattle.std.specs.Prelude.{ℕ, List, [], ◌∷◌, Ok, Err, codes}
 use Rattle.std.specs.Ordering.{nat_cmp, match_ordering}
 use Rattle.std.specs.Cmp.Lexicographic.{slice_cmp}
-use Rattle.serde_json.specs.Data.{Data, null, boolean, number, string, array, object, Items, no_items, item, Members, no_members, member}
-use Rattle.serde_json.specs.Find.{as_bool}
-use Rattle.contract.specs.declared.tree.Observation.{Observation}
-use Rattle.contract.specs.declared.tree.Observation.TheVariants as observations
+use Rattle.serde_json.specs.Data.{Data, array, object, Items, no_items, item, Members, no_members, member}
 use Rattle.contract.specs.declared.tree.Action.{Action}
 use Rattle.contract.specs.declared.tree.Action.TheVariants as actions
 use Rattle.contract.specs.declared.tree.Case.{Case}
 use Rattle.contract.specs.declared.tree.Contract.{Contract}
 use Rattle.contract.specs.declared.tree.Contract as contracts
 use Rattle.contract_json.specs.Forms.{contract_form, case_form, action_form}
-use Rattle.contract_json.specs.Parts.{Reading, ◌>>=◌, member_at, time}
+use Rattle.contract_json.specs.Parts.{Reading, ◌>>=◌, At, nowhere, member_at, text, time, list}
+use Rattle.contract_json.specs.ReadsNames.{party, token, choice_id, payee, bound}
+use Rattle.contract_json.specs.ReadsValue.{value, observation}
 use Rattle.contract_json.specs.declared.fault.JsonFault.TheVariants.{NoForm, Merkleized}
 use Rattle.contract_json.specs.declared.forms.ContractForm.{ContractForm}
 use Rattle.contract_json.specs.declared.forms.ContractForm.TheVariants as contract_forms
@@ -21,44 +21,71 @@ use Rattle.contract_json.specs.declared.forms.CaseForm.TheVariants as case_forms
 use Rattle.contract_json.specs.declared.forms.ActionForm.{ActionForm}
 use Rattle.contract_json.specs.declared.forms.ActionForm.TheVariants as action_forms
 
--- `true` or `false`
-abbrev pub observation_by : Option Bool → Reading Observation
-observation_by (Some true) = Ok observations.TrueObs
-observation_by (Some false) = Ok observations.FalseObs
-observation_by None = Err NoForm
-
-abbrev pub observation : Data → Reading Observation
-observation d = observation_by (as_bool d)
-
+-- An action of each form.
 unfoldable pub action_by : ActionForm → Data → Reading Action
+action_by action_forms.Deposit d = do
+  p ← member_at (codes "party") d
+  depositor ← party p
+  v ← member_at (codes "deposits") d
+  amount ← value v
+  t ← member_at (codes "of_token") d
+  token ← token t
+  a ← member_at (codes "into_account") d
+  account ← party a
+  Ok (actions.Deposit account depositor token amount)
+action_by action_forms.Choice d = do
+  i ← member_at (codes "for_choice") d
+  id ← choice_id i
+  l ← member_at (codes "choose_between") d
+  bounds ← list bound l
+  Ok (actions.Choice id bounds)
 action_by action_forms.Notify d = do
   o ← member_at (codes "notify_if") d
   holds ← observation o
   Ok (actions.Notify holds)
-action_by action_forms.Deposit d = Err NoForm
-action_by action_forms.Choice d = Err NoForm
 action_by action_forms.Nothing d = Err NoForm
 
 abbrev pub action : Data → Reading Action
 action d = action_by (action_form d) d
 
--- the readings of an object's members, by key
-abbrev pub At : Type 0 → Type 0
-At X = List ℕ → Reading X
-
 -- A contract of each form, from what the members stand for.
 unfoldable pub contract_by : ContractForm → Data → At Contract → At (List Case) → Reading Contract
 contract_by contract_forms.Close d contract cases = Ok contracts.Close
+contract_by contract_forms.Pay d contract cases = do
+  v ← member_at (codes "pay") d
+  amount ← value v
+  t ← member_at (codes "token") d
+  token ← token t
+  a ← member_at (codes "from_account") d
+  account ← party a
+  p ← member_at (codes "to") d
+  payee ← payee p
+  then ← contract (codes "then")
+  Ok (contracts.Pay account payee token amount then)
+contract_by contract_forms.If d contract cases = do
+  o ← member_at (codes "if") d
+  holds ← observation o
+  then ← contract (codes "then")
+  other ← contract (codes "else")
+  Ok (contracts.If holds then other)
 contract_by contract_forms.When d contract cases = do
   list ← cases (codes "when")
   t ← member_at (codes "timeout") d
   timeout ← time t
   then ← contract (codes "timeout_continuation")
   Ok (contracts.When list timeout then)
-contract_by contract_forms.Pay d contract cases = Err NoForm
-contract_by contract_forms.If d contract cases = Err NoForm
-contract_by contract_forms.Let d contract cases = Err NoForm
-contract_by contract_forms.Assert d contract cases = Err NoForm
+contract_by contract_forms.Let d contract cases = do
+  n ← member_at (codes "let") d
+  name ← text n
+  v ← member_at (codes "be") d
+  value ← value v
+  then ← contract (codes "then")
+  Ok (contracts.Let name value then)
+contract_by contract_forms.Assert d contract cases = do
+  o ← member_at (codes "assert") d
+  holds ← observation o
+  then ← contract (codes "then")
+  Ok (contracts.Assert holds then)
 contract_by contract_forms.Nothing d contract cases = Err NoForm
 
 -- A case of each form, from what the members stand for.
@@ -70,10 +97,6 @@ case_by case_forms.Plain d contract = do
   Ok (record { action = action; then = then })
 case_by case_forms.Merkleized d contract = Err Merkleized
 case_by case_forms.Nothing d contract = Err NoForm
-
--- nothing is inside
-abbrev pub nowhere : {X : Type 0} → At X
-nowhere key = Err NoForm
 
 -- Down the value: the members of an object are read by `_in`, where the key is.
 unfoldable mutual

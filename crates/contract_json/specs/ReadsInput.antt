@@ -1,20 +1,36 @@
 -- What a JSON value stands for as an input, an interval and a transaction.
-use Rattle.std.specs.Prelude.{ℕ, List, Ok, Err, codes, if◌then◌else◌}
+use Rattle.std.specs.Prelude.{Ok, Err, codes, if◌then◌else◌}
 use Rattle.serde_json.specs.Data.{Data}
 use Rattle.contract.specs.declared.input.Input.{Input}
 use Rattle.contract.specs.declared.input.Input.TheVariants as inputs
 use Rattle.contract.specs.declared.interval.Interval.{Interval}
 use Rattle.contract_json.specs.declared.transaction.Transaction.{Transaction}
 use Rattle.contract_json.specs.Forms.{has_two, input_form}
-use Rattle.contract_json.specs.Parts.{Reading, ◌>>=◌, member_at, time, list}
+use Rattle.contract_json.specs.Parts.{Reading, ◌>>=◌, member_at, whole, time, list}
+use Rattle.contract_json.specs.ReadsNames.{party, token, choice_id}
 use Rattle.contract_json.specs.declared.fault.JsonFault.TheVariants.{NoForm}
 use Rattle.contract_json.specs.declared.forms.InputForm.{InputForm}
 use Rattle.contract_json.specs.declared.forms.InputForm.TheVariants as input_forms
 
+-- An input of each form.
 unfoldable pub input_by : InputForm → Data → Reading Input
 input_by input_forms.Notify d = Ok inputs.Notify
-input_by input_forms.Deposit d = Err NoForm
-input_by input_forms.Choice d = Err NoForm
+input_by input_forms.Deposit d = do
+  p ← member_at (codes "input_from_party") d
+  depositor ← party p
+  n ← member_at (codes "that_deposits") d
+  amount ← whole n
+  t ← member_at (codes "of_token") d
+  token ← token t
+  a ← member_at (codes "into_account") d
+  account ← party a
+  Ok (inputs.Deposit account depositor token amount)
+input_by input_forms.Choice d = do
+  i ← member_at (codes "for_choice_id") d
+  id ← choice_id i
+  n ← member_at (codes "input_that_chooses_num") d
+  number ← whole n
+  Ok (inputs.Choice id number)
 input_by input_forms.Nothing d = Err NoForm
 
 abbrev pub input : Data → Reading Input

@@ -1,5 +1,5 @@
--- What a JSON value stands for as a party, a token, a choice id and a payee.
-use Rattle.std.specs.Prelude.{ℕ, List, Ok, Err, codes, if◌then◌else◌}
+-- What a JSON value stands for as a party, a token, a choice id, a payee and a bound.
+use Rattle.std.specs.Prelude.{Ok, Err, codes, if◌then◌else◌}
 use Rattle.serde_json.specs.Data.{Data}
 use Rattle.names.specs.declared.party.Party.{Party}
 use Rattle.names.specs.declared.party.Party.TheVariants as parties
@@ -7,8 +7,9 @@ use Rattle.names.specs.declared.token.Token.{Token}
 use Rattle.names.specs.declared.choice_id.ChoiceId.{ChoiceId}
 use Rattle.names.specs.declared.payee.Payee.{Payee}
 use Rattle.names.specs.declared.payee.Payee.TheVariants as payees
+use Rattle.names.specs.declared.bound.Bound.{Bound}
 use Rattle.contract_json.specs.Forms.{has, has_two}
-use Rattle.contract_json.specs.Parts.{Reading, ◌>>=◌, member_at, text, bytes}
+use Rattle.contract_json.specs.Parts.{Reading, ◌>>=◌, member_at, text, bytes, whole}
 use Rattle.contract_json.specs.declared.fault.JsonFault.TheVariants.{NoForm}
 
 abbrev pub party : Data → Reading Party
@@ -52,3 +53,13 @@ payee d =
       p ← member_at (codes "party") d
       party ← party p
       Ok (payees.Party party))
+
+abbrev pub bound : Data → Reading Bound
+bound d =
+    if has_two (codes "from") (codes "to") d then (do
+      f ← member_at (codes "from") d
+      from ← whole f
+      t ← member_at (codes "to") d
+      to ← whole t
+      Ok (record { from = from; to = to }))
+    else Err NoForm

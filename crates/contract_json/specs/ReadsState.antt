@@ -1,5 +1,5 @@
 -- What a JSON value stands for as a state.
-use Rattle.std.specs.Prelude.{ℕ, ℤ, pos, List, Bool, true, false, not, ◌&&◌, Ok, Err, codes, int_lt, if◌then◌else◌}
+use Rattle.std.specs.Prelude.{ℕ, ℤ, pos, List, ◌&&◌, Ok, Err, codes, int_lt, if◌then◌else◌}
 use Rattle.std.specs.declared.cmp.Ordering.{Ordering}
 use Rattle.std.specs.FinMap.{FinMap, empty, contains_key, insert}
 use Rattle.serde_json.specs.Data.{Data, Items, no_items, item}

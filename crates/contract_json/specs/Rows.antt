@@ -1,5 +1,5 @@
 -- How the rows of a map are read in one pass, and their keys looked at after it.
-use Rattle.std.specs.Prelude.{ℕ, List, [], ◌∷◌, ◌++◌, Option, Some, None, Ok, Err}
+use Rattle.std.specs.Prelude.{List, [], ◌∷◌, ◌++◌, Option, Some, None, Ok, Err}
 use Rattle.serde_json.specs.Data.{Data, Items, no_items, item}
 use Rattle.contract_json.specs.Parts.{Reading}
 use Rattle.contract_json.specs.declared.fault.JsonFault.{JsonFault}

@@ -42,7 +42,7 @@ pub enum JsonFault {
 /// Why a value isn't written.
 #[derive(Clone, Copy, Debug, PartialEq, Eq, Hash, Error)]
 pub enum WriteFault {
-    /// A number of the contract doesn't lie from -2^63 to 2^64 - 1.
+    /// A number of the contract, or of the part that is written, doesn't lie from -2^63 to 2^64 - 1.
     #[error("a number is out of range")]
     OutOfRange = 1,
     /// Memory was refused.

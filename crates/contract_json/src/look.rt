@@ -2,7 +2,7 @@
 ghost use Rattle.std.specs.Prelude.{◌≡◌, ◌<◌, IfOk};
 ghost use Rattle.serde_json.specs.Data.{depth};
 ghost use Rattle.serde_json.specs.View.{view};
-ghost use Rattle.contract_json.specs.Forms.{has, has_two, has_three, is_word};
+ghost use Rattle.contract_json.specs.Forms.{has, has_two, has_three, is_number, is_word};
 ghost use Rattle.contract_json.specs.Parts.{Gives, GivesBy, member_at, pair, text, bytes};
 
 use crate::fault::JsonFault;
@@ -26,6 +26,12 @@ pub(crate) fn has_three(json: &Json, a: &str, b: &str, c: &str) -> bool
     ensures { result ≡ has_three a.now b.now c.now (view json.now) }
 {
     has(json, a) && has_two(json, b, c)
+}
+
+pub(crate) fn is_number(json: &Json) -> bool
+    ensures { result ≡ is_number (view json.now) }
+{
+    json.is_number()
 }
 
 // The value is this text.

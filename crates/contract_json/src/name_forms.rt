@@ -1,13 +1,16 @@
-//! Parties, tokens, choice ids and payees as JSON values.
+//! Parties, tokens, choice ids, payees and bounds as JSON values.
 ghost use Rattle.std.specs.Prelude.{◌≡◌, IfOk, Ok};
 ghost use Rattle.serde_json.specs.View.{view};
 ghost use Rattle.contract_json.specs.Parts.{Gives};
 ghost use Rattle.contract_json.specs.ReadsNames as reads;
 ghost use Rattle.contract_json.specs.Written as written;
+ghost use Rattle.contract_json.specs.Written.{Written, bound_fits};
 
-use crate::fault::JsonFault;
+use crate::fault::{JsonFault, WriteFault};
 use crate::look::{has, has_two, member, read_bytes, read_text};
-use contract::{ChoiceId, Memory, Party, Payee, Token};
+use crate::numbers::{number_to_json, read_whole};
+use crate::objects::two;
+use contract::{Bound, ChoiceId, Memory, Party, Payee, Token};
 use serde_json::{Value as Json, json};
 use std::alloc::Global;
 
@@ -55,6 +58,18 @@ pub fn payee_from_json(alloc: Global, json: &Json) -> Result<Payee, JsonFault>
     } else {
         Ok(Payee::Party(party_from_json(alloc, member(json, "party")?)?))
     }
+}
+
+/// The bound that a JSON value stands for: two whole numbers from -2^63 to 2^64 - 1.
+pub fn bound_from_json(json: &Json) -> Result<Bound, JsonFault>
+    ensures reading { Gives result (reads.bound (view json.now)) }
+{
+    if !has_two(json, "from", "to") {
+        return Err(JsonFault::NoForm);
+    }
+    let from = read_whole(member(json, "from")?)?;
+    let to = read_whole(member(json, "to")?)?;
+    Ok(Bound { from, to })
 }
 
 /// A party as a JSON value.
@@ -108,4 +123,14 @@ pub fn payee_to_json(alloc: Global, payee: &Payee) -> Result<Json, Memory>
             json!(in alloc; {"party": party})
         }
     }
+}
+
+/// A bound as a JSON value. An end that doesn't lie from -2^63 to 2^64 - 1 is out of range.
+pub fn bound_to_json(alloc: Global, bound: &Bound) -> Result<Json, WriteFault>
+    ensures written { Written view result (bound_fits bound.now) (written.bound_json bound.now) }
+    ensures reads_back { IfOk result (λ v. reads.bound (view v) ≡ Ok bound.now) }
+{
+    let from = number_to_json(bound.from)?;
+    let to = number_to_json(bound.to)?;
+    Ok(two(alloc, "from", from, "to", to)?)
 }

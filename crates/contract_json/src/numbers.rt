@@ -1,11 +1,11 @@
 //! Numbers as JSON values.
-ghost use Rattle.std.specs.Prelude.{◌≡◌, true, IfOk, Ok};
+ghost use Rattle.std.specs.Prelude.{◌≡◌, true, false, IfSome, IfNone, IfOk, Ok};
 ghost use Rattle.serde_json.specs.View.{view};
 ghost use Rattle.contract_json.specs.Parts.{Gives, whole};
 ghost use Rattle.contract_json.specs.Parts as reads;
-ghost use Rattle.contract_json.specs.Written.{number_json, wide_json, number_fits, time_fits};
+ghost use Rattle.contract_json.specs.Written.{Written, number_json, wide_json, number_fits, time_fits};
 
-use crate::fault::JsonFault;
+use crate::fault::{JsonFault, WriteFault};
 use contract::Memory;
 use serde_json::Value as Json;
 use std::alloc::Global;
@@ -48,16 +48,37 @@ pub(crate) fn time_json(time: i64) -> Json
     Json::from(time)
 }
 
+// A number, where JSON has it.
+fn number_json(n: i128) -> Option<Json>
+    ensures fits { IfSome result (λ v. number_fits n ≡ true) }
+    ensures json { IfSome result (λ v. view v ≡ number_json n) }
+    ensures reads_back { IfSome result (λ v. whole (view v) ≡ Ok n) }
+    ensures none { IfNone result (number_fits n ≡ false) }
+{
+    if let Ok(n) = u64::try_from(n) {
+        Some(Json::from(n))
+    } else if let Ok(n) = i64::try_from(n) {
+        Some(Json::from(n))
+    } else {
+        None
+    }
+}
+
+// A number from -2^63 to 2^64 - 1; another is out of range.
+pub(crate) fn number_to_json(n: i128) -> Result<Json, WriteFault>
+    ensures written { Written view result (number_fits n) (number_json n) }
+    ensures reads_back { IfOk result (λ v. whole (view v) ≡ Ok n) }
+{
+    number_json(n).ok_or(WriteFault::OutOfRange)
+}
+
 // A number of any size: where JSON doesn't have it, a text of its decimal digits.
 pub(crate) fn wide_json(alloc: Global, n: i128) -> Result<Json, Memory>
     ensures json { IfOk result (λ v. view v ≡ wide_json n) }
     ensures reads_back { IfOk result (λ v. number_fits n ≡ true → whole (view v) ≡ Ok n) }
 {
-    if let Ok(n) = u64::try_from(n) {
-        Ok(Json::from(n))
-    } else if let Ok(n) = i64::try_from(n) {
-        Ok(Json::from(n))
-    } else {
-        Ok(Json::from(format!(in alloc; "{n}")?))
+    match number_json(n) {
+        Some(json) => Ok(json),
+        None => Ok(Json::from(format!(in alloc; "{n}")?)),
     }
 }

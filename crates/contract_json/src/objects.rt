@@ -1,5 +1,5 @@
 //! JSON values made of others. An object's keys are handed in in the order of their bytes.
-ghost use Rattle.std.specs.Prelude.{◌≡◌, Ok, IfOk};
+ghost use Rattle.std.specs.Prelude.{◌≡◌, Ok, IfOk, codes};
 ghost use Rattle.serde_json.specs.Data.{no_members, object, put, string};
 ghost use Rattle.serde_json.specs.View.{view};
 ghost use Rattle.contract_json.specs.Parts as reads;
@@ -40,6 +40,18 @@ pub(crate) fn three(
     json!(in alloc; {(a): x, (b): y, (c): z})
 }
 
+// A choice between two by a condition.
+pub(crate) fn if_json(
+    alloc: Global,
+    condition: Json,
+    then: Json,
+    otherwise: Json,
+) -> Result<Json, Memory>
+    ensures { IfOk result (λ v. view v ≡ written.three (codes "else") (view otherwise) (codes "if") (view condition) (codes "then") (view then)) }
+{
+    three(alloc, "else", otherwise, "if", condition, "then", then)
+}
+
 // An object of four keys, each beside its value.
 pub(crate) fn four(
     alloc: Global,
@@ -57,6 +69,50 @@ pub(crate) fn four(
     let (c, z) = third;
     let (d, w) = fourth;
     json!(in alloc; {(a): x, (b): y, (c): z, (d): w})
+}
+
+// An object of five keys, each beside its value.
+pub(crate) fn five(
+    alloc: Global,
+    first: (&str, Json),
+    second: (&str, Json),
+    third: (&str, Json),
+    fourth: (&str, Json),
+    fifth: (&str, Json),
+) -> Result<Json, Memory>
+    ensures { IfOk result (λ v. view v
+        ≡ object (put fifth.entry.0.now (view fifth.entry.1) (put fourth.entry.0.now (view fourth.entry.1) (put third.entry.0.now (view third.entry.1)
+        (put second.entry.0.now (view second.entry.1) (put first.entry.0.now (view first.entry.1) no_members)))))) }
+{
+    let (a, x) = first;
+    let (b, y) = second;
+    let (c, z) = third;
+    let (d, w) = fourth;
+    let (e, v) = fifth;
+    json!(in alloc; {(a): x, (b): y, (c): z, (d): w, (e): v})
+}
+
+// An object of six keys, each beside its value.
+pub(crate) fn six(
+    alloc: Global,
+    first: (&str, Json),
+    second: (&str, Json),
+    third: (&str, Json),
+    fourth: (&str, Json),
+    fifth: (&str, Json),
+    sixth: (&str, Json),
+) -> Result<Json, Memory>
+    ensures { IfOk result (λ v. view v
+        ≡ object (put sixth.entry.0.now (view sixth.entry.1) (put fifth.entry.0.now (view fifth.entry.1) (put fourth.entry.0.now (view fourth.entry.1)
+        (put third.entry.0.now (view third.entry.1) (put second.entry.0.now (view second.entry.1) (put first.entry.0.now (view first.entry.1) no_members))))))) }
+{
+    let (a, x) = first;
+    let (b, y) = second;
+    let (c, z) = third;
+    let (d, w) = fourth;
+    let (e, v) = fifth;
+    let (f, u) = sixth;
+    json!(in alloc; {(a): x, (b): y, (c): z, (d): w, (e): v, (f): u})
 }
 
 // A list of two.

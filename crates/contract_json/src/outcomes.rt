@@ -12,7 +12,8 @@ use crate::name_forms::{party_to_json, payee_to_json, token_to_json};
 use crate::numbers::wide_json;
 use crate::objects::four;
 use crate::states::state_to_json;
-use contract::{Contract, Items, Memory, Outcome, Payment, Warning};
+use crate::warnings::warnings_json;
+use contract::{Contract, Items, Memory, Outcome, Payment};
 use serde_json::Value as Json;
 use std::alloc::Global;
 
@@ -43,14 +44,6 @@ fn payments_json(alloc: Global, payments: &Items<Payment>) -> Result<Json, Memor
     Ok(Json::from(items))
 }
 
-// There is no warning yet, so no list of them holds one.
-fn warnings_json(alloc: Global, warnings: &Items<Warning>) -> Json
-    ensures { view result ≡ array (items_of (map written.warning_json warnings.now)) }
-{
-    let _none = warnings;
-    Json::from(Vec::new(alloc))
-}
-
 /// An outcome as a JSON value: the contract that remains, the payments and the warnings in order, and
 /// the state.
 pub fn outcome_to_json(alloc: Global, outcome: &Outcome<&Contract>) -> Result<Json, WriteFault>
@@ -60,7 +53,7 @@ pub fn outcome_to_json(alloc: Global, outcome: &Outcome<&Contract>) -> Result<Js
     let contract = contract_to_json(alloc, outcome.place)?;
     let payments = payments_json(alloc, &outcome.payments)?;
     let state = state_to_json(alloc, &outcome.state)?;
-    let warnings = warnings_json(alloc, &outcome.warnings);
+    let warnings = warnings_json(alloc, &outcome.warnings)?;
     let whole = four(
         alloc,
         ("contract", contract),

@@ -90,7 +90,7 @@ pub fn write_contract(alloc: Global, contract: &Contract) -> Result<Vec<u8>, Wri
 }
 
 /// The text of an outcome: compact, with each object's keys in the order of their bytes. A number of
-/// the payments and the state that JSON doesn't have is a text of its decimal digits.
+/// the payments, the warnings and the state that JSON doesn't have is a text of its decimal digits.
 #[tactic(auto, using(crate::proofs::Floats::floats))]
 pub fn write_outcome(alloc: Global, outcome: &Outcome<&Contract>) -> Result<Vec<u8>, WriteFault>
     ensures written { Written (λ text. text.items) result (contract_fits (contract_tree outcome.now.place.now))

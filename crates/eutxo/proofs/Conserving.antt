@@ -1,7 +1,7 @@
 -- The ada over all unspent outputs stays what it was.
-use Rattle.std.proofs.Common.{◌≡◌, ℕ, zero, suc, ◌+◌, ◌<◌, Bool, true, false, not, ◌&&◌, ◌||◌, cond, ℤ, pos, ◌+ℤ◌, List, [], ◌∷◌, ◌++◌, refl, sym, ◌∙◌, ap, subst, arith, append_assoc, Option, Some, None, ◌⊎◌, inl, inr, take, length}
-use Rattle.std.specs.Prelude.{is_none, filter, ◌==◌, if◌then◌else◌}
-use Rattle.std.specs.List.{slice_get, list_any}
+use Rattle.std.proofs.Common.{◌≡◌, ℕ, ◌+◌, ◌<◌, Bool, true, false, not, ◌||◌, cond, ℤ, pos, ◌+ℤ◌, List, [], ◌∷◌, ◌++◌, refl, sym, ◌∙◌, ap, subst, arith, append_assoc, Option, Some, None, take, length}
+use Rattle.std.specs.Prelude.{filter, ◌==◌, if◌then◌else◌}
+use Rattle.std.specs.List.{list_any}
 use Rattle.std.specs.Map.{lookup}
 use Rattle.std.specs.Ordering.{int_eq}
 use Rattle.std.specs.Cmp.{signed_Decides}
@@ -17,9 +17,9 @@ use Rattle.eutxo.specs.declared.tx.Tx.{Tx}
 use Rattle.eutxo.specs.Ids.{id_of, same_ref, ada}
 use Rattle.eutxo.specs.Sums.{sum_of}
 use Rattle.eutxo.specs.History.{Past, referred, made_by, created, names, is_spent, unspent, unspent_at}
-use Rattle.eutxo.specs.Rules.{first_place, is_repeated, is_not_unspent, amount_of, not_preserved}
-use Rattle.eutxo.proofs.References.{same_ref_so, same_ref-refl, lookup_back, none_referred, none_later, Counts, counts_genesis, counts_made, never_made}
-use Rattle.eutxo.proofs.Passing.{EachFalse, unless, not_false, or_false}
+use Rattle.eutxo.specs.Rules.{first_place, is_repeated, amount_of, not_preserved}
+use Rattle.eutxo.proofs.References.{same_ref_so, same_ref-refl, lookup_back, none_later, Counts, counts_genesis, counts_made, never_made}
+use Rattle.eutxo.proofs.Passing.{EachFalse, or_false}
 
 -- ---- references that differ
 

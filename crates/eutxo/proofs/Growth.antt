@@ -1,7 +1,7 @@
 -- A ledger stays sound where it accepts a transaction that no rule refuses.
-use Rattle.std.proofs.Common.{◌≡◌, ℕ, zero, suc, ◌+◌, ◌<◌, ◌≤◌, Bool, true, false, not, ◌||◌, cond, ℤ, List, [], ◌∷◌, ◌++◌, refl, sym, ◌∙◌, ap, subst, arith, append_assoc, Option, Some, None, Result, Ok, Err, ◌⊎◌, inl, inr, take, drop, length}
-use Rattle.std.specs.Prelude.{is_none, is_some, filter, All, IfSome}
-use Rattle.std.specs.List.{slice_get, list_any}
+use Rattle.std.proofs.Common.{◌≡◌, ℕ, zero, suc, ◌+◌, Bool, true, false, not, ◌||◌, ℤ, List, [], ◌∷◌, ◌++◌, refl, sym, ◌∙◌, ap, subst, arith, append_assoc, Option, Some, None, ◌⊎◌, inl, inr, take, length}
+use Rattle.std.specs.Prelude.{is_none, filter, All, IfSome}
+use Rattle.std.specs.List.{slice_get}
 use Rattle.std.specs.Map.{lookup}
 use Rattle.std.proofs.lemmas.List.Elements.{All-append, All-filter, All-nil, All-cons}
 use Rattle.std.proofs.lemmas.Map.Entries.{All-lookup}
@@ -13,22 +13,20 @@ use Rattle.eutxo.specs.declared.output_ref.OutputRef.TheVariants.{Genesis, Made}
 use Rattle.eutxo.specs.declared.lock.Lock.{Lock}
 use Rattle.eutxo.specs.declared.lock.Lock.TheVariants.{Key, Contract}
 use Rattle.eutxo.specs.declared.datum.Datum.{Datum}
-use Rattle.eutxo.specs.declared.spend.Spend.{Spend}
 use Rattle.eutxo.specs.declared.tx.Tx.{Tx}
 use Rattle.eutxo.specs.declared.verdict.Verdict.{Verdict}
-use Rattle.eutxo.specs.declared.verdict.Verdict.TheVariants.{Accepted, Refused}
 use Rattle.eutxo.specs.declared.fault.TxFault.{TxFault}
 use Rattle.eutxo.specs.declared.fault.TxFault.TheVariants.{WrongStart}
 use Rattle.eutxo.specs.Ids.{id_of, same_ref}
 use Rattle.eutxo.specs.Sums.{sum_of}
 use Rattle.eutxo.specs.History.{Past, before, referred, made_by, created, names, is_spent, unspent, unspent_at, datum_in, datum_of}
-use Rattle.eutxo.specs.Rules.{Script, stepped, stepping, is_wrong_start, first_place, is_repeated}
-use Rattle.eutxo.specs.Judgement.{first_of, of_step, StepLeads, Judge, IsVerdict, verdict_of, after, Submits}
-use Rattle.eutxo.specs.Threads.{HoldsSums, IsFunded, AreFunded, IsPreserved, IsSpentOnce, EachIsARun, HoldsAfter}
+use Rattle.eutxo.specs.Rules.{Script, stepped, stepping, is_wrong_start}
+use Rattle.eutxo.specs.Judgement.{first_of, of_step, StepLeads, Judge, verdict_of, after, Submits}
+use Rattle.eutxo.specs.Threads.{AreFunded, IsPreserved, HoldsAfter}
 use Rattle.eutxo.specs.Held.{IsLegal, IsSound, IsGood, FindsPlaces, is_key_lock, is_key, AreKeys}
-use Rattle.eutxo.proofs.References.{made_at, output_nth, unspent_created, unspent_before, none_referred, lookup_back, plus_zero, plus_suc, none_new}
+use Rattle.eutxo.proofs.References.{unspent_created, unspent_before, plus_zero, plus_suc, none_new}
 use Rattle.eutxo.proofs.Judging.{stepped_found}
-use Rattle.eutxo.proofs.Passing.{Passes, passes, each_none, nowhere, found_at, EachFalse}
+use Rattle.eutxo.proofs.Passing.{Passes, passes, each_none, nowhere, found_at}
 use Rattle.eutxo.proofs.Laying.{SamePlaces, AllGood, good_starts}
 use Rattle.eutxo.proofs.Spine.{LeadsOn, stepped_so, each_is_a_run}
 use Rattle.eutxo.proofs.Conserving.{preserved_so, spent_more, sum_new}
@@ -127,7 +125,7 @@ module _ {P : Type 0} (has : P → Type 0) (leads : P → List Turn → P → Ty
         first_of (of_step m there tx (stepping m tx s)) ≡ None → AllGood has tx.outputs
     new_good None e there led late =
         let rules = each_none (of_step m there tx None) late in
-        good_starts m has law sound.root tx.outputs (nowhere WrongStart (is_wrong_start m.same m.root) tx.outputs rules.1.1.1.1.0)
+        good_starts m has law sound.root tx.outputs (nowhere WrongStart (is_wrong_start m.same m.root) tx.outputs rules.1.1.1.1.1.0)
     new_good (Some s) e there led late =
         let q = stepped_found (unspent_at past) tx.inputs s.0 s.1 e in
         let place : has s.0.place = finds_places has past sound.good q.0 s.0 q.1 in

@@ -1,24 +1,21 @@
 -- What the code's parts answer is the judgement.
-use Rattle.std.proofs.Common.{◌≡◌, ◌↔◌, IsTrue, ℕ, ◌+◌, Bool, true, false, not, ◌&&◌, ◌||◌, List, [], ◌∷◌, ◌++◌, refl, sym, ◌∙◌, ap, subst, Option, Some, None, Result, Ok, Err, ◌⊎◌, inl, inr}
-use Rattle.std.specs.Prelude.{cond}
+use Rattle.std.proofs.Common.{◌≡◌, ◌↔◌, IsTrue, Bool, true, false, List, [], ◌∷◌, ◌++◌, refl, sym, ◌∙◌, ap, subst, Option, Some, None, Result, Ok, Err, inl, inr}
+use Rattle.std.specs.Prelude.{IfOk}
 use Rattle.contract.specs.declared.fault.SemFault.{SemFault}
-use Rattle.contract.specs.declared.fault.SemFault.TheVariants as sem
 use Rattle.contract.specs.declared.input.Input.{Input}
 use Rattle.contract.specs.declared.outcome.Outcome.{Outcome}
 use Rattle.contract.specs.declared.payment.Payment.{Payment}
-use Rattle.contract.specs.States.{StateMaps}
-use Rattle.contract.specs.Tree.{ContractTree, close, when}
+use Rattle.contract.specs.Tree.{ContractTree, close}
 use Rattle.semantics.specs.Walk.{Turn, At, at, Walk, answer_of, Aside}
 use Rattle.eutxo.specs.declared.fault.TxFault.{TxFault}
-use Rattle.eutxo.specs.declared.fault.TxFault.TheVariants.{WrongContinuation}
 use Rattle.eutxo.specs.declared.output.Output.{Output}
 use Rattle.eutxo.specs.declared.output_ref.OutputRef.{OutputRef}
 use Rattle.eutxo.specs.declared.datum.Datum.{Datum}
 use Rattle.eutxo.specs.declared.spend.Spend.{Spend}
 use Rattle.eutxo.specs.declared.tx.Tx.{Tx}
-use Rattle.eutxo.specs.History.{Past, datum_of, unspent_at, is_spent, created}
-use Rattle.eutxo.specs.Rules.{Script, stepped, or_later, inputs_of, walk_of, stepping, fault_if, continues, is_close, continuing, unpaid_after, stray_after, not_preserved}
-use Rattle.eutxo.specs.Judgement.{first_of, of_step, after_step, StepLeads, LeadsFrom, Answers}
+use Rattle.eutxo.specs.History.{datum_of}
+use Rattle.eutxo.specs.Rules.{Script, stepped, or_later, inputs_of, walk_of, stepping, is_close, not_preserved}
+use Rattle.eutxo.specs.Judgement.{first_of, of_step, LeadsFrom, Answers}
 use Rattle.eutxo.specs.Parts.{outcome_rules, StepAnswers}
 
 -- ---- the first of two lists
@@ -37,19 +34,24 @@ pub first_one : {A : Type 0} (x : Option A) → first_of (x ∷ []) ≡ x
 first_one None = refl
 first_one (Some x) = refl
 
-three_of : {A : Type 0} (x y z : Option A) → first_of (x ∷ y ∷ z ∷ []) ≡ first_of (x ∷ y ∷ z ∷ None ∷ [])
-three_of None None None = refl
-three_of None None (Some z) = refl
-three_of None (Some y) z = refl
-three_of (Some x) y z = refl
+-- what isn't there changes nothing at the end
+one_more : {A : Type 0} (xs : List (Option A)) → first_of xs ≡ first_of (xs ++ None ∷ [])
+one_more [] = refl
+one_more (None ∷ xs) = one_more xs
+one_more (Some x ∷ xs) = refl
 
 -- ---- the step
 
+-- what holds of the answer holds of what is answered
+pub ok_as : {A E : Type 0} (r : Result A E) (F : A → Type 0) (a : A) → IfOk r (λ b. b ≡ a) → F a → IfOk r F
+ok_as (Ok b) F a h x = subst F (sym h) x
+ok_as (Err e) F a h x = tt
+
 pub closed_is : (b : Bool) (t : ContractTree) → (IsTrue b ↔ (t ≡ close)) → b ≡ is_close t
 closed_is true close h = refl
-closed_is true (when ks m c) h = let e : when ks m c ≡ close = h.0 (search) in cc
+closed_is true c h = let e : c ≡ close = h.0 (search) in cc
 closed_is false close h = let e : IsTrue false = h.1 refl in cc
-closed_is false (when ks m c) h = refl
+closed_is false c h = refl
 
 answered : {A : Type 0} (a : A) (r : Result A SemFault) → Aside (Ok a) r → r ≡ Ok a
 answered a r (inl e) = sym e
@@ -58,17 +60,17 @@ answered a r (inr e) = cc
 pub run_answers : {P : Type 0} (leads : P → List Turn → P → Type 0) (m : Script P) (tx : Tx P) (d : Datum P) (xs : List Input) (o : Outcome P) (closed : Bool) →
     (let w = walk_of m tx.interval (d, xs) in
     Aside (Ok (at o.state (m.tree o.place))) (answer_of w) → o.payments ≡ w.payments → leads d.place w.turns o.place → closed ≡ is_close (m.tree o.place) →
-    StepAnswers leads m tx (Some (d, xs)) (first_of (outcome_rules m.same closed o.place o.state o.payments tx.outputs)))
+    StepAnswers leads m tx (Some (d, xs)) (first_of (outcome_rules m.same tx xs closed o.place o.state o.payments)))
 run_answers {P} leads m tx d xs o closed answer paid led c =
     let w : Walk = walk_of m tx.interval (d, xs) in
     let a : At = at o.state (m.tree o.place) in
     let e : answer_of w ≡ Ok a = answered a (answer_of w) answer in (
       o.place,
       subst (λ (r : Result At SemFault). LeadsFrom leads m d.place w r o.place) (sym e) (led, refl),
-      ap (λ (b : Bool). first_of (outcome_rules m.same b o.place o.state o.payments tx.outputs)) c
-          ∙ ap (λ (ps : List Payment). first_of (outcome_rules m.same (is_close (m.tree o.place)) o.place o.state ps tx.outputs)) paid
-          ∙ three_of (fault_if WrongContinuation (not (is_close (m.tree o.place) || continues m.same o.place o.state tx.outputs))) (unpaid_after (continuing (is_close (m.tree o.place))) w.payments tx.outputs) (stray_after (continuing (is_close (m.tree o.place))) tx.outputs)
-          ∙ ap (λ (r : Result At SemFault). first_of (of_step m o.place tx (Some (w, r)))) (sym e),
+      ap (λ (b : Bool). first_of (outcome_rules m.same tx xs b o.place o.state o.payments)) c
+          ∙ ap (λ (ps : List Payment). first_of (outcome_rules m.same tx xs (is_close (m.tree o.place)) o.place o.state ps)) paid
+          ∙ one_more (outcome_rules m.same tx xs (is_close (m.tree o.place)) o.place o.state w.payments)
+          ∙ ap (λ (r : Result At SemFault). first_of (of_step m o.place tx (Some (xs, w, r)))) (sym e),
     )
 
 -- what is stepped was found

@@ -1,6 +1,6 @@
 -- What the outputs of an accepted step, and of a start, hold.
-use Rattle.std.proofs.Common.{◌≡◌, ℕ, zero, suc, ◌+◌, Bool, true, false, not, ◌&&◌, ◌||◌, cond, ℤ, pos, ◌+ℤ◌, List, [], ◌∷◌, refl, sym, ◌∙◌, ap, subst, arith, Option, Some, None, Result, Ok, Err, drop}
-use Rattle.std.specs.Prelude.{is_some, if◌then◌else◌, int_lt}
+use Rattle.std.proofs.Common.{◌≡◌, ℕ, zero, suc, ◌+◌, Bool, true, false, not, ◌&&◌, ◌||◌, cond, ℤ, pos, ◌+ℤ◌, List, [], ◌∷◌, refl, sym, ◌∙◌, ap, subst, Option, Some, None, Result, Ok, Err, drop}
+use Rattle.std.specs.Prelude.{is_some, if◌then◌else◌}
 use Rattle.std.specs.List.{slice_get, list_all}
 use Rattle.std.specs.FinMap.{entries}
 use Rattle.std.specs.Ordering.{int_eq, eq_by_cmp}
@@ -18,19 +18,21 @@ use Rattle.names.specs.Orders.{token_cmp}
 use Rattle.contract.specs.declared.fault.SemFault.{SemFault}
 use Rattle.contract.specs.declared.payment.Payment.{Payment}
 use Rattle.contract.specs.contracts.state.State as state
-use Rattle.contract.specs.States.{StateMaps, in_token, total_of}
-use Rattle.contract.specs.Tree.{ContractTree, CaseTrees, close, when}
+use Rattle.contract.specs.States.{StateMaps, in_token}
+use Rattle.contract.specs.declared.input.Input.{Input}
+use Rattle.contract.specs.Tree.{ContractTree, close}
 use Rattle.semantics.specs.Walk.{At, at, Walk}
 use Rattle.eutxo.specs.declared.output.Output.{Output}
 use Rattle.eutxo.specs.declared.lock.Lock.{Lock}
 use Rattle.eutxo.specs.declared.lock.Lock.TheVariants.{Key, Contract}
 use Rattle.eutxo.specs.declared.datum.Datum.{Datum}
 use Rattle.eutxo.specs.declared.tx.Tx.{Tx}
-use Rattle.eutxo.specs.declared.fault.TxFault.TheVariants.{WrongContinuation, WrongPayment, StrayContract, WrongStart}
+use Rattle.eutxo.specs.declared.fault.TxFault.{TxFault}
+use Rattle.eutxo.specs.declared.fault.TxFault.TheVariants.{WrongContinuation, WrongPayment, StrayContract}
 use Rattle.eutxo.specs.Ids.{the_script, same_bytes, ada}
 use Rattle.eutxo.specs.Sums.{sum_of}
 use Rattle.eutxo.specs.History.{datum_in, datum_of}
-use Rattle.eutxo.specs.Rules.{Script, Step, is_empty, is_ada, in_ada, holds_sums, same_state, continues_in, continues, is_address, is_to, pays_to, first_unpaid, due, holds_contract, is_start, starts_wrong, is_wrong_start}
+use Rattle.eutxo.specs.Rules.{Script, fault_if, lacks_party, is_close, continuing, unpaid_after, stray_after, is_empty, is_ada, in_ada, holds_sums, same_state, continues_in, continues, is_address, is_to, pays_to, first_unpaid, due, holds_contract, is_start, starts_wrong, is_wrong_start}
 use Rattle.eutxo.specs.Judgement.{first_of, of_step}
 use Rattle.eutxo.specs.Threads.{Effect, held_of, HoldsSums, IsPaid, Pays, IsContinuation, LaidOut}
 use Rattle.eutxo.specs.Held.{IsGood}
@@ -159,19 +161,20 @@ abbrev pub effect_of : Walk → StateMaps → ContractTree → Effect
 effect_of w s c = record { warnings = w.warnings; payments = w.payments; state = s; contract = c }
 
 module _ {P : Type 0} (m : Script P) (has : P → Type 0) (law : SamePlaces m has) where
-  laid_on : (w : Walk) (s : StateMaps) (ks : CaseTrees) (t : ℤ) (c : ContractTree) (there : P) (os : List (Output P)) →
-      continues m.same there s os ≡ true → first_unpaid 1 (due w.payments) (drop 1 os) ≡ None → EachFalse holds_contract (drop 1 os) →
-      has there → m.tree there ≡ when ks t c → Laid m has (effect_of w s (when ks t c)) os
-  laid_on w s ks t c there [] h u f p q = cc
-  laid_on w s ks t c there (o ∷ os) h u f p q =
+  laid_on : (w : Walk) (s : StateMaps) (c : ContractTree) (there : P) (os : List (Output P)) →
+      ((o : Output P) (os : List (Output P)) → IsContinuation m.tree (effect_of w s c) o × Pays (due w.payments) os → LaidOut m.tree (effect_of w s c) (o ∷ os)) →
+      (c ≡ close → ⊥) → continues m.same there s os ≡ true → first_unpaid 1 (due w.payments) (drop 1 os) ≡ None → EachFalse holds_contract (drop 1 os) →
+      has there → m.tree there ≡ c → Laid m has (effect_of w s c) os
+  laid_on w s c there [] lay going h u f p q = cc
+  laid_on w s c there (o ∷ os) lay going h u f p q =
       let k = continuation m there s o.amount o.lock h in
       let l = law there k.datum.place k.same p in
-      let tree : m.tree k.datum.place ≡ when ks t c = l.1 ∙ q in
+      let tree : m.tree k.datum.place ≡ c = l.1 ∙ q in
       let here : datum_in o.lock ≡ Some k.datum = ap datum_in k.lock in
       record {
-        out = (record { datum = k.datum; lock = k.lock; contract = tree; state = k.state; sums = k.sums }, pays 1 (due w.payments) os u);
+        out = lay o os (record { datum = k.datum; lock = k.lock; contract = tree; state = k.state; sums = k.sums }, pays 1 (due w.payments) os u);
         on = λ _. (k.datum, here, tree, k.state, l.0);
-        over = λ e. cc;
+        over = λ e. absurd (going e);
         good = (
           (λ d e.
               let same : k.datum ≡ d = let both : (let a : Option (Datum P) = Some k.datum in a) ≡ Some d = sym here ∙ e in cc in
@@ -180,31 +183,49 @@ module _ {P : Type 0} (m : Script P) (has : P → Type 0) (law : SamePlaces m ha
         );
       }
 
-  pub laid_out : (w : Walk) (s : StateMaps) (c : ContractTree) (there : P) (tx : Tx P) →
-      first_of (of_step m there tx (Some (w, Ok (at s c)))) ≡ None → has there → m.tree there ≡ c → Laid m has (effect_of w s c) tx.outputs
-  laid_out w s close there tx h p q =
-      let e = each_none (of_step m there tx (Some (w, Ok (at s close)))) h in
-      let stray = nowhere (λ (i : ℕ). StrayContract (0 + i)) holds_contract tx.outputs e.1.1.1.0 in
+  -- the rules of a step that succeeds, by whether the contract is over
+  abbrev rules_after : List Input → Walk → StateMaps → P → Tx P → Bool → List (Option TxFault)
+  rules_after xs w s there tx closed =
+      None
+      ∷ lacks_party tx.signers xs
+      ∷ fault_if WrongContinuation (not (closed || continues m.same there s tx.outputs))
+      ∷ unpaid_after (continuing closed) w.payments tx.outputs
+      ∷ stray_after (continuing closed) tx.outputs
+      ∷ None
+      ∷ []
+
+  -- a step after which the contract isn't over
+  laid_open : (xs : List Input) (w : Walk) (s : StateMaps) (c : ContractTree) (there : P) (tx : Tx P) →
+      ((o : Output P) (os : List (Output P)) → IsContinuation m.tree (effect_of w s c) o × Pays (due w.payments) os → LaidOut m.tree (effect_of w s c) (o ∷ os)) →
+      (c ≡ close → ⊥) → is_close c ≡ false →
+      first_of (of_step m there tx (Some (xs, w, Ok (at s c)))) ≡ None → has there → m.tree there ≡ c → Laid m has (effect_of w s c) tx.outputs
+  laid_open xs w s c there tx lay going goes h p q =
+      let e = each_none (rules_after xs w s there tx false) (subst (λ (b : Bool). first_of (rules_after xs w s there tx b) ≡ None) goes h) in
+      laid_on w s c there tx.outputs lay going
+      (not_false (continues m.same there s tx.outputs) (unless (not (continues m.same there s tx.outputs)) WrongContinuation e.1.1.0))
+      (mapped_none WrongPayment _ e.1.1.1.0)
+      (nowhere (λ (i : ℕ). StrayContract (1 + i)) holds_contract (drop 1 tx.outputs) e.1.1.1.1.0)
+      p q
+
+  pub laid_out : (xs : List Input) (w : Walk) (s : StateMaps) (c : ContractTree) (there : P) (tx : Tx P) →
+      first_of (of_step m there tx (Some (xs, w, Ok (at s c)))) ≡ None → has there → m.tree there ≡ c → Laid m has (effect_of w s c) tx.outputs
+  laid_out xs w s close there tx h p q =
+      let e = each_none (of_step m there tx (Some (xs, w, Ok (at s close)))) h in
+      let stray = nowhere (λ (i : ℕ). StrayContract (0 + i)) holds_contract tx.outputs e.1.1.1.1.0 in
       let none = no_contract tx.outputs stray in
       record {
-        out = pays 0 (due w.payments) tx.outputs (mapped_none WrongPayment _ e.1.1.0);
+        out = pays 0 (due w.payments) tx.outputs (mapped_none WrongPayment _ e.1.1.1.0);
         on = λ g. absurd (let f : true ≡ false = sym g ∙ none in cc);
         over = λ _. none;
         good = none_good has tx.outputs stray;
       }
-  laid_out w s (when ks t c) there tx h p q =
-      let e = each_none (of_step m there tx (Some (w, Ok (at s (when ks t c))))) h in
-      laid_on w s ks t c there tx.outputs
-      (not_false (continues m.same there s tx.outputs) (unless (not (continues m.same there s tx.outputs)) WrongContinuation e.1.0))
-      (mapped_none WrongPayment _ e.1.1.0)
-      (nowhere (λ (i : ℕ). StrayContract (1 + i)) holds_contract (drop 1 tx.outputs) e.1.1.1.0)
-      p q
+  laid_out xs w s c there tx h p q = laid_open xs w s c there tx (λ o os x. x) (λ e. cc) refl h p q
 
   -- a step that no rule refuses succeeds
-  pub succeeds : (w : Walk) (r : Result At SemFault) (there : P) (tx : Tx P) → first_of (of_step m there tx (Some (w, r))) ≡ None →
-      (a : At) × (r ≡ Ok a) × (first_of (of_step m there tx (Some (w, Ok a))) ≡ None)
-  succeeds w (Ok a) there tx h = (a, refl, h)
-  succeeds w (Err f) there tx h = cc
+  pub succeeds : (xs : List Input) (w : Walk) (r : Result At SemFault) (there : P) (tx : Tx P) → first_of (of_step m there tx (Some (xs, w, r))) ≡ None →
+      (a : At) × (r ≡ Ok a) × (first_of (of_step m there tx (Some (xs, w, Ok a))) ≡ None)
+  succeeds xs w (Ok a) there tx h = (a, refl, h)
+  succeeds xs w (Err f) there tx h = cc
 
   -- ---- starts
 

@@ -5,6 +5,7 @@ pub mod Judging
 pub mod Passing
 pub mod Laying
 pub mod Spine
+pub mod Signing
 pub mod Conserving
 pub mod Growth
 pub mod Single

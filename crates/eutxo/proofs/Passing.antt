@@ -1,8 +1,7 @@
 -- What a transaction that no rule refuses meets.
-use Rattle.std.proofs.Common.{◌≡◌, ℕ, zero, suc, ◌+◌, ◌<◌, ◌≤◌, Bool, true, false, not, ◌&&◌, ◌||◌, cond, List, [], ◌∷◌, ◌++◌, refl, sym, ◌∙◌, ap, subst, arith, Option, Some, None, Result, Ok, Err, ◌⊎◌, inl, inr, take, drop, length}
+use Rattle.std.proofs.Common.{◌≡◌, ℕ, ◌+◌, ◌≤◌, Bool, true, false, not, ◌||◌, cond, List, [], ◌∷◌, ◌++◌, refl, sym, ◌∙◌, ap, subst, arith, Option, Some, None, ◌⊎◌, inl, inr}
 use Rattle.std.specs.Prelude.{is_none, is_some, if◌then◌else◌, count_by, nat_lt}
-use Rattle.std.specs.List.{slice_get, list_any, position, position_from}
-use Rattle.std.specs.Map.{lookup}
+use Rattle.std.specs.List.{list_any, position, position_from}
 use Rattle.std.specs.Option.{option_map}
 use Rattle.std.proofs.lemmas.Iterator.Adapters.{position_from-zero}
 use Rattle.std.proofs.lemmas.List.Sums.{sum_by-cons}
@@ -16,11 +15,11 @@ use Rattle.eutxo.specs.declared.redeemer.Redeemer.TheVariants as with
 use Rattle.eutxo.specs.declared.datum.Datum.{Datum}
 use Rattle.eutxo.specs.declared.tx.Tx.{Tx}
 use Rattle.eutxo.specs.declared.fault.TxFault.{TxFault}
-use Rattle.eutxo.specs.declared.fault.TxFault.TheVariants.{NoInputs, RepeatedInput, NotUnspent, TwoContracts, WrongRedeemer, NotPreserved}
+use Rattle.eutxo.specs.declared.fault.TxFault.TheVariants.{RepeatedInput, NotUnspent, TwoContracts, WrongRedeemer}
 use Rattle.eutxo.specs.Ids.{same_ref}
-use Rattle.eutxo.specs.History.{Past, datum_in, datum_of}
-use Rattle.eutxo.specs.Rules.{Script, fault_if, first_place, is_repeated, stepped, or_later, inputs_of, stepping, is_step, is_not_unspent, spends_contract, is_wrong_redeemer, is_other_kind, not_preserved}
-use Rattle.eutxo.specs.Judgement.{first_of, before_step, of_step, after_step, StepLeads, Answers}
+use Rattle.eutxo.specs.History.{datum_of}
+use Rattle.eutxo.specs.Rules.{Script, first_place, is_repeated, stepped, or_later, inputs_of, stepping, is_step, is_not_unspent, spends_contract, is_wrong_redeemer, is_other_kind, not_preserved}
+use Rattle.eutxo.specs.Judgement.{first_of, before_step, of_step, StepLeads, Answers}
 use Rattle.eutxo.specs.Threads.{step_inputs, step_or}
 use Rattle.eutxo.proofs.References.{same_ref_so}
 

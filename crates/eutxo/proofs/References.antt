@@ -1,11 +1,10 @@
 -- References name one output each.
-use Rattle.std.proofs.Common.{◌≡◌, ◌≢◌, ℕ, zero, suc, ◌+◌, ◌*◌, ◌/◌, ◌%◌, ◌^◌, ◌<◌, ◌≤◌, Bool, true, false, ◌&&◌, cond, not, List, [], ◌∷◌, ◌++◌, refl, sym, ◌∙◌, ap, subst, arith, Option, Some, None, ◌⊎◌, inl, inr, take, drop, length, get_or}
-use Rattle.std.specs.Prelude.{◌==◌, nat_eq, replicate, is_none, is_some}
+use Rattle.std.proofs.Common.{◌≡◌, ℕ, zero, suc, ◌+◌, ◌/◌, ◌%◌, ◌^◌, ◌<◌, ◌≤◌, Bool, true, false, ◌&&◌, cond, not, List, [], ◌∷◌, ◌++◌, refl, sym, ◌∙◌, ap, subst, arith, Option, Some, None, take, drop, length, get_or}
+use Rattle.std.specs.Prelude.{◌==◌, replicate, is_none}
 use Rattle.std.specs.Int.{to_be_bytes, from_be_bytes, w64}
 use Rattle.std.specs.Map.{lookup}
-use Rattle.std.specs.List.{slice_get, list_any}
-use Rattle.std.specs.Bool.{Decides}
-use Rattle.std.specs.Cmp.Lexicographic.{pointwise, bytes_decides}
+use Rattle.std.specs.List.{slice_get}
+use Rattle.std.specs.Cmp.Lexicographic.{bytes_decides}
 use Rattle.std.proofs.lemmas.Nat.{from_be_bytes-to_be_bytes_8}
 use Rattle.std.proofs.lemmas.Bool.{eqb-true, eq-eqb, ne_eqb}
 use Rattle.std.proofs.lemmas.List.{at_drop_more}

@@ -1,5 +1,5 @@
 -- No output is spent twice.
-use Rattle.std.proofs.Common.{◌≡◌, ℕ, zero, suc, ◌+◌, ◌<◌, ◌≤◌, Bool, true, false, not, ◌||◌, cond, List, [], ◌∷◌, refl, sym, ◌∙◌, ap, subst, arith, Option, Some, None, take}
+use Rattle.std.proofs.Common.{◌≡◌, ℕ, zero, suc, ◌<◌, Bool, true, false, not, ◌||◌, cond, List, [], ◌∷◌, refl, ◌∙◌, ap, subst, arith, Option, Some, None, take}
 use Rattle.std.specs.Prelude.{is_none}
 use Rattle.std.specs.List.{slice_get, list_any}
 use Rattle.std.specs.Map.{lookup}
@@ -13,7 +13,7 @@ use Rattle.eutxo.specs.Rules.{Script}
 use Rattle.eutxo.specs.Threads.{IsSpentOnce}
 use Rattle.eutxo.specs.Held.{IsLegal}
 use Rattle.eutxo.proofs.References.{unspent_is}
-use Rattle.eutxo.proofs.Passing.{Passes, passes, found_at}
+use Rattle.eutxo.proofs.Passing.{passes, found_at}
 
 or_true : (a b : Bool) → b ≡ true → (a || b) ≡ true
 or_true true b h = refl

@@ -1,31 +1,28 @@
 -- The thread of each start output is exactly one run.
-use Rattle.std.proofs.Common.{◌≡◌, ℕ, zero, suc, ◌+◌, ◌<◌, ◌≤◌, Bool, true, false, List, [], ◌∷◌, refl, sym, ◌∙◌, ap, subst, arith, add-one, Option, Some, None, Result, Ok, Err, drop}
-use Rattle.std.specs.Prelude.{is_some, if◌then◌else◌, count_by, nat_lt}
-use Rattle.std.specs.List.{slice_get, list_any}
+use Rattle.std.proofs.Common.{◌≡◌, ℕ, zero, suc, ◌+◌, ◌≤◌, Bool, true, false, List, [], ◌∷◌, refl, sym, ◌∙◌, ap, subst, arith, add-one, Option, Some, None, Result, Ok, drop}
+use Rattle.std.specs.Prelude.{if◌then◌else◌, nat_lt}
+use Rattle.std.specs.List.{slice_get}
 use Rattle.std.specs.Map.{lookup}
 use Rattle.contract.specs.declared.fault.SemFault.{SemFault}
 use Rattle.contract.specs.declared.interval.Interval.{Interval}
 use Rattle.contract.specs.declared.input.Input.{Input}
-use Rattle.contract.specs.declared.payment.Payment.{Payment}
-use Rattle.contract.specs.declared.warning.Warning.{Warning}
 use Rattle.contract.specs.States.{StateMaps}
-use Rattle.contract.specs.Tree.{ContractTree, close}
+use Rattle.contract.specs.Tree.{ContractTree}
 use Rattle.semantics.specs.Walk.{Turn, At, at, Walk, answer_of}
 use Rattle.semantics.specs.Computed.{computed}
-use Rattle.eutxo.specs.declared.output.Output.{Output}
 use Rattle.eutxo.specs.declared.output_ref.OutputRef.{OutputRef}
-use Rattle.eutxo.specs.declared.output_ref.OutputRef.TheVariants.{Genesis, Made}
+use Rattle.eutxo.specs.declared.output_ref.OutputRef.TheVariants.{Made}
 use Rattle.eutxo.specs.declared.datum.Datum.{Datum}
 use Rattle.eutxo.specs.declared.tx.Tx.{Tx}
 use Rattle.eutxo.specs.declared.fault.TxFault.TheVariants.{WrongStart}
 use Rattle.eutxo.specs.Ids.{id_of, same_ref}
 use Rattle.eutxo.specs.History.{Past, before, names, datum_of, created, unspent_at}
-use Rattle.eutxo.specs.Rules.{Script, Step, stepped, stepping, walk_of, spends_contract, is_wrong_start}
+use Rattle.eutxo.specs.Rules.{Script, stepped, stepping, walk_of, is_wrong_start}
 use Rattle.eutxo.specs.Judgement.{first_of, of_step, StepLeads, LeadsFrom, Judge}
-use Rattle.eutxo.specs.Threads.{Effect, Member, Gives, Run, spine, goes_on, Carries, CarriesOne, step_inputs, ExactlyOne, EachIsARun, IsStart}
-use Rattle.eutxo.specs.Held.{IsLegal, IsSound, IsGood}
+use Rattle.eutxo.specs.Threads.{Effect, Member, Gives, Run, spine, goes_on, Carries, step_inputs, EachIsARun, IsStart}
+use Rattle.eutxo.specs.Held.{IsLegal, IsSound}
 use Rattle.eutxo.proofs.References.{unspent_before, output_nth}
-use Rattle.eutxo.proofs.Passing.{Passes, passes, EachFalse, each_none, nowhere, found_at, stepped_at, stepped_none}
+use Rattle.eutxo.proofs.Passing.{passes, each_none, nowhere, found_at, stepped_at, stepped_none}
 use Rattle.eutxo.proofs.Laying.{SamePlaces, Laid, laid_out, succeeds, effect_of, starts}
 
 -- ---- a run is settled by its transactions
@@ -90,9 +87,9 @@ module _ {P : Type 0} (has : P → Type 0) (leads : P → List Turn → P → Ty
       first_of (of_step m there tx (stepping m tx (Some (d, xs)))) ≡ None → Stepped tx d xs
   stepped_so tx d xs there h led late =
       let w : Walk = walk_of m tx.interval (d, xs) in
-      let s = succeeds m has law w (answer_of w) there tx late in
+      let s = succeeds m has law xs w (answer_of w) there tx late in
       let lead : leads d.place w.turns there × (m.tree there ≡ s.0.contract) = subst (λ (r : Result At SemFault). LeadsFrom leads m d.place w r there) s.1 led in
-      record { at = s.0; answer = s.1; laid = laid_out m has law w s.0.state s.0.contract there tx s.2 (on d.place w.turns there h lead.0) lead.1 }
+      record { at = s.0; answer = s.1; laid = laid_out m has law xs w s.0.state s.0.contract there tx s.2 (on d.place w.turns there h lead.0) lead.1 }
 
   pub step_at : (past : Past P) (n : ℕ) (tx : Tx P) (r : OutputRef) (d : Datum P) → Judge leads m (before past n) tx None →
       names r tx ≡ true → datum_of (lookup (same_ref r) (created past)) ≡ Some d → has d.place → Stepped tx d (step_inputs tx.inputs)
@@ -164,7 +161,7 @@ module _ {P : Type 0} (has : P → Type 0) (leads : P → List Turn → P → Ty
       let late : first_of (of_step m p.there start.tx None) ≡ None =
       subst (λ (o : Option (Datum P × List Input)). first_of (of_step m p.there start.tx (stepping m start.tx o)) ≡ None) none p.late in
       let e = each_none (of_step m p.there start.tx None) late in
-      starts m has law start.index start.tx.outputs d (nowhere WrongStart (is_wrong_start m.same m.root) start.tx.outputs e.1.1.1.1.0) start.datum
+      starts m has law start.index start.tx.outputs d (nowhere WrongStart (is_wrong_start m.same m.root) start.tx.outputs e.1.1.1.1.1.0) start.datum
 
   -- the thread of each start is exactly one run
   pub each_is_a_run : (past : Past P) → IsSound has leads m past → EachIsARun m.tree m.root past

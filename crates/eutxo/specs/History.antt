@@ -9,7 +9,6 @@ use Rattle.eutxo.specs.declared.output_ref.OutputRef.TheVariants.{Genesis, Made}
 use Rattle.eutxo.specs.declared.lock.Lock.{Lock}
 use Rattle.eutxo.specs.declared.lock.Lock.TheVariants.{Key, Contract}
 use Rattle.eutxo.specs.declared.datum.Datum.{Datum}
-use Rattle.eutxo.specs.declared.spend.Spend.{Spend}
 use Rattle.eutxo.specs.declared.tx.Tx.{Tx}
 use Rattle.eutxo.specs.Ids.{id_of, same_ref}
 

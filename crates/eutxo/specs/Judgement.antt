@@ -1,5 +1,5 @@
 -- What the ledger answers: the fault of the first rule that refuses.
-use Rattle.std.specs.Prelude.{◌≡◌, ℕ, ℤ, Bool, true, List, [], ◌∷◌, ◌++◌, Option, Some, None, Result, Ok, Err}
+use Rattle.std.specs.Prelude.{◌≡◌, ℤ, Bool, List, [], ◌∷◌, ◌++◌, Option, Some, None, Result, Ok, Err}
 use Rattle.contract.specs.declared.fault.SemFault.{SemFault}
 use Rattle.contract.specs.declared.input.Input.{Input}
 use Rattle.contract.specs.Tree.{ContractTree}
@@ -12,7 +12,7 @@ use Rattle.eutxo.specs.declared.output_ref.OutputRef.{OutputRef}
 use Rattle.eutxo.specs.declared.datum.Datum.{Datum}
 use Rattle.eutxo.specs.declared.tx.Tx.{Tx}
 use Rattle.eutxo.specs.History.{Past, unspent_at}
-use Rattle.eutxo.specs.Rules.{Script, Step, stepped, walk_of, step_of, no_inputs, too_many, repeated_input, not_unspent, outside_interval, unknown_script, not_signed, two_contracts, wrong_redeemer, refused, wrong_continuation, wrong_payment, stray_contract, wrong_start, not_preserved}
+use Rattle.eutxo.specs.Rules.{Script, Step, stepped, walk_of, step_of, no_inputs, too_many, repeated_input, not_unspent, outside_interval, unknown_script, not_signed, two_contracts, wrong_redeemer, refused, not_authorised, wrong_continuation, wrong_payment, stray_contract, wrong_start, not_preserved}
 
 -- the first that is there
 abbrev pub first_of : {A : Type 0} → List (Option A) → Option A
@@ -38,6 +38,7 @@ before_step find tick tx =
 abbrev pub of_step : {P : Type 0} → Script P → P → Tx P → Step → List (Option TxFault)
 of_step m there tx step =
     refused step
+    ∷ not_authorised tx step
     ∷ wrong_continuation m there tx step
     ∷ wrong_payment tx step
     ∷ stray_contract tx step
@@ -90,8 +91,7 @@ Submits leads m past (s ∷ ss) later = IsVerdict leads m past s.0 s.1 × Submit
 abbrev pub script_of : {S P : Type 0} → (P → P → Bool) → (S → P → ContractTree) → S → P → Script P
 script_of same tree s root = record { same = same; tree = tree s; root = root }
 
--- where turns lead to one place, a transaction has one judgement
+-- a transaction has one judgement
 abbrev pub JudgesInOneWay : {P : Type 0} → (P → List Turn → P → Type 0) → Script P → Past P → Type 0
 JudgesInOneWay {P} leads m past =
-    ((p : P) (ts : List Turn) (q r : P) → leads p ts q → leads p ts r → m.same q r ≡ true) →
     (tx : Tx P) (f g : Option TxFault) → Judge leads m past tx f → Judge leads m past tx g → f ≡ g

@@ -4,5 +4,6 @@ pub mod History
 pub mod Rules
 pub mod Judgement
 pub mod Threads
+pub mod Signed
 pub mod Held
 pub mod Parts

@@ -1,8 +1,8 @@
 -- The rules of the ledger, each by itself: the fault with which it refuses, if it does. Each reads the transaction, and
 -- through `find` the unspent outputs that it names (The Extended UTXO Model, "The EUTXO model", on what makes a
 -- transaction valid).
-use Rattle.std.specs.Prelude.{ℕ, ◌+◌, ℤ, pos, int_lt, int_le, nat_lt, nat_eq, Bool, true, false, not, ◌&&◌, ◌||◌, if◌then◌else◌, List, [], ◌∷◌, ◌++◌, length, take, drop, filter, position, count_by, Option, Some, None, is_none, is_some, option_map, Result, Ok, Err}
-use Rattle.std.specs.List.{list_all, list_any}
+use Rattle.std.specs.Prelude.{ℕ, ◌+◌, ℤ, pos, int_lt, int_le, nat_lt, Bool, true, false, not, ◌&&◌, ◌||◌, if◌then◌else◌, List, [], ◌∷◌, length, take, drop, filter, position, count_by, Option, Some, None, is_none, is_some, option_map, Result, Ok, Err}
+use Rattle.std.specs.List.{list_all, list_any, filter_map, find}
 use Rattle.std.specs.FinMap.{entries}
 use Rattle.std.specs.Ordering.{int_eq}
 use Rattle.collections.specs.Same.{same_by}
@@ -14,15 +14,16 @@ use Rattle.names.specs.declared.payee.Payee.TheVariants as to
 use Rattle.names.specs.declared.token.Token.{Token}
 use Rattle.contract.specs.declared.fault.SemFault.{SemFault}
 use Rattle.contract.specs.declared.input.Input.{Input}
+use Rattle.contract.specs.declared.input.Input.TheVariants.{Deposit, Choice, Notify}
 use Rattle.contract.specs.declared.interval.Interval.{Interval}
 use Rattle.contract.specs.declared.payment.Payment.{Payment}
 use Rattle.contract.specs.contracts.state.State as state
 use Rattle.contract.specs.States.{StateMaps}
-use Rattle.contract.specs.Tree.{ContractTree, close, when}
+use Rattle.contract.specs.Tree.{ContractTree, close}
 use Rattle.semantics.specs.Walk.{At, Walk, answer_of}
 use Rattle.semantics.specs.Computed.{computed}
 use Rattle.eutxo.specs.declared.fault.TxFault.{TxFault}
-use Rattle.eutxo.specs.declared.fault.TxFault.TheVariants.{NoInputs, TooMany, RepeatedInput, NotUnspent, OutsideInterval, UnknownScript, NotSigned, TwoContracts, WrongRedeemer, Semantics, WrongContinuation, WrongPayment, StrayContract, WrongStart, NotPreserved}
+use Rattle.eutxo.specs.declared.fault.TxFault.TheVariants.{NoInputs, TooMany, RepeatedInput, NotUnspent, OutsideInterval, UnknownScript, NotSigned, TwoContracts, WrongRedeemer, Semantics, NotAuthorised, WrongContinuation, WrongPayment, StrayContract, WrongStart, NotPreserved}
 use Rattle.eutxo.specs.declared.output.Output.{Output}
 use Rattle.eutxo.specs.declared.output_ref.OutputRef.{OutputRef}
 use Rattle.eutxo.specs.declared.lock.Lock.{Lock}
@@ -107,8 +108,11 @@ unknown_script tx = fault_at UnknownScript (λ o. is_unknown o.lock) tx.outputs
 
 -- ---- of the transaction and the outputs that it spends
 
+abbrev pub has_signed : List (List ℕ) → List ℕ → Bool
+has_signed signers a = list_any (λ s. same_bytes s a) signers
+
 abbrev pub lacks_signer : {P : Type 0} → List (List ℕ) → Lock P → Bool
-lacks_signer signers (Key a) = not (list_any (λ s. same_bytes s a) signers)
+lacks_signer signers (Key a) = not (has_signed signers a)
 lacks_signer signers (Contract script d) = false
 
 abbrev pub is_unsigned : {P : Type 0} → List (List ℕ) → Option (Output P) → Bool
@@ -157,12 +161,12 @@ stepped find (x ∷ xs) = or_later (datum_of (find x.reference)) (inputs_of x.re
 abbrev pub walk_of : {P : Type 0} → Script P → Interval → Datum P × List Input → Walk
 walk_of m i s = computed i s.0.state (m.tree s.0.place) s.1
 
--- a step and what comes of it: its walk and its answer
+-- a step and what comes of it: its inputs, its walk and its answer
 abbrev pub Step : Type 0
-Step = Option (Walk × Result At SemFault)
+Step = Option (List Input × Walk × Result At SemFault)
 
 abbrev pub stepping : {P : Type 0} → Script P → Tx P → Option (Datum P × List Input) → Step
-stepping m tx s = option_map (λ s. (walk_of m tx.interval s, answer_of (walk_of m tx.interval s))) s
+stepping m tx s = option_map (λ s. (s.1, walk_of m tx.interval s, answer_of (walk_of m tx.interval s))) s
 
 abbrev pub step_of : {P : Type 0} → Script P → (OutputRef → Option (Output P)) → Tx P → Step
 step_of m find tx = stepping m tx (stepped find tx.inputs)
@@ -170,18 +174,41 @@ step_of m find tx = stepping m tx (stepped find tx.inputs)
 -- 12
 abbrev pub refused : Step → Option TxFault
 refused None = None
-refused (Some (w, Ok a)) = None
-refused (Some (w, Err f)) = Some (Semantics f)
+refused (Some (xs, w, Ok a)) = None
+refused (Some (xs, w, Err f)) = Some (Semantics f)
 
 -- a rule of a step that succeeds
-abbrev pub once_stepped : (Walk → At → Option TxFault) → Step → Option TxFault
+abbrev pub once_stepped : (List Input → Walk → At → Option TxFault) → Step → Option TxFault
 once_stepped rule None = None
-once_stepped rule (Some (w, Ok a)) = rule w a
-once_stepped rule (Some (w, Err f)) = None
+once_stepped rule (Some (xs, w, Ok a)) = rule xs w a
+once_stepped rule (Some (xs, w, Err f)) = None
+
+-- the party that an input needs: the depositor, or the owner of the choice. A notify needs nobody
+abbrev pub needed : Input → Option Party
+needed (Deposit account party token amount) = Some party
+needed (Choice id number) = Some id.owner
+needed Notify = None
+
+-- a party is authorised where it is an address among the signers (Marlowe specification version 3, "Participants, roles and
+-- public keys"). A role is by whoever holds its token: outputs are of ada alone, so nobody does
+abbrev pub authorised : List (List ℕ) → Party → Bool
+authorised signers (Address a) = has_signed signers a
+authorised signers (Role r) = false
+
+-- of the parties that the inputs need, in order, the first that isn't authorised
+abbrev pub unauthorised : List (List ℕ) → List Input → Option Party
+unauthorised signers xs = find (λ p. not (authorised signers p)) (filter_map needed xs)
+
+abbrev pub lacks_party : List (List ℕ) → List Input → Option TxFault
+lacks_party signers xs = option_map NotAuthorised (unauthorised signers xs)
+
+-- 13
+abbrev pub not_authorised : {P : Type 0} → Tx P → Step → Option TxFault
+not_authorised tx = once_stepped (λ xs w a. lacks_party tx.signers xs)
 
 abbrev pub is_close : ContractTree → Bool
 is_close close = true
-is_close (when ks t c) = false
+is_close c = false
 
 -- exactly the sums of the accounts, and nothing but ada in them
 abbrev pub is_ada : Token → Bool
@@ -207,7 +234,7 @@ continues same there s (o ∷ os) = continues_in same there s o.amount o.lock
 
 -- 14: `there` is the place where the step leads
 abbrev pub wrong_continuation : {P : Type 0} → Script P → P → Tx P → Step → Option TxFault
-wrong_continuation m there tx = once_stepped (λ w a. fault_if WrongContinuation (not (is_close a.contract || continues m.same there a.state tx.outputs)))
+wrong_continuation m there tx = once_stepped (λ xs w a. fault_if WrongContinuation (not (is_close a.contract || continues m.same there a.state tx.outputs)))
 
 -- how many outputs continue the contract
 abbrev pub continuing : Bool → ℕ
@@ -248,7 +275,7 @@ unpaid_after i ps os = option_map WrongPayment (first_unpaid i (due ps) (drop i 
 
 -- 15
 abbrev pub wrong_payment : {P : Type 0} → Tx P → Step → Option TxFault
-wrong_payment tx = once_stepped (λ w a. unpaid_after (continuing (is_close a.contract)) w.payments tx.outputs)
+wrong_payment tx = once_stepped (λ xs w a. unpaid_after (continuing (is_close a.contract)) w.payments tx.outputs)
 
 abbrev pub holds_contract : {P : Type 0} → Output P → Bool
 holds_contract o = is_some (datum_in o.lock)
@@ -258,7 +285,7 @@ stray_after i os = fault_at (λ k. StrayContract (i + k)) holds_contract (drop i
 
 -- 16
 abbrev pub stray_contract : {P : Type 0} → Tx P → Step → Option TxFault
-stray_contract tx = once_stepped (λ w a. stray_after (continuing (is_close a.contract)) tx.outputs)
+stray_contract tx = once_stepped (λ xs w a. stray_after (continuing (is_close a.contract)) tx.outputs)
 
 -- a start is at the root, has neither choices nor bound values, and holds exactly the sums of its accounts
 abbrev pub is_start : {P : Type 0} → (P → P → Bool) → P → ℤ → Datum P → Bool

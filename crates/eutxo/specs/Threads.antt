@@ -1,18 +1,18 @@
 -- Threads: what the accepted transactions of one contract are, and the theorem that they are a run of it.
 use Rattle.std.specs.List.{list_any}
-use Rattle.std.specs.Prelude.{◌≡◌, ℕ, ◌+◌, ℤ, pos, cond, Bool, true, false, if◌then◌else◌, List, [], ◌∷◌, slice_get, All, Option, Some, None, is_some, Result, Ok, Err}
+use Rattle.std.specs.Prelude.{◌≡◌, ℕ, ◌+◌, ℤ, pos, cond, Bool, true, false, if◌then◌else◌, List, [], ◌∷◌, slice_get, All, Some, is_some, Ok}
 use Rattle.std.specs.Ordering.{eq_by_cmp}
 use Rattle.contract.specs.declared.interval.Interval.{Interval}
 use Rattle.contract.specs.declared.input.Input.{Input}
 use Rattle.contract.specs.declared.payment.Payment.{Payment}
 use Rattle.contract.specs.declared.warning.Warning.{Warning}
 use Rattle.contract.specs.States.{StateMaps, total_of}
-use Rattle.contract.specs.Tree.{ContractTree, CaseTrees, close, when}
+use Rattle.contract.specs.Tree.{ContractTree, close}
 use Rattle.names.specs.declared.party.Party.TheVariants.{Address}
 use Rattle.names.specs.declared.payee.Payee.TheVariants as to
 use Rattle.names.specs.declared.token.Token.{Token}
 use Rattle.names.specs.Orders.{token_cmp}
-use Rattle.semantics.specs.Walk.{Turn, At, at, Walk, answer_of}
+use Rattle.semantics.specs.Walk.{Turn, at, answer_of}
 use Rattle.semantics.specs.Computed.{computed}
 use Rattle.eutxo.specs.declared.output.Output.{Output}
 use Rattle.eutxo.specs.declared.output_ref.OutputRef.{OutputRef}
@@ -110,8 +110,8 @@ Pays (p ∷ ps) (o ∷ os) = IsPaid p o × Pays ps os
 -- what remains stands in output 0, unless it is Close; then come the payments to a party above 0
 abbrev pub LaidOutAfter : {P : Type 0} → (P → ContractTree) → Effect → ContractTree → List (Output P) → Type 0
 LaidOutAfter tree e close os = Pays (due e.payments) os
-LaidOutAfter tree e (when ks t c) [] = ⊥
-LaidOutAfter tree e (when ks t c) (o ∷ os) = IsContinuation tree e o × Pays (due e.payments) os
+LaidOutAfter tree e c [] = ⊥
+LaidOutAfter tree e c (o ∷ os) = IsContinuation tree e o × Pays (due e.payments) os
 
 abbrev pub LaidOut : {P : Type 0} → (P → ContractTree) → Effect → List (Output P) → Type 0
 LaidOut tree e os = LaidOutAfter tree e e.contract os

@@ -1,5 +1,5 @@
 //! Why a transaction is refused.
-use contract::{SemFault, Token};
+use contract::{Memory, Party, Same, SemFault, Token, TryClone};
 use thiserror::Error;
 
 /// Why the ledger refuses a transaction. Where several faults stand, the one that is listed first
@@ -36,6 +36,11 @@ pub enum TxFault {
     /// 12: the contract refuses the redeemer's inputs.
     #[error("the contract refuses: {0}")]
     Semantics(SemFault),
+    /// 13: an input of the contract needs this party, as the depositor or as the owner of the choice,
+    /// and it isn't an address among the signers. Of several the one of the first such input. A role
+    /// is by its token alone, which no output of ada holds, so here every role is refused.
+    #[error("a party is not among the signers")]
+    NotAuthorised(Party),
     /// 14: the contract goes on, and output 0 isn't the one with which it goes on.
     #[error("output 0 does not continue the contract")]
     WrongContinuation,
@@ -51,4 +56,33 @@ pub enum TxFault {
     /// 18: the inputs' outputs hold another sum of this token than the outputs.
     #[error("the sum of a token is not preserved")]
     NotPreserved(Token),
+}
+
+impl Same for TxFault {
+    fn same(&self, other: &TxFault) -> bool {
+        *self == *other
+    }
+}
+
+impl TryClone for TxFault {
+    fn try_clone(&self) -> Result<TxFault, Memory> {
+        match self {
+            TxFault::NoInputs => Ok(TxFault::NoInputs),
+            TxFault::TooMany => Ok(TxFault::TooMany),
+            TxFault::RepeatedInput(place) => Ok(TxFault::RepeatedInput(*place)),
+            TxFault::NotUnspent(place) => Ok(TxFault::NotUnspent(*place)),
+            TxFault::OutsideInterval => Ok(TxFault::OutsideInterval),
+            TxFault::UnknownScript(place) => Ok(TxFault::UnknownScript(*place)),
+            TxFault::NotSigned(place) => Ok(TxFault::NotSigned(*place)),
+            TxFault::TwoContracts => Ok(TxFault::TwoContracts),
+            TxFault::WrongRedeemer(place) => Ok(TxFault::WrongRedeemer(*place)),
+            TxFault::Semantics(fault) => Ok(TxFault::Semantics(*fault)),
+            TxFault::NotAuthorised(party) => Ok(TxFault::NotAuthorised(party.try_clone()?)),
+            TxFault::WrongContinuation => Ok(TxFault::WrongContinuation),
+            TxFault::WrongPayment(place) => Ok(TxFault::WrongPayment(*place)),
+            TxFault::StrayContract(place) => Ok(TxFault::StrayContract(*place)),
+            TxFault::WrongStart(place) => Ok(TxFault::WrongStart(*place)),
+            TxFault::NotPreserved(token) => Ok(TxFault::NotPreserved(token.try_clone()?)),
+        }
+    }
 }

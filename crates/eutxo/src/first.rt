@@ -2,6 +2,7 @@
 ghost use Rattle.std.specs.Prelude.{◌≡◌, ◌↔◌, IsTrue, List, [], ◌∷◌, ◌++◌, IfOk, Ok, OnOk, OnErr};
 ghost use Rattle.eutxo.specs.Judgement.{script_of, IsVerdict, after, JudgesInOneWay};
 ghost use Rattle.eutxo.specs.Threads.{EachIsARun, AreFunded, IsPreserved, IsSpentOnce, HoldsAfter};
+ghost use Rattle.eutxo.specs.Signed.{StepsAreSigned};
 ghost use Rattle.eutxo.specs.Held.{is_key, AreKeys};
 
 use crate::judge::judge;
@@ -119,8 +120,15 @@ where
         let _ = &self.accepted;
     }
 
-    /// A law, and no work: where the turns of a transaction lead to one place, the judgement of a
-    /// transaction, and so the verdict of `submit`, is determined.
+    /// A law, and no work: of each accepted transaction, each party that an input of its step needs,
+    /// the depositor or the owner of the choice, is an address among its signers.
+    pub fn steps_are_signed(&self)
+        ensures { StepsAreSigned self.now.past }
+    {
+        let _ = &self.accepted;
+    }
+
+    /// A law, and no work: the judgement of a transaction, and so the verdict of `submit`, is determined.
     pub fn submits_have_one_verdict(&self)
         ensures { JudgesInOneWay (S.leads self.now.steps) (script_of S.Place.eq S.tree self.now.steps self.now.root) self.now.past }
     {}

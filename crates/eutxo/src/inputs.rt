@@ -1,9 +1,9 @@
 //! The rules that are asked before a contract is run, each one function.
 ghost use Rattle.std.specs.Prelude.{◌≡◌, ℕ, position, option_map, option_copied, length};
 ghost use Rattle.std.specs.List.{list_any};
-ghost use Rattle.eutxo.specs.Ids.{same_bytes, same_ref};
+ghost use Rattle.eutxo.specs.Ids.{same_ref};
 ghost use Rattle.eutxo.specs.History.{unspent_at, datum_in, datum_of};
-ghost use Rattle.eutxo.specs.Rules.{no_inputs, inputs_of, has_too_many, too_many, first_place, is_repeated, repeated_input, is_not_unspent, not_unspent, outside_interval, is_unknown, unknown_script, lacks_signer, is_unsigned, not_signed, spends_contract, two_contracts, is_step, is_wrong_redeemer, wrong_redeemer};
+ghost use Rattle.eutxo.specs.Rules.{no_inputs, inputs_of, has_too_many, too_many, first_place, is_repeated, repeated_input, is_not_unspent, not_unspent, outside_interval, is_unknown, unknown_script, has_signed, lacks_signer, is_unsigned, not_signed, spends_contract, two_contracts, is_step, is_wrong_redeemer, wrong_redeemer};
 ghost use Rattle.eutxo.specs.Judgement.{first_of, before_step};
 
 use crate::datum::Datum;
@@ -164,8 +164,9 @@ fn unknown_script<P>(tx: &Tx<P>) -> Option<TxFault>
     }
 }
 
-fn has_signed(signers: &[Text], address: &Text) -> bool
-    ensures { result ≡ list_any (λ s. same_bytes s address.now) signers.now }
+/// Whether an address is among the signers.
+pub fn has_signed(signers: &[Text], address: &Text) -> bool
+    ensures { result ≡ has_signed signers.now address.now }
 {
     signers.iter().any(|s| *s == *address)
 }

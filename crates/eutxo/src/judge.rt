@@ -4,8 +4,9 @@ ghost use Rattle.eutxo.specs.History.{unspent_at};
 ghost use Rattle.eutxo.specs.Rules.{stepped};
 ghost use Rattle.eutxo.specs.Judgement.{script_of, first_of, Answers, Judge};
 ghost use Rattle.eutxo.specs.Held.{FindsPlaces};
-ghost use Rattle.eutxo.specs.Parts.{outcome_rules, StepAnswers};
+ghost use Rattle.eutxo.specs.Parts.{outputs_rules, outcome_rules, StepAnswers};
 
+use crate::authorise::not_authorised;
 use crate::datum::Datum;
 use crate::fault::TxFault;
 use crate::inputs::{early_fault, inputs_of, spent_datum};
@@ -35,13 +36,13 @@ fn stepped<'a, P>(
     None
 }
 
-/// The first of the rules of a step's outputs that refuses.
-fn outcome_fault<P: Eq>(
+/// The first of the rules of the outputs of a step that succeeds that refuses.
+fn outputs_fault<P: Eq>(
     closed: bool,
     outcome: &Outcome<P>,
     outputs: &[Output<P>],
 ) -> Option<TxFault>
-    ensures { result ≡ first_of (outcome_rules P.eq closed outcome.now.place outcome.now.state outcome.now.payments outputs.now) }
+    ensures { result ≡ first_of (outputs_rules P.eq closed outcome.now.place outcome.now.state outcome.now.payments outputs.now) }
 {
     if let Some(fault) = wrong_continuation(closed, &outcome.place, &outcome.state, outputs) {
         return Some(fault);
@@ -52,7 +53,22 @@ fn outcome_fault<P: Eq>(
     stray_contract(closed, outputs)
 }
 
-/// Runs the contract, and judges the outputs by what comes of it.
+/// The first of the rules of a step that succeeds that refuses.
+fn outcome_fault<P: Eq>(
+    closed: bool,
+    outcome: &Outcome<P>,
+    inputs: &[Input],
+    tx: &Tx<P>,
+) -> Result<Option<TxFault>, Memory>
+    ensures { IfOk result (λ f. f ≡ first_of (outcome_rules P.eq tx.now inputs.now closed outcome.now.place outcome.now.state outcome.now.payments)) }
+{
+    match not_authorised(tx.signers.as_slice(), inputs)? {
+        Some(fault) => Ok(Some(fault)),
+        None => Ok(outputs_fault(closed, outcome, tx.outputs.as_slice())),
+    }
+}
+
+/// Runs the contract, and judges signers and outputs by what comes of it.
 fn run_fault<S: Steps>(
     alloc: Global,
     steps: &S,
@@ -69,7 +85,7 @@ where
     match steps.compute(alloc, &datum.place, &datum.state, tx.interval, inputs) {
         Ok(outcome) => {
             let closed = steps.is_closed(&outcome.place);
-            Ok(outcome_fault(closed, &outcome, tx.outputs.as_slice()))
+            outcome_fault(closed, &outcome, inputs, tx)
         }
         Err(SemFault::Memory) => Err(AllocError),
         Err(fault) => Ok(Some(TxFault::Semantics(fault))),

@@ -2,6 +2,7 @@
 //! script.
 #![tactic(auto)]
 
+mod authorise;
 mod datum;
 mod fault;
 mod first;

@@ -3,7 +3,7 @@ use Rattle.std.specs.Prelude.{◌≡◌, ℕ, List, [], ◌∷◌, ◌++◌, Res
 use Rattle.std.specs.declared.vec.Vec.{Vec}
 use Rattle.std.specs.declared.alloc.Global.{Global}
 use Rattle.serde_json.specs.Written.{compact_text}
-use Rattle.contract.specs.Tree.{contract_tree}
+use Rattle.contract.specs.Tree.{ContractTree, contract_tree}
 use Rattle.contract.specs.declared.fault.SemFault.{SemFault}
 use Rattle.contract_json.specs.declared.fault.JsonFault.{JsonFault}
 use Rattle.contract_json.specs.declared.fault.WriteFault.TheVariants.{OutOfRange}
@@ -44,13 +44,16 @@ answer_text w (Err f) = Err (semantics_fault f)
 abbrev pub walk_text : Walk → Result (List ℕ) RunFault
 walk_text w = answer_text w (answer_of w)
 
--- contract, state and transaction are read in turn, and the transaction is computed
-unfoldable pub run_text : List ℕ → List ℕ → List ℕ → Result (List ℕ) RunFault
-run_text c s t =
-    read_as contract_fault (of_text contract c) >>= λ given.
+-- state and transaction are read in turn, and the transaction is computed on the contract
+unfoldable pub run_from : ContractTree → List ℕ → List ℕ → Result (List ℕ) RunFault
+run_from c s t =
     read_as state_fault (of_text state s) >>= λ start.
     read_as transaction_fault (of_text transaction t) >>= λ tx.
-    walk_text (computed tx.interval start (contract_tree given) tx.inputs)
+    walk_text (computed tx.interval start c tx.inputs)
+
+-- the contract is read first
+unfoldable pub run_text : List ℕ → List ℕ → List ℕ → Result (List ℕ) RunFault
+run_text c s t = read_as contract_fault (of_text contract c) >>= λ given. run_from (contract_tree given) s t
 
 -- A call printed this text, or told this fault; or it was refused for memory.
 abbrev pub Fails : RunFault → Result (List ℕ) RunFault → Type 0

@@ -5,8 +5,12 @@
 //! output that can't be written.
 #![tactic(auto)]
 
+#[cfg(test)]
+mod example_tests;
 mod fault;
 mod fault_names;
+#[cfg(test)]
+mod language_tests;
 mod line;
 mod load;
 mod refusal;

@@ -1,7 +1,7 @@
 //! One transaction, from three texts to the text of its outcome.
 ghost use Rattle.contract.specs.Tree.{contract_tree};
 ghost use Rattle.semantics.specs.Computed.{computed};
-ghost use Rattle.marlowe.specs.Run.{Prints, run_text, walk_text};
+ghost use Rattle.marlowe.specs.Run.{Prints, run_text, run_from, walk_text};
 
 use crate::fault::RunFault;
 use contract::{Contract, State};
@@ -22,9 +22,22 @@ pub fn run(
     ensures { Prints result (run_text contract.now state.now transaction.now) }
 {
     let contract = read_contract(alloc, contract).map_err(RunFault::of_contract)?;
+    run_from(alloc, &contract, state, transaction)
+}
+
+// What is printed for a contract and the texts of a state and a transaction.
+#[tactic(auto, unfolding(crate::specs::Run::run_from))]
+fn run_from(
+    alloc: Global,
+    contract: &Contract,
+    state: &[u8],
+    transaction: &[u8],
+) -> Result<Vec<u8>, RunFault>
+    ensures { Prints result (run_from (contract_tree contract.now) state.now transaction.now) }
+{
     let state = read_state(alloc, state).map_err(RunFault::of_state)?;
     let transaction = read_transaction(alloc, transaction).map_err(RunFault::of_transaction)?;
-    outcome_text(alloc, &contract, &state, &transaction)
+    outcome_text(alloc, contract, &state, &transaction)
 }
 
 // The text of a transaction's outcome and a line feed.

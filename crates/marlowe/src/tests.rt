@@ -25,7 +25,7 @@ const TO_10: &str = r#"{"tx_interval":{"from":0,"to":10},"tx_inputs":[]}"#;
 const NOTIFY: &str = r#"{"tx_interval":{"from":0,"to":10},"tx_inputs":["input_notify"]}"#;
 
 // What the program prints, on standard output or standard error.
-fn printed(
+pub(crate) fn printed(
     rt: &(impl Abort + AllocGlobal),
     contract: &str,
     state: &str,

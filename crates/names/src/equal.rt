@@ -1,5 +1,6 @@
 //! Equality of names: what `==` answers is whether the two are the same.
 use crate::account::Account;
+use crate::bound::Bound;
 use crate::choice_id::ChoiceId;
 use crate::party::Party;
 use crate::payee::Payee;
@@ -32,6 +33,12 @@ impl Same for Account {
 
 impl Same for Payee {
     fn same(&self, other: &Payee) -> bool {
+        *self == *other
+    }
+}
+
+impl Same for Bound {
+    fn same(&self, other: &Bound) -> bool {
         *self == *other
     }
 }

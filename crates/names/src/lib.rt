@@ -1,8 +1,9 @@
-//! Who and what a contract speaks of: parties, tokens, accounts, payees and choices. Flat values,
+//! Who and what a contract speaks of: parties, tokens, accounts, payees, choices and their bounds. Flat values,
 //! each equal to another exactly where the two are the same.
 #![tactic(auto)]
 
 mod account;
+mod bound;
 mod choice_id;
 mod equal;
 mod party;
@@ -10,6 +11,7 @@ mod payee;
 mod token;
 
 pub use account::{Account, compare_accounts};
+pub use bound::Bound;
 pub use choice_id::{ChoiceId, compare_choice_ids};
 pub use party::Party;
 pub use payee::Payee;

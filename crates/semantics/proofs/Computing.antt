@@ -9,7 +9,7 @@ use Rattle.contract.specs.declared.fault.SemFault.TheVariants.{Useless, Ambiguou
 use Rattle.contract.specs.declared.input.Input.{Input}
 use Rattle.contract.specs.declared.interval.Interval.{Interval}
 use Rattle.contract.specs.States.{StateMaps}
-use Rattle.contract.specs.Tree.{ContractTree, close, when}
+use Rattle.contract.specs.Tree.{ContractTree, close, pay, if_obs, when, let_be, assert}
 use Rattle.semantics.specs.Walk.{Turn, refund, At, at, Walk, ended, joined, then_from, then_walk, answer_of, Aside}
 use Rattle.semantics.specs.Path.{waits_for}
 use Rattle.semantics.specs.Reduction.{Reduction, refund_of, timing_out}
@@ -42,6 +42,10 @@ busy_when go false false a r h = refl
 
 busy_settled : (i : Interval) (s : StateMaps) (c : ContractTree) → is_quiet i s c ≡ false → Busy (settled i s c)
 busy_settled i s close h = busy_refunds s (entries s.accounts) h
+busy_settled i s (pay p y t v c) h = and_false _ false refl
+busy_settled i s (if_obs o c d) h = and_false _ false refl
+busy_settled i s (let_be x v c) h = and_false _ false refl
+busy_settled i s (assert o c) h = and_false _ false refl
 busy_settled i s (when ks t c) h = busy_when (λ u. settled i u c) (int_lt i.to t) (int_le t i.from) (at s (when ks t c)) (timing_out s c) h
 
 turns_after : (b : Bool) (ts us : List Turn) → b && no_turns us ≡ false → b && no_turns (ts ++ us) ≡ false
@@ -73,6 +77,10 @@ useless_when i go false d a r h = absurd (cc)
 
 useless : (i : Interval) (s : StateMaps) (c : ContractTree) → is_quiet i s c ≡ true → answer_of (finished (then_walk (settled i s c) (all_inputs i []))) ≡ Err Useless
 useless i s close h = useless_refunds (entries s.accounts) (at (record s { accounts = empty }) close) h
+useless i s (pay p y t v c) h = absurd (cc)
+useless i s (if_obs o c d) h = absurd (cc)
+useless i s (let_be x v c) h = absurd (cc)
+useless i s (assert o c) h = absurd (cc)
 useless i s (when ks t c) h = useless_when i (λ u. settled i u c) (int_lt i.to t) (int_le t i.from) (at s (when ks t c)) (timing_out s c) h
 
 none_brought : (xs : List Input) → true ≡ (length xs == 0) → xs ≡ []
@@ -122,8 +130,9 @@ not_right false b h = refl
 
 -- ---- one input after another
 
-pub inputs_here : (i : Interval) (xs : List Input) (n : ℕ) (d : Input) (a : At) → n < length xs → all_inputs i (drop n xs) a ≡ then_walk (one_input i (get_or xs n d) a) (all_inputs i (drop (n + 1) xs))
-inputs_here i xs n d a h = at_drop_more (λ ys. all_inputs i ys a) xs n d h
+pub inputs_here : (i : Interval) (xs : List Input) (n : ℕ) (x : Input) (a : At) → n < length xs → x ≡ get_or xs n x → all_inputs i (drop n xs) a ≡ then_walk (one_input i x a) (all_inputs i (drop (n + 1) xs))
+inputs_here i xs n x a h e =
+    at_drop_more (λ ys. all_inputs i ys a) xs n x h ∙ ap (λ y. then_walk (one_input i y a) (all_inputs i (drop (n + 1) xs))) (sym e)
 
 pub inputs_done : (i : Interval) (xs : List Input) (n : ℕ) (a : At) → length xs ≤ n → all_inputs i (drop n xs) a ≡ ended (Ok a)
 inputs_done i xs n a h = ap (λ ys. all_inputs i ys a) (drop_all n xs h)

@@ -1,18 +1,22 @@
 -- What holds where a transaction ends.
-use Rattle.std.proofs.Common.{◌≡◌, ℕ, ℤ, ◌≤ℤ◌, ◌<ℤ◌, int_lt, Bool, true, false, cond, ◌&&◌, List, [], ◌∷◌, refl, sym, ap, ◌∙◌, subst, arith, Result, Ok, Err, is_ok, Option, Some, None, inl, inr, ◌⊎◌}
-use Rattle.std.specs.Int.{int_max}
+use Rattle.std.proofs.Common.{◌≡◌, ℕ, ℤ, pos, ◌+ℤ◌, ◌≤ℤ◌, ◌<ℤ◌, int_lt, Bool, true, false, cond, ◌&&◌, List, [], ◌∷◌, refl, sym, ap, ◌∙◌, subst, arith, Result, Ok, Err, is_ok, Option, Some, None, inl, inr, ◌⊎◌}
+use Rattle.std.specs.Int.{int_min, int_max}
 use Rattle.std.proofs.lemmas.Int.{ints}
 use Rattle.std.specs.FinMap.{entries}
+use Rattle.names.specs.declared.payee.Payee.{Payee}
+use Rattle.names.specs.declared.payee.Payee.TheVariants.{Account as ToAccount, Party as ToParty}
+use Rattle.names.specs.declared.token.Token.{Token}
 use Rattle.contract.specs.declared.fault.SemFault.{SemFault}
 use Rattle.contract.specs.declared.fault.SemFault.TheVariants.{Useless, Ambiguous}
 use Rattle.contract.specs.declared.input.Input.{Input}
-use Rattle.contract.specs.declared.input.Input.TheVariants.{Notify}
+use Rattle.contract.specs.declared.input.Input.TheVariants.{Deposit, Choice, Notify}
 use Rattle.contract.specs.declared.interval.Interval.{Interval}
-use Rattle.contract.specs.States.{StateMaps}
-use Rattle.contract.specs.Tree.{ContractTree, CaseTrees, close, when}
+use Rattle.contract.specs.States.{StateMaps, with_money}
+use Rattle.contract.specs.Tree.{ContractTree, CaseTrees, close, pay, if_obs, when, let_be, assert}
 use Rattle.semantics.specs.Walk.{At, at, Walk, ended, then_from, then_walk}
 use Rattle.semantics.specs.Path.{waits_for}
-use Rattle.semantics.specs.Reduction.{Reduction, Reduces, Quiet}
+use Rattle.semantics.specs.Reduction.{Reduction, Reduces, Quiet, account_of, balance, debited, credited}
+use Rattle.semantics.specs.Evaluation.{eval}
 use Rattle.semantics.specs.Settling.{Runs, Ends}
 use Rattle.semantics.specs.Applying.{taken}
 use Rattle.semantics.specs.Transaction.{no_turns, finished, trimmed}
@@ -71,13 +75,29 @@ module _ (i : Interval) (P : At → Type 0) (settles : (a : At) → P a → AtEn
 
 -- ---- the minimum time
 
+credited_time : (s : StateMaps) (y : Payee) (t : Token) (n : ℤ) → (credited s y t n).min_time ≡ s.min_time
+credited_time s (ToAccount p) t n = refl
+credited_time s (ToParty p) t n = refl
+
 -- a reduction keeps it
 reduces_time : (i : Interval) (s : StateMaps) (c : ContractTree) (r : Reduction) → Reduces i s c r → r.state.min_time ≡ s.min_time
 reduces_time i s close r h = ap (λ (q : Reduction). q.state.min_time) h.2
+reduces_time i s (pay p y t v c) r (inl h) = ap (λ (q : Reduction). q.state.min_time) h.1
+reduces_time i s (pay p y t v c) r (inr h) =
+    ap (λ (q : Reduction). q.state.min_time) h.1 ∙ credited_time (debited s p t (int_min (balance s p t) (eval i s v))) y t (int_min (balance s p t) (eval i s v))
+reduces_time i s (if_obs o c d) r h = ap (λ (q : Reduction). q.state.min_time) h
+reduces_time i s (let_be x v c) r h = ap (λ (q : Reduction). q.state.min_time) h
+reduces_time i s (assert o c) r h = ap (λ (q : Reduction). q.state.min_time) h
 reduces_time i s (when ks t c) r h = ap (λ (q : Reduction). q.state.min_time) h.1
 
 -- an input keeps it
 taken_time : (s : StateMaps) (x : Input) → (taken s x).min_time ≡ s.min_time
+taken_time s (Deposit a p t n) = kept (int_lt (pos 0) n)
+  where
+    kept : (b : Bool) → (cond b (with_money s (account_of a t) (balance s a t +ℤ n)) s).min_time ≡ s.min_time
+    kept true = refl
+    kept false = refl
+taken_time s (Choice id n) = refl
 taken_time s Notify = refl
 
 runs_time : (i : Interval) (a : At) (rs : List Reduction) (b : At) → Runs i a rs b → b.state.min_time ≡ a.state.min_time
@@ -148,6 +168,10 @@ quiet_fixed i s c xs false false r q = quiet_start (trimmed i s) (record s { min
 quiet_forms : (i : Interval) (s : StateMaps) (c : ContractTree) → Quiet i s c →
     ((c ≡ close) × (entries s.accounts ≡ [])) ⊎ ((ks : CaseTrees) × (timeout : ℤ) × (then : ContractTree) × (c ≡ when ks timeout then) × (i.to <ℤ timeout))
 quiet_forms i s close h = inl (refl, h)
+quiet_forms i s (pay p y t v c) h = absurd h
+quiet_forms i s (if_obs o c d) h = absurd h
+quiet_forms i s (let_be x v c) h = absurd h
+quiet_forms i s (assert o c) h = absurd h
 quiet_forms i s (when ks t c) h = inr (ks, t, c, refl, h)
 
 pub ends_quiet : (i : Interval) (s : StateMaps) (c : ContractTree) (xs : List Input) (a : At) → (computed i s c xs).end ≡ Ok a →

@@ -1,6 +1,9 @@
 pub mod Numbers
 pub mod Trees
+pub mod Paying
+pub mod Balances
 pub mod Settling
+pub mod Matching
 pub mod Finding
 pub mod Walks
 pub mod Computing
@@ -11,5 +14,11 @@ pub mod Taking
 pub mod Allowed
 pub mod Ends
 pub mod Examples
+pub mod TransactionRows
 pub mod Faults
 pub mod Refunds
+pub mod Bits
+pub mod Evaluating
+pub mod MoneySums
+pub mod MoneyKept
+pub mod Evaluations

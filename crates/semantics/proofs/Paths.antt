@@ -1,17 +1,23 @@
 -- The turns of a transaction lead to where it ends.
-use Rattle.std.proofs.Common.{◌≡◌, ℕ, suc, ℤ, Bool, true, false, cond, ◌&&◌, List, [], ◌∷◌, ◌++◌, map, int_lt, int_le, refl, sym, ap, ◌∙◌, Result, Ok, Err, is_ok, Option, Some, None}
+use Rattle.std.proofs.Common.{◌≡◌, ℕ, suc, ℤ, pos, Bool, true, false, cond, ◌&&◌, List, [], ◌∷◌, ◌++◌, map, int_lt, int_le, refl, sym, ap, ◌∙◌, Result, Ok, Err, is_ok, Option, Some, None}
 use Rattle.std.specs.Prelude.{slice_get, option_map}
 use Rattle.std.specs.Option.{option_and_then}
 use Rattle.std.specs.FinMap.{entries, empty}
+use Rattle.std.specs.Int.{int_min}
+use Rattle.names.specs.declared.party.Party.{Party}
+use Rattle.names.specs.declared.payee.Payee.{Payee}
+use Rattle.names.specs.declared.token.Token.{Token}
 use Rattle.contract.specs.declared.fault.SemFault.{SemFault}
 use Rattle.contract.specs.declared.fault.SemFault.TheVariants.{Useless, Ambiguous}
 use Rattle.contract.specs.declared.input.Input.{Input}
 use Rattle.contract.specs.declared.interval.Interval.{Interval}
 use Rattle.contract.specs.States.{StateMaps}
-use Rattle.contract.specs.Tree.{ActionTree, ContractTree, CaseTrees, close, when}
+use Rattle.contract.specs.Tree.{ValueTree, ObservationTree, ActionTree, ContractTree, CaseTrees, close, pay, if_obs, when, let_be, assert}
 use Rattle.semantics.specs.Walk.{Turn, refund, in_case, At, at, Walk, ended, then_from, then_walk}
+use Rattle.semantics.specs.Settling.{after}
 use Rattle.semantics.specs.Path.{case_list, waits_for, part, along}
-use Rattle.semantics.specs.Reduction.{timing_out}
+use Rattle.semantics.specs.Reduction.{balance, paying, not_paying, choosing, timing_out, with_bound}
+use Rattle.semantics.specs.Evaluation.{eval, visited, holds, looked}
 use Rattle.semantics.specs.Applying.{matches, taken}
 use Rattle.semantics.specs.Transaction.{no_turns}
 use Rattle.semantics.specs.Computed.{stops, goes, go_on, settled, first_match, first_place, tried_to_match, take_match, applied, one_input, all_inputs, fixed, from_start, from_fixed, computed}
@@ -38,8 +44,22 @@ leads_when go true d ks t c s h = leads_ended (at s (when ks t c))
 leads_when go false true ks t c s h = h
 leads_when go false false ks t c s h = leads_fault (when ks t c) (ended (Err Ambiguous)) Ambiguous refl
 
+leads_pay : (go : StateMaps → Walk) (b : Bool) (s : StateMaps) (p : Party) (y : Payee) (t : Token) (v : ValueTree) (due paid : ℤ) (ns : List ℤ) (c : ContractTree) → ((u : StateMaps) → Leads c (go u)) →
+    Leads (pay p y t v c) (go_on go (goes (cond b (paying s p y t due paid ns c) (not_paying s p y t due ns c))))
+leads_pay go true s p y t v due paid ns c h = h (paying s p y t due paid ns c).state
+leads_pay go false s p y t v due paid ns c h = h s
+
+leads_if : (b : Bool) (s : StateMaps) (o : ObservationTree) (ns : List ℤ) (c d : ContractTree) (w u : Walk) → Leads c w → Leads d u → Leads (if_obs o c d) (after (choosing s b ns c d) (cond b w u))
+leads_if true s o ns c d w u h k = h
+leads_if false s o ns c d w u h k = k
+
 leads_settled : (i : Interval) (s : StateMaps) (c : ContractTree) → Leads c (settled i s c)
 leads_settled i s close = λ a h. refunds_stay (entries s.accounts) ∙ ap (λ x. Some x.contract) (ok_same (at (record s { accounts = empty }) close) a h)
+leads_settled i s (pay p y t v c) =
+    leads_pay (λ u. settled i u c) (int_lt (pos 0) (eval i s v)) s p y t v (eval i s v) (int_min (balance s p t) (eval i s v)) (visited i s v) c (λ u. leads_settled i u c)
+leads_settled i s (if_obs o c d) = leads_if (holds i s o) s o (looked i s o) c d (settled i s c) (settled i s d) (leads_settled i s c) (leads_settled i s d)
+leads_settled i s (let_be x v c) = leads_settled i (with_bound s x (eval i s v)) c
+leads_settled i s (assert o c) = leads_settled i s c
 leads_settled i s (when ks t c) = leads_when (λ u. settled i u c) (int_lt i.to t) (int_le t i.from) ks t c s (leads_settled i s c)
 
 -- ---- one part after another
@@ -79,6 +99,10 @@ found i s x (k ∷ ks) c e = at_case (matches i s x k.0) k ks (first_match i s x
 
 in_when : (i : Interval) (s : StateMaps) (x : Input) (c d : ContractTree) → first_match i s x (waits_for c) ≡ Some d → along c (in_case (first_place i s x (waits_for c)) ∷ []) ≡ Some d
 in_when i s x close d e = absurd (cc)
+in_when i s x (pay p y t v c) d e = absurd (cc)
+in_when i s x (if_obs o b c) d e = absurd (cc)
+in_when i s x (let_be n v c) d e = absurd (cc)
+in_when i s x (assert o c) d e = absurd (cc)
 in_when i s x (when ks t c) d e = ap (option_and_then (λ y. along y [])) (found i s x (case_list ks) d e)
 
 leads_match : (s : StateMaps) (x : Input) (ns : List ℤ) (n : ℕ) (o : Option ContractTree) (c : ContractTree) → ((d : ContractTree) → o ≡ Some d → along c (in_case n ∷ []) ≡ Some d) → Leads c (take_match s x ns n o)

@@ -1,15 +1,17 @@
 -- How a contract settles, one step at a time.
-use Rattle.std.proofs.Common.{◌≡◌, suc, ◌<◌, Bool, true, false, cond, ◌&&◌, ◌++◌, refl, sym, ap, ◌∙◌, arith, int_lt, int_le, Option, Some, None, Result, Ok, Err, inl, inr, subst}
+use Rattle.std.proofs.Common.{◌≡◌, suc, ◌+◌, ◌<◌, Bool, true, false, cond, ◌&&◌, ◌++◌, refl, sym, ap, ◌∙◌, arith, int_lt, int_le, Option, Some, None, Result, Ok, Err, inl, inr, subst}
 use Rattle.contract.specs.declared.fault.SemFault.{SemFault}
 use Rattle.contract.specs.declared.fault.SemFault.TheVariants.{Ambiguous, Leaves128}
 use Rattle.contract.specs.declared.interval.Interval.{Interval}
 use Rattle.contract.specs.States.{StateMaps}
-use Rattle.contract.specs.Tree.{ContractTree, close, when}
+use Rattle.contract.specs.Tree.{ContractTree, close, pay, if_obs, when, let_be, assert}
 use Rattle.semantics.specs.Walk.{At, at, Walk, ended, answer_of, Aside}
 use Rattle.semantics.specs.Numbers.{all_fit}
-use Rattle.semantics.specs.Reduction.{Reduction, timing_out}
+use Rattle.semantics.specs.Reduction.{Reduction, choosing, timing_out, binding, asserting}
 use Rattle.semantics.specs.Settling.{after}
-use Rattle.semantics.specs.Computed.{Step, stops, goes, step, go_on, settled}
+use Rattle.semantics.specs.Computed.{Step, stops, goes, pays, step, go_on, settled}
+use Rattle.semantics.specs.Evaluation.{eval, visited, holds, looked}
+use Rattle.semantics.proofs.Paying.{pays_contract}
 use Rattle.semantics.proofs.Numbers.{all_fit_append, from_cond}
 use Rattle.semantics.proofs.Walks.{not_memory, ok_answer, same_end}
 use Rattle.semantics.specs.Reduced.{reply, stop_reply, state_after, end_state, warnings_of, payments_of, height}
@@ -22,18 +24,57 @@ when_goes true d w v q r e = absurd (cc)
 when_goes false true w v q r e = (refl, refl, cc)
 when_goes false false w v q r e = absurd (cc)
 
+goes_same : (q r : Reduction) → goes q ≡ goes r → q ≡ r
+goes_same q r e = cc
+
+-- the branch that is chosen settles
+settled_branch : (i : Interval) (s : StateMaps) (b : Bool) (c d : ContractTree) → cond b (settled i s c) (settled i s d) ≡ settled i s (cond b c d)
+settled_branch i s true c d = refl
+settled_branch i s false c d = refl
+
+branch_less : (b : Bool) (c d : ContractTree) → height (cond b c d) < suc (height c + height d)
+branch_less true c d = omega arith
+branch_less false c d = omega arith
+
 pub settled_stops : (i : Interval) (s : StateMaps) (c : ContractTree) (w : Walk) → step i s c ≡ stops w → settled i s c ≡ w
 settled_stops i s close w e = cc
+settled_stops i s (pay p y t v c) w e = absurd (cc)
+settled_stops i s (if_obs o c d) w e = absurd (cc)
 settled_stops i s (when ks t c) w e = ap (go_on (λ u. settled i u c)) e
+settled_stops i s (let_be x v c) w e = absurd (cc)
+settled_stops i s (assert o c) w e = absurd (cc)
 
 pub settled_goes : (i : Interval) (s : StateMaps) (c : ContractTree) (r : Reduction) → step i s c ≡ goes r → settled i s c ≡ after r (settled i r.state r.contract)
 settled_goes i s close r e = absurd (cc)
+settled_goes i s (pay p y t v c) r e =
+    let q = goes_same (pays s p y t (eval i s v) (visited i s v) c) r e in
+    ap (λ x. after x (settled i x.state c)) q
+    ∙ ap (λ d. after r (settled i r.state d)) (sym (pays_contract s p y t (eval i s v) (visited i s v) c) ∙ ap (λ x. x.contract) q)
+settled_goes i s (if_obs o c d) r e =
+    let q = goes_same (choosing s (holds i s o) (looked i s o) c d) r e in
+    ap (after (choosing s (holds i s o) (looked i s o) c d)) (settled_branch i s (holds i s o) c d) ∙ ap (λ x. after x (settled i x.state x.contract)) q
+settled_goes i s (let_be x v c) r e =
+    ap (λ y. after y (settled i y.state y.contract)) (goes_same (binding s x (eval i s v) (visited i s v) c) r e)
+settled_goes i s (assert o c) r e =
+    ap (λ y. after y (settled i y.state y.contract)) (goes_same (asserting s (holds i s o) (looked i s o) c) r e)
 settled_goes i s (when ks t c) r e =
     let q = when_goes (int_lt i.to t) (int_le t i.from) _ _ (timing_out s c) r e in
     ap (go_on (λ u. settled i u c)) e ∙ ap (λ d. after r (settled i r.state d)) (ap (λ x. x.contract) (sym q.2))
 
 pub step_less : (i : Interval) (s : StateMaps) (c : ContractTree) (r : Reduction) → step i s c ≡ goes r → height r.contract < height c
 step_less i s close r e = absurd (cc)
+step_less i s (pay p y t v c) r e =
+    let q = goes_same (pays s p y t (eval i s v) (visited i s v) c) r e in
+    subst (λ d. height d < suc (height c)) (sym (pays_contract s p y t (eval i s v) (visited i s v) c) ∙ ap (λ x. x.contract) q) (omega arith)
+step_less i s (if_obs o c d) r e =
+    let q = goes_same (choosing s (holds i s o) (looked i s o) c d) r e in
+    subst (λ x. height x.contract < suc (height c + height d)) q (branch_less (holds i s o) c d)
+step_less i s (let_be x v c) r e =
+    let q = goes_same (binding s x (eval i s v) (visited i s v) c) r e in
+    subst (λ y. height y.contract < suc (height c)) q (omega arith)
+step_less i s (assert o c) r e =
+    let q = goes_same (asserting s (holds i s o) (looked i s o) c) r e in
+    subst (λ y. height y.contract < suc (height c)) q (omega arith)
 step_less i s (when ks t c) r e =
     let q = when_goes (int_lt i.to t) (int_le t i.from) _ _ (timing_out s c) r e in
     subst (λ x. height x.contract < suc (height c)) (sym q.2) (omega arith)
@@ -46,6 +87,10 @@ when_stops false false w q here a e h = let k : w.end ≡ Err Ambiguous = cc in 
 -- what stops well stays at the contract
 pub stops_here : (i : Interval) (s : StateMaps) (c : ContractTree) (w : Walk) (a : At) → step i s c ≡ stops w → w.end ≡ Ok a → a.contract ≡ c
 stops_here i s close w a e h = cc
+stops_here i s (pay p y t v c) w a e h = absurd (cc)
+stops_here i s (if_obs o c d) w a e h = absurd (cc)
+stops_here i s (let_be x v c) w a e h = absurd (cc)
+stops_here i s (assert o c) w a e h = absurd (cc)
 stops_here i s (when ks t c) w a e h =
     ap (λ x. x.contract) (when_stops (int_lt i.to t) (int_le t i.from) w (timing_out s c) (at s (when ks t c)) a e h)
 

@@ -1,23 +1,46 @@
 -- One input (Marlowe specification version 3, "Apply input" and "Apply cases").
-use Rattle.std.specs.Prelude.{◌≡◌, ℕ, suc, ◌<◌, ℤ, Bool, true, false, List, [], ◌∷◌, ◌++◌, take, slice_get, ◌⊎◌, Some, Ok, Err}
+use Rattle.std.specs.Prelude.{◌≡◌, ℕ, suc, ◌<◌, ℤ, pos, ◌+ℤ◌, int_le, int_lt, Bool, true, false, ◌&&◌, List, [], ◌∷◌, ◌++◌, take, slice_get, if◌then◌else◌, ◌⊎◌, Some, Ok, Err}
+use Rattle.std.specs.List.{list_any}
+use Rattle.std.specs.Ordering.{int_eq, eq_by_cmp}
+use Rattle.std.specs.FinMap.{insert}
+use Rattle.names.specs.Orders.{party_cmp, token_cmp, choice_id_cmp}
+use Rattle.names.specs.declared.party.Party.{Party}
+use Rattle.names.specs.declared.token.Token.{Token}
+use Rattle.names.specs.declared.bound.Bound.{Bound}
 use Rattle.contract.specs.declared.fault.SemFault.TheVariants.{NoMatch}
 use Rattle.contract.specs.declared.input.Input.{Input}
-use Rattle.contract.specs.declared.input.Input.TheVariants.{Notify}
+use Rattle.contract.specs.declared.input.Input.TheVariants.{Deposit, Choice, Notify}
 use Rattle.contract.specs.declared.interval.Interval.{Interval}
 use Rattle.contract.specs.declared.warning.Warning.{Warning}
-use Rattle.contract.specs.States.{StateMaps}
-use Rattle.contract.specs.Tree.{ActionTree, notify, ContractTree}
-use Rattle.semantics.specs.Evaluation.{holds, looked}
+use Rattle.contract.specs.declared.warning.Warning.TheVariants.{NonPositiveDeposit}
+use Rattle.contract.specs.States.{StateMaps, with_money}
+use Rattle.contract.specs.Tree.{ActionTree, deposit, choice, notify, ContractTree}
+use Rattle.semantics.specs.Evaluation.{eval, visited, holds, looked}
+use Rattle.semantics.specs.Reduction.{account_of, balance}
 use Rattle.semantics.specs.Walk.{in_case, At, at, Walk}
 use Rattle.semantics.specs.Path.{waits_for}
 
+-- account, party and token of a deposit are those of a case
+abbrev pub agrees : Party → Party → Token → Party → Party → Token → Bool
+agrees a p t b q u = eq_by_cmp party_cmp a b && (eq_by_cmp party_cmp p q && eq_by_cmp token_cmp t u)
+
+-- a number lies in a bound, ends included
+abbrev pub in_bound : ℤ → Bound → Bool
+in_bound n b = int_le b.from n && int_le n b.to
+
 -- an input matches an action
 abbrev pub matches : Interval → StateMaps → Input → ActionTree → Bool
+matches i s (Deposit a p t n) (deposit b q u v) = agrees a p t b q u && int_eq n (eval i s v)
+matches i s (Choice id n) (choice jd bounds) = eq_by_cmp choice_id_cmp id jd && list_any (in_bound n) bounds
 matches i s Notify (notify o) = holds i s o
+matches i s _ _ = false
 
--- the numbers that are visited when an action is tried: none unless it is of the input's kind
+-- the numbers that are visited when an action is tried: none unless it is of the input's kind, and of
+-- a deposit none unless account, party and token agree
 abbrev pub tried : Interval → StateMaps → Input → ActionTree → List ℤ
+tried i s (Deposit a p t n) (deposit b q u v) = if agrees a p t b q u then visited i s v else []
 tried i s Notify (notify o) = looked i s o
+tried i s _ _ = []
 
 -- the numbers that are visited when all of these cases are tried
 abbrev pub all_tried : Interval → StateMaps → Input → List (ActionTree × ContractTree) → List ℤ
@@ -36,13 +59,17 @@ NoneMatches i s x ks = (m : ℕ) (j : ActionTree × ContractTree) → slice_get 
 
 -- what an input does to the state, the sums that it makes, and what it warns of
 abbrev pub taken : StateMaps → Input → StateMaps
+taken s (Deposit a p t n) = if int_lt (pos 0) n then with_money s (account_of a t) (balance s a t +ℤ n) else s
+taken s (Choice id n) = record s { choices = insert s.choices id n }
 taken s Notify = s
 
 abbrev pub taken_numbers : StateMaps → Input → List ℤ
-taken_numbers s Notify = []
+taken_numbers s (Deposit a p t n) = if int_lt (pos 0) n then (balance s a t +ℤ n) ∷ [] else []
+taken_numbers s _ = []
 
 abbrev pub taken_warnings : Input → List Warning
-taken_warnings Notify = []
+taken_warnings (Deposit a p t n) = if int_lt (pos 0) n then [] else NonPositiveDeposit a p t n ∷ []
+taken_warnings _ = []
 
 -- the case at a place is taken
 abbrev pub taking : StateMaps → Input → List ℤ → ℕ → ContractTree → Walk

@@ -1,15 +1,20 @@
 -- The one walk that the relations of a transaction allow, as a function of contract, state, interval and inputs.
-use Rattle.std.specs.Prelude.{ℕ, suc, ℤ, int_lt, int_le, List, [], ◌∷◌, ◌++◌, map, if◌then◌else◌, Option, Some, None, Result, Ok, Err}
+use Rattle.std.specs.Prelude.{ℕ, suc, ℤ, pos, int_lt, int_le, List, [], ◌∷◌, ◌++◌, map, if◌then◌else◌, Option, Some, None, Result, Ok, Err}
+use Rattle.std.specs.Int.{int_min}
 use Rattle.std.specs.FinMap.{entries, empty}
+use Rattle.names.specs.declared.party.Party.{Party}
+use Rattle.names.specs.declared.payee.Payee.{Payee}
+use Rattle.names.specs.declared.token.Token.{Token}
 use Rattle.contract.specs.declared.fault.SemFault.{SemFault}
 use Rattle.contract.specs.declared.fault.SemFault.TheVariants.{InvalidInterval, IntervalInPast, Ambiguous}
 use Rattle.contract.specs.declared.input.Input.{Input}
 use Rattle.contract.specs.declared.interval.Interval.{Interval}
 use Rattle.contract.specs.States.{StateMaps}
-use Rattle.contract.specs.Tree.{ActionTree, ContractTree, close, when}
+use Rattle.contract.specs.Tree.{ActionTree, ContractTree, close, pay, if_obs, when, let_be, assert}
+use Rattle.semantics.specs.Evaluation.{eval, visited, holds, looked}
 use Rattle.semantics.specs.Walk.{refund, At, at, Walk, ended, then_walk}
 use Rattle.semantics.specs.Path.{waits_for}
-use Rattle.semantics.specs.Reduction.{Reduction, refund_of, timing_out}
+use Rattle.semantics.specs.Reduction.{Reduction, refund_of, balance, paying, not_paying, choosing, timing_out, binding, asserting}
 use Rattle.semantics.specs.Settling.{after}
 use Rattle.semantics.specs.Applying.{matches, tried, taking, refused}
 use Rattle.semantics.specs.Transaction.{trimmed, finished}
@@ -23,13 +28,21 @@ pub data Step : Type 0 where
   stops : Walk → Step
   goes : Reduction → Step
 
+-- what a Pay does, where an amount is due
+abbrev pub pays : StateMaps → Party → Payee → Token → ℤ → List ℤ → ContractTree → Reduction
+pays s p y t due ns c = if int_lt (pos 0) due then paying s p y t due (int_min (balance s p t) due) ns c else not_paying s p y t due ns c
+
 -- what a When does: it waits, it goes on with its timeout continuation, or its interval is ambiguous
 abbrev pub when_step : Interval → ℤ → At → Reduction → Step
 when_step i timeout here r = if int_lt i.to timeout then stops (ended (Ok here)) else (if int_le timeout i.from then goes r else stops (ended (Err Ambiguous)))
 
 abbrev pub step : Interval → StateMaps → ContractTree → Step
 step i s close = stops (refunds s)
+step i s (pay p y t v c) = goes (pays s p y t (eval i s v) (visited i s v) c)
+step i s (if_obs o c d) = goes (choosing s (holds i s o) (looked i s o) c d)
 step i s (when ks timeout c) = when_step i timeout (at s (when ks timeout c)) (timing_out s c)
+step i s (let_be x v c) = goes (binding s x (eval i s v) (visited i s v) c)
+step i s (assert o c) = goes (asserting s (holds i s o) (looked i s o) c)
 
 -- a step, and how it goes on
 abbrev pub go_on : (StateMaps → Walk) → Step → Walk
@@ -39,7 +52,11 @@ go_on go (goes r) = after r (go r.state)
 -- how a contract settles
 abbrev pub settled : Interval → StateMaps → ContractTree → Walk
 settled i s close = refunds s
-settled i s (when ks timeout c) = go_on (λ t. settled i t c) (when_step i timeout (at s (when ks timeout c)) (timing_out s c))
+settled i s (pay p y t v c) = go_on (λ u. settled i u c) (goes (pays s p y t (eval i s v) (visited i s v) c))
+settled i s (if_obs o c d) = after (choosing s (holds i s o) (looked i s o) c d) (if holds i s o then settled i s c else settled i s d)
+settled i s (when ks timeout c) = go_on (λ u. settled i u c) (when_step i timeout (at s (when ks timeout c)) (timing_out s c))
+settled i s (let_be x v c) = go_on (λ u. settled i u c) (goes (binding s x (eval i s v) (visited i s v) c))
+settled i s (assert o c) = after (asserting s (holds i s o) (looked i s o) c) (settled i s c)
 
 -- where the first case that matches goes on
 abbrev pub first_match : Interval → StateMaps → Input → List (ActionTree × ContractTree) → Option ContractTree

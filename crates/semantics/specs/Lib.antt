@@ -1,5 +1,7 @@
 pub mod Numbers
 pub mod Evaluation
+pub mod Checked
+pub mod EvaluationRows
 pub mod Walk
 pub mod Path
 pub mod Reduction
@@ -9,6 +11,7 @@ pub mod Transaction
 pub mod Computed
 pub mod Same
 pub mod Reduced
+pub mod Money
 pub mod Laws
 pub mod Answer
 pub mod Rows

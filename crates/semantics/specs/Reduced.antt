@@ -1,5 +1,5 @@
 -- What one step of the code answers and leaves, and how far the contract is from its end.
-use Rattle.std.specs.Prelude.{ℕ, suc, Bool, true, false, List, [], ◌∷◌, if◌then◌else◌, int_lt, Option, Some, None, Result, Ok, Err}
+use Rattle.std.specs.Prelude.{ℕ, suc, ◌+◌, Bool, true, false, List, [], ◌∷◌, if◌then◌else◌, int_lt, Option, Some, None, Result, Ok, Err}
 use Rattle.std.specs.Borrow.{Bor}
 use Rattle.std.specs.FinMap.{entries}
 use Rattle.contract.specs.declared.fault.SemFault.{SemFault}
@@ -9,7 +9,7 @@ use Rattle.contract.specs.declared.payment.Payment.{Payment}
 use Rattle.contract.specs.declared.warning.Warning.{Warning}
 use Rattle.contract.specs.declared.tree.Contract.{Contract}
 use Rattle.contract.specs.States.{StateMaps}
-use Rattle.contract.specs.Tree.{ContractTree, close, when, contract_tree}
+use Rattle.contract.specs.Tree.{ContractTree, close, pay, if_obs, when, let_be, assert, contract_tree}
 use Rattle.semantics.specs.Numbers.{all_fit}
 use Rattle.semantics.specs.Walk.{At, at, answer_of}
 use Rattle.semantics.specs.Computed.{Step, stops, goes}
@@ -58,8 +58,13 @@ is_none_left (x ∷ xs) = false
 abbrev pub is_quiet : Interval → StateMaps → ContractTree → Bool
 is_quiet i s close = is_none_left (entries s.accounts)
 is_quiet i s (when ks timeout c) = int_lt i.to timeout
+is_quiet i s _ = false
 
--- how many reductions can still enter a part
+-- at least as many as the reductions that can still enter a part
 abbrev pub height : ContractTree → ℕ
 height close = 0
+height (pay p y t v c) = suc (height c)
+height (if_obs o c d) = suc (height c + height d)
 height (when ks timeout c) = suc (height c)
+height (let_be x v c) = suc (height c)
+height (assert o c) = suc (height c)

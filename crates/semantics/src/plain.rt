@@ -2,7 +2,7 @@
 ghost use Rattle.std.specs.Prelude.{◌≡◌, Some};
 ghost use Rattle.contract.specs.Tree.{contract_tree};
 ghost use Rattle.semantics.specs.Path.{along};
-ghost use Rattle.semantics.specs.Same.{same_tree};
+ghost use Rattle.semantics.specs.Same.{same_tree, one_place};
 
 use crate::log::Log;
 use crate::steps::Steps;
@@ -34,6 +34,8 @@ impl<'c> Steps for Plain<'c> {
     ghost same = { λ _ p q e _. (tt, same_tree p.now q.now e) };
 
     ghost led = { λ _ p turns q _ h. (tt, h) };
+
+    ghost one = { λ _ p turns q r h k. one_place (along (contract_tree p.now) turns) q.now r.now h k };
 
     fn compute(
         &self,

@@ -1,15 +1,17 @@
 //! Reductions until all is quiet.
-ghost use Rattle.std.specs.Prelude.{◌≡◌, ◌++◌, OnOk, IfOk, map};
-ghost use Rattle.std.specs.FinMap.{entries, empty};
+ghost use Rattle.std.specs.Prelude.{◌≡◌, if◌then◌else◌, [], ◌∷◌, ◌++◌, OnOk, IfOk, map};
+ghost use Rattle.std.specs.FinMap.{entries, empty, get};
 ghost use Rattle.contract.specs.Tree.{contract_tree};
 ghost use Rattle.semantics.specs.Walk.{Aside, answer_of};
-ghost use Rattle.semantics.specs.Reduction.{refund_of};
+ghost use Rattle.semantics.specs.Reduction.{refund_of, with_bound, shadowing};
 ghost use Rattle.semantics.specs.Computed.{step, settled};
 ghost use Rattle.semantics.specs.Reduced.{reply, state_after, warnings_of, payments_of, tree_of_next, seen};
 
+use crate::evaluate::{holds, value};
 use crate::log::Log;
-use collections::{Memory, TryClone};
-use contract::{Account, Contract, Interval, Payee, Payment, SemFault, State};
+use crate::pay::pay;
+use collections::{Memory, Text, TryClone};
+use contract::{Account, Contract, Interval, Payee, Payment, SemFault, State, Warning};
 
 /// Reduces until all is quiet, and answers where that is.
 pub fn settle<'c>(
@@ -33,7 +35,7 @@ pub fn settle<'c>(
 }
 
 // One reduction, or all refunds of a Close: the part that is gone on with, none where all is quiet.
-#[tactic(auto, using(crate::proofs::Trees::tree_close, crate::proofs::Trees::tree_when))]
+#[tactic(auto, using(crate::proofs::Paying::pay_numbers, crate::proofs::Trees::tree_close, crate::proofs::Trees::tree_pay, crate::proofs::Trees::tree_if, crate::proofs::Trees::tree_when, crate::proofs::Trees::tree_let, crate::proofs::Trees::tree_assert))]
 fn reduce<'c>(
     contract: &'c Contract,
     state: &mut State,
@@ -54,6 +56,18 @@ fn reduce<'c>(
             refund_all(state, log)?;
             Ok(None)
         }
+        Contract::Pay(from, to, token, amount, then) => {
+            let due = value(amount, state, interval)?;
+            pay(from, to, token, due, state, log)?;
+            Ok(Some(then.get()))
+        }
+        Contract::If(observation, then, otherwise) => {
+            if holds(observation, state, interval)? {
+                Ok(Some(then.get()))
+            } else {
+                Ok(Some(otherwise.get()))
+            }
+        }
         Contract::When(_, timeout, then) => {
             if interval.to < *timeout {
                 Ok(None)
@@ -63,7 +77,42 @@ fn reduce<'c>(
                 Err(SemFault::Ambiguous)
             }
         }
+        Contract::Let(name, bound, then) => {
+            let number = value(bound, state, interval)?;
+            bind(name, number, state, log)?;
+            Ok(Some(then.get()))
+        }
+        Contract::Assert(observation, then) => {
+            let is_true = holds(observation, state, interval)?;
+            warn_unless(is_true, log)?;
+            Ok(Some(then.get()))
+        }
     }
+}
+
+// Warns where the observation of an Assert is false.
+fn warn_unless(is_true: bool, log: &mut Log) -> Result<(), Memory>
+    ensures warnings { OnOk result (log.new.warnings
+        ≡ log.old.warnings ++ (if is_true then [] else Warning.AssertionFailed ∷ [])) }
+    ensures payments { OnOk result (log.new.payments ≡ log.old.payments) }
+{
+    if !is_true {
+        log.warn(Warning::AssertionFailed)?;
+    }
+    Ok(())
+}
+
+// Binds a name, and warns where it was bound before.
+fn bind(name: &Text, number: i128, state: &mut State, log: &mut Log) -> Result<(), Memory>
+    ensures state { OnOk result (state.new ≡ with_bound state.old name.now number) }
+    ensures warnings { OnOk result (log.new.warnings
+        ≡ log.old.warnings ++ shadowing name.now (get state.old.bound_values name.now) number) }
+    ensures payments { OnOk result (log.new.payments ≡ log.old.payments) }
+{
+    if let Some(old) = state.bound(name) {
+        log.warn(Warning::Shadowing(name.try_clone()?, old, number))?;
+    }
+    state.set_bound(name, number)
 }
 
 // Pays all accounts back, in order.

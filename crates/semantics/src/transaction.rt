@@ -54,13 +54,14 @@ fn fix(interval: Interval, state: &mut State) -> Result<Interval, SemFault>
 }
 
 // Whether nothing is left to reduce.
-#[tactic(auto, using(crate::proofs::Trees::tree_close, crate::proofs::Trees::tree_when))]
+#[tactic(auto, using(crate::proofs::Trees::tree_close, crate::proofs::Trees::tree_pay, crate::proofs::Trees::tree_if, crate::proofs::Trees::tree_when, crate::proofs::Trees::tree_let, crate::proofs::Trees::tree_assert))]
 fn is_quiet(contract: &Contract, state: &State, interval: Interval) -> bool
     ensures { result ≡ is_quiet interval state.now (contract_tree contract.now) }
 {
     match contract {
         Contract::Close => state.accounts().is_empty(),
         Contract::When(_, timeout, _) => interval.to < *timeout,
+        _ => false,
     }
 }
 

@@ -3,11 +3,12 @@
 ghost use Rattle.std.specs.Prelude.{◌≡◌, Some};
 ghost use Rattle.contract.specs.Tree.{contract_tree};
 ghost use Rattle.semantics.specs.Path.{along};
-ghost use Rattle.semantics.specs.Same.{same_tree};
+ghost use Rattle.semantics.specs.Same.{same_tree, one_place};
 
+use crate::made::{ada, text};
 use contract::{
-    Account, Action, Boxed, Bytes, Case, ChoiceId, Contract, Entries, Input, Interval, Items,
-    Observation, Outcome, Party, SemFault, State, Text, Token,
+    Account, Action, Boxed, Case, ChoiceId, Contract, Entries, Input, Interval, Items, Observation,
+    Outcome, Party, SemFault, State,
 };
 use eutxo::{
     Datum, First, Lock, Output, OutputRef, Redeemer, Spend, Tx, TxFault, Verdict, are_keys,
@@ -16,7 +17,7 @@ use semantics::{Plain, Steps};
 use std::alloc::Global;
 use std::process::Abort;
 
-const ADA: i128 = 1_000_000;
+pub const ADA: i128 = 1_000_000;
 
 const SCRIPT: [u8; 32] = [0; 32];
 
@@ -45,6 +46,8 @@ impl<'c> Steps for Spots<'c> {
 
     ghost led = { λ _ p turns q _ h. (tt, h) };
 
+    ghost one = { λ _ p turns q r h k. one_place (along (contract_tree p.contract.now) turns) q.contract.now r.contract.now h k };
+
     fn compute(
         &self,
         alloc: Global,
@@ -71,17 +74,6 @@ impl<'c> Steps for Spots<'c> {
     }
 }
 
-fn text(rt: &(impl Abort + AllocGlobal), letters: &str) -> Text {
-    Text::from_string(String::from_str(rt.alloc(), letters).expect(rt, "memory"))
-}
-
-fn ada(rt: &(impl Abort + AllocGlobal)) -> Token {
-    Token {
-        symbol: Bytes::from_vec(Vec::new(rt.alloc())),
-        name: text(rt, ""),
-    }
-}
-
 // A When of one Notify `true` case, then this.
 fn wait(rt: &(impl Abort + AllocGlobal), then: Contract) -> Contract {
     let mut cases = Items::new(rt.alloc());
@@ -103,11 +95,11 @@ fn waits(rt: &(impl Abort + AllocGlobal)) -> Contract {
 // What follows the first case.
 fn next(contract: &Contract) -> &Contract {
     match contract {
-        Contract::Close => contract,
         Contract::When(cases, _, _) => match cases.as_slice() {
             [] => contract,
             [case, ..] => &case.then,
         },
+        _ => contract,
     }
 }
 
@@ -117,52 +109,52 @@ fn holding(rt: &(impl Abort + AllocGlobal), amount: i128) -> State {
     State::start(rt.alloc(), rows.as_slice(), 0).expect(rt, "a state")
 }
 
-fn key<P>(rt: &(impl Abort + AllocGlobal), address: &str, amount: i128) -> Output<P> {
-    Output {
-        lock: Lock::Key(text(rt, address)),
-        amount,
-    }
+pub fn key<P: Drop>(rt: &(impl Abort + AllocGlobal), address: &str, amount: i128) -> Output<P> {
+    Output::new(Lock::Key(text(rt, address)), amount).expect(rt, "an amount of 0 or more")
 }
 
-fn at<P>(place: P, state: State, amount: i128) -> Output<P> {
-    Output {
-        lock: Lock::Contract {
-            script: SCRIPT,
-            datum: Datum { place, state },
-        },
-        amount,
-    }
+pub fn at<P: Drop>(
+    rt: &(impl Abort + AllocGlobal),
+    place: P,
+    state: State,
+    amount: i128,
+) -> Output<P> {
+    let lock = Lock::Contract {
+        script: SCRIPT,
+        datum: Datum { place, state },
+    };
+    Output::new(lock, amount).expect(rt, "an amount of 0 or more")
 }
 
 // A contract output in which address a has 1 ada.
-fn one_ada<P>(rt: &(impl Abort + AllocGlobal), place: P) -> Output<P> {
-    at(place, holding(rt, ADA), ADA)
+fn one_ada<P: Drop>(rt: &(impl Abort + AllocGlobal), place: P) -> Output<P> {
+    at(rt, place, holding(rt, ADA), ADA)
 }
 
-fn one<T: Drop>(rt: &(impl Abort + AllocGlobal), item: T) -> Items<T> {
+pub fn one<T: Drop>(rt: &(impl Abort + AllocGlobal), item: T) -> Items<T> {
     let mut items = Items::new(rt.alloc());
     items.push(item).expect(rt, "memory");
     items
 }
 
-fn two<T: Drop>(rt: &(impl Abort + AllocGlobal), first: T, second: T) -> Items<T> {
+pub fn two<T: Drop>(rt: &(impl Abort + AllocGlobal), first: T, second: T) -> Items<T> {
     let mut items = one(rt, first);
     items.push(second).expect(rt, "memory");
     items
 }
 
-fn genesis(index: u64) -> OutputRef {
+pub fn genesis(index: u64) -> OutputRef {
     OutputRef::Genesis { index }
 }
 
 // The output of that place of the transaction with that number, which is below 256.
-fn made(number: u8, index: u64) -> OutputRef {
+pub fn made(number: u8, index: u64) -> OutputRef {
     let mut id = [0; 32];
     id[31] = number;
     OutputRef::Made { id, index }
 }
 
-fn by_key(reference: OutputRef) -> Spend {
+pub fn by_key(reference: OutputRef) -> Spend {
     Spend {
         reference,
         redeemer: Redeemer::None,
@@ -206,7 +198,7 @@ where
     First::new(rt.alloc(), steps, root, outputs, 0).expect(rt, "memory")
 }
 
-fn submit<S: Steps>(
+pub fn submit<S: Steps>(
     rt: &(impl Abort + AllocGlobal),
     first: &mut First<S>,
     tx: Tx<S::Place>,
@@ -217,54 +209,68 @@ where
     first.submit(rt.alloc(), tx).expect(rt, "memory")
 }
 
-fn is_accepted(verdict: Verdict) -> bool {
+pub fn is_accepted(verdict: Verdict) -> bool {
     verdict == Verdict::Accepted
 }
 
-fn is_refused(verdict: Verdict, fault: TxFault) -> bool {
+pub fn is_refused(verdict: Verdict, fault: TxFault) -> bool {
     verdict == Verdict::Refused(fault)
 }
 
 // A ledger whose first accepted transaction starts the contract with 1 ada.
-fn started<'c>(rt: &(impl Abort + AllocGlobal), root: &'c Contract) -> First<Plain<'c>> {
+pub fn started<'c>(rt: &(impl Abort + AllocGlobal), root: &'c Contract) -> First<Plain<'c>> {
     let mut first = ledger(rt, Plain::new(), root, ADA);
     let start = tx(rt, one(rt, by_key(genesis(0))), one(rt, one_ada(rt, root)));
     assert!(rt; is_accepted(submit(rt, &mut first, start)));
     first
 }
 
+// A step by one notify, after which the contract goes on at the second When with 1 ada.
+fn goes_on<'c>(rt: &(impl Abort + AllocGlobal), root: &'c Contract) -> Tx<&'c Contract> {
+    tx(
+        rt,
+        one(rt, by_notify(rt, made(0, 0))),
+        one(rt, one_ada(rt, next(root))),
+    )
+}
+
+// A step by one notify from there, with this key output.
+fn ends<P: Drop>(rt: &(impl Abort + AllocGlobal), address: &str) -> Tx<P> {
+    tx(
+        rt,
+        one(rt, by_notify(rt, made(1, 0))),
+        one(rt, key(rt, address, ADA)),
+    )
+}
+
+#[test]
+fn an_output_is_spent_once(rt: HostRuntime) {
+    let root = waits(&rt);
+    let mut first = started(&rt, &root);
+    assert!(rt; is_accepted(submit(&rt, &mut first, goes_on(&rt, &root))));
+    let again = submit(&rt, &mut first, goes_on(&rt, &root));
+    assert!(rt; is_refused(again, TxFault::NotUnspent(0)));
+}
+
+#[test]
+fn what_is_accepted_is_kept(rt: HostRuntime) {
+    let root = waits(&rt);
+    let first = started(&rt, &root);
+    assert_eq!(rt; first.accepted().len(), 1);
+    let inputs = first.accepted()[0].inputs.as_slice();
+    assert_eq!(rt; inputs.len(), 1);
+    assert!(rt; inputs[0].reference == genesis(0));
+}
+
 #[test]
 fn the_worked_run(rt: HostRuntime) {
     let root = waits(&rt);
     let mut first = started(&rt, &root);
-    let by_p = tx(
-        &rt,
-        one(&rt, by_notify(&rt, made(0, 0))),
-        one(&rt, one_ada(&rt, next(&root))),
-    );
-    let by_q = tx(
-        &rt,
-        one(&rt, by_notify(&rt, made(0, 0))),
-        one(&rt, one_ada(&rt, next(&root))),
-    );
-    assert!(rt; is_accepted(submit(&rt, &mut first, by_p)));
-    assert!(rt; is_refused(submit(&rt, &mut first, by_q), TxFault::NotUnspent(0)));
-    let to_q = tx(
-        &rt,
-        one(&rt, by_notify(&rt, made(1, 0))),
-        one(&rt, key(&rt, "q", ADA)),
-    );
-    assert!(rt; is_refused(submit(&rt, &mut first, to_q), TxFault::WrongPayment(0)));
-    let to_a = tx(
-        &rt,
-        one(&rt, by_notify(&rt, made(1, 0))),
-        one(&rt, key(&rt, "a", ADA)),
-    );
-    assert!(rt; is_accepted(submit(&rt, &mut first, to_a)));
+    assert!(rt; is_accepted(submit(&rt, &mut first, goes_on(&rt, &root))));
+    let to_q = submit(&rt, &mut first, ends(&rt, "q"));
+    assert!(rt; is_refused(to_q, TxFault::WrongPayment(0)));
+    assert!(rt; is_accepted(submit(&rt, &mut first, ends(&rt, "a"))));
     assert_eq!(rt; first.accepted().len(), 3);
-    let inputs = first.accepted()[2].inputs.as_slice();
-    assert_eq!(rt; inputs.len(), 1);
-    assert!(rt; inputs[0].reference == made(1, 0));
 }
 
 #[test]
@@ -380,7 +386,7 @@ fn the_rules_of_keys_and_time(rt: HostRuntime) {
 fn the_rules_of_a_step(rt: HostRuntime) {
     let root = waits(&rt);
     let mut first = started(&rt, &root);
-    let less = at(next(&root), holding(&rt, ADA), ADA - 1);
+    let less = at(&rt, next(&root), holding(&rt, ADA), ADA - 1);
     let less = tx(&rt, one(&rt, by_notify(&rt, made(0, 0))), one(&rt, less));
     assert!(rt; is_refused(submit(&rt, &mut first, less), TxFault::WrongContinuation));
     let both = two(&rt, one_ada(&rt, next(&root)), one_ada(&rt, &root));
@@ -431,7 +437,7 @@ fn a_start_holds_no_choice_and_an_unknown_script_no_contract(rt: HostRuntime) {
     let chosen = tx(
         &rt,
         one(&rt, by_key(genesis(0))),
-        one(&rt, at(&root, state, ADA)),
+        one(&rt, at(&rt, &root, state, ADA)),
     );
     assert!(rt; is_refused(submit(&rt, &mut first, chosen), TxFault::WrongStart(0)));
     let mut other = one_ada(&rt, &root);
@@ -450,4 +456,12 @@ fn a_start_holds_no_choice_and_an_unknown_script_no_contract(rt: HostRuntime) {
 fn contracts_do_not_stand_at_the_beginning(rt: HostRuntime) {
     let root = waits(&rt);
     assert!(rt; !are_keys(one(&rt, one_ada(&rt, &root)).as_slice()));
+}
+
+#[test]
+fn no_output_holds_less_than_nothing(rt: HostRuntime) {
+    let below: Option<Output<Contract>> = Output::new(Lock::Key(text(&rt, "q")), -1);
+    assert!(rt; below.is_none());
+    let nothing: Option<Output<Contract>> = Output::new(Lock::Key(text(&rt, "q")), 0);
+    assert!(rt; nothing.is_some());
 }

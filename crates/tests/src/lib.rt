@@ -3,6 +3,14 @@
 #![tactic(auto)]
 
 #[cfg(test)]
+mod authorisation;
+#[cfg(test)]
+mod bytes;
+#[cfg(test)]
+mod forms;
+#[cfg(test)]
+mod large;
+#[cfg(test)]
 mod ledger;
 #[cfg(test)]
 mod made;
@@ -18,3 +26,5 @@ mod states;
 mod transactions;
 #[cfg(test)]
 mod trees;
+#[cfg(test)]
+mod warnings;

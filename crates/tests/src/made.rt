@@ -34,12 +34,21 @@ pub fn choice(rt: &(impl Abort + AllocGlobal), name: &str, owner: &str) -> Choic
     }
 }
 
-/// A When of Notify cases on these observations, each then close.
-pub fn when(rt: &(impl Abort + AllocGlobal), cases: &[Observation], timeout: i64) -> Contract {
+/// The observation that is so.
+pub fn truth(so: bool) -> Observation {
+    if so {
+        Observation::TrueObs
+    } else {
+        Observation::FalseObs
+    }
+}
+
+/// A When of Notify cases on observations that are so, each then close.
+pub fn when(rt: &(impl Abort + AllocGlobal), cases: &[bool], timeout: i64) -> Contract {
     let mut list = Items::new(rt.alloc());
-    for observation in cases {
+    for so in cases {
         list.push(Case {
-            action: Action::Notify(*observation),
+            action: Action::Notify(truth(*so)),
             then: Contract::Close,
         })
         .expect(rt, "memory");

@@ -59,7 +59,7 @@ fn cases_are_read_in_order(rt: HostRuntime) {
     let letters = r#"{"when":[{"case":{"notify_if":true},"then":"close"},
         {"case":{"notify_if":false},"then":"close"}],"timeout":-5,"timeout_continuation":"close"}"#;
     let contract = read_contract(rt.alloc(), letters.as_bytes()).expect(&rt, "a contract");
-    let observations = [Observation::TrueObs, Observation::FalseObs];
+    let observations = [true, false];
     assert!(rt; contract == when(&rt, observations.as_slice(), -5));
 }
 
@@ -69,7 +69,7 @@ fn other_keys_are_nothing_and_the_last_of_a_key_stays(rt: HostRuntime) {
         "then":"\u0063lose","merkleized_then":"aa"}],"timeout":7,"timeout":9,
         "timeout_continuation":"close","assert":true}"#;
     let contract = read_contract(rt.alloc(), letters.as_bytes()).expect(&rt, "a contract");
-    let observations = [Observation::TrueObs];
+    let observations = [true];
     assert!(rt; contract == when(&rt, observations.as_slice(), 9));
 }
 
@@ -81,7 +81,7 @@ fn texts_that_are_no_contract(rt: HostRuntime) {
         ("close", JsonFault::NotJson),
         ("\"close\" x", JsonFault::NotJson),
         ("{\"when\":[],\"timeout\":1e400}", JsonFault::NotJson),
-        // the form: one that is missing, one that isn't there yet, and the first of two
+        // the form: one that is missing, and one that lacks a key
         ("null", JsonFault::NoForm),
         ("\"Close\"", JsonFault::NoForm),
         ("[]", JsonFault::NoForm),
@@ -94,11 +94,7 @@ fn texts_that_are_no_contract(rt: HostRuntime) {
             JsonFault::NoForm,
         ),
         ("{\"when\":[],\"timeout\":1}", JsonFault::NoForm),
-        ("{\"assert\":true,\"then\":\"close\"}", JsonFault::NoForm),
-        (
-            "{\"if\":true,\"then\":\"close\",\"else\":\"close\",\"when\":[],\"timeout\":1,\"timeout_continuation\":\"close\"}",
-            JsonFault::NoForm,
-        ),
+        ("{\"assert\":true}", JsonFault::NoForm),
         // the parts, in the order of the form
         (
             "{\"when\":{},\"timeout\":1.0,\"timeout_continuation\":\"close\"}",
@@ -231,7 +227,7 @@ fn a_when_of_twenty_thousand_cases(rt: HostRuntime) {
 
 #[test]
 fn a_contract_is_written_with_its_keys_in_order(rt: HostRuntime) {
-    let observations = [Observation::FalseObs, Observation::TrueObs];
+    let observations = [false, true];
     let contract = when(&rt, observations.as_slice(), 50);
     let written = write_contract(rt.alloc(), &contract).expect(&rt, "a text");
     let wanted =
@@ -246,7 +242,7 @@ fn the_examples_of_the_formats(rt: HostRuntime) {
     let letters =
         r#"{"when":[{"case":{"notify_if":true},"then":"close"}],"timeout":100,"timeout_continuation":"close"}"#;
     let contract = read_contract(alloc, letters.as_bytes()).expect(&rt, "a contract");
-    let observations = [Observation::TrueObs];
+    let observations = [true];
     assert!(rt; contract == when(&rt, observations.as_slice(), 100));
     let letters = r#"{"accounts":[[[{"address":"x"},{"currency_symbol":"","token_name":""}],7]],
  "choices":[[{"choice_name":"release","choice_owner":{"role_token":"b"}},-1]],

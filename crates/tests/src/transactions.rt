@@ -1,6 +1,6 @@
 //! Transactions on trees.
 use crate::made::{ada, role, when};
-use contract::{Contract, Input, Interval, Observation, Outcome, Payee, SemFault, State};
+use contract::{Contract, Input, Interval, Outcome, Payee, SemFault, State};
 use semantics::{Plain, Steps};
 use std::process::Abort;
 
@@ -48,7 +48,7 @@ fn an_interval_is_fixed_by_the_minimum_time(rt: HostRuntime) {
 
 #[test]
 fn a_notify_takes_a_case_that_is_true(rt: HostRuntime) {
-    let waits = when(&rt, [Observation::TrueObs].as_slice(), 100);
+    let waits = when(&rt, [true].as_slice(), 100);
     let paid = outcome(&rt, &waits, 0, 0, 10, [Input::Notify].as_slice()).expect(&rt, "an outcome");
     let payments = paid.payments.as_slice();
     assert_eq!(rt; payments.len(), 1);
@@ -62,7 +62,7 @@ fn a_notify_takes_a_case_that_is_true(rt: HostRuntime) {
 
 #[test]
 fn a_notify_of_a_case_that_is_false_matches_nothing(rt: HostRuntime) {
-    let waits = when(&rt, [Observation::FalseObs].as_slice(), 100);
+    let waits = when(&rt, [false].as_slice(), 100);
     let refused = outcome(&rt, &waits, 0, 0, 10, [Input::Notify].as_slice()).err();
     assert_eq!(rt; refused, Some(SemFault::NoMatch));
 }

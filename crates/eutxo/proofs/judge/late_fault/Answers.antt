@@ -1,4 +1,4 @@
-use Rattle.std.proofs.Common.{◌≡◌, ◌∙◌, sym, subst, Option, Some, None}
+use Rattle.std.proofs.Common.{sym, subst, Option, None}
 use Rattle.eutxo.specs.declared.fault.TxFault.{TxFault}
 use Rattle.eutxo.specs.History.{unspent_at}
 use Rattle.eutxo.specs.Rules.{Script, stepped}

@@ -1,7 +1,5 @@
-use Rattle.std.proofs.Common.{◌≡◌, Option, Some, sym, ◌∙◌, ap, List}
+use Rattle.std.proofs.Common.{◌≡◌, Some, sym, ◌∙◌, ap, List}
 use Rattle.std.specs.Option.{option_map}
-use Rattle.contract.specs.declared.input.Input.{Input}
-use Rattle.eutxo.specs.declared.datum.Datum.{Datum}
 use Rattle.eutxo.specs.History.{unspent_at}
 use Rattle.eutxo.specs.Rules.{stepped}
 use Rattle.eutxo.proofs.Judging.{stepped_found}

@@ -1,4 +1,4 @@
-use Rattle.std.proofs.Common.{◌≡◌, drop, ◌≤◌, length}
+use Rattle.std.proofs.Common.{◌≡◌, drop}
 use Rattle.eutxo.specs.Rules.{first_unpaid, due}
 use Rattle.eutxo.proofs.outputs.unpaid_place.Given as goal
 

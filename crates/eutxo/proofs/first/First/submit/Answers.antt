@@ -1,4 +1,4 @@
-use Rattle.std.proofs.Common.{rules, ◌≡◌, ◌++◌, ◌∷◌, [], refl, sym, ◌∙◌, ap, subst, List, Option, Some, None, Result, Ok, Err, arith, to_z, of_z, w64}
+use Rattle.std.proofs.Common.{◌≡◌, ◌++◌, ◌∷◌, [], refl, sym, ◌∙◌, ap, subst, List, Option, Some, None, Result, Ok, Err, arith, to_z, of_z, w64}
 use Rattle.std.specs.Prelude.{OnErr}
 use Rattle.std.proofs.lemmas.Int.{ints}
 use Rattle.eutxo.specs.declared.fault.TxFault.{TxFault}

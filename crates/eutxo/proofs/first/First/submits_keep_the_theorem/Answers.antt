@@ -1,4 +1,3 @@
-use Rattle.std.proofs.Common.{rules}
 use Rattle.eutxo.specs.Rules.{Script}
 use Rattle.eutxo.specs.Judgement.{script_of}
 use Rattle.eutxo.proofs.Growth.{holds_after}

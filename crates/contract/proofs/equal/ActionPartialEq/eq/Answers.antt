@@ -1,0 +1,6 @@
+use Rattle.collections.specs.Same.{same_by_from}
+use Rattle.contract.specs.contracts.tree.Action as it
+use Rattle.contract.proofs.equal.ActionPartialEq.eq.Goals as goal
+
+pub returns : goal.returns
+returns c = same_by_from it.the_row.coded _ _ _ c.same_action.ensures

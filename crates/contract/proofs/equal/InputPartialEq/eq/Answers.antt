@@ -1,0 +1,6 @@
+use Rattle.collections.specs.Same.{same_by_from}
+use Rattle.contract.specs.contracts.input.Input as it
+use Rattle.contract.proofs.equal.InputPartialEq.eq.Goals as goal
+
+pub returns : goal.returns
+returns c = same_by_from it.the_row.coded _ _ _ c.same.ensures

@@ -1,0 +1,6 @@
+use Rattle.collections.specs.Same.{same_by_from}
+use Rattle.contract.specs.contracts.value.Value as it
+use Rattle.contract.proofs.equal.ValuePartialEq.eq.Goals as goal
+
+pub returns : goal.returns
+returns c = same_by_from it.the_row.coded _ _ _ c.same_value.ensures

@@ -1,0 +1,5 @@
+pub mod Apart
+pub mod ApartNames
+pub mod ApartTrees
+pub mod Examples
+pub mod Forms

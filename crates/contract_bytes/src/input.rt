@@ -1,0 +1,28 @@
+//! Inputs.
+ghost use Rattle.std.specs.Prelude.{◌≡◌, ◌++◌, OnOk};
+ghost use Rattle.contract_bytes.specs.Inputs.{input_bytes};
+
+use crate::names_of::{put_choice_id, put_party, put_token};
+use crate::number::{put_byte, put_number};
+use collections::Memory;
+use contract::Input;
+
+pub(crate) fn put_input(out: &mut Vec<u8>, input: &Input) -> Result<(), Memory>
+    ensures { OnOk result (out.new.items ≡ out.old.items ++ input_bytes input.now) }
+{
+    match input {
+        Input::Deposit(account, party, token, amount) => {
+            put_byte(out, 0x00)?;
+            put_party(out, account)?;
+            put_party(out, party)?;
+            put_token(out, token)?;
+            put_number(out, *amount)
+        }
+        Input::Choice(id, number) => {
+            put_byte(out, 0x01)?;
+            put_choice_id(out, id)?;
+            put_number(out, *number)
+        }
+        Input::Notify => put_byte(out, 0x02),
+    }
+}

@@ -1,0 +1,20 @@
+//! Contracts, inputs and states in bytes: one spelling for each value, and none begins another.
+//!
+//! A tag is one byte, a length 8, a number 16 and a time 8; all are big endian, numbers and times in
+//! two's complement. A text, a string of bytes or a list is its length and what is in it. Each value is
+//! written in one pass.
+#![tactic(auto)]
+
+mod encode;
+mod input;
+mod laws;
+mod names_of;
+mod number;
+mod spell;
+mod state;
+mod tree;
+mod value;
+
+pub use contract::{Contract, Input, Memory, Party, State, Token};
+pub use encode::{encode_contract, encode_input, encode_party, encode_state, encode_token};
+pub use laws::{no_spelling_begins_another, spellings_read_one_way, worked_spellings};

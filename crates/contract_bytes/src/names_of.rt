@@ -1,0 +1,58 @@
+//! Parties, tokens, choice ids, payees and bounds.
+ghost use Rattle.std.specs.Prelude.{◌≡◌, ◌++◌, OnOk};
+ghost use Rattle.contract_bytes.specs.Names.{party_bytes, token_bytes, choice_id_bytes, payee_bytes, bound_bytes};
+
+use crate::number::{put_byte, put_bytes, put_number, put_text};
+use collections::Memory;
+use names::{Bound, ChoiceId, Party, Payee, Token};
+
+pub(crate) fn put_party(out: &mut Vec<u8>, party: &Party) -> Result<(), Memory>
+    ensures { OnOk result (out.new.items ≡ out.old.items ++ party_bytes party.now) }
+{
+    match party {
+        Party::Address(text) => {
+            put_byte(out, 0)?;
+            put_text(out, text)
+        }
+        Party::Role(name) => {
+            put_byte(out, 1)?;
+            put_text(out, name)
+        }
+    }
+}
+
+pub(crate) fn put_token(out: &mut Vec<u8>, token: &Token) -> Result<(), Memory>
+    ensures { OnOk result (out.new.items ≡ out.old.items ++ token_bytes token.now) }
+{
+    put_bytes(out, &token.symbol)?;
+    put_text(out, &token.name)
+}
+
+pub(crate) fn put_choice_id(out: &mut Vec<u8>, id: &ChoiceId) -> Result<(), Memory>
+    ensures { OnOk result (out.new.items ≡ out.old.items ++ choice_id_bytes id.now) }
+{
+    put_text(out, &id.name)?;
+    put_party(out, &id.owner)
+}
+
+pub(crate) fn put_payee(out: &mut Vec<u8>, payee: &Payee) -> Result<(), Memory>
+    ensures { OnOk result (out.new.items ≡ out.old.items ++ payee_bytes payee.now) }
+{
+    match payee {
+        Payee::Account(owner) => {
+            put_byte(out, 0)?;
+            put_party(out, owner)
+        }
+        Payee::Party(party) => {
+            put_byte(out, 1)?;
+            put_party(out, party)
+        }
+    }
+}
+
+pub(crate) fn put_bound(out: &mut Vec<u8>, bound: &Bound) -> Result<(), Memory>
+    ensures { OnOk result (out.new.items ≡ out.old.items ++ bound_bytes bound.now) }
+{
+    put_number(out, bound.from)?;
+    put_number(out, bound.to)
+}

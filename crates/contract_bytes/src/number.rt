@@ -1,0 +1,65 @@
+//! Bytes, lengths, numbers, times and texts.
+ghost use Rattle.std.specs.Prelude.{◌≡◌, [], ◌∷◌, ◌++◌, OnOk};
+ghost use Rattle.contract_bytes.specs.Numbers.{length_bytes, number_bytes, time_bytes, text_bytes};
+
+use collections::{Bytes, Memory, Text};
+
+pub(crate) fn put_byte(out: &mut Vec<u8>, byte: u8) -> Result<(), Memory>
+    ensures { OnOk result (out.new.items ≡ out.old.items ++ byte ∷ []) }
+{
+    out.push(byte)?;
+    Ok(())
+}
+
+#[tactic(auto, unfolding(crate::specs::Numbers::length_bytes))]
+pub(crate) fn put_length(out: &mut Vec<u8>, length: usize) -> Result<(), Memory>
+    ensures { OnOk result (out.new.items ≡ out.old.items ++ length_bytes length) }
+{
+    let bytes = (length as u64).to_be_bytes();
+    out.extend_from_slice(bytes.as_slice())?;
+    Ok(())
+}
+
+#[tactic(auto, unfolding(crate::specs::Numbers::number_bytes))]
+fn bytes_of_number(number: i128) -> [u8; 16]
+    ensures { result ≡ number_bytes number }
+{
+    number.to_be_bytes()
+}
+
+pub(crate) fn put_number(out: &mut Vec<u8>, number: i128) -> Result<(), Memory>
+    ensures { OnOk result (out.new.items ≡ out.old.items ++ number_bytes number) }
+{
+    let bytes = bytes_of_number(number);
+    out.extend_from_slice(bytes.as_slice())?;
+    Ok(())
+}
+
+#[tactic(auto, unfolding(crate::specs::Numbers::time_bytes))]
+pub(crate) fn put_time(out: &mut Vec<u8>, time: i64) -> Result<(), Memory>
+    ensures { OnOk result (out.new.items ≡ out.old.items ++ time_bytes time) }
+{
+    let bytes = time.to_be_bytes();
+    out.extend_from_slice(bytes.as_slice())?;
+    Ok(())
+}
+
+fn put_counted(out: &mut Vec<u8>, bytes: &[u8]) -> Result<(), Memory>
+    ensures { OnOk result (out.new.items ≡ out.old.items ++ text_bytes bytes.now) }
+{
+    put_length(out, bytes.len())?;
+    out.extend_from_slice(bytes)?;
+    Ok(())
+}
+
+pub(crate) fn put_text(out: &mut Vec<u8>, text: &Text) -> Result<(), Memory>
+    ensures { OnOk result (out.new.items ≡ out.old.items ++ text_bytes text.now) }
+{
+    put_counted(out, text.as_str().as_bytes())
+}
+
+pub(crate) fn put_bytes(out: &mut Vec<u8>, bytes: &Bytes) -> Result<(), Memory>
+    ensures { OnOk result (out.new.items ≡ out.old.items ++ text_bytes bytes.now) }
+{
+    put_counted(out, bytes.as_slice())
+}

@@ -1,0 +1,74 @@
+//! Lists of what has a spelling.
+ghost use Rattle.std.specs.Prelude.{◌≡◌, ℕ, List, ◌++◌, OnOk};
+ghost use Rattle.std.specs.List.{flat_map};
+ghost use Rattle.contract_bytes.specs.Numbers.{list_bytes};
+ghost use Rattle.contract_bytes.specs.Names.{bound_bytes};
+ghost use Rattle.contract_bytes.specs.States.{money_bytes, chosen_bytes, bound_value_bytes};
+
+use crate::names_of::{put_bound, put_choice_id, put_party, put_token};
+use crate::number::{put_length, put_number, put_text};
+use collections::{Memory, Text};
+use names::{Account, Bound, ChoiceId};
+
+/// An item of a list that is spelled in bytes.
+pub(crate) trait Spell {
+    /// Its bytes.
+    ghost spelling: { Self → List ℕ };
+
+    /// Appends its bytes.
+    fn put(&self, out: &mut Vec<u8>) -> Result<(), Memory>
+        ensures { OnOk result (out.new.items ≡ out.old.items ++ spelling self.now) };
+}
+
+impl Spell for Bound {
+    ghost spelling = { bound_bytes };
+
+    fn put(&self, out: &mut Vec<u8>) -> Result<(), Memory> {
+        put_bound(out, self)
+    }
+}
+
+impl Spell for (Account, i128) {
+    ghost spelling = { money_bytes };
+
+    fn put(&self, out: &mut Vec<u8>) -> Result<(), Memory> {
+        put_party(out, &self.0.owner)?;
+        put_token(out, &self.0.token)?;
+        put_number(out, self.1)
+    }
+}
+
+impl Spell for (ChoiceId, i128) {
+    ghost spelling = { chosen_bytes };
+
+    fn put(&self, out: &mut Vec<u8>) -> Result<(), Memory> {
+        put_choice_id(out, &self.0)?;
+        put_number(out, self.1)
+    }
+}
+
+impl Spell for (Text, i128) {
+    ghost spelling = { bound_value_bytes };
+
+    fn put(&self, out: &mut Vec<u8>) -> Result<(), Memory> {
+        put_text(out, &self.0)?;
+        put_number(out, self.1)
+    }
+}
+
+/// Appends a list: its length, then its items.
+pub(crate) fn put_list<T: Spell>(out: &mut Vec<u8>, items: &[T]) -> Result<(), Memory>
+    ensures { OnOk result (out.new.items ≡ out.old.items ++ list_bytes T.spelling items.now) }
+{
+    put_length(out, items.len())?;
+    put_items(out, items)
+}
+
+fn put_items<T: Spell>(out: &mut Vec<u8>, items: &[T]) -> Result<(), Memory>
+    ensures { OnOk result (out.new.items ≡ out.old.items ++ flat_map T.spelling items.now) }
+{
+    for item in items {
+        item.put(out)?;
+    }
+    Ok(())
+}

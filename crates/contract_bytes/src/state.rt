@@ -1,0 +1,19 @@
+//! States.
+ghost use Rattle.std.specs.Prelude.{◌≡◌, ◌++◌, OnOk};
+ghost use Rattle.contract_bytes.specs.States.{state_bytes};
+
+use crate::number::put_time;
+use crate::spell::put_list;
+use collections::Memory;
+use contract::State;
+
+#[tactic(auto, using(std::proofs::Common::append_assoc))]
+pub(crate) fn put_state(out: &mut Vec<u8>, state: &State) -> Result<(), Memory>
+    ensures { OnOk result (out.new.items ≡ out.old.items ++ state_bytes state.now) }
+{
+    put_list(out, state.accounts())?;
+    put_list(out, state.choices())?;
+    put_list(out, state.bound_values())?;
+    put_time(out, state.min_time())?;
+    Ok(())
+}

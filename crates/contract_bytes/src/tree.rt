@@ -1,0 +1,140 @@
+//! Actions, cases and contracts.
+ghost use Rattle.std.specs.Prelude.{◌≡◌, ◌∷◌, ◌++◌, OnOk, length};
+ghost use Rattle.std.specs.List.{flat_map};
+ghost use Rattle.contract.specs.Tree.{value_tree, observation_tree, action_tree, contract_tree};
+ghost use Rattle.contract_bytes.specs.Numbers.{length_bytes, time_bytes, text_bytes};
+ghost use Rattle.contract_bytes.specs.Names.{party_bytes, token_bytes, payee_bytes};
+ghost use Rattle.contract_bytes.specs.Values.{value_bytes, observation_bytes};
+ghost use Rattle.contract_bytes.specs.Trees.{action_bytes, contract_bytes};
+
+use crate::names_of::{put_choice_id, put_party, put_payee, put_token};
+use crate::number::{put_byte, put_length, put_text, put_time};
+use crate::spell::put_list;
+use crate::value::{put_observation, put_value};
+use collections::{Boxed, Items, Memory, Text};
+use contract::{Action, Case, Contract, Observation, Value};
+use names::{Party, Payee, Token};
+
+#[tactic(auto, using(crate::proofs::Forms::action_forms))]
+fn put_action(out: &mut Vec<u8>, action: &Action) -> Result<(), Memory>
+    ensures { OnOk result (out.new.items ≡ out.old.items ++ action_bytes (action_tree action.now)) }
+{
+    match action {
+        Action::Deposit(account, party, token, value) => {
+            put_byte(out, 0x00)?;
+            put_party(out, account)?;
+            put_party(out, party)?;
+            put_token(out, token)?;
+            put_value(out, value)?;
+            Ok(())
+        }
+        Action::Choice(id, bounds) => {
+            put_byte(out, 0x01)?;
+            put_choice_id(out, id)?;
+            put_list(out, bounds.as_slice())?;
+            Ok(())
+        }
+        Action::Notify(observation) => {
+            put_byte(out, 0x02)?;
+            put_observation(out, observation)?;
+            Ok(())
+        }
+    }
+}
+
+// What stands before the continuation of a Pay, an If or an Assert, and a Let.
+
+fn put_pay(
+    out: &mut Vec<u8>,
+    account: &Party,
+    payee: &Payee,
+    token: &Token,
+    value: &Value,
+) -> Result<(), Memory>
+    ensures { OnOk result (out.new.items ≡ out.old.items ++ 0x01 ∷ party_bytes account.now ++ payee_bytes payee.now ++ token_bytes token.now ++ value_bytes (value_tree value.now)) }
+{
+    put_byte(out, 0x01)?;
+    put_party(out, account)?;
+    put_payee(out, payee)?;
+    put_token(out, token)?;
+    put_value(out, value)
+}
+
+fn put_test(out: &mut Vec<u8>, tag: u8, observation: &Observation) -> Result<(), Memory>
+    ensures { OnOk result (out.new.items ≡ out.old.items ++ tag ∷ observation_bytes (observation_tree observation.now)) }
+{
+    put_byte(out, tag)?;
+    put_observation(out, observation)
+}
+
+fn put_let(out: &mut Vec<u8>, name: &Text, value: &Value) -> Result<(), Memory>
+    ensures { OnOk result (out.new.items ≡ out.old.items ++ 0x04 ∷ text_bytes name.now ++ value_bytes (value_tree value.now)) }
+{
+    put_byte(out, 0x04)?;
+    put_text(out, name)?;
+    put_value(out, value)
+}
+
+#[cycle(put_contract)]
+fn put_then(out: &mut Vec<u8>, contract: &Boxed<Contract>) -> Result<(), Memory>
+    ensures { OnOk result (out.new.items ≡ out.old.items ++ contract_bytes (contract_tree contract.now)) }
+{
+    put_contract(out, contract.get())
+}
+
+#[cycle(put_contract)]
+fn put_case(out: &mut Vec<u8>, case: &Case) -> Result<(), Memory>
+    ensures { OnOk result (out.new.items ≡ out.old.items ++ action_bytes (action_tree case.now.action) ++ contract_bytes (contract_tree case.now.then)) }
+{
+    put_action(out, &case.action)?;
+    put_contract(out, &case.then)
+}
+
+#[cycle(put_contract)]
+fn put_cases(out: &mut Vec<u8>, cases: &Items<Case>) -> Result<(), Memory>
+    ensures { OnOk result (out.new.items ≡ out.old.items ++ flat_map (λ k. action_bytes (action_tree k.action) ++ contract_bytes (contract_tree k.then)) cases.now) }
+{
+    for case in cases.as_slice() {
+        put_case(out, case)?;
+    }
+    Ok(())
+}
+
+#[cycle(put_contract)]
+#[tactic(auto, using(crate::proofs::Forms::contract_forms))]
+pub(crate) fn put_contract(out: &mut Vec<u8>, contract: &Contract) -> Result<(), Memory>
+    ensures { OnOk result (out.new.items ≡ out.old.items ++ contract_bytes (contract_tree contract.now)) }
+{
+    match contract {
+        Contract::Close => put_byte(out, 0x00),
+        Contract::Pay(account, payee, token, value, then) => {
+            put_pay(out, account, payee, token, value)?;
+            put_then(out, then)?;
+            Ok(())
+        }
+        Contract::If(observation, then, otherwise) => {
+            put_test(out, 0x02, observation)?;
+            put_then(out, then)?;
+            put_then(out, otherwise)?;
+            Ok(())
+        }
+        Contract::When(cases, timeout, then) => {
+            put_byte(out, 0x03)?;
+            put_length(out, cases.len())?;
+            put_cases(out, cases)?;
+            put_time(out, *timeout)?;
+            put_then(out, then)?;
+            Ok(())
+        }
+        Contract::Let(name, value, then) => {
+            put_let(out, name, value)?;
+            put_then(out, then)?;
+            Ok(())
+        }
+        Contract::Assert(observation, then) => {
+            put_test(out, 0x05, observation)?;
+            put_then(out, then)?;
+            Ok(())
+        }
+    }
+}

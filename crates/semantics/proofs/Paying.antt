@@ -1,0 +1,56 @@
+-- A Pay goes on with what follows it, and its sums come after the numbers of its amount.
+use Rattle.std.proofs.Common.{◌≡◌, ℤ, pos, Bool, true, false, cond, ◌&&◌, List, [], refl, sym, int_lt, Ok, Err, inl, inr, Some}
+use Rattle.std.specs.Int.{int_min}
+use Rattle.names.specs.declared.party.Party.{Party}
+use Rattle.names.specs.declared.payee.Payee.{Payee}
+use Rattle.names.specs.declared.token.Token.{Token}
+use Rattle.contract.specs.declared.fault.SemFault.{SemFault}
+use Rattle.contract.specs.declared.fault.SemFault.TheVariants.{Leaves128}
+use Rattle.contract.specs.States.{StateMaps}
+use Rattle.contract.specs.Tree.{ContractTree, close}
+use Rattle.semantics.specs.Numbers.{all_fit, within}
+use Rattle.semantics.specs.Walk.{Aside}
+use Rattle.semantics.specs.Reduction.{Reduction, balance, debited, account_sums, paying, not_paying}
+use Rattle.semantics.specs.Computed.{pays, goes}
+use Rattle.semantics.specs.Reduced.{reply}
+use Rattle.semantics.proofs.Numbers.{all_fit_append, within_ok}
+
+and_true : (b : Bool) → b && true ≡ b
+and_true true = refl
+and_true false = refl
+
+same_part : (b : Bool) (r q : Reduction) (c : ContractTree) → r.contract ≡ c → q.contract ≡ c → (cond b r q).contract ≡ c
+same_part true r q c h k = h
+same_part false r q c h k = k
+
+-- what follows a Pay
+pub pays_contract : (s : StateMaps) (p : Party) (y : Payee) (t : Token) (due : ℤ) (ns : List ℤ) (c : ContractTree) → (pays s p y t due ns c).contract ≡ c
+pays_contract s p y t due ns c = same_part (int_lt (pos 0) due) (paying s p y t due (int_min (balance s p t) due) ns c) (not_paying s p y t due ns c) c refl refl
+
+pick : (b : Bool) (ns : List ℤ) (r q r' q' : Reduction) → all_fit r.numbers ≡ all_fit ns && all_fit r'.numbers → all_fit q.numbers ≡ all_fit ns && all_fit q'.numbers →
+    all_fit (cond b r q).numbers ≡ all_fit ns && all_fit (cond b r' q').numbers
+pick true ns r q r' q' h k = h
+pick false ns r q r' q' h k = k
+
+-- the numbers of its amount, and then its sums
+pub pay_numbers : (s : StateMaps) (p : Party) (y : Payee) (t : Token) (due : ℤ) (ns : List ℤ) (c : ContractTree) →
+    all_fit (pays s p y t due ns c).numbers ≡ all_fit ns && all_fit (pays s p y t due [] close).numbers
+pay_numbers s p y t due ns c =
+    let paid = int_min (balance s p t) due in
+    pick (int_lt (pos 0) due) ns (paying s p y t due paid ns c) (not_paying s p y t due ns c) (paying s p y t due paid [] close) (not_paying s p y t due [] close)
+    (all_fit_append ns (account_sums (debited s p t paid) y t paid)) (sym (and_true (all_fit ns)))
+
+fault_through : {A B : Type 0} (b d : Bool) (x : A) (z : B) (f : SemFault) → d ≡ b → Aside (Err f) (cond b (Ok x) (Err Leaves128)) → Aside (Err f) (cond d (Ok z) (Err Leaves128))
+fault_through true d x z f q (inl h) = absurd (cc)
+fault_through true d x z f q (inr h) = inr (cc)
+fault_through false d x z f q (inl h) = inl (rw q cc)
+fault_through false d x z f q (inr h) = inr (cc)
+
+-- where a sum doesn't fit, once the amount does
+pub pay_fault : (s : StateMaps) (p : Party) (y : Payee) (t : Token) (due n : ℤ) (ns : List ℤ) (c : ContractTree) (f : SemFault) →
+    Ok n ≡ within ns due → Aside (Err f) (within (pays s p y t n [] close).numbers (tt {0})) →
+    Aside (Err f) (reply (goes (pays s p y t due ns c)))
+pay_fault s p y t due n ns c f h k =
+    let w = within_ok ns due n h in
+    let l = rw w.1 at k in
+    fault_through _ _ (tt {0}) (Some (pays s p y t due ns c).contract) f (rw (pay_numbers s p y t due ns c, w.0)) l

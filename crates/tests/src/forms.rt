@@ -1,0 +1,278 @@
+//! Each form of the language in JSON, read and written back.
+use crate::made::{ada, role, text, truth};
+use contract::{Action, Bound, Boxed, Contract, Observation, Payee, Value};
+use contract_json::{
+    JsonFault, WriteFault, action_from_json, action_to_json, bound_from_json, bound_to_json,
+    input_from_json, input_to_json, observation_from_json, observation_to_json, read_contract,
+    read_input, value_from_json, value_to_json, write_contract,
+};
+use serde_json::Value as Json;
+use std::process::Abort;
+
+fn json(rt: &(impl Abort + AllocGlobal), letters: &str) -> Json {
+    Json::from_slice(rt.alloc(), letters.as_bytes()).expect(rt, "JSON")
+}
+
+fn text_of(rt: &(impl Abort + AllocGlobal), json: &Json) -> String {
+    json.to_string(rt.alloc()).expect(rt, "memory")
+}
+
+// What is written for the contract that a text stands for.
+fn written(rt: &(impl Abort + AllocGlobal), letters: &str) -> Vec<u8> {
+    let contract = read_contract(rt.alloc(), letters.as_bytes()).expect(rt, "a contract");
+    write_contract(rt.alloc(), &contract).expect(rt, "a text")
+}
+
+#[test]
+fn each_contract_is_read_and_written_back(rt: HostRuntime) {
+    for letters in [
+        r#""close""#,
+        r#"{"from_account":{"role_token":"a"},"pay":5,"then":"close","to":{"party":{"role_token":"b"}},"token":{"currency_symbol":"","token_name":""}}"#,
+        r#"{"else":"close","if":true,"then":{"timeout":1,"timeout_continuation":"close","when":[]}}"#,
+        r#"{"timeout":100,"timeout_continuation":"close","when":[{"case":{"deposits":5,"into_account":{"role_token":"a"},"of_token":{"currency_symbol":"","token_name":""},"party":{"role_token":"b"}},"then":"close"},{"case":{"choose_between":[{"from":-1,"to":3}],"for_choice":{"choice_name":"c","choice_owner":{"address":"x"}}},"then":"close"},{"case":{"notify_if":true},"then":"close"}]}"#,
+        r#"{"be":"time_interval_start","let":"x","then":"close"}"#,
+        r#"{"assert":{"not":false},"then":"close"}"#,
+    ] {
+        assert_eq!(rt; written(&rt, letters).as_slice(), letters.as_bytes());
+    }
+}
+
+#[test]
+fn each_value_is_read_and_written_back(rt: HostRuntime) {
+    for letters in [
+        r#"{"amount_of_token":{"currency_symbol":"","token_name":""},"in_account":{"role_token":"a"}}"#,
+        "18446744073709551615",
+        "-9223372036854775808",
+        r#"{"negate":1}"#,
+        r#"{"add":1,"and":2}"#,
+        r#"{"minus":2,"value":1}"#,
+        r#"{"multiply":1,"times":2}"#,
+        r#"{"by":2,"divide":1}"#,
+        r#"{"value_of_choice":{"choice_name":"c","choice_owner":{"role_token":"a"}}}"#,
+        r#""time_interval_start""#,
+        r#""time_interval_end""#,
+        r#"{"use_value":"x"}"#,
+        r#"{"else":2,"if":true,"then":1}"#,
+    ] {
+        let value = value_from_json(rt.alloc(), &json(&rt, letters)).expect(&rt, "a value");
+        let again = value_to_json(rt.alloc(), &value).expect(&rt, "a JSON value");
+        assert_eq!(rt; text_of(&rt, &again).as_str(), letters);
+    }
+}
+
+#[test]
+fn each_observation_is_read_and_written_back(rt: HostRuntime) {
+    for letters in [
+        r#"{"and":false,"both":true}"#,
+        r#"{"either":true,"or":false}"#,
+        r#"{"not":true}"#,
+        r#"{"chose_something_for":{"choice_name":"c","choice_owner":{"role_token":"a"}}}"#,
+        r#"{"ge_than":2,"value":1}"#,
+        r#"{"gt":2,"value":1}"#,
+        r#"{"lt":2,"value":1}"#,
+        r#"{"le_than":2,"value":1}"#,
+        r#"{"equal_to":2,"value":1}"#,
+        "true",
+        "false",
+    ] {
+        let read = observation_from_json(rt.alloc(), &json(&rt, letters)).expect(&rt, "one");
+        let again = observation_to_json(rt.alloc(), &read).expect(&rt, "a JSON value");
+        assert_eq!(rt; text_of(&rt, &again).as_str(), letters);
+    }
+}
+
+#[test]
+fn each_action_is_read_and_written_back(rt: HostRuntime) {
+    for letters in [
+        r#"{"deposits":{"use_value":"x"},"into_account":{"role_token":"a"},"of_token":{"currency_symbol":"","token_name":""},"party":{"address":"x"}}"#,
+        r#"{"choose_between":[{"from":1,"to":3},{"from":-2,"to":-1}],"for_choice":{"choice_name":"c","choice_owner":{"role_token":"a"}}}"#,
+        r#"{"notify_if":{"not":false}}"#,
+    ] {
+        let action = action_from_json(rt.alloc(), &json(&rt, letters)).expect(&rt, "an action");
+        let again = action_to_json(rt.alloc(), &action).expect(&rt, "a JSON value");
+        assert_eq!(rt; text_of(&rt, &again).as_str(), letters);
+    }
+}
+
+#[test]
+fn each_input_is_read_and_written_back(rt: HostRuntime) {
+    for letters in [
+        r#"{"input_from_party":{"role_token":"b"},"into_account":{"role_token":"a"},"of_token":{"currency_symbol":"","token_name":""},"that_deposits":5}"#,
+        r#"{"for_choice_id":{"choice_name":"c","choice_owner":{"role_token":"a"}},"input_that_chooses_num":-1}"#,
+        r#""input_notify""#,
+    ] {
+        let input = input_from_json(rt.alloc(), &json(&rt, letters)).expect(&rt, "an input");
+        let again = input_to_json(rt.alloc(), &input).expect(&rt, "a JSON value");
+        assert_eq!(rt; text_of(&rt, &again).as_str(), letters);
+        assert!(rt; read_input(rt.alloc(), letters.as_bytes()).expect(&rt, "an input") == input);
+    }
+}
+
+#[test]
+fn a_bound_is_read_and_written_back(rt: HostRuntime) {
+    let letters = r#"{"from":-1,"to":3}"#;
+    let bound = bound_from_json(&json(&rt, letters)).expect(&rt, "a bound");
+    assert!(rt; bound == Bound { from: -1, to: 3 });
+    let again = bound_to_json(rt.alloc(), &bound).expect(&rt, "a JSON value");
+    assert_eq!(rt; text_of(&rt, &again).as_str(), letters);
+}
+
+#[test]
+fn an_object_with_the_keys_of_two_forms_is_the_first(rt: HostRuntime) {
+    for (letters, first) in [
+        (
+            r#"{"assert":true,"then":"close","let":"x","be":1}"#,
+            r#"{"be":1,"let":"x","then":"close"}"#,
+        ),
+        (
+            r#"{"assert":true,"then":"close","pay":1,"token":{"currency_symbol":"","token_name":""},"from_account":{"role_token":"a"},"to":{"account":{"role_token":"b"}}}"#,
+            r#"{"from_account":{"role_token":"a"},"pay":1,"then":"close","to":{"account":{"role_token":"b"}},"token":{"currency_symbol":"","token_name":""}}"#,
+        ),
+        (
+            r#"{"assert":true,"then":"close","pay":1,"token":0,"from_account":0}"#,
+            r#"{"assert":true,"then":"close"}"#,
+        ),
+        (
+            r#"{"let":"x","be":{"multiply":3,"times":4,"value":1,"minus":2},"then":"close"}"#,
+            r#"{"be":{"minus":2,"value":1},"let":"x","then":"close"}"#,
+        ),
+        (
+            r#"{"assert":{"value":1,"gt":2,"ge_than":3},"then":"close"}"#,
+            r#"{"assert":{"ge_than":3,"value":1},"then":"close"}"#,
+        ),
+    ] {
+        assert_eq!(rt; written(&rt, letters).as_slice(), first.as_bytes());
+    }
+}
+
+#[test]
+fn a_pay_with_another_key_and_capital_digits(rt: HostRuntime) {
+    let letters =
+        r#"{"note":7,"pay":5,"token":{"currency_symbol":"AABB","token_name":"t"},"from_account":{"role_token":"a"},"to":{"party":{"role_token":"b"}},"then":"close"}"#;
+    let wanted =
+        r#"{"from_account":{"role_token":"a"},"pay":5,"then":"close","to":{"party":{"role_token":"b"}},"token":{"currency_symbol":"aabb","token_name":"t"}}"#;
+    assert_eq!(rt; written(&rt, letters).as_slice(), wanted.as_bytes());
+}
+
+#[test]
+fn the_escrow_is_read_and_written_back(rt: HostRuntime) {
+    let letters =
+        r#"{"when":[{"case":{"party":{"role_token":"b"},"deposits":50,"of_token":{"currency_symbol":"","token_name":""},"into_account":{"role_token":"s"}},"then":{"when":[{"case":{"for_choice":{"choice_name":"release","choice_owner":{"role_token":"b"}},"choose_between":[{"from":0,"to":1}]},"then":{"pay":50,"token":{"currency_symbol":"","token_name":""},"from_account":{"role_token":"s"},"to":{"account":{"role_token":"b"}},"then":"close"}}],"timeout":100,"timeout_continuation":"close"}}],"timeout":50,"timeout_continuation":"close"}"#;
+    let contract = read_contract(rt.alloc(), letters.as_bytes()).expect(&rt, "a contract");
+    let text = write_contract(rt.alloc(), &contract).expect(&rt, "a text");
+    let again = read_contract(rt.alloc(), text.as_slice()).expect(&rt, "a contract");
+    assert!(rt; again == contract);
+}
+
+#[test]
+fn numbers_at_their_ends(rt: HostRuntime) {
+    for (letters, fault) in [
+        ("18446744073709551615", None),
+        ("-9223372036854775808", None),
+        ("18446744073709551616", Some(JsonFault::NotWhole)),
+        ("-9223372036854775809", Some(JsonFault::NotWhole)),
+        ("1.0", Some(JsonFault::NotWhole)),
+        ("true", Some(JsonFault::NoForm)),
+        ("null", Some(JsonFault::NoForm)),
+        (r#""time_interval""#, Some(JsonFault::NoForm)),
+        (r#"{"negate":1.5}"#, Some(JsonFault::NotWhole)),
+        (r#"{"add":1}"#, Some(JsonFault::NoForm)),
+        (r#"{"add":"x","and":1.5}"#, Some(JsonFault::NoForm)),
+        (r#"{"use_value":1}"#, Some(JsonFault::NoForm)),
+        (r#"{"if":1,"then":1.5,"else":1}"#, Some(JsonFault::NoForm)),
+    ] {
+        let read = value_from_json(rt.alloc(), &json(&rt, letters));
+        assert_eq!(rt; read.err(), fault, "{letters}");
+    }
+}
+
+#[test]
+fn parts_of_a_pay_in_order(rt: HostRuntime) {
+    for (letters, fault) in [
+        (
+            r#"{"pay":1.0,"token":0,"from_account":0,"to":0,"then":0}"#,
+            JsonFault::NotWhole,
+        ),
+        (
+            r#"{"pay":1,"token":{"currency_symbol":"0","token_name":""},"from_account":0,"to":0,"then":0}"#,
+            JsonFault::BadHex,
+        ),
+        (
+            r#"{"pay":1,"token":{"currency_symbol":"","token_name":""},"from_account":{"address":"x"},"to":{"party":{"role_token":1}},"then":{"when":[],"timeout":1.0,"timeout_continuation":0}}"#,
+            JsonFault::NoForm,
+        ),
+        (
+            r#"{"pay":1,"token":{"currency_symbol":"","token_name":""},"from_account":{"address":"x"},"to":{"party":{"role_token":"r"}},"then":{"when":[],"timeout":1.0,"timeout_continuation":0}}"#,
+            JsonFault::NotWhole,
+        ),
+    ] {
+        let read = read_contract(rt.alloc(), letters.as_bytes());
+        assert_eq!(rt; read.err(), Some(fault), "{letters}");
+    }
+}
+
+// An Assert of so many Nots round true, then close.
+fn nots(rt: &(impl Abort + AllocGlobal), times: usize) -> String {
+    let mut all = String::from_str(rt.alloc(), r#"{"assert":"#).expect(rt, "memory");
+    for _ in 0..times {
+        all.push_str(r#"{"not":"#).expect(rt, "memory");
+    }
+    all.push_str("true").expect(rt, "memory");
+    for _ in 0..times {
+        all.push_str("}").expect(rt, "memory");
+    }
+    all.push_str(r#","then":"close"}"#).expect(rt, "memory");
+    all
+}
+
+#[test]
+fn the_deepest_observation(rt: HostRuntime) {
+    let letters = nots(&rt, 126);
+    let contract = read_contract(rt.alloc(), letters.as_bytes()).expect(&rt, "a contract");
+    let text = write_contract(rt.alloc(), &contract).expect(&rt, "a text");
+    assert_eq!(rt; text.as_slice(), letters.as_bytes());
+    let letters = nots(&rt, 127);
+    let refused = read_contract(rt.alloc(), letters.as_bytes()).err();
+    assert_eq!(rt; refused, Some(JsonFault::NotJson));
+}
+
+#[test]
+fn a_pay_is_read_part_by_part(rt: HostRuntime) {
+    let letters =
+        r#"{"pay":5,"token":{"currency_symbol":"","token_name":""},"from_account":{"role_token":"a"},"to":{"account":{"role_token":"b"}},"then":"close"}"#;
+    let contract = read_contract(rt.alloc(), letters.as_bytes()).expect(&rt, "a contract");
+    let then = Boxed::new(rt.alloc(), Contract::Close).expect(&rt, "memory");
+    let payee = Payee::Account(role(&rt, "b"));
+    let pay = Contract::Pay(role(&rt, "a"), payee, ada(&rt), Value::Constant(5), then);
+    assert!(rt; contract == pay);
+}
+
+#[test]
+fn a_deposit_is_read_part_by_part(rt: HostRuntime) {
+    let letters =
+        r#"{"party":{"role_token":"p"},"deposits":5,"of_token":{"currency_symbol":"","token_name":""},"into_account":{"role_token":"a"}}"#;
+    let action = action_from_json(rt.alloc(), &json(&rt, letters)).expect(&rt, "an action");
+    let wanted = Action::Deposit(role(&rt, "a"), role(&rt, "p"), ada(&rt), Value::Constant(5));
+    assert!(rt; action == wanted);
+}
+
+#[test]
+fn a_comparison_is_read_from_the_left(rt: HostRuntime) {
+    let greater = observation_from_json(rt.alloc(), &json(&rt, r#"{"value":1,"gt":2}"#));
+    let left = Boxed::new(rt.alloc(), Value::Constant(1)).expect(&rt, "memory");
+    let right = Boxed::new(rt.alloc(), Value::Constant(2)).expect(&rt, "memory");
+    let wanted = Observation::ValueGT(left, right);
+    assert!(rt; greater.expect(&rt, "an observation") == wanted);
+}
+
+#[test]
+fn a_number_that_json_lacks_is_not_written_in_a_contract(rt: HostRuntime) {
+    let then = Boxed::new(rt.alloc(), Contract::Close).expect(&rt, "memory");
+    let large = Value::Constant(18_446_744_073_709_551_616);
+    let contract = Contract::Let(text(&rt, "x"), large, then);
+    let refused = write_contract(rt.alloc(), &contract).err();
+    assert_eq!(rt; refused, Some(WriteFault::OutOfRange));
+    let then = Boxed::new(rt.alloc(), Contract::Close).expect(&rt, "memory");
+    let empty = Contract::Assert(truth(true), then);
+    assert!(rt; write_contract(rt.alloc(), &empty).is_ok());
+}
