@@ -105,7 +105,8 @@ impl State {
 
     /// What the account of an owner and a token holds: 0 where it has no entry.
     pub fn money(&self, owner: &Party, token: &Token) -> i128
-        ensures { result ≡ money_of self.now (record { owner = owner.now; token = token.now }) }
+        ensures held { result ≡ money_of self.now (record { owner = owner.now; token = token.now }) }
+        ensures positive { pos 0 ≤ℤ result }
     {
         self.accounts.get(&AccountOf { owner, token }).unwrap_or(0)
     }

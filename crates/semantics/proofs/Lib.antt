@@ -1,7 +1,6 @@
 pub mod Numbers
 pub mod Trees
 pub mod Paying
-pub mod Balances
 pub mod Settling
 pub mod Matching
 pub mod Finding

@@ -6,6 +6,7 @@ ghost use Rattle.semantics.specs.Numbers.{within};
 ghost use Rattle.semantics.specs.Walk.{Aside};
 ghost use Rattle.semantics.specs.Reduction.{account_of, balance, debited, account_sums, credited};
 
+use crate::arithmetic::sum;
 use collections::Memory;
 use contract::{Party, Payee, SemFault, State, Token};
 
@@ -16,7 +17,7 @@ pub fn payable(from: &Party, token: &Token, due: i128, state: &State) -> i128
     ensures positive { pos 0 ≤ℤ result }
     ensures held { result ≤ℤ balance state.now from.now token.now }
 {
-    balance(state, from, token).min(due)
+    state.money(from, token).min(due)
 }
 
 /// An account is reduced by what it can pay; where nothing is left its entry is removed.
@@ -25,19 +26,8 @@ pub fn debit(owner: &Party, token: &Token, paid: i128, state: &mut State) -> Res
     requires held { paid ≤ℤ balance state.old owner.now token.now }
     ensures state { OnOk result (state.new ≡ debited state.old owner.now token.now paid) }
 {
-    let held = balance(state, owner, token);
+    let held = state.money(owner, token);
     state.set_money(owner, token, held - paid)
-}
-
-// What an account holds, which is never below 0.
-#[tactic(auto, using(crate::proofs::Balances::money_positive))]
-fn balance(state: &State, owner: &Party, token: &Token) -> i128
-    ensures held { result ≡ balance state.now owner.now token.now }
-    ensures positive { pos 0 ≤ℤ result }
-{
-    // All accounts are above 0: the look at the list, which is free, is for what it tells.
-    let _ = state.accounts();
-    state.money(owner, token)
 }
 
 /// The account of a payee that is one grows by what is paid to it.
@@ -53,6 +43,7 @@ pub fn credit(to: &Payee, token: &Token, paid: i128, state: &mut State) -> Resul
 }
 
 /// An account grows by an amount; `Leaves128` where it would hold more than 2^127 - 1.
+#[tactic(auto, unfolding(crate::specs::Checked::checked))]
 pub fn deposit(
     owner: &Party,
     token: &Token,
@@ -64,18 +55,7 @@ pub fn deposit(
     ensures state { OnOk result (state.new
         ≡ with_money state.old (account_of owner.now token.now) (balance state.old owner.now token.now +ℤ amount)) }
 {
-    let total = grown(balance(state, owner, token), amount)?;
+    let total = sum(state.money(owner, token), amount)?;
     state.set_money(owner, token, total)?;
     Ok(())
-}
-
-// What an account then holds, where that fits 128 bits.
-#[tactic(auto, unfolding(crate::specs::Numbers::fits))]
-fn grown(held: i128, amount: i128) -> Result<i128, SemFault>
-    ensures { result ≡ within ((held +ℤ amount) ∷ []) (held +ℤ amount) }
-{
-    match held.checked_add(amount) {
-        Some(total) => Ok(total),
-        None => Err(SemFault::Leaves128),
-    }
 }

@@ -1,10 +1,11 @@
 //! The numbers of values and the truth of observations.
-ghost use Rattle.std.specs.Prelude.{◌≡◌, ◌+ℤ◌, ◌-ℤ◌, ◌*ℤ◌, neg_ℤ};
+ghost use Rattle.std.specs.Prelude.{◌≡◌};
 ghost use Rattle.contract.specs.Tree.{value_tree, observation_tree};
 ghost use Rattle.semantics.specs.Numbers.{within};
-ghost use Rattle.semantics.specs.Evaluation.{eval, holds, visited, looked, quotient};
-ghost use Rattle.semantics.specs.Checked.{checked, eval128, holds128};
+ghost use Rattle.semantics.specs.Evaluation.{eval, holds, visited, looked};
+ghost use Rattle.semantics.specs.Checked.{eval128, holds128};
 
+use crate::arithmetic::{difference, known, negation, product, quotient, sum};
 use contract::{Interval, Observation, SemFault, State, Value};
 
 /// The number of a value (Marlowe specification version 3, "Evaluate value"), or `Leaves128` where a
@@ -127,61 +128,5 @@ fn checked_holds(
         }
         Observation::TrueObs => Ok(true),
         Observation::FalseObs => Ok(false),
-    }
-}
-
-// A number that is at hand lies within 128 bits.
-fn known(number: i128) -> Result<i128, SemFault>
-    ensures { result ≡ checked number }
-{
-    Ok(number)
-}
-
-fn negation(x: i128) -> Result<i128, SemFault>
-    ensures { result ≡ checked (neg_ℤ x) }
-{
-    match x.checked_neg() {
-        Some(number) => Ok(number),
-        None => Err(SemFault::Leaves128),
-    }
-}
-
-fn sum(x: i128, y: i128) -> Result<i128, SemFault>
-    ensures { result ≡ checked (x +ℤ y) }
-{
-    match x.checked_add(y) {
-        Some(number) => Ok(number),
-        None => Err(SemFault::Leaves128),
-    }
-}
-
-fn difference(x: i128, y: i128) -> Result<i128, SemFault>
-    ensures { result ≡ checked (x -ℤ y) }
-{
-    match x.checked_sub(y) {
-        Some(number) => Ok(number),
-        None => Err(SemFault::Leaves128),
-    }
-}
-
-fn product(x: i128, y: i128) -> Result<i128, SemFault>
-    ensures { result ≡ checked (x *ℤ y) }
-{
-    match x.checked_mul(y) {
-        Some(number) => Ok(number),
-        None => Err(SemFault::Leaves128),
-    }
-}
-
-// The quotient, truncated toward zero; 0 where the divisor is 0.
-fn quotient(x: i128, y: i128) -> Result<i128, SemFault>
-    ensures { result ≡ checked (quotient x y) }
-{
-    if y == 0 {
-        return Ok(0);
-    }
-    match x.checked_div(y) {
-        Some(number) => Ok(number),
-        None => Err(SemFault::Leaves128),
     }
 }

@@ -3,6 +3,7 @@
 
 mod accounts;
 mod apply;
+mod arithmetic;
 mod evaluate;
 mod evaluation_laws;
 mod laws;

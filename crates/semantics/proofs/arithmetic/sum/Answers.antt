@@ -2,7 +2,7 @@ use Rattle.std.proofs.Common.{sym}
 use Rattle.std.specs.Int.{w128}
 use Rattle.std.proofs.lemmas.Int.{to_z-of_z}
 use Rattle.semantics.proofs.Bits.{checked_no, checked_some}
-use Rattle.semantics.proofs.evaluate.product.Goals as goal
+use Rattle.semantics.proofs.arithmetic.sum.Goals as goal
 
 pub returns-in-Some : goal.returns-in-Some
 returns-in-Some c =

@@ -3,7 +3,7 @@ use Rattle.std.specs.Int.{w128}
 use Rattle.std.proofs.lemmas.Int.{to_z-of_z}
 use Rattle.semantics.specs.Evaluation.{quotient}
 use Rattle.semantics.proofs.Bits.{checked_no, checked_some, quotient_zero, quotient_is, nonzero}
-use Rattle.semantics.proofs.evaluate.quotient.Goals as goal
+use Rattle.semantics.proofs.arithmetic.quotient.Goals as goal
 
 pub returns-then-y-eq0 : goal.returns-then-y-eq0
 returns-then-y-eq0 c = quotient_zero c.args.x c.args.y c.ranges.y c.if-y-eq0.true
