@@ -20,8 +20,7 @@ use crate::name_forms::{
     party_to_json, token_from_json, token_to_json,
 };
 use crate::objects::{four, one, two};
-use crate::value_writing::{observation_to_json, value_to_json};
-use crate::values::{observation_from_json, value_from_json};
+use crate::values::{observation_from_json, observation_to_json, value_from_json, value_to_json};
 use contract::{Action, Bound, Items, Memory, Party, Token};
 use serde_json::Value as Json;
 use std::alloc::Global;

@@ -15,7 +15,6 @@ mod rows;
 mod states;
 mod texts;
 mod transaction;
-mod value_writing;
 mod values;
 mod warnings;
 mod writing;
@@ -34,6 +33,5 @@ pub use texts::{
     read_contract, read_input, read_state, read_transaction, write_contract, write_outcome,
 };
 pub use transaction::Transaction;
-pub use value_writing::{observation_to_json, value_to_json};
-pub use values::{observation_from_json, value_from_json};
+pub use values::{observation_from_json, observation_to_json, value_from_json, value_to_json};
 pub use warnings::warning_to_json;

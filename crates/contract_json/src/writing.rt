@@ -15,7 +15,7 @@ use crate::fault::WriteFault;
 use crate::name_forms::{party_to_json, payee_to_json, token_to_json};
 use crate::numbers::time_json;
 use crate::objects::{five, if_json, text_json, three, two};
-use crate::value_writing::{observation_to_json, value_to_json};
+use crate::values::{observation_to_json, value_to_json};
 use contract::{Case, Contract, Items, Memory, Party, Payee, Text, Token};
 use serde_json::Value as Json;
 use std::alloc::Global;

@@ -2,7 +2,7 @@ use Rattle.std.proofs.Common.{◌+◌, ◌*◌}
 use Rattle.std.specs.Prelude.{max}
 use Rattle.contract.specs.declared.value.Value.{size-Value}
 use Rattle.contract.specs.declared.value.Observation.{size-Observation}
-use Rattle.contract_json.proofs.value_writing.+value_json.Given as goal
+use Rattle.contract_json.proofs.values.+value_json.Given as goal
 
 -- what two operands need is less than what the two make needs
 abbrev pub decreases-value_json : goal.decreases-value_json
