@@ -1,12 +1,9 @@
 //! Spellings in bytes, each written out by hand from the table of forms: tags of one byte, lengths and times of 8,
 //! numbers of 16. What is spelled is read from JSON.
-use crate::made::{ada, address, role, text, token};
-use contract::{Action, Boxed, Case, Contract, Items, Observation, Value};
+use crate::made::{ada, address, contract, role, text, token};
+use contract::{Boxed, Contract, Value};
 use contract_bytes::{encode_contract, encode_input, encode_party, encode_state, encode_token};
-use contract_json::{
-    action_from_json, observation_from_json, read_contract, read_input, read_state, value_from_json,
-};
-use serde_json::Value as Json;
+use contract_json::{read_input, read_state};
 use std::process::Abort;
 
 const NONE: &str = "0000000000000000";
@@ -42,57 +39,55 @@ fn are(rt: &(impl Abort + AllocGlobal), bytes: &[u8], parts: &[&str]) -> bool {
     letters.as_str() == all.as_str()
 }
 
-fn json(rt: &(impl Abort + AllocGlobal), letters: &str) -> Json {
-    Json::from_slice(rt.alloc(), letters.as_bytes()).expect(rt, "JSON")
-}
-
-fn close(rt: &(impl Abort + AllocGlobal)) -> Boxed<Contract> {
-    Boxed::new(rt.alloc(), Contract::Close).expect(rt, "memory")
-}
-
-fn spells(rt: &(impl Abort + AllocGlobal), contract: Contract, parts: &[&str]) -> bool {
+fn spells(rt: &(impl Abort + AllocGlobal), letters: &str, parts: &[&str]) -> bool {
+    let contract = contract(rt, letters);
     let bytes = encode_contract(rt.alloc(), &contract).expect(rt, "memory");
     are(rt, bytes.as_slice(), parts)
 }
 
-// The parts of a Let without a name of the value, then close, are 04, no name, these and 00.
-fn value_spells(rt: &(impl Abort + AllocGlobal), value: Value, parts: &[&str]) -> bool {
-    let contract = Contract::Let(text(rt, ""), value, close(rt));
-    let mut all = vec![in rt.alloc(); "04", NONE].expect(rt, "memory");
+// Whether the contract with that text is spelled by the first part, these and the last.
+fn spells_between(
+    rt: &(impl Abort + AllocGlobal),
+    letters: &str,
+    first: &str,
+    parts: &[&str],
+    last: &str,
+) -> bool {
+    let mut all = vec![in rt.alloc(); first].expect(rt, "memory");
     all.extend_from_slice(parts).expect(rt, "memory");
-    all.push("00").expect(rt, "memory");
-    spells(rt, contract, all.as_slice())
+    all.push(last).expect(rt, "memory");
+    spells(rt, letters, all.as_slice())
+}
+
+// The parts of a Let without a name of the value, then close, are 04, no name, these and 00.
+fn value_spells(rt: &(impl Abort + AllocGlobal), letters: &str, parts: &[&str]) -> bool {
+    let whole = format!(in rt.alloc();
+        "{{\"let\":\"\",\"be\":{letters},\"then\":\"close\"}}"
+    ).expect(rt, "memory");
+    spells_between(rt, whole.as_str(), "040000000000000000", parts, "00")
 }
 
 // The parts of an Assert of the observation, then close, are 05, these and 00.
-fn observation_spells(
-    rt: &(impl Abort + AllocGlobal),
-    observation: Observation,
-    parts: &[&str],
-) -> bool {
-    let contract = Contract::Assert(observation, close(rt));
-    let mut all = vec![in rt.alloc(); "05"].expect(rt, "memory");
-    all.extend_from_slice(parts).expect(rt, "memory");
-    all.push("00").expect(rt, "memory");
-    spells(rt, contract, all.as_slice())
+fn observation_spells(rt: &(impl Abort + AllocGlobal), letters: &str, parts: &[&str]) -> bool {
+    let whole = format!(in rt.alloc(); "{{\"assert\":{letters},\"then\":\"close\"}}").expect(
+        rt, "memory",
+    );
+    spells_between(rt, whole.as_str(), "05", parts, "00")
 }
 
 // The parts of a When of one case of the action, with close in both places and timeout 0, are 03, a length of 1, these,
 // 00, a time of 0 and 00.
-fn action_spells(rt: &(impl Abort + AllocGlobal), action: Action, parts: &[&str]) -> bool {
-    let mut cases = Items::new(rt.alloc());
-    let case = Case {
-        action,
-        then: Contract::Close,
-    };
-    cases.push(case).expect(rt, "memory");
-    let contract = Contract::When(cases, 0, close(rt));
-    let mut all = vec![in rt.alloc(); "03", LENGTH_1].expect(rt, "memory");
-    all.extend_from_slice(parts).expect(rt, "memory");
-    all.push("00").expect(rt, "memory");
-    all.push(NONE).expect(rt, "memory");
-    all.push("00").expect(rt, "memory");
-    spells(rt, contract, all.as_slice())
+fn action_spells(rt: &(impl Abort + AllocGlobal), letters: &str, parts: &[&str]) -> bool {
+    let whole = format!(in rt.alloc();
+        "{{\"when\":[{{\"case\":{letters},\"then\":\"close\"}}],\"timeout\":0,\"timeout_continuation\":\"close\"}}"
+    ).expect(rt, "memory");
+    spells_between(
+        rt,
+        whole.as_str(),
+        "030000000000000001",
+        parts,
+        "00000000000000000000",
+    )
 }
 
 #[test]
@@ -150,11 +145,12 @@ fn numbers_are_big_endian_in_two_s_complement(rt: HostRuntime) {
         (-1, "ffffffffffffffffffffffffffffffff"),
         (0, NUMBER_0),
     ] {
-        let parts = ["01", digits];
-        assert!(rt;
-            value_spells(&rt, Value::Constant(number), parts.as_slice()),
-            "{number}"
-        );
+        let value = Value::Constant(number);
+        let then = Boxed::new(rt.alloc(), Contract::Close).expect(&rt, "memory");
+        let contract = Contract::Let(text(&rt, ""), value, then);
+        let bytes = encode_contract(rt.alloc(), &contract).expect(&rt, "memory");
+        let parts = ["04", NONE, "01", digits, "00"];
+        assert!(rt; are(&rt, bytes.as_slice(), parts.as_slice()), "{number}");
     }
 }
 
@@ -195,8 +191,7 @@ fn each_value_is_spelled(rt: HostRuntime) {
             ["0b", "0a", CONSTANT_1, CONSTANT_2].as_slice(),
         ),
     ] {
-        let value = value_from_json(rt.alloc(), &json(&rt, letters)).expect(&rt, "a value");
-        assert!(rt; value_spells(&rt, value, parts), "{letters}");
+        assert!(rt; value_spells(&rt, letters, parts), "{letters}");
     }
 }
 
@@ -237,8 +232,7 @@ fn each_observation_is_spelled(rt: HostRuntime) {
             ["08", CONSTANT_1, CONSTANT_2].as_slice(),
         ),
     ] {
-        let read = observation_from_json(rt.alloc(), &json(&rt, letters)).expect(&rt, "one");
-        assert!(rt; observation_spells(&rt, read, parts), "{letters}");
+        assert!(rt; observation_spells(&rt, letters, parts), "{letters}");
     }
 }
 
@@ -255,8 +249,7 @@ fn each_action_is_spelled(rt: HostRuntime) {
         ),
         (r#"{"notify_if":true}"#, ["02", "09"].as_slice()),
     ] {
-        let action = action_from_json(rt.alloc(), &json(&rt, letters)).expect(&rt, "an action");
-        assert!(rt; action_spells(&rt, action, parts), "{letters}");
+        assert!(rt; action_spells(&rt, letters, parts), "{letters}");
     }
 }
 
@@ -296,8 +289,7 @@ fn each_contract_is_spelled(rt: HostRuntime) {
             ["05", "02", "09", "00"].as_slice(),
         ),
     ] {
-        let contract = read_contract(rt.alloc(), letters.as_bytes()).expect(&rt, "a contract");
-        assert!(rt; spells(&rt, contract, parts), "{letters}");
+        assert!(rt; spells(&rt, letters, parts), "{letters}");
     }
 }
 

@@ -1,6 +1,6 @@
 //! Large contracts.
-use crate::made::truth;
-use contract::{Action, Boxed, Case, Contract, Items, Observation, TryClone};
+use crate::made::{copies, truth};
+use contract::{Action, Boxed, Case, Contract, Items, Observation};
 use contract_bytes::encode_contract;
 use std::process::Abort;
 
@@ -23,8 +23,7 @@ fn wide(rt: &(impl Abort + AllocGlobal), cases: usize) -> Contract {
 #[test]
 fn a_contract_of_a_million_nodes(rt: HostRuntime) {
     let contract = wide(&rt, 250_000);
-    let copy = contract.try_clone().expect(&rt, "memory");
-    assert!(rt; copy == contract);
-    let bytes = encode_contract(rt.alloc(), &copy).expect(&rt, "memory");
+    assert!(rt; copies(&rt, &contract));
+    let bytes = encode_contract(rt.alloc(), &contract).expect(&rt, "memory");
     assert_eq!(rt; bytes.len(), 1_000_018);
 }

@@ -1,31 +1,39 @@
 //! Copies of contracts and of what they are made of, and what is told apart. What is copied is read from JSON.
-use crate::made::{ada, role, text};
-use contract::{Contract, Payee, Payment, Same, TryClone, Warning};
-use contract_json::{
-    action_from_json, observation_from_json, read_contract, read_input, value_from_json,
-};
-use serde_json::Value as Json;
+use crate::made::{ada, contract, copies, json, role, stands_for, text};
+use contract::{Action, Input, Observation, Payee, Payment, Same, TryClone, Value, Warning};
+use contract_json::{action_from_json, observation_from_json, read_input, value_from_json};
 use std::process::Abort;
 
-fn json(rt: &(impl Abort + AllocGlobal), letters: &str) -> Json {
-    Json::from_slice(rt.alloc(), letters.as_bytes()).expect(rt, "JSON")
+fn value(rt: &(impl Abort + AllocGlobal), letters: &str) -> Value {
+    value_from_json(rt.alloc(), &json(rt, letters)).expect(rt, "a value")
 }
 
-fn read(rt: &(impl Abort + AllocGlobal), letters: &str) -> Contract {
-    read_contract(rt.alloc(), letters.as_bytes()).expect(rt, "a contract")
+fn is_value(rt: &(impl Abort + AllocGlobal), letters: &str, wanted: &Value) -> bool {
+    value(rt, letters) == *wanted
 }
 
-// Whether the copy of a contract is the same as it.
-fn is_copied(rt: &(impl Abort + AllocGlobal), letters: &str) -> bool {
-    let contract = read(rt, letters);
-    let copy = contract.try_clone().expect(rt, "memory");
-    copy == contract
+fn observation(rt: &(impl Abort + AllocGlobal), letters: &str) -> Observation {
+    observation_from_json(rt.alloc(), &json(rt, letters)).expect(rt, "an observation")
 }
 
-fn are_the_same(rt: &(impl Abort + AllocGlobal), letters: &str, other: &str) -> bool {
-    let contract = read(rt, letters);
-    let other = read(rt, other);
-    contract == other
+fn is_observation(rt: &(impl Abort + AllocGlobal), letters: &str, wanted: &Observation) -> bool {
+    observation(rt, letters) == *wanted
+}
+
+fn action(rt: &(impl Abort + AllocGlobal), letters: &str) -> Action {
+    action_from_json(rt.alloc(), &json(rt, letters)).expect(rt, "an action")
+}
+
+fn is_action(rt: &(impl Abort + AllocGlobal), letters: &str, wanted: &Action) -> bool {
+    action(rt, letters) == *wanted
+}
+
+fn input(rt: &(impl Abort + AllocGlobal), letters: &str) -> Input {
+    read_input(rt.alloc(), letters.as_bytes()).expect(rt, "an input")
+}
+
+fn is_input(rt: &(impl Abort + AllocGlobal), letters: &str, wanted: &Input) -> bool {
+    input(rt, letters) == *wanted
 }
 
 #[test]
@@ -57,8 +65,9 @@ fn contracts_are_copied_and_told_apart(rt: HostRuntime) {
         ),
         (r#""close""#, r#"{"assert":true,"then":"close"}"#),
     ] {
-        assert!(rt; is_copied(&rt, letters), "{letters}");
-        assert!(rt; !are_the_same(&rt, letters, other), "{letters}");
+        let contract = contract(&rt, letters);
+        assert!(rt; copies(&rt, &contract), "{letters}");
+        assert!(rt; !stands_for(&rt, other.as_bytes(), &contract), "{letters}");
     }
 }
 
@@ -86,10 +95,9 @@ fn values_are_copied_and_told_apart(rt: HostRuntime) {
             r#"{"if":true,"then":2,"else":1}"#,
         ),
     ] {
-        let value = value_from_json(rt.alloc(), &json(&rt, letters)).expect(&rt, "a value");
-        let other = value_from_json(rt.alloc(), &json(&rt, other)).expect(&rt, "a value");
-        let copy = value.try_clone().expect(&rt, "memory");
-        assert!(rt; copy == value && copy != other, "{letters}");
+        let value = value(&rt, letters);
+        assert!(rt; copies(&rt, &value), "{letters}");
+        assert!(rt; !is_value(&rt, other, &value), "{letters}");
     }
 }
 
@@ -115,10 +123,9 @@ fn observations_are_copied_and_told_apart(rt: HostRuntime) {
         (r#"{"value":1,"equal_to":2}"#, r#"{"value":1,"equal_to":3}"#),
         ("true", "false"),
     ] {
-        let read = observation_from_json(rt.alloc(), &json(&rt, letters)).expect(&rt, "one");
-        let other = observation_from_json(rt.alloc(), &json(&rt, other)).expect(&rt, "one");
-        let copy = read.try_clone().expect(&rt, "memory");
-        assert!(rt; copy == read && copy != other, "{letters}");
+        let observation = observation(&rt, letters);
+        assert!(rt; copies(&rt, &observation), "{letters}");
+        assert!(rt; !is_observation(&rt, other, &observation), "{letters}");
     }
 }
 
@@ -135,10 +142,9 @@ fn actions_are_copied_and_told_apart(rt: HostRuntime) {
         ),
         (r#"{"notify_if":true}"#, r#"{"notify_if":false}"#),
     ] {
-        let action = action_from_json(rt.alloc(), &json(&rt, letters)).expect(&rt, "an action");
-        let other = action_from_json(rt.alloc(), &json(&rt, other)).expect(&rt, "an action");
-        let copy = action.try_clone().expect(&rt, "memory");
-        assert!(rt; copy == action && copy != other, "{letters}");
+        let action = action(&rt, letters);
+        assert!(rt; copies(&rt, &action), "{letters}");
+        assert!(rt; !is_action(&rt, other, &action), "{letters}");
     }
 }
 
@@ -158,10 +164,9 @@ fn inputs_are_copied_and_told_apart(rt: HostRuntime) {
             r#"{"for_choice_id":{"choice_name":"c","choice_owner":{"role_token":"a"}},"input_that_chooses_num":2}"#,
         ),
     ] {
-        let input = read_input(rt.alloc(), letters.as_bytes()).expect(&rt, "an input");
-        let other = read_input(rt.alloc(), other.as_bytes()).expect(&rt, "an input");
-        let copy = input.try_clone().expect(&rt, "memory");
-        assert!(rt; copy == input && copy != other, "{letters}");
+        let input = input(&rt, letters);
+        assert!(rt; copies(&rt, &input), "{letters}");
+        assert!(rt; !is_input(&rt, other, &input), "{letters}");
     }
 }
 
@@ -173,7 +178,7 @@ fn a_copy_of_a_payment_is_the_same(rt: HostRuntime) {
         token: ada(&rt),
         amount: 5,
     };
-    assert!(rt; payment.try_clone().expect(&rt, "memory") == payment);
+    assert!(rt; copies(&rt, &payment));
 }
 
 // Whether the copy of a warning is the same as it, and it is the same as another.
