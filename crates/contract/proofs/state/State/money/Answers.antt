@@ -16,5 +16,5 @@ returns c =
     let is = to_z-of_z {w = w128} (record { sfits = c.unwrap_or.type_inv }) ∙ c.unwrap_or.ensures in
     record {
       held = is ∙ ap (λ o. unwrap_or o (pos 0)) found;
-      positive = subst (λ n. pos 0 ≤ℤ n) (sym (is ∙ ap (λ o. unwrap_or o (pos 0)) c.get.ensures.value)) (AllPositive-find key c.self.inside.accounts c.self.invariant)
+      positive = subst (λ n. pos 0 ≤ℤ n) (sym (is ∙ ap (λ o. unwrap_or o (pos 0)) c.get.ensures.value)) (AllPositive-find key c.self.inside.accounts c.self.invariant);
     }
