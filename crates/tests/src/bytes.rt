@@ -46,12 +46,12 @@ fn spells(rt: &(impl Abort + AllocGlobal), letters: &str, parts: &[&str]) -> boo
 }
 
 // Whether the contract with that text is spelled by the first part, these and the last.
-fn spells_between(
+fn spells_between<'p>(
     rt: &(impl Abort + AllocGlobal),
     letters: &str,
-    first: &str,
-    parts: &[&str],
-    last: &str,
+    first: &'p str,
+    parts: &[&'p str],
+    last: &'p str,
 ) -> bool {
     let mut all = vec![in rt.alloc(); first].expect(rt, "memory");
     all.extend_from_slice(parts).expect(rt, "memory");
