@@ -1,5 +1,7 @@
 //! Each form of the language in JSON, read and written back.
-use crate::made::{ada, contract, json, returns, role, text, text_of, written};
+use crate::made::{
+    ada, address, choice, contract, json, returns, role, text, text_of, token, written,
+};
 use contract::{Action, Bound, Boxed, Contract, Observation, Payee, Value};
 use contract_json::{
     JsonFault, WriteFault, action_from_json, action_to_json, bound_from_json, bound_to_json,
@@ -158,6 +160,33 @@ fn each_name_is_read_and_written_back(rt: HostRuntime) {
     }
     let letters = r#"{"choice_name":"release","choice_owner":{"role_token":"b"}}"#;
     assert!(rt; choice_id_returns(&rt, letters));
+}
+
+#[test]
+fn a_party_is_read(rt: HostRuntime) {
+    let read = party_from_json(rt.alloc(), &json(&rt, r#"{"address":"x"}"#));
+    assert!(rt; read.expect(&rt, "a party") == address(&rt, "x"));
+}
+
+#[test]
+fn a_token_is_read(rt: HostRuntime) {
+    let letters = r#"{"currency_symbol":"00fF","token_name":"é\n"}"#;
+    let read = token_from_json(rt.alloc(), &json(&rt, letters));
+    let wanted = token(&rt, [0, 255].as_slice(), "é\n");
+    assert!(rt; read.expect(&rt, "a token") == wanted);
+}
+
+#[test]
+fn a_choice_id_is_read(rt: HostRuntime) {
+    let letters = r#"{"choice_name":"release","choice_owner":{"role_token":"b"}}"#;
+    let read = choice_id_from_json(rt.alloc(), &json(&rt, letters));
+    assert!(rt; read.expect(&rt, "a choice id") == choice(&rt, "release", "b"));
+}
+
+#[test]
+fn a_payee_is_read(rt: HostRuntime) {
+    let read = payee_from_json(rt.alloc(), &json(&rt, r#"{"party":{"role_token":"b"}}"#));
+    assert!(rt; read.expect(&rt, "a payee") == Payee::Party(role(&rt, "b")));
 }
 
 #[test]
