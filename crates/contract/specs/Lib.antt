@@ -1,5 +1,3 @@
 pub mod Tree
 pub mod TreeLaws
-pub mod States
-pub mod Start
 pub mod Laws

@@ -1,7 +1,6 @@
-//! Why a transaction is refused, and why a state can't be started.
+//! Why a transaction is refused.
 ghost use Rattle.std.specs.Prelude.{◌≡◌};
 ghost use Rattle.contract.specs.declared.fault.SemFault.TheVariants as sem;
-ghost use Rattle.contract.specs.declared.fault.StateFault.TheVariants as start;
 
 use std::alloc::{AllocError, AllocFailed};
 use thiserror::Error;
@@ -32,20 +31,6 @@ pub enum SemFault {
     Memory = 7,
 }
 
-/// Why a list of accounts starts no state. Of several the first in this order answers.
-#[derive(Clone, Copy, Debug, PartialEq, Eq, Hash, Error)]
-pub enum StateFault {
-    /// An amount is 0 or less.
-    #[error("an amount is not above 0")]
-    NotPositive = 1,
-    /// Two amounts have one account.
-    #[error("an account is given twice")]
-    Repeated = 2,
-    /// Memory was refused.
-    #[error("memory was refused")]
-    Memory = 3,
-}
-
 impl From<AllocError> for SemFault {
     ghost from_gives = { λ _ fault. fault ≡ sem.Memory };
 
@@ -59,21 +44,5 @@ impl<T: Drop> From<AllocFailed<T>> for SemFault {
 
     fn from(_error: AllocFailed<T>) -> SemFault {
         SemFault::Memory
-    }
-}
-
-impl From<AllocError> for StateFault {
-    ghost from_gives = { λ _ fault. fault ≡ start.Memory };
-
-    fn from(_error: AllocError) -> StateFault {
-        StateFault::Memory
-    }
-}
-
-impl<T: Drop> From<AllocFailed<T>> for StateFault {
-    ghost from_gives = { λ _ fault. fault ≡ start.Memory };
-
-    fn from(_error: AllocFailed<T>) -> StateFault {
-        StateFault::Memory
     }
 }

@@ -1,5 +1,5 @@
-//! Marlowe contracts as trees, with their values, observations and actions; their states; and what goes into a
-//! transaction and comes out of it.
+//! Marlowe contracts as trees, with their values, observations and actions; and what goes into a transaction and
+//! comes out of it. The names and the states of the crates below are passed on.
 #![tactic(auto)]
 
 mod copies;
@@ -10,22 +10,19 @@ mod interval;
 mod laws;
 mod outcome;
 mod payment;
-mod start;
-mod state;
-mod state_equal;
 mod tree;
 mod value;
 mod warning;
 
 pub use collections::{Boxed, Bytes, Entries, Items, Memory, Same, Text, TryClone};
-pub use fault::{SemFault, StateFault};
+pub use fault::SemFault;
 pub use input::Input;
 pub use interval::Interval;
-pub use laws::{contracts_are_trees, first_account_is_least, sets_are_found, totals_follow_sets};
+pub use laws::contracts_are_trees;
 pub use names::{Account, Bound, ChoiceId, Party, Payee, Token};
 pub use outcome::Outcome;
 pub use payment::Payment;
-pub use state::State;
+pub use states::{State, StateFault, first_account_is_least, sets_are_found, totals_follow_sets};
 pub use tree::{Action, Case, Contract};
 pub use value::{Observation, Value};
 pub use warning::Warning;

@@ -1,8 +1,8 @@
 //! Outcomes.
 use crate::payment::Payment;
-use crate::state::State;
 use crate::warning::Warning;
 use collections::Items;
+use states::State;
 
 /// What a transaction that succeeds leaves: warnings and payments in order, the new state, and the
 /// place where the contract goes on.

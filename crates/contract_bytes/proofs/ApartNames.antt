@@ -11,7 +11,7 @@ use Rattle.names.specs.declared.payee.Payee.TheVariants as payees
 use Rattle.names.specs.declared.bound.Bound.{Bound}
 use Rattle.contract.specs.declared.input.Input.{Input}
 use Rattle.contract.specs.declared.input.Input.TheVariants as inputs
-use Rattle.contract.specs.States.{StateMaps}
+use Rattle.states.specs.States.{StateMaps}
 use Rattle.contract_bytes.specs.Names.{party_bytes, token_bytes, choice_id_bytes, payee_bytes, bound_bytes, PartyFits, TokenFits, ChoiceIdFits, PayeeFits, BoundFits}
 use Rattle.contract_bytes.specs.Inputs.{input_bytes, InputFits}
 use Rattle.contract_bytes.specs.States.{money_bytes, chosen_bytes, bound_value_bytes, state_bytes, MoneyFits, ChosenFits, BoundValueFits, StateFits}

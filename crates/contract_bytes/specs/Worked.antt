@@ -3,7 +3,7 @@ use Rattle.std.specs.Prelude.{◌≡◌, pos, negsuc, ◌-◌, ◌^◌, [], ◌�
 use Rattle.std.specs.FinMap.{entries}
 use Rattle.names.specs.declared.party.Party.TheVariants as parties
 use Rattle.contract.specs.declared.input.Input.TheVariants as inputs
-use Rattle.contract.specs.States.{StateMaps}
+use Rattle.states.specs.States.{StateMaps}
 use Rattle.contract.specs.Tree.{close, when, no_cases}
 use Rattle.contract_bytes.specs.Numbers.{number_bytes, time_bytes}
 use Rattle.contract_bytes.specs.Names.{party_bytes, token_bytes}

@@ -12,7 +12,7 @@ use Rattle.std.specs.FinMap.Entries.{put, by_order}
 use Rattle.names.specs.declared.account.Account.{Account}
 use Rattle.names.specs.Orders.{account_cmp}
 use Rattle.names.specs.Totals.{account_total}
-use Rattle.contract.specs.States.{AllPositive}
+use Rattle.states.specs.States.{AllPositive}
 use Rattle.collections.specs.Repeats.{has_key, has_repeat}
 use Rattle.serde_json.specs.Data.{Data, Items, no_items, item}
 use Rattle.serde_json.specs.Find.{as_array}

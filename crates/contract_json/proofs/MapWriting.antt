@@ -14,7 +14,7 @@ use Rattle.names.specs.declared.account.Account.{Account}
 use Rattle.names.specs.Orders.{bytes_cmp, account_cmp, choice_id_cmp}
 use Rattle.names.specs.Totals.{bytes_total, account_total, choice_id_total}
 use Rattle.names.specs.Exact.{bytes_exact, account_exact, choice_id_exact}
-use Rattle.contract.specs.States.{StateMaps, AllPositive}
+use Rattle.states.specs.States.{StateMaps, AllPositive}
 use Rattle.collections.specs.Repeats.{has_key, has_repeat}
 use Rattle.serde_json.specs.Data.{Data, Items, no_items, item}
 use Rattle.serde_json.specs.Find.{as_array}

@@ -7,7 +7,7 @@ use Rattle.serde_json.specs.Find.{as_array}
 use Rattle.names.specs.declared.account.Account.{Account}
 use Rattle.names.specs.declared.choice_id.ChoiceId.{ChoiceId}
 use Rattle.names.specs.Orders.{bytes_cmp, account_cmp, choice_id_cmp}
-use Rattle.contract.specs.States.{StateMaps}
+use Rattle.states.specs.States.{StateMaps}
 use Rattle.contract_json.specs.Forms.{has_two}
 use Rattle.contract_json.specs.Parts.{Reading, ◌>>=◌, found, member_at, text, whole, time, pair}
 use Rattle.contract_json.specs.ReadsNames.{party, token, choice_id}

@@ -8,7 +8,7 @@ use Rattle.serde_json.specs.View.{items_of}
 use Rattle.names.specs.declared.account.Account.{Account}
 use Rattle.names.specs.declared.choice_id.ChoiceId.{ChoiceId}
 use Rattle.contract.specs.Tree.{ContractTree}
-use Rattle.contract.specs.States.{StateMaps}
+use Rattle.states.specs.States.{StateMaps}
 use Rattle.contract.specs.declared.payment.Payment.{Payment}
 use Rattle.contract.specs.declared.warning.Warning.{Warning}
 use Rattle.contract.specs.declared.warning.Warning.TheVariants as warnings

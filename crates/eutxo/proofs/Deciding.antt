@@ -3,7 +3,7 @@ use Rattle.std.proofs.Common.{◌≡◌, Bool, true, not, ◌&&◌, ◌||◌, �
 use Rattle.std.specs.Cmp.{IsEquivalence}
 use Rattle.contract.specs.declared.fault.SemFault.{SemFault}
 use Rattle.contract.specs.declared.input.Input.{Input}
-use Rattle.contract.specs.States.{StateMaps}
+use Rattle.states.specs.States.{StateMaps}
 use Rattle.semantics.specs.Walk.{Turn, At, Walk, answer_of}
 use Rattle.eutxo.specs.declared.fault.TxFault.{TxFault}
 use Rattle.eutxo.specs.declared.fault.TxFault.TheVariants.{WrongContinuation}

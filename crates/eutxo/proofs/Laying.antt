@@ -17,8 +17,8 @@ use Rattle.names.specs.declared.token.Token.{Token}
 use Rattle.names.specs.Orders.{token_cmp}
 use Rattle.contract.specs.declared.fault.SemFault.{SemFault}
 use Rattle.contract.specs.declared.payment.Payment.{Payment}
-use Rattle.contract.specs.contracts.state.State as state
-use Rattle.contract.specs.States.{StateMaps, in_token}
+use Rattle.states.specs.contracts.state.State as state
+use Rattle.states.specs.States.{StateMaps, in_token}
 use Rattle.contract.specs.declared.input.Input.{Input}
 use Rattle.contract.specs.Tree.{ContractTree, close}
 use Rattle.semantics.specs.Walk.{At, at, Walk}

@@ -6,7 +6,7 @@ use Rattle.std.specs.Map.{lookup}
 use Rattle.contract.specs.declared.fault.SemFault.{SemFault}
 use Rattle.contract.specs.declared.interval.Interval.{Interval}
 use Rattle.contract.specs.declared.input.Input.{Input}
-use Rattle.contract.specs.States.{StateMaps}
+use Rattle.states.specs.States.{StateMaps}
 use Rattle.contract.specs.Tree.{ContractTree}
 use Rattle.semantics.specs.Walk.{Turn, At, at, Walk, answer_of}
 use Rattle.semantics.specs.Computed.{computed}

@@ -2,7 +2,7 @@
 use Rattle.std.specs.Prelude.{◌≡◌, Bool, not, ◌||◌, List, [], ◌∷◌, Option}
 use Rattle.contract.specs.declared.input.Input.{Input}
 use Rattle.contract.specs.declared.payment.Payment.{Payment}
-use Rattle.contract.specs.States.{StateMaps}
+use Rattle.states.specs.States.{StateMaps}
 use Rattle.semantics.specs.Walk.{Turn}
 use Rattle.eutxo.specs.declared.fault.TxFault.{TxFault}
 use Rattle.eutxo.specs.declared.fault.TxFault.TheVariants.{WrongContinuation}

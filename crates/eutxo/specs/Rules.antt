@@ -17,8 +17,8 @@ use Rattle.contract.specs.declared.input.Input.{Input}
 use Rattle.contract.specs.declared.input.Input.TheVariants.{Deposit, Choice, Notify}
 use Rattle.contract.specs.declared.interval.Interval.{Interval}
 use Rattle.contract.specs.declared.payment.Payment.{Payment}
-use Rattle.contract.specs.contracts.state.State as state
-use Rattle.contract.specs.States.{StateMaps}
+use Rattle.states.specs.contracts.state.State as state
+use Rattle.states.specs.States.{StateMaps}
 use Rattle.contract.specs.Tree.{ContractTree, close}
 use Rattle.semantics.specs.Walk.{At, Walk, answer_of}
 use Rattle.semantics.specs.Computed.{computed}

@@ -6,7 +6,7 @@ use Rattle.contract.specs.declared.interval.Interval.{Interval}
 use Rattle.contract.specs.declared.input.Input.{Input}
 use Rattle.contract.specs.declared.payment.Payment.{Payment}
 use Rattle.contract.specs.declared.warning.Warning.{Warning}
-use Rattle.contract.specs.States.{StateMaps, total_of}
+use Rattle.states.specs.States.{StateMaps, total_of}
 use Rattle.contract.specs.Tree.{ContractTree, close}
 use Rattle.names.specs.declared.party.Party.TheVariants.{Address}
 use Rattle.names.specs.declared.payee.Payee.TheVariants as to

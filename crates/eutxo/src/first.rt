@@ -31,7 +31,7 @@ pub struct First<S: Steps> {
 
 impl<S: Steps> Model for First<S> {
     ghost use Rattle.std.specs.Coded.{codes};
-    ghost use Rattle.contract.specs.contracts.state.State as state;
+    ghost use Rattle.states.specs.contracts.state.State as state;
     ghost use Rattle.eutxo.specs.History.{Chain};
     ghost use Rattle.eutxo.specs.Judgement.{script_of};
     ghost use Rattle.eutxo.specs.Held.{IsSound};

@@ -19,7 +19,7 @@ pub struct Ledger<'a, P> {
 
 impl<'a, P> Model for Ledger<'a, P> {
     ghost use Rattle.std.specs.Coded.{codes};
-    ghost use Rattle.contract.specs.contracts.state.State as state;
+    ghost use Rattle.states.specs.contracts.state.State as state;
     ghost use Rattle.eutxo.specs.History.{Past};
 
     ghost Value = { Past P };

@@ -8,7 +8,7 @@ use Rattle.contract.specs.declared.fault.SemFault.{SemFault}
 use Rattle.contract.specs.declared.fault.SemFault.TheVariants.{Useless, Ambiguous}
 use Rattle.contract.specs.declared.input.Input.{Input}
 use Rattle.contract.specs.declared.interval.Interval.{Interval}
-use Rattle.contract.specs.States.{StateMaps}
+use Rattle.states.specs.States.{StateMaps}
 use Rattle.contract.specs.Tree.{ContractTree, close, pay, if_obs, when, let_be, assert}
 use Rattle.semantics.specs.Walk.{Turn, refund, At, at, Walk, ended, joined, then_from, then_walk, answer_of, Aside}
 use Rattle.semantics.specs.Path.{waits_for}

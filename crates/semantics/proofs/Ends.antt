@@ -11,7 +11,7 @@ use Rattle.contract.specs.declared.fault.SemFault.TheVariants.{Useless, Ambiguou
 use Rattle.contract.specs.declared.input.Input.{Input}
 use Rattle.contract.specs.declared.input.Input.TheVariants.{Deposit, Choice, Notify}
 use Rattle.contract.specs.declared.interval.Interval.{Interval}
-use Rattle.contract.specs.States.{StateMaps, with_money}
+use Rattle.states.specs.States.{StateMaps, with_money}
 use Rattle.contract.specs.Tree.{ContractTree, CaseTrees, close, pay, if_obs, when, let_be, assert}
 use Rattle.semantics.specs.Walk.{At, at, Walk, ended, then_from, then_walk}
 use Rattle.semantics.specs.Path.{waits_for}

@@ -6,7 +6,7 @@ use Rattle.contract.specs.declared.fault.SemFault.TheVariants.{Leaves128}
 use Rattle.contract.specs.declared.input.Input.{Input}
 use Rattle.contract.specs.declared.interval.Interval.{Interval}
 use Rattle.contract.specs.declared.tree.Case.{Case}
-use Rattle.contract.specs.States.{StateMaps}
+use Rattle.states.specs.States.{StateMaps}
 use Rattle.contract.specs.Tree.{ActionTree, ContractTree, action_tree, contract_tree, case_tree}
 use Rattle.contract.specs.TreeLaws.{case_tree-parts}
 use Rattle.semantics.specs.Numbers.{all_fit, within}

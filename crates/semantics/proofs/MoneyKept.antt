@@ -12,7 +12,7 @@ use Rattle.contract.specs.declared.fault.SemFault.TheVariants.{Useless, Ambiguou
 use Rattle.contract.specs.declared.input.Input.{Input}
 use Rattle.contract.specs.declared.input.Input.TheVariants.{Deposit, Choice, Notify}
 use Rattle.contract.specs.declared.interval.Interval.{Interval}
-use Rattle.contract.specs.States.{StateMaps, with_money, total_of}
+use Rattle.states.specs.States.{StateMaps, with_money, total_of}
 use Rattle.contract.specs.Tree.{ContractTree, close, pay, if_obs, when, let_be, assert}
 use Rattle.semantics.specs.Evaluation.{eval, visited, holds, looked}
 use Rattle.semantics.specs.Walk.{then_branch, else_branch, At, at, Walk, ended, then_from, then_walk}

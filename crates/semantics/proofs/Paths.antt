@@ -11,7 +11,7 @@ use Rattle.contract.specs.declared.fault.SemFault.{SemFault}
 use Rattle.contract.specs.declared.fault.SemFault.TheVariants.{Useless, Ambiguous}
 use Rattle.contract.specs.declared.input.Input.{Input}
 use Rattle.contract.specs.declared.interval.Interval.{Interval}
-use Rattle.contract.specs.States.{StateMaps}
+use Rattle.states.specs.States.{StateMaps}
 use Rattle.contract.specs.Tree.{ValueTree, ObservationTree, ActionTree, ContractTree, CaseTrees, close, pay, if_obs, when, let_be, assert}
 use Rattle.semantics.specs.Walk.{Turn, refund, in_case, At, at, Walk, ended, then_from, then_walk}
 use Rattle.semantics.specs.Settling.{after}

@@ -6,7 +6,7 @@ use Rattle.names.specs.declared.payee.Payee.{Payee}
 use Rattle.names.specs.declared.token.Token.{Token}
 use Rattle.contract.specs.declared.fault.SemFault.{SemFault}
 use Rattle.contract.specs.declared.fault.SemFault.TheVariants.{Leaves128}
-use Rattle.contract.specs.States.{StateMaps}
+use Rattle.states.specs.States.{StateMaps}
 use Rattle.contract.specs.Tree.{ContractTree, close}
 use Rattle.semantics.specs.Numbers.{all_fit, within}
 use Rattle.semantics.specs.Walk.{Aside}

@@ -8,7 +8,7 @@ use Rattle.names.specs.declared.account.Account.{Account}
 use Rattle.names.specs.Orders.{account_cmp, bytes_cmp}
 use Rattle.names.specs.Totals.{account_total, bytes_total}
 use Rattle.names.specs.Exact.{account_exact}
-use Rattle.contract.specs.States.{with_money}
+use Rattle.states.specs.States.{with_money}
 use Rattle.semantics.specs.Numbers.{fits}
 use Rattle.semantics.specs.Reduction.{account_of, balance}
 use Rattle.semantics.specs.Evaluation.{quotient}

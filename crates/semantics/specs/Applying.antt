@@ -13,7 +13,7 @@ use Rattle.contract.specs.declared.input.Input.TheVariants.{Deposit, Choice, Not
 use Rattle.contract.specs.declared.interval.Interval.{Interval}
 use Rattle.contract.specs.declared.warning.Warning.{Warning}
 use Rattle.contract.specs.declared.warning.Warning.TheVariants.{NonPositiveDeposit}
-use Rattle.contract.specs.States.{StateMaps, with_money}
+use Rattle.states.specs.States.{StateMaps, with_money}
 use Rattle.contract.specs.Tree.{ActionTree, deposit, choice, notify, ContractTree}
 use Rattle.semantics.specs.Evaluation.{eval, visited, holds, looked}
 use Rattle.semantics.specs.Reduction.{account_of, balance}

@@ -8,7 +8,7 @@ use Rattle.contract.specs.declared.interval.Interval.{Interval}
 use Rattle.contract.specs.declared.payment.Payment.{Payment}
 use Rattle.contract.specs.declared.warning.Warning.{Warning}
 use Rattle.contract.specs.declared.tree.Contract.{Contract}
-use Rattle.contract.specs.States.{StateMaps}
+use Rattle.states.specs.States.{StateMaps}
 use Rattle.contract.specs.Tree.{ContractTree, close, pay, if_obs, when, let_be, assert, contract_tree}
 use Rattle.semantics.specs.Numbers.{all_fit}
 use Rattle.semantics.specs.Walk.{At, at, answer_of}

@@ -15,7 +15,7 @@ use Rattle.contract.specs.declared.interval.Interval.{Interval}
 use Rattle.contract.specs.declared.payment.Payment.{Payment}
 use Rattle.contract.specs.declared.warning.Warning.{Warning}
 use Rattle.contract.specs.declared.warning.Warning.TheVariants.{NonPositiveDeposit, NonPositivePay, PartialPay, Shadowing, AssertionFailed}
-use Rattle.contract.specs.States.{StateMaps}
+use Rattle.states.specs.States.{StateMaps}
 use Rattle.contract.specs.Tree.{ValueTree, constant, div_value, cond_value, ObservationTree, and_obs, or_obs, value_ge, true_obs, false_obs}
 use Rattle.contract.specs.Tree.{deposit, choice, notify, ContractTree, close, pay, if_obs, when, let_be, assert, no_cases, case_then}
 use Rattle.semantics.specs.EvaluationRows.{too_large, least}

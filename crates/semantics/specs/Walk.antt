@@ -4,7 +4,7 @@ use Rattle.contract.specs.declared.fault.SemFault.{SemFault}
 use Rattle.contract.specs.declared.fault.SemFault.TheVariants.{Leaves128, Memory}
 use Rattle.contract.specs.declared.warning.Warning.{Warning}
 use Rattle.contract.specs.declared.payment.Payment.{Payment}
-use Rattle.contract.specs.States.{StateMaps}
+use Rattle.states.specs.States.{StateMaps}
 use Rattle.contract.specs.Tree.{ContractTree}
 use Rattle.semantics.specs.Numbers.{all_fit}
 

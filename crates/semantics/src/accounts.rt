@@ -1,7 +1,7 @@
 //! What a contract's accounts hold, and how that changes.
 ghost use Rattle.std.specs.Prelude.{◌≡◌, [], ◌∷◌, OnOk, pos, ◌+ℤ◌, ◌≤ℤ◌, ◌<ℤ◌};
 ghost use Rattle.std.specs.Int.{int_min};
-ghost use Rattle.contract.specs.States.{with_money};
+ghost use Rattle.states.specs.States.{with_money};
 ghost use Rattle.semantics.specs.Numbers.{within};
 ghost use Rattle.semantics.specs.Walk.{Aside};
 ghost use Rattle.semantics.specs.Reduction.{account_of, balance, debited, account_sums, credited};

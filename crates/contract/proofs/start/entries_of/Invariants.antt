@@ -1,6 +1,0 @@
-use Rattle.std.proofs.Common.{◌≡◌, take}
-use Rattle.contract.specs.Start.{entries_of}
-use Rattle.contract.proofs.start.entries_of.Given as goal
-
-abbrev pub invariant-loop-row : goal.invariant-loop-row
-invariant-loop-row l = l.entries.items ≡ entries_of (take l.row-index l.accounts)

@@ -1,8 +1,0 @@
-use Rattle.std.proofs.Common.{◌≡◌, drop}
-use Rattle.collections.specs.Repeats.{has_repeat}
-use Rattle.names.specs.Orders.{account_cmp}
-use Rattle.contract.specs.Start.{entries_of}
-use Rattle.contract.proofs.start.repeats.Given as goal
-
-abbrev pub invariant-loop-at : goal.invariant-loop-at
-invariant-loop-at l = has_repeat account_cmp (entries_of l.accounts) ≡ has_repeat account_cmp (entries_of (drop l.at l.accounts))

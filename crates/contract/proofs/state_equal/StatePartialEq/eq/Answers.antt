@@ -1,6 +1,0 @@
-use Rattle.collections.specs.Same.{same_by_from}
-use Rattle.contract.specs.contracts.state.State as it
-use Rattle.contract.proofs.state_equal.StatePartialEq.eq.Goals as goal
-
-pub returns : goal.returns
-returns c = same_by_from it.the_row.coded _ _ _ c.same.ensures
