@@ -5,33 +5,22 @@
 //! output that can't be written.
 #![tactic(auto)]
 
-#[cfg(test)]
-mod example_tests;
-mod fault;
-mod fault_names;
-#[cfg(test)]
-mod language_tests;
-mod line;
-mod load;
-mod refusal;
-mod run;
-#[cfg(test)]
-mod tests;
-
-use crate::fault::{Fault, RunFault};
-use crate::line::{Task, line};
-use crate::load::{LoadFault, load};
-use crate::refusal::refusal;
-use crate::run::run;
+use clap::Error;
 use clap::error::ErrorKind;
+use command_line::{LoadFault, Task, WordsFault, line, load, words};
+use marlowe_run::{Fault, RunFault, refusal, run};
 use std::alloc::Global;
 use std::process::ExitCode;
-use std::rt::{Env, Files};
-use std::{env, io};
+use std::rt::Files;
 
 fn main(rt: HostRuntime) -> ExitCode {
-    let Ok(words) = words(&rt) else {
-        return refuse(rt.alloc(), &rt.stderr(), &Fault::Run(RunFault::Memory));
+    let words = match words(&rt) {
+        Ok(words) => words,
+        Err(WordsFault::Memory) => return refuse_for_memory(rt.alloc(), &rt.stderr()),
+        Err(WordsFault::NoText) => {
+            let _ = eprintln!(rt; "error: a word of the command line is no text in UTF-8");
+            return ExitCode::from(2);
+        }
     };
     match line(rt.alloc(), words.as_slice()) {
         Ok(
@@ -49,14 +38,8 @@ fn main(rt: HostRuntime) -> ExitCode {
             }
         },
         Err(error) => match error.kind() {
-            ErrorKind::OutOfMemory => {
-                refuse(rt.alloc(), &rt.stderr(), &Fault::Run(RunFault::Memory))
-            }
-            _ => {
-                let status = if error.use_stderr() { 2 } else { 0 };
-                let _ = error.print(&rt);
-                ExitCode::from(status)
-            }
+            ErrorKind::OutOfMemory => refuse_for_memory(rt.alloc(), &rt.stderr()),
+            _ => tell(&rt, &error),
         },
     }
 }
@@ -66,12 +49,6 @@ fn main(rt: HostRuntime) -> ExitCode {
 enum Stop<'a> {
     Refused(Fault),
     Unreadable(&'a str),
-}
-
-// The words of the command line.
-fn words<R: Env + AllocGlobal>(rt: &R) -> io::Result<Vec<String>> {
-    let words = env::args(rt)?.collect(rt.alloc())?;
-    Ok(words)
 }
 
 // Reads the three files in the order of the command line, and then runs the transaction.
@@ -113,6 +90,13 @@ fn print(rt: &(impl Print + Eprint), text: &[u8]) -> ExitCode {
     }
 }
 
+// Prints the text of `clap`: help and the version on standard output, else what is wrong with the command line.
+fn tell(rt: &(impl Print + Eprint), error: &Error) -> ExitCode {
+    let status = if error.use_stderr() { 2 } else { 0 };
+    let _ = error.print(rt);
+    ExitCode::from(status)
+}
+
 // Tells why the input is refused.
 fn refuse(alloc: Global, to: &impl Print, fault: &Fault) -> ExitCode {
     let _ = match refusal(alloc, fault) {
@@ -121,4 +105,8 @@ fn refuse(alloc: Global, to: &impl Print, fault: &Fault) -> ExitCode {
     };
     let _ = to.write_all(b"\n");
     ExitCode::from(1)
+}
+
+fn refuse_for_memory(alloc: Global, to: &impl Print) -> ExitCode {
+    refuse(alloc, to, &Fault::Run(RunFault::Memory))
 }

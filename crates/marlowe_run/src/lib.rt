@@ -1,0 +1,13 @@
+//! One transaction, from the texts of a contract, a state and a transaction to the text of the outcome, or
+//! to the line that tells why there is none.
+#![tactic(auto)]
+
+mod fault;
+mod fault_names;
+mod refusal_line;
+mod transaction;
+
+pub use fault::{Fault, RunFault};
+pub use fault_names::{json_fault_name, sem_fault_name, write_fault_name};
+pub use refusal_line::refusal;
+pub use transaction::run;
