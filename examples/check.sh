@@ -1,16 +1,30 @@
 #!/bin/sh
-# Runs the built program on each example and compares what it prints with what is written there.
+# Runs the built program on each example and compares what it prints with what is written there, and sees the
+# statuses of command lines that are at fault.
 # Build it first: (cd crates/marlowe && rt run -- --version)
-cd "$(dirname "$0")" || exit 2
-program=../crates/marlowe/out/marlowe
+cd "$(dirname "$0")/.." || exit 2
+program=crates/marlowe/out/marlowe
 failed=0
-for example in */; do
+for example in crates/rows/data/examples/*/; do
   example=${example%/}
+  name=${example##*/}
   out=$("$program" run "$example/contract.json" "$example/state.json" "$example/transaction.json" 2>&1)
   status=$?
   if [ -f "$example/output.json" ]; then want=$(cat "$example/output.json"); wanted=0
   else want=$(cat "$example/refusal.txt"); wanted=1; fi
-  if [ "$out" = "$want" ] && [ "$status" = "$wanted" ]; then echo "$example: as written"
-  else echo "$example: status $status, $out"; failed=1; fi
+  if [ "$out" = "$want" ] && [ "$status" = "$wanted" ]; then echo "$name: as written"
+  else echo "$name: status $status, $out"; failed=1; fi
+done
+# no file, and a word that is no text in UTF-8
+out=$("$program" run no_such_file no_such_file no_such_file 2>&1)
+status=$?
+if [ "$out" = "unreadable no_such_file" ] && [ "$status" = 2 ]; then echo "a missing file: as written"
+else echo "a missing file: status $status, $out"; failed=1; fi
+for words in "run $(printf '\377') a b" "--help $(printf '\377')"; do
+  # shellcheck disable=SC2086 # each word is one of the command line
+  out=$("$program" $words 2>&1)
+  status=$?
+  if [ "$out" = "error: a word of the command line is no text in UTF-8" ] && [ "$status" = 2 ]; then echo "a word that is no text: as written"
+  else echo "a word that is no text: status $status, $out"; failed=1; fi
 done
 exit $failed
