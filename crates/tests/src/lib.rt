@@ -1,13 +1,9 @@
-//! Tests of the libraries, each against values that a person knows. They stand in a crate of their
-//! own, since a crate with tests is proved twice.
+//! Tests of what no row of a row program can say: values that JSON lacks, calls on states, maps and lists, readings part by
+//! part, and large things. They stand in a crate of their own, since a crate with tests is proved twice.
 #![tactic(auto)]
 
 #[cfg(test)]
 mod authorisation;
-#[cfg(test)]
-mod bytes;
-#[cfg(test)]
-mod forms;
 #[cfg(test)]
 mod large;
 #[cfg(test)]
@@ -17,14 +13,14 @@ mod made;
 #[cfg(test)]
 mod names_of;
 #[cfg(test)]
+mod numbers;
+#[cfg(test)]
+mod outcomes;
+#[cfg(test)]
 mod owners;
 #[cfg(test)]
-mod readings;
+mod parts;
 #[cfg(test)]
-mod states;
+mod state_calls;
 #[cfg(test)]
-mod transactions;
-#[cfg(test)]
-mod trees;
-#[cfg(test)]
-mod warnings;
+mod words;
