@@ -2,12 +2,15 @@
 """Makes random contracts, states and transactions, and compares what the built program prints with the interpreter.
 
 Usage: compare.py [COUNT [SEED]]
+       compare.py --rows [COUNT [SEED]]   writes short ones as rows, with the interpreter's answers, where the gate compares them
 """
 import json, os, random, subprocess, sys, tempfile
 HERE = os.path.dirname(os.path.abspath(__file__))
 sys.path.insert(0, HERE)
 from interpreter import printed
 PROGRAM = os.path.join(HERE, "..", "crates", "marlowe", "out", "marlowe")
+ROWS = os.path.join(HERE, "..", "crates", "rows")
+TITLE = "# random contracts, as a program written apart answers"
 R = random.Random()
 PARTIES = [{"role_token": "a"}, {"role_token": "b"}, {"address": "x"}]
 TOKENS = [{"currency_symbol": "", "token_name": ""}, {"currency_symbol": "aa", "token_name": "t"}]
@@ -79,7 +82,27 @@ def case():
     a = R.choice([0, 0, 6, 20, 21, 50]); b = a + R.choice([0, 3, 10, 10, 10, 10, 10, 29, -1])
     xs = wanted[:R.randrange(4)] if R.random() < 0.8 else [R.choice(wanted)] if wanted else []
     return c, state, {"tx_interval": {"from": a, "to": b}, "tx_inputs": xs}
+def write_rows(count, seed):
+    """Writes rows of runs whose texts are short, and their answers at the end of what the rows print."""
+    lines, answers = [TITLE], [TITLE]
+    n = 0
+    while len(answers) <= count:
+        R.seed(f"{seed}.{n}")
+        n += 1
+        parts = case()
+        texts = [json.dumps(part, separators=(",", ":")) for part in parts]
+        if sum(map(len, texts)) > 1200: continue
+        lines += [f"{word} {text}" for word, text in zip(("contract", "state", "run"), texts)]
+        answers.append(printed(*parts))
+    with open(os.path.join(ROWS, "data", "compared.txt"), "w") as file: file.write("\n".join(lines) + "\n")
+    path = os.path.join(ROWS, "stdout")
+    with open(path) as file: before = file.read().split(TITLE + "\n")[0]
+    with open(path, "w") as file: file.write(before + "\n".join(answers) + "\n")
+    print(count, "rows")
 def main():
+    if sys.argv[1:2] == ["--rows"]:
+        words = sys.argv[2:]
+        return write_rows(int(words[0]) if words else 100, int(words[1]) if words[1:] else 1)
     count = int(sys.argv[1]) if len(sys.argv) > 1 else 1000
     seed = int(sys.argv[2]) if len(sys.argv) > 2 else 1
     told = {}
