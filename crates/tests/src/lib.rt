@@ -3,8 +3,6 @@
 #![tactic(auto)]
 
 #[cfg(test)]
-mod authorisation;
-#[cfg(test)]
 mod large;
 #[cfg(test)]
 mod ledger;
