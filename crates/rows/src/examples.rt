@@ -53,17 +53,18 @@ fn example<R: Files + AllocGlobal>(rt: &R, folder: &str) -> io::Result<Vec<u8>> 
     }
 }
 
-// Whether a text is what a file of the folder holds.
+// `as written` where a text is what a file of the folder holds, and else the text, without its line feed.
 fn as_in<R: Files + AllocGlobal>(
     rt: &R,
     folder: &str,
     name: &str,
-    text: Vec<u8>,
+    mut text: Vec<u8>,
 ) -> io::Result<Vec<u8>> {
     let wanted = file_of(rt, folder, name)?;
     if wanted.as_slice() == text.as_slice() {
         Ok(Vec::from_slice(rt.alloc(), b"as written")?)
     } else {
+        text.pop();
         Ok(text)
     }
 }
