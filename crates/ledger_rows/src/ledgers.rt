@@ -1,13 +1,15 @@
 //! Ledgers, and what is printed for the lines of one.
 use crate::drafts::{
-    begun, contract_output, key_output, key_spend, notify_spend, spend_keys, step_spend, text,
+    begun, contract_output, key_outputs, key_spend, notify_spend, pay, spend_keys, state_of,
+    step_spend,
 };
 use crate::fault::RowFault;
 use crate::places::at;
 use crate::verdicts::verdict_line;
+use crate::words::{number, parts};
 use contract::{Contract, Items};
 use contract_json::{JsonFault, read_contract};
-use eutxo::{First, Lock, Output, Tx, are_keys};
+use eutxo::{First, Output, Tx, are_keys};
 use semantics::Plain;
 use std::alloc::{AllocError, Global};
 
@@ -26,7 +28,8 @@ impl Head for Contract {
     }
 
     fn rows(&self, alloc: Global, lines: &str) -> Result<Vec<u8>, AllocError> {
-        rows_on(alloc, self, lines)
+        let (head, rest) = lines.split_once('\n').unwrap_or((lines, ""));
+        printed_by(alloc, opened(alloc, self, head), rest)
     }
 }
 
@@ -44,12 +47,41 @@ fn no_such_row(alloc: Global) -> Result<Vec<u8>, AllocError> {
     Vec::from_slice(alloc, b"no such row\n")
 }
 
-fn rows_on(alloc: Global, root: &Contract, lines: &str) -> Result<Vec<u8>, AllocError> {
-    let (head, rest) = lines.split_once('\n').unwrap_or((lines, ""));
-    match opened(alloc, root, head.strip_prefix("ledger ").unwrap_or("")) {
-        Ok(mut session) => session.rows(alloc, rest),
+// What answers lines. Those that own it are generic in it, as they are in a head.
+trait Answers<'t>: Drop {
+    // What is printed for a line, if anything.
+    fn take(&mut self, alloc: Global, line: &'t str) -> Result<Option<String>, RowFault>;
+}
+
+// What is printed for the lines after a ledger's.
+fn printed_by<'t, S: Answers<'t>>(
+    alloc: Global,
+    session: Result<S, RowFault>,
+    lines: &'t str,
+) -> Result<Vec<u8>, AllocError> {
+    match session {
+        Ok(mut session) => answers_of(alloc, &mut session, lines),
         Err(_) => no_such_row(alloc),
     }
+}
+
+fn answers_of<'t, S: Answers<'t>>(
+    alloc: Global,
+    session: &mut S,
+    lines: &'t str,
+) -> Result<Vec<u8>, AllocError> {
+    let mut printed = Vec::new(alloc);
+    for line in lines.lines() {
+        match session.take(alloc, line) {
+            Ok(Some(answer)) => {
+                printed.extend_from_slice(answer.as_bytes())?;
+                printed.push(b'\n')?;
+            }
+            Ok(None) => {}
+            Err(_) => printed.extend_from_slice(b"no such row\n")?,
+        }
+    }
+    Ok(printed)
 }
 
 // A ledger, the state that stands, and the transaction that is being written.
@@ -61,86 +93,87 @@ struct Session<'c, 't> {
     draft: Tx<&'c Contract>,
 }
 
-// A ledger from `TICK ADDRESS AMOUNT ..`.
+// A ledger from `ledger TICK ADDRESS AMOUNT ..`.
 fn opened<'c, 't>(
     alloc: Global,
     root: &'c Contract,
-    rest: &'t str,
+    head: &str,
 ) -> Result<Session<'c, 't>, RowFault> {
-    let (tick, rest) = rest.split_once(' ').unwrap_or((rest, ""));
-    let tick = tick.parse().map_err(|_| RowFault::NoSuchRow)?;
+    let rest = head.strip_prefix("ledger ").ok_or(RowFault::NoSuchRow)?;
+    let (tick, rest) = parts(rest)?;
+    let tick = number(tick)?;
     let draft = begun(alloc, "0 0")?;
-    let outputs = keys(alloc, rest)?;
-    if !are_keys(outputs.as_slice()) {
-        return Err(RowFault::NoSuchRow);
-    }
+    let outputs = key_outputs(alloc, rest)?;
     Ok(Session {
         root,
         state: "",
-        first: First::new(alloc, Plain::new(), root, outputs, tick)?,
+        first: ledger(alloc, root, outputs, tick)?,
         draft,
     })
 }
 
-// Key outputs, from `ADDRESS AMOUNT ..`.
-fn keys<P: Drop>(alloc: Global, rest: &str) -> Result<Items<Output<P>>, RowFault> {
-    let mut outputs = Items::new(alloc);
-    let mut words = rest.split(' ');
-    while let Some(address) = words.next() {
-        let amount = words
-            .next()
-            .unwrap_or("")
-            .parse()
-            .map_err(|_| RowFault::NoSuchRow)?;
-        let output = Output::new(Lock::Key(text(alloc, address)?), amount);
-        outputs.push(output.ok_or(RowFault::NoSuchRow)?)?;
+fn ledger<'c>(
+    alloc: Global,
+    root: &'c Contract,
+    outputs: Items<Output<&'c Contract>>,
+    tick: i64,
+) -> Result<First<Plain<'c>>, RowFault> {
+    if !are_keys(outputs.as_slice()) {
+        return Err(RowFault::NoSuchRow);
     }
-    Ok(outputs)
+    Ok(First::new(alloc, Plain::new(), root, outputs, tick)?)
 }
 
-impl<'c, 't> Session<'c, 't> {
-    // What is printed for the lines.
-    fn rows(&mut self, alloc: Global, lines: &'t str) -> Result<Vec<u8>, AllocError> {
-        let mut printed = Vec::new(alloc);
-        for line in lines.lines() {
-            match self.take(alloc, line) {
-                Ok(Some(answer)) => {
-                    printed.extend_from_slice(answer.as_bytes())?;
-                    printed.push(b'\n')?;
-                }
-                Ok(None) => {}
-                Err(_) => printed.extend_from_slice(b"no such row\n")?,
-            }
-        }
-        Ok(printed)
-    }
-
+impl<'c, 't> Answers<'t> for Session<'c, 't> {
     fn take(&mut self, alloc: Global, line: &'t str) -> Result<Option<String>, RowFault> {
         let (word, rest) = line.split_once(' ').unwrap_or((line, ""));
         match word {
-            "#" => return Ok(Some(String::from_str(alloc, line)?)),
-            "submit" => return Ok(Some(self.submit(alloc)?)),
-            "count" => return Ok(Some(self.count(alloc)?)),
+            "#" => Ok(Some(String::from_str(alloc, line)?)),
+            "submit" => Ok(Some(self.submit(alloc)?)),
+            "count" => Ok(Some(self.count(alloc)?)),
+            "state" => {
+                self.state = rest;
+                Ok(None)
+            }
+            _ => {
+                self.write(alloc, word, rest)?;
+                Ok(None)
+            }
+        }
+    }
+}
+
+impl<'c, 't> Session<'c, 't> {
+    // Writes a line of the transaction.
+    fn write(&mut self, alloc: Global, word: &str, rest: &str) -> Result<(), RowFault> {
+        match word {
             "tx" => self.draft = begun(alloc, rest)?,
             "key" => self.draft.inputs.push(key_spend(rest)?)?,
             "keys" => spend_keys(&mut self.draft.inputs, rest)?,
             "step" => self.draft.inputs.push(step_spend(alloc, rest)?)?,
             "notify" => self.draft.inputs.push(notify_spend(alloc, rest)?)?,
-            "pay" => self.draft.outputs.push(key_output(alloc, rest)?)?,
-            "state" => self.state = rest,
+            "pay" => self.pay(alloc, rest)?,
             "hold" => self.hold(alloc, rest)?,
             _ => return Err(RowFault::NoSuchRow),
         }
-        Ok(None)
+        Ok(())
+    }
+
+    // Makes a key output, from `ADDRESS AMOUNT`.
+    fn pay(&mut self, alloc: Global, rest: &str) -> Result<(), RowFault> {
+        let (address, amount) = parts(rest)?;
+        pay(alloc, &mut self.draft.outputs, address, amount)
     }
 
     // Makes a contract output, from `SCRIPT PLACE AMOUNT`.
     fn hold(&mut self, alloc: Global, rest: &str) -> Result<(), RowFault> {
-        let (script, rest) = rest.split_once(' ').ok_or(RowFault::NoSuchRow)?;
-        let (place, amount) = rest.split_once(' ').ok_or(RowFault::NoSuchRow)?;
-        let place = at(self.root, place);
-        let output = contract_output(alloc, script, place, amount, self.state)?;
-        self.draft.outputs.push(output)?;
+        let (script, rest) = parts(rest)?;
+        let (place, amount) = parts(rest)?;
+        let script = number(script)?;
+        let amount = number(amount)?;
+        let state = state_of(alloc, self.state)?;
+        let output = contract_output(script, at(self.root, place), state, amount);
+        self.draft.outputs.push(output.ok_or(RowFault::NoSuchRow)?)?;
         Ok(())
     }
 

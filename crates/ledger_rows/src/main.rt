@@ -24,6 +24,7 @@ mod fault;
 mod ledgers;
 mod places;
 mod verdicts;
+mod words;
 
 use crate::ledgers::rows_of;
 use contract::Contract;
