@@ -20,6 +20,12 @@ impl Same for i128 {
     }
 }
 
+impl Same for u32 {
+    fn same(&self, other: &u32) -> bool {
+        *self == *other
+    }
+}
+
 impl Same for Text {
     fn same(&self, other: &Text) -> bool {
         *self == *other

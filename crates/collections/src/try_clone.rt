@@ -12,3 +12,9 @@ pub trait TryClone {
     fn try_clone(&self) -> Result<Self, Memory>
         ensures { IfOk result (λ copy. copy ≡ self.now) };
 }
+
+impl TryClone for u32 {
+    fn try_clone(&self) -> Result<u32, Memory> {
+        Ok(*self)
+    }
+}

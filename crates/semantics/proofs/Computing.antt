@@ -11,7 +11,7 @@ use Rattle.contract.specs.declared.interval.Interval.{Interval}
 use Rattle.states.specs.States.{StateMaps}
 use Rattle.contract.specs.Tree.{ContractTree, close, pay, if_obs, when, let_be, assert}
 use Rattle.semantics.specs.Walk.{Turn, refund, At, at, Walk, ended, joined, then_from, then_walk, answer_of, Aside}
-use Rattle.semantics.specs.Path.{waits_for}
+use Rattle.evaluation.specs.Path.{waits_for}
 use Rattle.semantics.specs.Reduction.{Reduction, refund_of, timing_out}
 use Rattle.semantics.specs.Transaction.{no_turns, finished}
 use Rattle.semantics.specs.Computed.{stops, goes, go_on, settled, first_match, first_place, tried_to_match, take_match, applied, one_input, all_inputs, fixed, from_start, from_fixed, computed}
@@ -114,11 +114,11 @@ computed_fails i s j t c xs f h k q =
 -- something is done
 pub computed_busy : (i : Interval) (s : StateMaps) (j : Interval) (t : StateMaps) (c : ContractTree) (xs : List Input) (a : At) → Ok j ≡ fixed i s → t ≡ record s { min_time = j.from } →
     (length xs == 0) && is_quiet j t c ≡ false → Aside (Ok a) (answer_of (settled j t c)) →
-    Follows (computed i s c xs) (all_inputs j xs a) (settled j t c).warnings (settled j t c).payments
+    Follows (computed i s c xs) (all_inputs j xs a) (settled j t c).warnings (settled j t c).payments (settled j t c).turns
 computed_busy i s j t c xs a h k q r =
     let b = finished_busy (then_walk (settled j t c) (all_inputs j xs)) (busy_by j t c xs (is_quiet j t c) refl q) in
     let e = computed_fixed i s j t c xs h k ∙ b in
-    subst (λ w. Follows w (all_inputs j xs a) (settled j t c).warnings (settled j t c).payments) (sym e) (follows (settled j t c) (all_inputs j xs) a r)
+    subst (λ w. Follows w (all_inputs j xs a) (settled j t c).warnings (settled j t c).payments (settled j t c).turns) (sym e) (follows (settled j t c) (all_inputs j xs) a r)
 
 pub not_left : (a b : Bool) → false ≡ a → a && b ≡ false
 not_left true b h = absurd (cc)

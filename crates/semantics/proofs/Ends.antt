@@ -14,9 +14,9 @@ use Rattle.contract.specs.declared.interval.Interval.{Interval}
 use Rattle.states.specs.States.{StateMaps, with_money}
 use Rattle.contract.specs.Tree.{ContractTree, CaseTrees, close, pay, if_obs, when, let_be, assert}
 use Rattle.semantics.specs.Walk.{At, at, Walk, ended, then_from, then_walk}
-use Rattle.semantics.specs.Path.{waits_for}
+use Rattle.evaluation.specs.Path.{waits_for}
 use Rattle.semantics.specs.Reduction.{Reduction, Reduces, Quiet, account_of, balance, debited, credited}
-use Rattle.semantics.specs.Evaluation.{eval}
+use Rattle.evaluation.specs.Evaluation.{eval}
 use Rattle.semantics.specs.Settling.{Runs, Ends}
 use Rattle.semantics.specs.Applying.{taken}
 use Rattle.semantics.specs.Transaction.{no_turns, finished, trimmed}

@@ -6,9 +6,9 @@ use Rattle.contract.specs.declared.input.Input.{Input}
 use Rattle.contract.specs.declared.interval.Interval.{Interval}
 use Rattle.states.specs.States.{StateMaps}
 use Rattle.contract.specs.Tree.{ContractTree}
-use Rattle.semantics.specs.Numbers.{all_fit}
+use Rattle.evaluation.specs.Numbers.{all_fit}
 use Rattle.semantics.specs.Walk.{At, Walk, then_from, then_walk, answer_of}
-use Rattle.semantics.specs.Path.{waits_for}
+use Rattle.evaluation.specs.Path.{waits_for}
 use Rattle.semantics.specs.Settling.{Ends}
 use Rattle.semantics.specs.Transaction.{no_turns, finished, trimmed}
 use Rattle.semantics.specs.Computed.{settled, first_match, first_place, tried_to_match, take_match, applied, one_input, all_inputs, fixed, from_start, from_fixed, computed}

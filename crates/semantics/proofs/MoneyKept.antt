@@ -14,9 +14,9 @@ use Rattle.contract.specs.declared.input.Input.TheVariants.{Deposit, Choice, Not
 use Rattle.contract.specs.declared.interval.Interval.{Interval}
 use Rattle.states.specs.States.{StateMaps, with_money, total_of}
 use Rattle.contract.specs.Tree.{ContractTree, close, pay, if_obs, when, let_be, assert}
-use Rattle.semantics.specs.Evaluation.{eval, visited, holds, looked}
+use Rattle.evaluation.specs.Evaluation.{eval, visited, holds, looked}
 use Rattle.semantics.specs.Walk.{then_branch, else_branch, At, at, Walk, ended, then_from, then_walk}
-use Rattle.semantics.specs.Path.{waits_for}
+use Rattle.evaluation.specs.Path.{waits_for}
 use Rattle.semantics.specs.Reduction.{Reduction, going, account_of, balance, debited, credited, paying, not_paying, timing_out, binding, asserting}
 use Rattle.semantics.specs.Settling.{after}
 use Rattle.semantics.specs.Applying.{taken, refused}

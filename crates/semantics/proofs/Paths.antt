@@ -15,9 +15,9 @@ use Rattle.states.specs.States.{StateMaps}
 use Rattle.contract.specs.Tree.{ValueTree, ObservationTree, ActionTree, ContractTree, CaseTrees, close, pay, if_obs, when, let_be, assert}
 use Rattle.semantics.specs.Walk.{Turn, refund, in_case, At, at, Walk, ended, then_from, then_walk}
 use Rattle.semantics.specs.Settling.{after}
-use Rattle.semantics.specs.Path.{case_list, waits_for, part, along}
+use Rattle.evaluation.specs.Path.{case_list, waits_for, part, along}
 use Rattle.semantics.specs.Reduction.{balance, paying, not_paying, choosing, timing_out, with_bound}
-use Rattle.semantics.specs.Evaluation.{eval, visited, holds, looked}
+use Rattle.evaluation.specs.Evaluation.{eval, visited, holds, looked}
 use Rattle.semantics.specs.Applying.{matches, taken}
 use Rattle.semantics.specs.Transaction.{no_turns}
 use Rattle.semantics.specs.Computed.{stops, goes, go_on, settled, first_match, first_place, tried_to_match, take_match, applied, one_input, all_inputs, fixed, from_start, from_fixed, computed}

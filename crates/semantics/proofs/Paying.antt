@@ -1,5 +1,5 @@
 -- A Pay goes on with what follows it, and its sums come after the numbers of its amount.
-use Rattle.std.proofs.Common.{◌≡◌, ℤ, pos, Bool, true, false, cond, ◌&&◌, List, [], refl, sym, int_lt, Ok, Err, inl, inr, Some}
+use Rattle.std.proofs.Common.{◌≡◌, ℤ, pos, Bool, true, false, cond, ◌&&◌, List, [], refl, sym, int_lt, Ok, Err, inl, inr, Option, Some}
 use Rattle.std.specs.Int.{int_min}
 use Rattle.names.specs.declared.party.Party.{Party}
 use Rattle.names.specs.declared.payee.Payee.{Payee}
@@ -8,12 +8,13 @@ use Rattle.contract.specs.declared.fault.SemFault.{SemFault}
 use Rattle.contract.specs.declared.fault.SemFault.TheVariants.{Leaves128}
 use Rattle.states.specs.States.{StateMaps}
 use Rattle.contract.specs.Tree.{ContractTree, close}
-use Rattle.semantics.specs.Numbers.{all_fit, within}
+use Rattle.evaluation.specs.Numbers.{all_fit, within}
 use Rattle.semantics.specs.Walk.{Aside}
 use Rattle.semantics.specs.Reduction.{Reduction, balance, debited, account_sums, paying, not_paying}
 use Rattle.semantics.specs.Computed.{pays, goes}
 use Rattle.semantics.specs.Reduced.{reply}
-use Rattle.semantics.proofs.Numbers.{all_fit_append, within_ok}
+use Rattle.evaluation.proofs.Numbers.{all_fit_append, within_ok}
+use Rattle.semantics.proofs.Walks.{not_memory}
 
 and_true : (b : Bool) → b && true ≡ b
 and_true true = refl
@@ -54,3 +55,22 @@ pay_fault s p y t due n ns c f h k =
     let w = within_ok ns due n h in
     let l = rw w.1 at k in
     fault_through _ _ (tt {0}) (Some (pays s p y t due ns c).contract) f (rw (pay_numbers s p y t due ns c, w.0)) l
+
+through : {A B : Type 0} (b d : Bool) (f : SemFault) (x : A) (z : B) → Err f ≡ cond b (Ok x) (Err Leaves128) → Err f ≡ cond (b && d) (Ok z) (Err Leaves128)
+through true d f x z h = absurd (cc)
+through false d f x z h = cc
+
+-- where the amount doesn't fit
+pub due_fault : (s : StateMaps) (p : Party) (y : Payee) (t : Token) (due : ℤ) (ns : List ℤ) (c : ContractTree) (f : SemFault) →
+    Err f ≡ within ns due → Aside {A = Option ContractTree} (Err f) (reply (goes (pays s p y t due ns c)))
+due_fault s p y t due ns c f h = inl (rw (pay_numbers s p y t due ns c) (through (all_fit ns) _ f due (Some (pays s p y t due ns c).contract) h))
+
+-- where both fit
+pub pay_ok : (s : StateMaps) (p : Party) (y : Payee) (t : Token) (due n : ℤ) (ns : List ℤ) (c : ContractTree) →
+    Ok n ≡ within ns due → Aside (Ok (tt {0})) (within (pays s p y t n [] close).numbers (tt {0})) →
+    Aside {A = Option ContractTree} (Ok (Some c)) (reply (goes (pays s p y t due ns c)))
+pay_ok s p y t due n ns c h k =
+    let w = within_ok ns due n h in
+    let l = rw w.1 at k in
+    let m = within_ok (pays s p y t due [] close).numbers (tt {0}) (tt {0}) (not_memory (tt {0}) _ l) in
+    inl (rw (pay_numbers s p y t due ns c, w.0, m.0, pays_contract s p y t due ns c) refl)

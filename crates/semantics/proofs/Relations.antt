@@ -14,7 +14,7 @@ use Rattle.states.specs.States.{StateMaps, with_money}
 use Rattle.contract.specs.Tree.{ValueTree, ContractTree, CaseTrees, close, pay, if_obs, when, let_be, assert}
 use Rattle.semantics.specs.Walk.{refund, At, at, Walk, ended}
 use Rattle.semantics.specs.Reduction.{Reduction, Reduces, Quiet, IsAmbiguous, balance, refund_of, refunded, paying, not_paying, choosing, timing_out, binding, asserting}
-use Rattle.semantics.specs.Evaluation.{eval, visited, holds, looked}
+use Rattle.evaluation.specs.Evaluation.{eval, visited, holds, looked}
 use Rattle.semantics.specs.Settling.{Runs, Ends, after, walk_of, Settles}
 use Rattle.semantics.specs.Computed.{stops, goes, pays, go_on, settled, refunds}
 use Rattle.semantics.proofs.Refunds.{entries-refund}

@@ -1,20 +1,20 @@
 -- How a contract settles, one step at a time.
-use Rattle.std.proofs.Common.{◌≡◌, suc, ◌+◌, ◌<◌, Bool, true, false, cond, ◌&&◌, ◌++◌, refl, sym, ap, ◌∙◌, arith, int_lt, int_le, Option, Some, None, Result, Ok, Err, inl, inr, subst}
+use Rattle.std.proofs.Common.{◌≡◌, suc, ◌+◌, ◌<◌, Bool, true, false, cond, ◌&&◌, ◌∷◌, ◌++◌, refl, sym, ap, ◌∙◌, arith, int_lt, int_le, Option, Some, None, Result, Ok, Err, inl, inr, subst}
 use Rattle.contract.specs.declared.fault.SemFault.{SemFault}
 use Rattle.contract.specs.declared.fault.SemFault.TheVariants.{Ambiguous, Leaves128}
 use Rattle.contract.specs.declared.interval.Interval.{Interval}
 use Rattle.states.specs.States.{StateMaps}
 use Rattle.contract.specs.Tree.{ContractTree, close, pay, if_obs, when, let_be, assert}
 use Rattle.semantics.specs.Walk.{At, at, Walk, ended, answer_of, Aside}
-use Rattle.semantics.specs.Numbers.{all_fit}
+use Rattle.evaluation.specs.Numbers.{all_fit}
 use Rattle.semantics.specs.Reduction.{Reduction, choosing, timing_out, binding, asserting}
 use Rattle.semantics.specs.Settling.{after}
 use Rattle.semantics.specs.Computed.{Step, stops, goes, pays, step, go_on, settled}
-use Rattle.semantics.specs.Evaluation.{eval, visited, holds, looked}
+use Rattle.evaluation.specs.Evaluation.{eval, visited, holds, looked}
 use Rattle.semantics.proofs.Paying.{pays_contract}
-use Rattle.semantics.proofs.Numbers.{all_fit_append, from_cond}
+use Rattle.evaluation.proofs.Numbers.{all_fit_append, from_cond}
 use Rattle.semantics.proofs.Walks.{not_memory, ok_answer, same_end}
-use Rattle.semantics.specs.Reduced.{reply, stop_reply, state_after, end_state, warnings_of, payments_of, height}
+use Rattle.semantics.specs.Reduced.{reply, stop_reply, state_after, end_state, warnings_of, payments_of, turn_of, turns_of, height}
 
 -- ---- each form
 
@@ -118,6 +118,7 @@ pub record More (i : Interval) (s : StateMaps) (c : ContractTree) (t : StateMaps
   pub warnings : (settled i s c).warnings ≡ warnings_of (step i s c) ++ (settled i t d).warnings
   pub payments : (settled i s c).payments ≡ payments_of (step i s c) ++ (settled i t d).payments
   pub end : (settled i s c).end ≡ (settled i t d).end
+  pub turns : (settled i s c).turns ≡ turn_of (step i s c) ∷ (settled i t d).turns
   pub less : height d < height c
 
 one_more : (i : Interval) (s : StateMaps) (c : ContractTree) (r : Reduction) → step i s c ≡ goes r → all_fit r.numbers ≡ true → More i s c r.state r.contract
@@ -128,6 +129,7 @@ one_more i s c r q k =
       warnings = ap (λ w. w.warnings) e ∙ ap (λ t. warnings_of t ++ (settled i r.state r.contract).warnings) (sym q);
       payments = ap (λ w. w.payments) e ∙ ap (λ t. payments_of t ++ (settled i r.state r.contract).payments) (sym q);
       end = ap (λ w. w.end) e;
+      turns = ap (λ w. w.turns) e ∙ ap (λ t. turn_of t ∷ (settled i r.state r.contract).turns) (sym q);
       less = step_less i s c r q;
     }
 
@@ -145,6 +147,7 @@ pub record Last (i : Interval) (s : StateMaps) (c : ContractTree) (t : StateMaps
   pub warnings : (settled i s c).warnings ≡ warnings_of (step i s c)
   pub payments : (settled i s c).payments ≡ payments_of (step i s c)
   pub end : (settled i s c).end ≡ Ok (at t c)
+  pub turns : (settled i s c).turns ≡ turns_of (step i s c)
 
 pub stops_well : (i : Interval) (s : StateMaps) (c : ContractTree) (t : StateMaps) → Aside (Ok None) (reply (step i s c)) → t ≡ state_after s (step i s c) → Last i s c t
 stops_well i s c t h e =
@@ -158,6 +161,7 @@ stops_well i s c t h e =
       warnings = ap (λ w. w.warnings) q ∙ ap warnings_of (sym k.2);
       payments = ap (λ w. w.payments) q ∙ ap payments_of (sym k.2);
       end = ap (λ w. w.end) q ∙ (well.1 ∙ (λ j. Ok (at (there j) (here j))));
+      turns = ap (λ w. w.turns) q ∙ ap turns_of (sym k.2);
     }
 
 fault_reply : (i : Interval) (s : StateMaps) (c : ContractTree) (e : SemFault) (t : Step) → step i s c ≡ t → Err e ≡ reply t → Err e ≡ answer_of (settled i s c)

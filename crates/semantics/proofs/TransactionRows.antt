@@ -9,9 +9,9 @@ use Rattle.names.specs.Orders.{account_cmp, bytes_cmp}
 use Rattle.names.specs.Totals.{account_total, bytes_total}
 use Rattle.names.specs.Exact.{account_exact}
 use Rattle.states.specs.States.{with_money}
-use Rattle.semantics.specs.Numbers.{fits}
+use Rattle.evaluation.specs.Numbers.{fits}
 use Rattle.semantics.specs.Reduction.{account_of, balance}
-use Rattle.semantics.specs.Evaluation.{quotient}
+use Rattle.evaluation.specs.Evaluation.{quotient}
 use Rattle.semantics.specs.Computed.{applied, one_input, from_start, computed}
 use Rattle.semantics.specs.Rows.{party_a, party_b, ada, name_x, a_has_three, nothing}
 use Rattle.semantics.specs.Rows.{PaysWhatThereIs, PaysNothing, PaysZero, PaysItself, EntersNothing, MinusSevenByTwoIsBound, SevenByZeroIsBound, LeastIsBound, LeastByMinusOneIsRefused, CondIsBound, CondIsRefused, LaterIsBound, IfChooses, FalseAndFails, TrueAndIsRefused, TrueOrIsSilent, FirstIsTaken, EndsAreChosen, OutsideIsNoMatch, ZeroIsDeposited}

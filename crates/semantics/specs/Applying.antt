@@ -15,10 +15,10 @@ use Rattle.contract.specs.declared.warning.Warning.{Warning}
 use Rattle.contract.specs.declared.warning.Warning.TheVariants.{NonPositiveDeposit}
 use Rattle.states.specs.States.{StateMaps, with_money}
 use Rattle.contract.specs.Tree.{ActionTree, deposit, choice, notify, ContractTree}
-use Rattle.semantics.specs.Evaluation.{eval, visited, holds, looked}
+use Rattle.evaluation.specs.Evaluation.{eval, visited, holds, looked}
 use Rattle.semantics.specs.Reduction.{account_of, balance}
 use Rattle.semantics.specs.Walk.{in_case, At, at, Walk}
-use Rattle.semantics.specs.Path.{waits_for}
+use Rattle.evaluation.specs.Path.{waits_for}
 
 -- account, party and token of a deposit are those of a case
 abbrev pub agrees : Party → Party → Token → Party → Party → Token → Bool

@@ -1,9 +1,4 @@
-pub mod Numbers
-pub mod Evaluation
-pub mod Checked
-pub mod EvaluationRows
 pub mod Walk
-pub mod Path
 pub mod Reduction
 pub mod Settling
 pub mod Applying
@@ -15,3 +10,6 @@ pub mod Money
 pub mod Laws
 pub mod Answer
 pub mod Rows
+pub use Rattle.evaluation.specs.Numbers
+pub use Rattle.evaluation.specs.Evaluation
+pub use Rattle.evaluation.specs.Path

@@ -1,17 +1,16 @@
 -- What one step of the code answers and leaves, and how far the contract is from its end.
 use Rattle.std.specs.Prelude.{ℕ, suc, ◌+◌, Bool, true, false, List, [], ◌∷◌, if◌then◌else◌, int_lt, Option, Some, None, Result, Ok, Err}
-use Rattle.std.specs.Borrow.{Bor}
 use Rattle.std.specs.FinMap.{entries}
 use Rattle.contract.specs.declared.fault.SemFault.{SemFault}
 use Rattle.contract.specs.declared.fault.SemFault.TheVariants.{Leaves128}
 use Rattle.contract.specs.declared.interval.Interval.{Interval}
 use Rattle.contract.specs.declared.payment.Payment.{Payment}
 use Rattle.contract.specs.declared.warning.Warning.{Warning}
-use Rattle.contract.specs.declared.tree.Contract.{Contract}
 use Rattle.states.specs.States.{StateMaps}
-use Rattle.contract.specs.Tree.{ContractTree, close, pay, if_obs, when, let_be, assert, contract_tree}
-use Rattle.semantics.specs.Numbers.{all_fit}
-use Rattle.semantics.specs.Walk.{At, at, answer_of}
+use Rattle.contract.specs.Tree.{ContractTree, close, pay, if_obs, when, let_be, assert}
+use Rattle.evaluation.specs.Numbers.{all_fit}
+use Rattle.semantics.specs.Walk.{Turn, refund, At, at, answer_of}
+use Rattle.evaluation.specs.Parts.{Leads}
 use Rattle.semantics.specs.Computed.{Step, stops, goes}
 
 abbrev pub stop_reply : Result At SemFault → Result (Option ContractTree) SemFault
@@ -39,16 +38,30 @@ abbrev pub payments_of : Step → List Payment
 payments_of (stops w) = w.payments
 payments_of (goes r) = r.payments
 
+-- the turn of a step that enters a part; the turns of one that enters none
+abbrev pub turn_of : Step → Turn
+turn_of (stops w) = refund
+turn_of (goes r) = r.turn
+
+abbrev pub turns_of : Step → List Turn
+turns_of (stops w) = w.turns
+turns_of (goes r) = r.turn ∷ []
+
+-- a step leads from a place to the part that is gone on with, or back to the place
+abbrev pub Moves : {P : Type 0} → (P → Type 0) → (P → Turn → P → Type 0) → P → Step → Option P → Type 0
+Moves Contains E p step None = Leads E p (turns_of step) p
+Moves Contains E p step (Some q) = Contains q × E p (turn_of step) q
+
 -- a contract that is gone on with, as its tree
-abbrev pub tree_of_next : Result (Option (Bor Contract)) SemFault → Result (Option ContractTree) SemFault
-tree_of_next (Ok None) = Ok None
-tree_of_next (Ok (Some c)) = Ok (Some (contract_tree c.now))
-tree_of_next (Err f) = Err f
+abbrev pub tree_of_next : {P : Type 0} → (P → ContractTree) → Result (Option P) SemFault → Result (Option ContractTree) SemFault
+tree_of_next tree (Ok None) = Ok None
+tree_of_next tree (Ok (Some p)) = Ok (Some (tree p))
+tree_of_next tree (Err f) = Err f
 
 -- a contract where a part ends, as its tree, with the state
-abbrev pub seen : Result (Bor Contract) SemFault → StateMaps → Result At SemFault
-seen (Ok c) s = Ok (at s (contract_tree c.now))
-seen (Err f) s = Err f
+abbrev pub seen : {P : Type 0} → (P → ContractTree) → Result P SemFault → StateMaps → Result At SemFault
+seen tree (Ok p) s = Ok (at s (tree p))
+seen tree (Err f) s = Err f
 
 abbrev pub is_none_left : {A : Type 0} → List A → Bool
 is_none_left [] = true

@@ -13,7 +13,7 @@ use Rattle.contract.specs.declared.warning.Warning.{Warning}
 use Rattle.contract.specs.declared.warning.Warning.TheVariants.{NonPositivePay, PartialPay, Shadowing, AssertionFailed}
 use Rattle.states.specs.States.{StateMaps, money_of, with_money}
 use Rattle.contract.specs.Tree.{ContractTree, close, pay, if_obs, when, let_be, assert}
-use Rattle.semantics.specs.Evaluation.{eval, visited, holds, looked}
+use Rattle.evaluation.specs.Evaluation.{eval, visited, holds, looked}
 use Rattle.semantics.specs.Walk.{Turn, refund, next, then_branch, else_branch, timed_out}
 
 -- the numbers that it visits, what it says and pays, its turn, and where it leads

@@ -1,22 +1,13 @@
 -- A part of a transaction: what it visits, says and pays, the turns that it takes, and how it ends.
-use Rattle.std.specs.Prelude.{◌≡◌, ℕ, ℤ, List, [], ◌++◌, if◌then◌else◌, ◌⊎◌, Result, Ok, Err}
+use Rattle.std.specs.Prelude.{◌≡◌, ℤ, List, [], ◌++◌, if◌then◌else◌, ◌⊎◌, Result, Ok, Err}
 use Rattle.contract.specs.declared.fault.SemFault.{SemFault}
 use Rattle.contract.specs.declared.fault.SemFault.TheVariants.{Leaves128, Memory}
 use Rattle.contract.specs.declared.warning.Warning.{Warning}
 use Rattle.contract.specs.declared.payment.Payment.{Payment}
 use Rattle.states.specs.States.{StateMaps}
 use Rattle.contract.specs.Tree.{ContractTree}
-use Rattle.semantics.specs.Numbers.{all_fit}
-
--- which part of a contract is gone on with: itself after a refund, what follows it, a branch of an
--- If, the timeout continuation of a When, or the case at a place
-pub data Turn : Type 0 where
-  refund : Turn
-  next : Turn
-  then_branch : Turn
-  else_branch : Turn
-  timed_out : Turn
-  in_case : ℕ → Turn
+use Rattle.evaluation.specs.Numbers.{all_fit}
+pub use Rattle.evaluation.specs.Path.{Turn, refund, next, then_branch, else_branch, timed_out, in_case}
 
 -- where a contract stands
 pub record At : Type 0 where

@@ -2,13 +2,13 @@
 ghost use Rattle.std.specs.Prelude.{◌≡◌, [], ◌∷◌, OnOk, pos, ◌+ℤ◌, ◌≤ℤ◌, ◌<ℤ◌};
 ghost use Rattle.std.specs.Int.{int_min};
 ghost use Rattle.states.specs.States.{with_money};
-ghost use Rattle.semantics.specs.Numbers.{within};
+ghost use Rattle.evaluation.specs.Numbers.{within};
 ghost use Rattle.semantics.specs.Walk.{Aside};
 ghost use Rattle.semantics.specs.Reduction.{account_of, balance, debited, account_sums, credited};
 
-use crate::arithmetic::sum;
 use collections::Memory;
 use contract::{Party, Payee, SemFault, State, Token};
+use evaluation::sum;
 
 /// The lesser of what an account holds and of what is due.
 pub fn payable(from: &Party, token: &Token, due: i128, state: &State) -> i128
@@ -43,7 +43,7 @@ pub fn credit(to: &Payee, token: &Token, paid: i128, state: &mut State) -> Resul
 }
 
 /// An account grows by an amount; `Leaves128` where it would hold more than 2^127 - 1.
-#[tactic(auto, unfolding(crate::specs::Checked::checked))]
+#[tactic(auto, unfolding(evaluation::specs::Checked::checked))]
 pub fn deposit(
     owner: &Party,
     token: &Token,

@@ -1,100 +1,100 @@
 //! One input.
-ghost use Rattle.std.specs.Prelude.{◌≡◌, ◌++◌, map, OnOk, IfOk};
+ghost use Rattle.std.specs.Prelude.{◌≡◌, ◌++◌, OnOk, IfOk};
 ghost use Rattle.std.specs.List.{list_any};
+ghost use Rattle.std.specs.Option.{IfSome};
 ghost use Rattle.std.specs.Ordering.{eq_by_cmp};
 ghost use Rattle.names.specs.Orders.{party_cmp, token_cmp, choice_id_cmp};
-ghost use Rattle.contract.specs.Tree.{action_tree, case_tree, contract_tree};
-ghost use Rattle.semantics.specs.Numbers.{within};
+ghost use Rattle.evaluation.specs.Numbers.{within};
 ghost use Rattle.semantics.specs.Walk.{at, Aside, answer_of};
-ghost use Rattle.semantics.specs.Path.{waits_for};
+ghost use Rattle.evaluation.specs.Path.{waits_for};
 ghost use Rattle.semantics.specs.Applying.{agrees, in_bound, matches, tried, taken, taken_numbers, taken_warnings};
-ghost use Rattle.semantics.specs.Computed.{first_match, tried_to_match, applied};
+ghost use Rattle.semantics.specs.Computed.{first_match, first_place, tried_to_match, applied};
+ghost use Rattle.evaluation.specs.Parts.{Leads, IsEntered, StandsWait, wait_tree};
 ghost use Rattle.semantics.specs.Reduced.{tree_of_next, seen};
 
 use crate::accounts::deposit;
-use crate::evaluate::{holds, value};
 use crate::log::Log;
 use collections::{Memory, Same, TryClone};
-use contract::{
-    Action, Bound, Case, ChoiceId, Contract, Input, Interval, Party, SemFault, State, Token,
-    Warning,
-};
+use contract::{Bound, ChoiceId, Input, Interval, Party, SemFault, State, Token, Warning};
+use evaluation::{Parts, Wait};
 
 /// Applies an input to a quiet contract: where the first case that matches goes on.
-#[tactic(auto, unfolding(crate::specs::Computed::applied), using(crate::proofs::Numbers::all_fit_append))]
-pub fn apply<'c>(
+#[tactic(auto, unfolding(crate::specs::Computed::applied), using(evaluation::proofs::Numbers::all_fit_append))]
+pub fn apply<S: Parts>(
+    parts: &S,
     input: &Input,
-    contract: &'c Contract,
+    place: S::Place,
     state: &mut State,
     interval: Interval,
     log: &mut Log,
-) -> Result<&'c Contract, SemFault>
-    ensures reply { Aside (seen result state.new)
-        (answer_of (applied interval input.now (at state.old (contract_tree contract.now)))) }
+) -> Result<S::Place, SemFault>
+    requires { S.contains parts.now place }
+    ensures reply { Aside (seen (S.tree parts.now) result state.new)
+        (answer_of (applied interval input.now (at state.old (S.tree parts.now place)))) }
     ensures warnings { OnOk result (log.new.warnings
-        ≡ log.old.warnings ++ (applied interval input.now (at state.old (contract_tree contract.now))).warnings) }
+        ≡ log.old.warnings ++ (applied interval input.now (at state.old (S.tree parts.now place))).warnings) }
     ensures payments { OnOk result (log.new.payments
-        ≡ log.old.payments ++ (applied interval input.now (at state.old (contract_tree contract.now))).payments) }
+        ≡ log.old.payments ++ (applied interval input.now (at state.old (S.tree parts.now place))).payments) }
+    ensures stands { IfOk result (λ there. S.contains parts.now there) }
+    ensures leads { IfOk result (λ there. Leads (S.enters parts.now) place (applied interval input.now (at state.old (S.tree parts.now place))).turns there) }
 {
-    let Some(then) = find(input, cases(contract), state, interval)? else {
+    let Some(then) = matching_case(parts, input, place, state, interval)? else {
         return Err(SemFault::NoMatch);
     };
     take(input, state, log)?;
     Ok(then)
 }
 
-// The cases that a contract waits for.
-#[tactic(auto, using(crate::proofs::Trees::tree_close, crate::proofs::Trees::tree_pay, crate::proofs::Trees::tree_if, crate::proofs::Trees::waits_for_when, crate::proofs::Trees::tree_let, crate::proofs::Trees::tree_assert))]
-fn cases(contract: &Contract) -> &[Case]
-    ensures { map case_tree result.now ≡ waits_for (contract_tree contract.now) }
-{
-    match contract {
-        Contract::When(cases, _, _) => cases.as_slice(),
-        _ => &[],
-    }
-}
-
-// Where the first case that matches goes on.
-fn find<'c>(
+/// Where the first case that matches an input goes on, of those that the contract at a place waits for; none
+/// where no case matches (Marlowe specification version 3, "Apply cases"). The only fault is `Leaves128`, where
+/// a number that is visited on the way leaves 128 bits; takes no memory.
+pub fn matching_case<S: Parts>(
+    parts: &S,
     input: &Input,
-    cases: &'c [Case],
+    place: S::Place,
     state: &State,
     interval: Interval,
-) -> Result<Option<&'c Contract>, SemFault>
-    ensures { tree_of_next result
-        ≡ within (tried_to_match interval state.now input.now (map case_tree cases.now)) (first_match interval state.now input.now (map case_tree cases.now)) }
+) -> Result<Option<S::Place>, SemFault>
+    requires { S.contains parts.now place }
+    ensures reply { tree_of_next (S.tree parts.now) result
+        ≡ within (tried_to_match interval state.now input.now (waits_for (S.tree parts.now place))) (first_match interval state.now input.now (waits_for (S.tree parts.now place))) }
+    ensures place { IfOk result (λ found. IfSome found (IsEntered (S.contains parts.now) (S.enters parts.now) place
+        (first_place interval state.now input.now (waits_for (S.tree parts.now place))))) }
 {
-    for case in cases {
-        if matches(input, &case.action, state, interval)? {
-            return Ok(Some(&case.then));
+    for index in 0..parts.count_cases(place) {
+        let case = parts.case(place, index);
+        if matches(parts, input, case.action, state, interval)? {
+            return Ok(Some(case.then));
         }
     }
     Ok(None)
 }
 
 // Whether an input matches an action.
-fn matches(
+fn matches<S: Parts>(
+    parts: &S,
     input: &Input,
-    action: &Action,
+    action: Wait<'_, S::Value, S::Observation>,
     state: &State,
     interval: Interval,
 ) -> Result<bool, SemFault>
+    requires { StandsWait (S.has_value parts.now) (S.has_observation parts.now) action }
     ensures { result
-        ≡ within (tried interval state.now input.now (action_tree action.now)) (matches interval state.now input.now (action_tree action.now)) }
+        ≡ within (tried interval state.now input.now (wait_tree (S.value_tree parts.now) (S.observation_tree parts.now) action.entry)) (matches interval state.now input.now (wait_tree (S.value_tree parts.now) (S.observation_tree parts.now) action.entry)) }
 {
     match (input, action) {
-        (Input::Deposit(account, party, token, amount), Action::Deposit(a, p, t, expected)) => {
+        (Input::Deposit(account, party, token, amount), Wait::Deposit(a, p, t, expected)) => {
             if agrees(account, party, token, a, p, t) {
-                let expected = value(expected, state, interval)?;
+                let expected = parts.value(expected, state, interval)?;
                 Ok(*amount == expected)
             } else {
                 Ok(false)
             }
         }
-        (Input::Choice(id, number), Action::Choice(of, bounds)) => {
-            Ok(same_choice(id, of) && in_bounds(*number, bounds.as_slice()))
+        (Input::Choice(id, number), Wait::Choice(of, bounds)) => {
+            Ok(same_choice(id, of) && in_bounds(*number, bounds))
         }
-        (Input::Notify, Action::Notify(observation)) => holds(observation, state, interval),
+        (Input::Notify, Wait::Notify(observation)) => parts.holds(observation, state, interval),
         _ => Ok(false),
     }
 }

@@ -3,9 +3,6 @@
 
 mod accounts;
 mod apply;
-mod arithmetic;
-mod evaluate;
-mod evaluation_laws;
 mod laws;
 mod log;
 mod money;
@@ -15,7 +12,7 @@ mod reduce;
 mod steps;
 mod transaction;
 
-pub use evaluation_laws::{absent_is_zero, quotients_are_truncated, worked_evaluations};
+pub use apply::matching_case;
 pub use laws::{
     contracts_settle_in_one_way, reductions_have_one_result, time_never_goes_back,
     transactions_end_quiet, transactions_have_one_answer, turns_lead_to_the_remaining_contract,
