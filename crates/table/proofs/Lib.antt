@@ -1,0 +1,4 @@
+pub mod Forms
+pub mod Lent
+pub mod Pushed
+pub mod SameFlat

@@ -1,0 +1,180 @@
+-- Laws of the numbers of a table.
+use Rattle.std.specs.Prelude.{◌≡◌, ℕ, ◌<◌, ◌≤◌, List, [], ◌∷◌, length, map, refl, suc, zero}
+use Rattle.std.proofs.Common.{sym, ◌∙◌, ap, subst, arith}
+use Rattle.contract.specs.Tree.{case_trees}
+use Rattle.nodes.specs.declared.value_node.ValueNode.{ValueNode}
+use Rattle.nodes.specs.declared.value_node.ValueNode.TheVariants.{AvailableMoney, Constant, NegValue, AddValue, SubValue, MulValue, DivValue, ChoiceValue, TimeIntervalStart, TimeIntervalEnd, UseValue, Cond}
+use Rattle.nodes.specs.declared.observation_node.ObservationNode.{ObservationNode}
+use Rattle.nodes.specs.declared.observation_node.ObservationNode.TheVariants.{AndObs, OrObs, NotObs, ChoseSomething, ValueGE, ValueGT, ValueLT, ValueLE, ValueEQ, TrueObs, FalseObs}
+use Rattle.nodes.specs.declared.case_node.CaseNode.{CaseNode}
+use Rattle.nodes.specs.declared.case_node.CaseNode.TheVariants.{Deposit, Choice, Notify}
+use Rattle.nodes.specs.declared.cont_node.ContNode.{ContNode}
+use Rattle.nodes.specs.declared.cont_node.ContNode.TheVariants.{Close, Pay, If, When, Let, Assert}
+use Rattle.nodes.specs.declared.entry.Entry.{Entry}
+use Rattle.table.specs.Heights.{greatest, above, value_height, observation_height, case_height, case_heights, contract_height}
+use Rattle.table.specs.Flat.{Flat, Trees, value_of, observation_of, case_of, cont_of, value_entry, observation_entry, case_entry, cont_entry, step, levels, deepest, trees, value_tree, observation_tree, case_tree, cont_tree}
+use Rattle.table.specs.Flat.{Part, a_value, an_observation, a_case, a_cont, value_parts, observation_parts, case_parts, cont_parts, Stands, AllStand, height_of, parts_of, height_above, IsFlat, Agrees}
+
+-- ---- trees that agree on what a node names give it one tree
+
+abbrev pub AllAgree : Trees → Trees → List Part → Type 0
+AllAgree t u [] = Unit {0}
+AllAgree t u (p ∷ ps) = Agrees t u p × AllAgree t u ps
+
+cases_agree : (t u : Trees) (ks : List ℕ) → AllAgree t u (map a_case ks) → map t.case ks ≡ map u.case ks
+cases_agree t u [] a = refl
+cases_agree t u (k ∷ ks) a = cc (a.0, cases_agree t u ks a.1)
+
+pub value_agrees : (t u : Trees) (n : ValueNode) → AllAgree t u (value_parts n) → value_of t n ≡ value_of u n
+value_agrees t u (AvailableMoney p v) a = refl
+value_agrees t u (Constant n) a = refl
+value_agrees t u (NegValue x) a = cc (a.0)
+value_agrees t u (AddValue x y) a = cc (a.0, a.1.0)
+value_agrees t u (SubValue x y) a = cc (a.0, a.1.0)
+value_agrees t u (MulValue x y) a = cc (a.0, a.1.0)
+value_agrees t u (DivValue x y) a = cc (a.0, a.1.0)
+value_agrees t u (ChoiceValue id) a = refl
+value_agrees t u TimeIntervalStart a = refl
+value_agrees t u TimeIntervalEnd a = refl
+value_agrees t u (UseValue x) a = refl
+value_agrees t u (Cond o x y) a = cc (a.0, a.1.0, a.1.1.0)
+
+pub observation_agrees : (t u : Trees) (n : ObservationNode) → AllAgree t u (observation_parts n) → observation_of t n ≡ observation_of u n
+observation_agrees t u (AndObs o q) a = cc (a.0, a.1.0)
+observation_agrees t u (OrObs o q) a = cc (a.0, a.1.0)
+observation_agrees t u (NotObs o) a = cc (a.0)
+observation_agrees t u (ChoseSomething id) a = refl
+observation_agrees t u (ValueGE x y) a = cc (a.0, a.1.0)
+observation_agrees t u (ValueGT x y) a = cc (a.0, a.1.0)
+observation_agrees t u (ValueLT x y) a = cc (a.0, a.1.0)
+observation_agrees t u (ValueLE x y) a = cc (a.0, a.1.0)
+observation_agrees t u (ValueEQ x y) a = cc (a.0, a.1.0)
+observation_agrees t u TrueObs a = refl
+observation_agrees t u FalseObs a = refl
+
+pub case_agrees : (t u : Trees) (n : CaseNode) → AllAgree t u (case_parts n) → case_of t n ≡ case_of u n
+case_agrees t u (Deposit p q v x k) a = cc (a.0, a.1.0)
+case_agrees t u (Choice id bounds k) a = cc (a.0)
+case_agrees t u (Notify o k) a = cc (a.0, a.1.0)
+
+pub cont_agrees : (t u : Trees) (n : ContNode) → AllAgree t u (cont_parts n) → cont_of t n ≡ cont_of u n
+cont_agrees t u Close a = refl
+cont_agrees t u (Pay p y v x k) a = cc (a.0, a.1.0)
+cont_agrees t u (If o k l) a = cc (a.0, a.1.0, a.1.1.0)
+cont_agrees t u (When cs n k) a = cc (a.0, cases_agree t u cs a.1)
+cont_agrees t u (Let x v k) a = cc (a.0, a.1.0)
+cont_agrees t u (Assert o k) a = cc (a.0, a.1.0)
+
+-- one level more agrees where what the node names does
+step_agrees : (f : Flat) (t u : Trees) (p : Part) → AllAgree t u (parts_of f p) → Agrees (step f t) (step f u) p
+step_agrees f t u (a_value k) a = value_agrees t u (value_entry f k).node a
+step_agrees f t u (an_observation k) a = observation_agrees t u (observation_entry f k).node a
+step_agrees f t u (a_case k) a = case_agrees t u (case_entry f k).node a
+step_agrees f t u (a_cont k) a = cont_agrees t u (cont_entry f k).node a
+
+-- ---- a number stands for its node over what the numbers stand for
+
+-- the trees agree at numbers of height below h
+abbrev AgreeBelow : Flat → ℕ → Trees → Trees → Type 0
+AgreeBelow f h t u = (p : Part) → Stands f p → height_of f p < h → Agrees t u p
+
+parts_below : (f : Flat) (h : ℕ) (t u : Trees) (ps : List Part) → AgreeBelow f h t u → AllStand f ps → greatest (map (height_of f) ps) < h → AllAgree t u ps
+parts_below f h t u [] a s l = tt
+parts_below f h t u (p ∷ ps) a s l = (a p s.0 (omega arith), parts_below f h t u ps a s.1 (omega arith))
+
+parts_agree : (f : Flat) (h : ℕ) (t u : Trees) (ps : List Part) → AgreeBelow f h t u → AllStand f ps → height_above f ps ≤ h → AllAgree t u ps
+parts_agree f h t u [] a s l = tt
+parts_agree f h t u (p ∷ ps) a s l = parts_below f h t u (p ∷ ps) a s (omega arith)
+
+levels_agree : (f : Flat) → IsFlat f → (n : ℕ) → AgreeBelow f n (levels n f) (step f (levels n f))
+levels_agree f w zero = λ p s l. absurd (omega arith)
+levels_agree f w (suc n) = λ p s l.
+    let e = w.fine p s in
+    step_agrees f (levels n f) (step f (levels n f)) p (parts_agree f n (levels n f) (step f (levels n f)) (parts_of f p) (levels_agree f w n) e.names (omega (arith, e.exact)))
+
+pub tree_is : (f : Flat) (p : Part) → IsFlat f → Stands f p → Agrees (trees f) (step f (trees f)) p
+unfolding trees deepest
+tree_is f p w s = levels_agree f w deepest p s (let e = w.fine p s in omega (arith, e.low))
+
+-- ---- a height is the contract_height of the tree
+
+abbrev pub tree_height : Trees → Part → ℕ
+tree_height t (a_value k) = value_height (t.value k)
+tree_height t (an_observation k) = observation_height (t.observation k)
+tree_height t (a_case k) = case_height (t.case k)
+tree_height t (a_cont k) = contract_height (t.cont k)
+
+pub value_above : (t : Trees) (n : ValueNode) → value_height (value_of t n) ≡ above (map (tree_height t) (value_parts n))
+value_above t (AvailableMoney p v) = refl
+value_above t (Constant n) = refl
+value_above t (NegValue x) = refl
+value_above t (AddValue x y) = refl
+value_above t (SubValue x y) = refl
+value_above t (MulValue x y) = refl
+value_above t (DivValue x y) = refl
+value_above t (ChoiceValue id) = refl
+value_above t TimeIntervalStart = refl
+value_above t TimeIntervalEnd = refl
+value_above t (UseValue x) = refl
+value_above t (Cond o x y) = refl
+
+pub observation_above : (t : Trees) (n : ObservationNode) → observation_height (observation_of t n) ≡ above (map (tree_height t) (observation_parts n))
+observation_above t (AndObs o q) = refl
+observation_above t (OrObs o q) = refl
+observation_above t (NotObs o) = refl
+observation_above t (ChoseSomething id) = refl
+observation_above t (ValueGE x y) = refl
+observation_above t (ValueGT x y) = refl
+observation_above t (ValueLT x y) = refl
+observation_above t (ValueLE x y) = refl
+observation_above t (ValueEQ x y) = refl
+observation_above t TrueObs = refl
+observation_above t FalseObs = refl
+
+pub case_above : (t : Trees) (n : CaseNode) → case_height (case_of t n) ≡ above (map (tree_height t) (case_parts n))
+case_above t (Deposit p q v x k) = refl
+case_above t (Choice id bounds k) = refl
+case_above t (Notify o k) = refl
+
+listed_heights : (t : Trees) (ks : List ℕ) → case_heights (case_trees (map t.case ks)) ≡ map (tree_height t) (map a_case ks)
+listed_heights t [] = refl
+listed_heights t (k ∷ ks) = ap (λ ns. case_height (t.case k) ∷ ns) (listed_heights t ks)
+
+pub cont_above : (t : Trees) (n : ContNode) → contract_height (cont_of t n) ≡ above (map (tree_height t) (cont_parts n))
+cont_above t Close = refl
+cont_above t (Pay p y v x k) = refl
+cont_above t (If o k l) = refl
+cont_above t (When cs n k) = ap (λ ns. above (contract_height (t.cont k.0) ∷ ns)) (listed_heights t cs)
+cont_above t (Let x v k) = refl
+cont_above t (Assert o k) = refl
+
+part_above : (f : Flat) (p : Part) → IsFlat f → Stands f p → tree_height (trees f) p ≡ above (map (tree_height (trees f)) (parts_of f p))
+part_above f (a_value k) w s = ap value_height (tree_is f (a_value k) w s) ∙ value_above (trees f) (value_entry f k).node
+part_above f (an_observation k) w s = ap observation_height (tree_is f (an_observation k) w s) ∙ observation_above (trees f) (observation_entry f k).node
+part_above f (a_case k) w s = ap case_height (tree_is f (a_case k) w s) ∙ case_above (trees f) (case_entry f k).node
+part_above f (a_cont k) w s = ap contract_height (tree_is f (a_cont k) w s) ∙ cont_above (trees f) (cont_entry f k).node
+
+abbrev HighBelow : Flat → ℕ → Type 0
+HighBelow f h = (p : Part) → Stands f p → height_of f p < h → height_of f p ≡ tree_height (trees f) p
+
+heights_below : (f : Flat) (h : ℕ) (ps : List Part) → HighBelow f h → AllStand f ps → greatest (map (height_of f) ps) < h → map (height_of f) ps ≡ map (tree_height (trees f)) ps
+heights_below f h [] a s l = refl
+heights_below f h (p ∷ ps) a s l = cc (a p s.0 (omega arith), heights_below f h ps a s.1 (omega arith))
+
+heights_above : (f : Flat) (h : ℕ) (ps : List Part) → HighBelow f h → AllStand f ps → height_above f ps ≤ h → height_above f ps ≡ above (map (tree_height (trees f)) ps)
+heights_above f h [] a s l = refl
+heights_above f h (p ∷ ps) a s l = ap above (heights_below f h (p ∷ ps) a s (omega arith))
+
+high : (f : Flat) → IsFlat f → (h : ℕ) → HighBelow f h
+high f w zero = λ p s l. absurd (omega arith)
+high f w (suc h) = λ p s l.
+    let e = w.fine p s in
+    e.exact ∙ (heights_above f h (parts_of f p) (high f w h) e.names (omega (arith, e.exact)) ∙ sym (part_above f p w s))
+
+-- the height of a standing number is the contract_height of its tree
+pub height_is : (f : Flat) (p : Part) → IsFlat f → Stands f p → height_of f p ≡ tree_height (trees f) p
+height_is f p w s = high f w (suc (height_of f p)) p s (omega arith)
+
+-- the height of a node that names standing numbers is one more than the deepest of their trees
+pub above_is : (f : Flat) (ps : List Part) → IsFlat f → AllStand f ps → height_above f ps ≡ above (map (tree_height (trees f)) ps)
+above_is f ps w s = heights_above f (height_above f ps) ps (high f w (height_above f ps)) s (omega arith)

@@ -1,0 +1,85 @@
+//! Tables.
+mod decompile;
+mod evaluate;
+mod height;
+mod lend;
+mod push;
+mod same;
+mod timeout;
+
+ghost use Rattle.std.specs.Prelude.{◌≡◌, ◌↔◌, IsTrue};
+ghost use Rattle.table.specs.Flat.{nothing, IsFlat, Has, a_value, an_observation, a_case, a_cont};
+
+use nodes::{CaseNode, Cont, ContNode, Entry, ObservationNode, ValueNode};
+use std::alloc::Global;
+use std::marker::Model;
+
+/// Contracts as four flat lists of nodes: values, observations, cases and continuations. A node names only
+/// numbers that stand, of less height, and no height is above 999. Clauses see a table as its four lists.
+#[derive(Drop)]
+pub struct Table {
+    values: Vec<Entry<ValueNode>>,
+    observations: Vec<Entry<ObservationNode>>,
+    cases: Vec<Entry<CaseNode>>,
+    conts: Vec<Entry<ContNode>>,
+}
+
+impl Model for Table {
+    ghost use Rattle.table.specs.Flat.{Flat, IsFlat};
+
+    ghost Value = { Flat };
+
+    ghost view = { λ t. record { values = t.values.items; observations = t.observations.items; cases = t.cases.items; conts = t.conts.items } };
+
+    ghost invariant = { λ t. IsFlat (record { values = t.values.items; observations = t.observations.items; cases = t.cases.items; conts = t.conts.items }) };
+}
+
+impl Table {
+    /// No nodes yet, in lists that will take memory from `alloc`.
+    pub fn new(alloc: Global) -> Table
+        ensures { result ≡ nothing }
+    {
+        Table {
+            values: Vec::new(alloc),
+            observations: Vec::new(alloc),
+            cases: Vec::new(alloc),
+            conts: Vec::new(alloc),
+        }
+    }
+
+    /// What holds of every table: each node names standing nodes, and has the height that they give it, at most
+    /// 999. It does nothing.
+    pub fn hold_together(&self)
+        ensures { IsFlat self.now }
+    {
+        let _values = self.values.len();
+    }
+
+    /// Whether a continuation is one of the table; takes no memory.
+    pub fn contains(&self, cont: Cont) -> bool
+        ensures { IsTrue result ↔ Has self.now (a_cont cont.0) }
+    {
+        (cont.0 as usize) < self.conts.len()
+    }
+
+    /// Whether a number is that of a value; takes no memory.
+    pub fn has_value(&self, number: u32) -> bool
+        ensures { IsTrue result ↔ Has self.now (a_value number) }
+    {
+        (number as usize) < self.values.len()
+    }
+
+    /// Whether a number is that of an observation; takes no memory.
+    pub fn has_observation(&self, number: u32) -> bool
+        ensures { IsTrue result ↔ Has self.now (an_observation number) }
+    {
+        (number as usize) < self.observations.len()
+    }
+
+    /// Whether a number is that of a case; takes no memory.
+    pub fn has_case(&self, number: u32) -> bool
+        ensures { IsTrue result ↔ Has self.now (a_case number) }
+    {
+        (number as usize) < self.cases.len()
+    }
+}

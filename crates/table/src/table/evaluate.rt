@@ -1,0 +1,185 @@
+//! Evaluation by numbers.
+ghost use Rattle.std.specs.Prelude.{◌≡◌};
+ghost use Rattle.evaluation.specs.Numbers.{within};
+ghost use Rattle.evaluation.specs.Evaluation.{eval, holds, visited, looked};
+ghost use Rattle.evaluation.specs.Checked.{eval128, holds128};
+ghost use Rattle.table.specs.Leaves.{fitting};
+ghost use Rattle.table.specs.Flat.{value_tree, observation_tree, Stands, a_value, an_observation};
+
+use crate::leaves::Leaves128;
+use crate::table::Table;
+use contract::{Interval, SemFault, State};
+use evaluation::{difference, known, negation, product, quotient, sum};
+use nodes::{ObservationNode, ValueNode};
+
+impl Table {
+    /// The number of a value (Marlowe specification version 3, "Evaluate value"), or `Leaves128` where a number that
+    /// is visited on the way leaves 128 bits; takes no memory. It goes down the unfolded tree: what is named twice
+    /// is evaluated twice.
+    #[tactic(auto, using(crate::specs::Leaves::fitting_ok, crate::specs::Leaves::fitting_err))]
+    pub fn value(&self, number: u32, state: &State, interval: Interval) -> Result<i128, Leaves128>
+        requires { Stands self.now (a_value number) }
+        ensures { result
+            ≡ fitting (visited interval state.now (value_tree self.now number)) (eval interval state.now (value_tree self.now number)) }
+    {
+        match self.evaluated(number, state, interval) {
+            Ok(number) => Ok(number),
+            Err(_) => Err(Leaves128),
+        }
+    }
+
+    /// Whether an observation is true (Marlowe specification version 3, "Evaluate observation"), or `Leaves128` where
+    /// a number that is visited on the way leaves 128 bits; takes no memory. It goes down the unfolded tree.
+    #[tactic(auto, using(crate::specs::Leaves::fitting_ok, crate::specs::Leaves::fitting_err))]
+    pub fn holds(&self, number: u32, state: &State, interval: Interval) -> Result<bool, Leaves128>
+        requires { Stands self.now (an_observation number) }
+        ensures { result
+            ≡ fitting (looked interval state.now (observation_tree self.now number)) (holds interval state.now (observation_tree self.now number)) }
+    {
+        match self.judged(number, state, interval) {
+            Ok(truth) => Ok(truth),
+            Err(_) => Err(Leaves128),
+        }
+    }
+
+    // The number of a value, with the fault of a transaction.
+    pub(crate) fn evaluated(
+        &self,
+        number: u32,
+        state: &State,
+        interval: Interval,
+    ) -> Result<i128, SemFault>
+        requires { Stands self.now (a_value number) }
+        ensures { result
+            ≡ within (visited interval state.now (value_tree self.now number)) (eval interval state.now (value_tree self.now number)) }
+    {
+        self.checked_value(number, state, interval)
+    }
+
+    // The truth of an observation, with the fault of a transaction.
+    pub(crate) fn judged(
+        &self,
+        number: u32,
+        state: &State,
+        interval: Interval,
+    ) -> Result<bool, SemFault>
+        requires { Stands self.now (an_observation number) }
+        ensures { result
+            ≡ within (looked interval state.now (observation_tree self.now number)) (holds interval state.now (observation_tree self.now number)) }
+    {
+        self.checked_holds(number, state, interval)
+    }
+
+    // The number of a value, or the fault at the first number that leaves 128 bits.
+    #[cycle(evaluate)]
+    fn checked_value(
+        &self,
+        number: u32,
+        state: &State,
+        interval: Interval,
+    ) -> Result<i128, SemFault>
+        requires { Stands self.now (a_value number) }
+        ensures { result ≡ eval128 interval state.now (value_tree self.now number) }
+    {
+        match &self.value_node(number).node {
+            ValueNode::AvailableMoney(owner, token) => known(state.money(owner, token)),
+            ValueNode::Constant(constant) => known(*constant),
+            ValueNode::NegValue(a) => {
+                let x = self.checked_value(*a, state, interval)?;
+                negation(x)
+            }
+            ValueNode::AddValue(a, b) => {
+                let x = self.checked_value(*a, state, interval)?;
+                let y = self.checked_value(*b, state, interval)?;
+                sum(x, y)
+            }
+            ValueNode::SubValue(a, b) => {
+                let x = self.checked_value(*a, state, interval)?;
+                let y = self.checked_value(*b, state, interval)?;
+                difference(x, y)
+            }
+            ValueNode::MulValue(a, b) => {
+                let x = self.checked_value(*a, state, interval)?;
+                let y = self.checked_value(*b, state, interval)?;
+                product(x, y)
+            }
+            ValueNode::DivValue(a, b) => {
+                let x = self.checked_value(*a, state, interval)?;
+                let y = self.checked_value(*b, state, interval)?;
+                quotient(x, y)
+            }
+            ValueNode::ChoiceValue(id) => known(state.choice(id).unwrap_or(0)),
+            ValueNode::TimeIntervalStart => known(i128::from(interval.from)),
+            ValueNode::TimeIntervalEnd => known(i128::from(interval.to)),
+            ValueNode::UseValue(name) => known(state.bound(name).unwrap_or(0)),
+            ValueNode::Cond(observation, a, b) => {
+                if self.checked_holds(*observation, state, interval)? {
+                    self.checked_value(*a, state, interval)
+                } else {
+                    self.checked_value(*b, state, interval)
+                }
+            }
+        }
+    }
+
+    // The truth of an observation, or the fault at the first number that leaves 128 bits.
+    #[cycle(evaluate)]
+    fn checked_holds(
+        &self,
+        number: u32,
+        state: &State,
+        interval: Interval,
+    ) -> Result<bool, SemFault>
+        requires { Stands self.now (an_observation number) }
+        ensures { result ≡ holds128 interval state.now (observation_tree self.now number) }
+    {
+        match &self.observation_node(number).node {
+            ObservationNode::AndObs(a, b) => {
+                if self.checked_holds(*a, state, interval)? {
+                    self.checked_holds(*b, state, interval)
+                } else {
+                    Ok(false)
+                }
+            }
+            ObservationNode::OrObs(a, b) => {
+                if self.checked_holds(*a, state, interval)? {
+                    Ok(true)
+                } else {
+                    self.checked_holds(*b, state, interval)
+                }
+            }
+            ObservationNode::NotObs(a) => {
+                let truth = self.checked_holds(*a, state, interval)?;
+                Ok(!truth)
+            }
+            ObservationNode::ChoseSomething(id) => Ok(state.choice(id).is_some()),
+            ObservationNode::ValueGE(a, b) => {
+                let x = self.checked_value(*a, state, interval)?;
+                let y = self.checked_value(*b, state, interval)?;
+                Ok(x >= y)
+            }
+            ObservationNode::ValueGT(a, b) => {
+                let x = self.checked_value(*a, state, interval)?;
+                let y = self.checked_value(*b, state, interval)?;
+                Ok(x > y)
+            }
+            ObservationNode::ValueLT(a, b) => {
+                let x = self.checked_value(*a, state, interval)?;
+                let y = self.checked_value(*b, state, interval)?;
+                Ok(x < y)
+            }
+            ObservationNode::ValueLE(a, b) => {
+                let x = self.checked_value(*a, state, interval)?;
+                let y = self.checked_value(*b, state, interval)?;
+                Ok(x <= y)
+            }
+            ObservationNode::ValueEQ(a, b) => {
+                let x = self.checked_value(*a, state, interval)?;
+                let y = self.checked_value(*b, state, interval)?;
+                Ok(x == y)
+            }
+            ObservationNode::TrueObs => Ok(true),
+            ObservationNode::FalseObs => Ok(false),
+        }
+    }
+}
