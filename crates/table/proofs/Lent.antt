@@ -1,19 +1,14 @@
 -- What is known of a node that is lent.
-use Rattle.std.specs.Prelude.{◌≡◌, ℕ, ◌<◌, ◌≤◌, List, [], ◌∷◌, length, map, refl, suc, zero}
-use Rattle.std.proofs.Common.{sym, ◌∙◌, ap, subst, arith}
-use Rattle.contract.specs.Tree.{case_trees}
+use Rattle.std.specs.Prelude.{◌≡◌, ℕ, ◌<◌, ◌≤◌, List, length}
+use Rattle.std.proofs.Common.{subst}
 use Rattle.nodes.specs.declared.value_node.ValueNode.{ValueNode}
-use Rattle.nodes.specs.declared.value_node.ValueNode.TheVariants.{AvailableMoney, Constant, NegValue, AddValue, SubValue, MulValue, DivValue, ChoiceValue, TimeIntervalStart, TimeIntervalEnd, UseValue, Cond}
 use Rattle.nodes.specs.declared.observation_node.ObservationNode.{ObservationNode}
-use Rattle.nodes.specs.declared.observation_node.ObservationNode.TheVariants.{AndObs, OrObs, NotObs, ChoseSomething, ValueGE, ValueGT, ValueLT, ValueLE, ValueEQ, TrueObs, FalseObs}
 use Rattle.nodes.specs.declared.case_node.CaseNode.{CaseNode}
-use Rattle.nodes.specs.declared.case_node.CaseNode.TheVariants.{Deposit, Choice, Notify}
 use Rattle.nodes.specs.declared.cont_node.ContNode.{ContNode}
-use Rattle.nodes.specs.declared.cont_node.ContNode.TheVariants.{Close, Pay, If, When, Let, Assert}
 use Rattle.nodes.specs.declared.entry.Entry.{Entry}
-use Rattle.table.specs.Heights.{greatest, above, value_height, observation_height, case_height, case_heights, contract_height}
-use Rattle.table.specs.Flat.{Flat, Trees, value_of, observation_of, case_of, cont_of, value_entry, observation_entry, case_entry, cont_entry, step, levels, deepest, trees, value_tree, observation_tree, case_tree, cont_tree}
-use Rattle.table.specs.Flat.{Part, a_value, an_observation, a_case, a_cont, value_parts, observation_parts, case_parts, cont_parts, Stands, AllStand, height_of, parts_of, height_above, IsFlat, Agrees}
+use Rattle.table.specs.Heights.{value_height, observation_height, case_height, contract_height}
+use Rattle.table.specs.Flat.{Flat, value_of, observation_of, case_of, cont_of, value_entry, observation_entry, case_entry, cont_entry, trees, value_tree, observation_tree, case_tree, cont_tree}
+use Rattle.table.specs.Flat.{Part, a_value, an_observation, a_case, a_cont, value_parts, observation_parts, case_parts, cont_parts, AllStand, IsFlat}
 use Rattle.table.specs.Laws.{tree_is, height_is}
 
 pub record Lent (TreeIsNode : Type 0) (f : Flat) (ps : List Part) (stored high : ℕ) : Type 0 where

@@ -1,19 +1,15 @@
 -- What a push has done, as the call sees it.
-use Rattle.std.specs.Prelude.{◌≡◌, ℕ, ◌+◌, ◌<◌, ◌≤◌, List, [], ◌∷◌, ◌++◌, length, map, refl, ◌⊎◌, suc, zero}
-use Rattle.std.proofs.Common.{sym, ◌∙◌, ap, subst, arith, length-append, inl, inr}
-use Rattle.std.proofs.Math.ListN.{get_or-append}
-use Rattle.std.proofs.Math.Seq.{get_or-append_seam}
+use Rattle.std.specs.Prelude.{◌≡◌, ℕ, ◌≤◌, List, [], ◌∷◌, ◌++◌, length}
+use Rattle.std.proofs.Common.{sym, ◌∙◌, ap, subst, arith}
 use Rattle.nodes.specs.declared.value_node.ValueNode.{ValueNode}
 use Rattle.nodes.specs.declared.observation_node.ObservationNode.{ObservationNode}
 use Rattle.nodes.specs.declared.case_node.CaseNode.{CaseNode}
 use Rattle.nodes.specs.declared.cont_node.ContNode.{ContNode}
 use Rattle.nodes.specs.declared.entry.Entry.{Entry}
-use Rattle.table.specs.Heights.{above}
-use Rattle.table.specs.Flat.{Flat, Trees, value_of, observation_of, case_of, cont_of, value_entry, observation_entry, case_entry, cont_entry, step, levels, deepest, trees, value_tree, observation_tree, case_tree, cont_tree}
-use Rattle.table.specs.Flat.{Part, a_value, an_observation, a_case, a_cont, value_parts, observation_parts, case_parts, cont_parts, Stands, AllStand, height_of, parts_of, height_above, Fine, IsFlat, Agrees, Extends}
+use Rattle.table.specs.Flat.{Flat, value_of, observation_of, case_of, cont_of, trees, value_tree, observation_tree, case_tree, cont_tree}
+use Rattle.table.specs.Flat.{a_value, an_observation, a_case, a_cont, value_parts, observation_parts, case_parts, cont_parts, AllStand, height_above, IsFlat}
 use Rattle.table.specs.Heights.{value_height, observation_height, case_height, contract_height}
 use Rattle.table.specs.Laws.{value_above, observation_above, case_above, cont_above, above_is}
-use Rattle.table.specs.Laws.{AllAgree, value_agrees, observation_agrees, case_agrees, cont_agrees, tree_is}
 use Rattle.table.specs.Pushing.{with_value, with_observation, with_case, with_cont, Pushed, pushed_value, pushed_observation, pushed_case, pushed_cont}
 
 -- the same, as a call sees it

@@ -1,6 +1,6 @@
 -- Laws of the numbers of a table.
-use Rattle.std.specs.Prelude.{◌≡◌, ℕ, ◌<◌, ◌≤◌, List, [], ◌∷◌, length, map, refl, suc, zero}
-use Rattle.std.proofs.Common.{sym, ◌∙◌, ap, subst, arith}
+use Rattle.std.specs.Prelude.{◌≡◌, ℕ, ◌<◌, ◌≤◌, List, [], ◌∷◌, map, refl, suc, zero}
+use Rattle.std.proofs.Common.{sym, ◌∙◌, ap, arith}
 use Rattle.contract.specs.Tree.{case_trees}
 use Rattle.nodes.specs.declared.value_node.ValueNode.{ValueNode}
 use Rattle.nodes.specs.declared.value_node.ValueNode.TheVariants.{AvailableMoney, Constant, NegValue, AddValue, SubValue, MulValue, DivValue, ChoiceValue, TimeIntervalStart, TimeIntervalEnd, UseValue, Cond}
@@ -10,9 +10,8 @@ use Rattle.nodes.specs.declared.case_node.CaseNode.{CaseNode}
 use Rattle.nodes.specs.declared.case_node.CaseNode.TheVariants.{Deposit, Choice, Notify}
 use Rattle.nodes.specs.declared.cont_node.ContNode.{ContNode}
 use Rattle.nodes.specs.declared.cont_node.ContNode.TheVariants.{Close, Pay, If, When, Let, Assert}
-use Rattle.nodes.specs.declared.entry.Entry.{Entry}
 use Rattle.table.specs.Heights.{greatest, above, value_height, observation_height, case_height, case_heights, contract_height}
-use Rattle.table.specs.Flat.{Flat, Trees, value_of, observation_of, case_of, cont_of, value_entry, observation_entry, case_entry, cont_entry, step, levels, deepest, trees, value_tree, observation_tree, case_tree, cont_tree}
+use Rattle.table.specs.Flat.{Flat, Trees, value_of, observation_of, case_of, cont_of, value_entry, observation_entry, case_entry, cont_entry, step, levels, deepest, trees}
 use Rattle.table.specs.Flat.{Part, a_value, an_observation, a_case, a_cont, value_parts, observation_parts, case_parts, cont_parts, Stands, AllStand, height_of, parts_of, height_above, IsFlat, Agrees}
 
 -- ---- trees that agree on what a node names give it one tree

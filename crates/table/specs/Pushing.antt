@@ -11,8 +11,6 @@ use Rattle.nodes.specs.declared.entry.Entry.{Entry}
 use Rattle.table.specs.Heights.{above}
 use Rattle.table.specs.Flat.{Flat, Trees, value_of, observation_of, case_of, cont_of, value_entry, observation_entry, case_entry, cont_entry, step, levels, deepest, trees, value_tree, observation_tree, case_tree, cont_tree}
 use Rattle.table.specs.Flat.{Part, a_value, an_observation, a_case, a_cont, value_parts, observation_parts, case_parts, cont_parts, Stands, AllStand, height_of, parts_of, height_above, Fine, IsFlat, Agrees, Extends}
-use Rattle.table.specs.Heights.{value_height, observation_height, case_height, contract_height}
-use Rattle.table.specs.Laws.{value_above, observation_above, case_above, cont_above, above_is}
 use Rattle.table.specs.Laws.{AllAgree, value_agrees, observation_agrees, case_agrees, cont_agrees, tree_is}
 
 -- ---- the table with one node more

@@ -1,4 +1,4 @@
-use Rattle.std.proofs.Common.{◌≡◌, ◌∙◌, sym, ap, map, rules}
+use Rattle.std.proofs.Common.{◌∙◌, sym, ap, map, rules}
 use mir.Val.{SFits}
 use Rattle.std.specs.Int.{w64}
 use Rattle.std.proofs.lemmas.Int.{to_z-of_z}

@@ -1,4 +1,4 @@
-use Rattle.std.proofs.Common.{◌≡◌, ◌<◌, ◌≤◌, ◌+◌, ◌*◌, map, take, drop}
+use Rattle.std.proofs.Common.{◌≡◌, ◌≤◌, ◌+◌, ◌*◌, map, take, drop}
 use Rattle.contract.specs.Tree as trees
 use Rattle.table.specs.Heights.{contract_height, case_height, case_heights, greatest}
 use Rattle.table.specs.Flat.{cont_tree, case_tree, AllStand, a_case}
