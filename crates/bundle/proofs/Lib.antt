@@ -1,0 +1,10 @@
+pub mod Amounts
+pub mod Apart
+pub mod Covering
+pub mod Looping
+pub mod Positive
+pub mod Walking
+pub mod Zeros
+pub mod Merging
+pub mod Lessening
+pub mod Searching
