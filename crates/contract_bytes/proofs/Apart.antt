@@ -49,7 +49,7 @@ more_digits k m n high low =
     let whole : (j : ℕ) → j % 256 ^ suc (suc k) ≡ j / 256 ^ suc k % 256 * 256 ^ suc k + j % 256 ^ suc k = λ j. ap (λ p. j % p) (pow-suc 256 (suc k) ∙ omega arith) ∙ mod-mul j {m = 256} {c = 256 ^ suc k} (omega arith) (base_pos (suc k)) in
     whole m ∙ (λ i. high i * 256 ^ suc k + low i) ∙ sym (whole n)
 
-word : (k m n : ℕ) → Tells (m % 256 ^ k ≡ n % 256 ^ k) (bytes_high_first k m) (bytes_high_first k n)
+pub word : (k m n : ℕ) → Tells (m % 256 ^ k ≡ n % 256 ^ k) (bytes_high_first k m) (bytes_high_first k n)
 word zero m n = nothing (omega arith)
 word (suc zero) m n = record { tells = λ r q e. let head : m % 256 ≡ n % 256 = cc in let tail : r ≡ q = cc in (head, tail) }
 word (suc (suc k)) m n = record {
@@ -74,7 +74,7 @@ time_tells m n f g = shows (λ e. sym (to_z-of_z f) ∙ ap (to_z w64) (sym (mod-
 
 -- ---- texts and lists
 
-of_one_length : (x y : List ℕ) → length x ≡ length y → Tells (x ≡ y) x y
+pub of_one_length : (x y : List ℕ) → length x ≡ length y → Tells (x ≡ y) x y
 of_one_length [] [] h = nothing refl
 of_one_length [] (b ∷ y) h = absurd (omega (arith, h))
 of_one_length (a ∷ x) [] h = absurd (omega (arith, h))

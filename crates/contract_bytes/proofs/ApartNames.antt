@@ -12,7 +12,7 @@ use Rattle.names.specs.declared.bound.Bound.{Bound}
 use Rattle.contract.specs.declared.input.Input.{Input}
 use Rattle.contract.specs.declared.input.Input.TheVariants as inputs
 use Rattle.states.specs.States.{StateMaps}
-use Rattle.contract_bytes.specs.Names.{party_bytes, token_bytes, choice_id_bytes, payee_bytes, bound_bytes, PartyFits, TokenFits, ChoiceIdFits, PayeeFits, BoundFits}
+use Rattle.contract_bytes.specs.Names.{party_bytes, token_bytes, choice_id_bytes, payee_bytes, bound_bytes, holding_bytes, PartyFits, TokenFits, ChoiceIdFits, PayeeFits, BoundFits, HoldingFits}
 use Rattle.contract_bytes.specs.Inputs.{input_bytes, InputFits}
 use Rattle.contract_bytes.specs.States.{money_bytes, chosen_bytes, bound_value_bytes, state_bytes, MoneyFits, ChosenFits, BoundValueFits, StateFits}
 use Rattle.contract_bytes.specs.Unambiguous.{ReadsOneWay}
@@ -38,6 +38,9 @@ payee_tells (payees.Party x) (payees.Account y) f g = other refl
 
 pub bound_tells : (x y : Bound) → BoundFits x → BoundFits y → Tells (x ≡ y) (bound_bytes x) (bound_bytes y)
 bound_tells x y f g = shows (λ e. λ i. record { from = e.0 i; to = e.1 i }) (both (number_tells x.from y.from f.0 g.0) (number_tells x.to y.to f.1 g.1))
+
+pub holding_tells : (x y : Token × ℤ) → HoldingFits x → HoldingFits y → Tells (x ≡ y) (holding_bytes x) (holding_bytes y)
+holding_tells x y f g = shows (λ e. λ i. (e.0 i, e.1 i)) (both (token_tells x.0 y.0 f.0 g.0) (number_tells x.1 y.1 f.1 g.1))
 
 pub input_tells : (x y : Input) → InputFits x → InputFits y → Tells (x ≡ y) (input_bytes x) (input_bytes y)
 input_tells (inputs.Deposit a p t n) (inputs.Deposit b q u m) f g =

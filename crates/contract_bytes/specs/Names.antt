@@ -1,6 +1,6 @@
 -- How parties, tokens, choice ids, payees and bounds are spelled in bytes, and which of them fit (Marlowe specification
 -- version 3, "Participants, roles and public keys", "Multi-asset token", "Choices" and "Accounts", has what they are).
-use Rattle.std.specs.Prelude.{ℕ, List, ◌∷◌, ◌++◌}
+use Rattle.std.specs.Prelude.{ℕ, ℤ, List, ◌∷◌, ◌++◌}
 use Rattle.names.specs.declared.party.Party.{Party}
 use Rattle.names.specs.declared.party.Party.TheVariants as parties
 use Rattle.names.specs.declared.token.Token.{Token}
@@ -27,6 +27,10 @@ payee_bytes (payees.Party party) = 0x01 ∷ party_bytes party
 abbrev pub bound_bytes : Bound → List ℕ
 bound_bytes b = number_bytes b.from ++ number_bytes b.to
 
+-- a token and how much there is of it
+abbrev pub holding_bytes : Token × ℤ → List ℕ
+holding_bytes e = token_bytes e.0 ++ number_bytes e.1
+
 -- ---- what fits
 
 abbrev pub PartyFits : Party → Type 0
@@ -45,3 +49,6 @@ PayeeFits (payees.Party party) = PartyFits party
 
 abbrev pub BoundFits : Bound → Type 0
 BoundFits b = NumberFits b.from × NumberFits b.to
+
+abbrev pub HoldingFits : Token × ℤ → Type 0
+HoldingFits e = TokenFits e.0 × NumberFits e.1

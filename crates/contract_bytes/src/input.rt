@@ -7,7 +7,8 @@ use crate::number::{put_byte, put_number};
 use collections::Memory;
 use contract::Input;
 
-pub(crate) fn put_input(out: &mut Vec<u8>, input: &Input) -> Result<(), Memory>
+/// Appends an input: a tag, then its parts.
+pub fn put_input(out: &mut Vec<u8>, input: &Input) -> Result<(), Memory>
     ensures { OnOk result (out.new.items ≡ out.old.items ++ input_bytes input.now) }
 {
     match input {

@@ -6,7 +6,8 @@ use crate::number::{put_byte, put_bytes, put_number, put_text};
 use collections::Memory;
 use names::{Bound, ChoiceId, Party, Payee, Token};
 
-pub(crate) fn put_party(out: &mut Vec<u8>, party: &Party) -> Result<(), Memory>
+/// Appends a party: a tag, then its text.
+pub fn put_party(out: &mut Vec<u8>, party: &Party) -> Result<(), Memory>
     ensures { OnOk result (out.new.items ≡ out.old.items ++ party_bytes party.now) }
 {
     match party {
@@ -21,21 +22,24 @@ pub(crate) fn put_party(out: &mut Vec<u8>, party: &Party) -> Result<(), Memory>
     }
 }
 
-pub(crate) fn put_token(out: &mut Vec<u8>, token: &Token) -> Result<(), Memory>
+/// Appends a token: its currency symbol, then its name.
+pub fn put_token(out: &mut Vec<u8>, token: &Token) -> Result<(), Memory>
     ensures { OnOk result (out.new.items ≡ out.old.items ++ token_bytes token.now) }
 {
     put_bytes(out, &token.symbol)?;
     put_text(out, &token.name)
 }
 
-pub(crate) fn put_choice_id(out: &mut Vec<u8>, id: &ChoiceId) -> Result<(), Memory>
+/// Appends a choice id: its name, then its owner.
+pub fn put_choice_id(out: &mut Vec<u8>, id: &ChoiceId) -> Result<(), Memory>
     ensures { OnOk result (out.new.items ≡ out.old.items ++ choice_id_bytes id.now) }
 {
     put_text(out, &id.name)?;
     put_party(out, &id.owner)
 }
 
-pub(crate) fn put_payee(out: &mut Vec<u8>, payee: &Payee) -> Result<(), Memory>
+/// Appends a payee: a tag, then its party.
+pub fn put_payee(out: &mut Vec<u8>, payee: &Payee) -> Result<(), Memory>
     ensures { OnOk result (out.new.items ≡ out.old.items ++ payee_bytes payee.now) }
 {
     match payee {
@@ -50,7 +54,8 @@ pub(crate) fn put_payee(out: &mut Vec<u8>, payee: &Payee) -> Result<(), Memory>
     }
 }
 
-pub(crate) fn put_bound(out: &mut Vec<u8>, bound: &Bound) -> Result<(), Memory>
+/// Appends a bound: its lower end, then its upper one.
+pub fn put_bound(out: &mut Vec<u8>, bound: &Bound) -> Result<(), Memory>
     ensures { OnOk result (out.new.items ≡ out.old.items ++ bound_bytes bound.now) }
 {
     put_number(out, bound.from)?;

@@ -4,15 +4,17 @@ ghost use Rattle.contract_bytes.specs.Numbers.{length_bytes, number_bytes, time_
 
 use collections::{Bytes, Memory, Text};
 
-pub(crate) fn put_byte(out: &mut Vec<u8>, byte: u8) -> Result<(), Memory>
+/// Appends a byte.
+pub fn put_byte(out: &mut Vec<u8>, byte: u8) -> Result<(), Memory>
     ensures { OnOk result (out.new.items ≡ out.old.items ++ byte ∷ []) }
 {
     out.push(byte)?;
     Ok(())
 }
 
+/// Appends a length: 8 bytes, the highest first.
 #[tactic(auto, unfolding(crate::specs::Numbers::length_bytes))]
-pub(crate) fn put_length(out: &mut Vec<u8>, length: usize) -> Result<(), Memory>
+pub fn put_length(out: &mut Vec<u8>, length: usize) -> Result<(), Memory>
     ensures { OnOk result (out.new.items ≡ out.old.items ++ length_bytes length) }
 {
     let bytes = (length as u64).to_be_bytes();
@@ -27,7 +29,8 @@ fn bytes_of_number(number: i128) -> [u8; 16]
     number.to_be_bytes()
 }
 
-pub(crate) fn put_number(out: &mut Vec<u8>, number: i128) -> Result<(), Memory>
+/// Appends a number: 16 bytes of two's complement, the highest first.
+pub fn put_number(out: &mut Vec<u8>, number: i128) -> Result<(), Memory>
     ensures { OnOk result (out.new.items ≡ out.old.items ++ number_bytes number) }
 {
     let bytes = bytes_of_number(number);
@@ -35,8 +38,9 @@ pub(crate) fn put_number(out: &mut Vec<u8>, number: i128) -> Result<(), Memory>
     Ok(())
 }
 
+/// Appends a time, in POSIX milliseconds: 8 bytes of two's complement, the highest first.
 #[tactic(auto, unfolding(crate::specs::Numbers::time_bytes))]
-pub(crate) fn put_time(out: &mut Vec<u8>, time: i64) -> Result<(), Memory>
+pub fn put_time(out: &mut Vec<u8>, time: i64) -> Result<(), Memory>
     ensures { OnOk result (out.new.items ≡ out.old.items ++ time_bytes time) }
 {
     let bytes = time.to_be_bytes();
@@ -52,13 +56,15 @@ fn put_counted(out: &mut Vec<u8>, bytes: &[u8]) -> Result<(), Memory>
     Ok(())
 }
 
-pub(crate) fn put_text(out: &mut Vec<u8>, text: &Text) -> Result<(), Memory>
+/// Appends a text: its length, then its bytes.
+pub fn put_text(out: &mut Vec<u8>, text: &Text) -> Result<(), Memory>
     ensures { OnOk result (out.new.items ≡ out.old.items ++ text_bytes text.now) }
 {
     put_counted(out, text.as_str().as_bytes())
 }
 
-pub(crate) fn put_bytes(out: &mut Vec<u8>, bytes: &Bytes) -> Result<(), Memory>
+/// Appends a string of bytes: its length, then the bytes.
+pub fn put_bytes(out: &mut Vec<u8>, bytes: &Bytes) -> Result<(), Memory>
     ensures { OnOk result (out.new.items ≡ out.old.items ++ text_bytes bytes.now) }
 {
     put_counted(out, bytes.as_slice())

@@ -1,23 +1,68 @@
 //! Lists of what has a spelling.
 ghost use Rattle.std.specs.Prelude.{◌≡◌, ℕ, List, ◌++◌, OnOk};
 ghost use Rattle.std.specs.List.{flat_map};
-ghost use Rattle.contract_bytes.specs.Numbers.{list_bytes};
-ghost use Rattle.contract_bytes.specs.Names.{bound_bytes};
-ghost use Rattle.contract_bytes.specs.States.{money_bytes, chosen_bytes, bound_value_bytes};
+ghost use Rattle.contract_bytes.specs.Numbers.{list_bytes, text_bytes};
+ghost use Rattle.contract_bytes.specs.Names.{bound_bytes, holding_bytes};
+ghost use Rattle.contract_bytes.specs.Inputs.{input_bytes};
+ghost use Rattle.contract_bytes.specs.States.{money_bytes, chosen_bytes, bound_value_bytes, state_bytes};
 
+use crate::input::put_input;
 use crate::names_of::{put_bound, put_choice_id, put_party, put_token};
-use crate::number::{put_length, put_number, put_text};
-use collections::{Memory, Text};
-use names::{Account, Bound, ChoiceId};
+use crate::number::{put_bytes, put_length, put_number, put_text};
+use crate::state::put_state;
+use collections::{Bytes, Memory, Text};
+use contract::{Input, State};
+use names::{Account, Bound, ChoiceId, Token};
 
-/// An item of a list that is spelled in bytes.
-pub(crate) trait Spell {
+/// What is spelled in bytes, alone or as an item of a list.
+pub trait Spell {
     /// Its bytes.
     ghost spelling: { Self → List ℕ };
 
     /// Appends its bytes.
     fn put(&self, out: &mut Vec<u8>) -> Result<(), Memory>
         ensures { OnOk result (out.new.items ≡ out.old.items ++ spelling self.now) };
+}
+
+impl Spell for Text {
+    ghost spelling = { text_bytes };
+
+    fn put(&self, out: &mut Vec<u8>) -> Result<(), Memory> {
+        put_text(out, self)
+    }
+}
+
+impl Spell for Bytes {
+    ghost spelling = { text_bytes };
+
+    fn put(&self, out: &mut Vec<u8>) -> Result<(), Memory> {
+        put_bytes(out, self)
+    }
+}
+
+impl Spell for Input {
+    ghost spelling = { input_bytes };
+
+    fn put(&self, out: &mut Vec<u8>) -> Result<(), Memory> {
+        put_input(out, self)
+    }
+}
+
+impl Spell for State {
+    ghost spelling = { state_bytes };
+
+    fn put(&self, out: &mut Vec<u8>) -> Result<(), Memory> {
+        put_state(out, self)
+    }
+}
+
+impl Spell for (Token, i128) {
+    ghost spelling = { holding_bytes };
+
+    fn put(&self, out: &mut Vec<u8>) -> Result<(), Memory> {
+        put_token(out, &self.0)?;
+        put_number(out, self.1)
+    }
 }
 
 impl Spell for Bound {
@@ -57,7 +102,7 @@ impl Spell for (Text, i128) {
 }
 
 /// Appends a list: its length, then its items.
-pub(crate) fn put_list<T: Spell>(out: &mut Vec<u8>, items: &[T]) -> Result<(), Memory>
+pub fn put_list<T: Spell>(out: &mut Vec<u8>, items: &[T]) -> Result<(), Memory>
     ensures { OnOk result (out.new.items ≡ out.old.items ++ list_bytes T.spelling items.now) }
 {
     put_length(out, items.len())?;

@@ -7,8 +7,9 @@ use crate::spell::put_list;
 use collections::Memory;
 use contract::State;
 
+/// Appends a state: its accounts, its choices and its bound values, each in order, then its minimum time.
 #[tactic(auto, using(std::proofs::Common::append_assoc))]
-pub(crate) fn put_state(out: &mut Vec<u8>, state: &State) -> Result<(), Memory>
+pub fn put_state(out: &mut Vec<u8>, state: &State) -> Result<(), Memory>
     ensures { OnOk result (out.new.items ≡ out.old.items ++ state_bytes state.now) }
 {
     put_list(out, state.accounts())?;
