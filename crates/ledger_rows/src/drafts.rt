@@ -6,8 +6,18 @@ use contract_json::{read_state, read_transaction};
 use eutxo::{Datum, Lock, Output, OutputRef, Redeemer, Spend, Tx};
 use std::alloc::Global;
 
+/// A transaction of nothing, at time 0. Takes no memory.
+pub fn nothing<P>(alloc: Global) -> Tx<P> {
+    Tx {
+        inputs: Items::new(alloc),
+        outputs: Items::new(alloc),
+        interval: Interval { from: 0, to: 0 },
+        signers: Items::new(alloc),
+    }
+}
+
 /// A transaction without inputs and outputs, from `FROM TO SIGNER ..`.
-pub fn begun<P: Drop>(alloc: Global, rest: &str) -> Result<Tx<P>, RowFault> {
+pub fn begun<P>(alloc: Global, rest: &str) -> Result<Tx<P>, RowFault> {
     let (from, rest) = parts(rest)?;
     let (to, names) = rest.split_once(' ').unwrap_or((rest, ""));
     let interval = Interval {

@@ -1,7 +1,7 @@
 //! Ledgers, and what is printed for the lines of one.
 use crate::drafts::{
-    begun, contract_output, key_outputs, key_spend, notify_spend, pay, spend_keys, state_of,
-    step_spend,
+    begun, contract_output, key_outputs, key_spend, nothing, notify_spend, pay, spend_keys,
+    state_of, step_spend,
 };
 use crate::fault::RowFault;
 use crate::places::at;
@@ -84,31 +84,34 @@ fn answers_of<'t, S: Answers<'t>>(
     Ok(printed)
 }
 
-// A ledger, the state that stands, and the transaction that is being written.
+// A ledger, the state that stands, and the transaction that is being written. It is generic in what it owns, so that no
+// proof walks through the drop of a ledger.
 #[derive(Drop)]
-struct Session<'c, 't> {
+struct Session<'c, 't, F, D> {
     root: &'c Contract,
     state: &'t str,
-    first: First<Plain<'c>>,
-    draft: Tx<&'c Contract>,
+    first: F,
+    draft: D,
 }
+
+type OnTrees<'c, 't> = Session<'c, 't, First<Plain<'c>>, Tx<&'c Contract>>;
 
 // A ledger from `ledger TICK ADDRESS AMOUNT ..`.
 fn opened<'c, 't>(
     alloc: Global,
     root: &'c Contract,
     head: &str,
-) -> Result<Session<'c, 't>, RowFault> {
+) -> Result<OnTrees<'c, 't>, RowFault> {
     let rest = head.strip_prefix("ledger ").ok_or(RowFault::NoSuchRow)?;
     let (tick, rest) = parts(rest)?;
     let tick = number(tick)?;
-    let draft = begun(alloc, "0 0")?;
     let outputs = key_outputs(alloc, rest)?;
+    let first = ledger(alloc, root, outputs, tick)?;
     Ok(Session {
         root,
         state: "",
-        first: ledger(alloc, root, outputs, tick)?,
-        draft,
+        first,
+        draft: nothing(alloc),
     })
 }
 
@@ -124,7 +127,7 @@ fn ledger<'c>(
     Ok(First::new(alloc, Plain::new(), root, outputs, tick)?)
 }
 
-impl<'c, 't> Answers<'t> for Session<'c, 't> {
+impl<'c, 't> Answers<'t> for OnTrees<'c, 't> {
     fn take(&mut self, alloc: Global, line: &'t str) -> Result<Option<String>, RowFault> {
         let (word, rest) = line.split_once(' ').unwrap_or((line, ""));
         match word {
@@ -143,7 +146,7 @@ impl<'c, 't> Answers<'t> for Session<'c, 't> {
     }
 }
 
-impl<'c, 't> Session<'c, 't> {
+impl<'c, 't> Session<'c, 't, First<Plain<'c>>, Tx<&'c Contract>> {
     // Writes a line of the transaction.
     fn write(&mut self, alloc: Global, word: &str, rest: &str) -> Result<(), RowFault> {
         match word {
@@ -179,8 +182,7 @@ impl<'c, 't> Session<'c, 't> {
 
     // Hands the transaction in, and begins an empty one.
     fn submit(&mut self, alloc: Global) -> Result<String, RowFault> {
-        let next = begun(alloc, "0 0")?;
-        let tx = std::mem::replace(&mut self.draft, next);
+        let tx = std::mem::replace(&mut self.draft, nothing(alloc));
         let verdict = self.first.submit(alloc, tx)?;
         Ok(verdict_line(alloc, &verdict)?)
     }

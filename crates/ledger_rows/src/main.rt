@@ -43,11 +43,20 @@ fn main(rt: HostRuntime) -> ExitCode {
 fn print_rows<R: Env + Files + Print + AllocGlobal>(rt: &R) -> io::Result<()> {
     let words: Vec<String> = env::args(rt)?.collect(rt.alloc())?;
     for path in words.iter().skip(1) {
-        let text = fs::read_to_string(rt, path.as_str())?;
-        for paragraph in text.split("\n\n") {
-            let printed = rows_of::<Contract>(rt.alloc(), paragraph)?;
-            rt.write_all(printed.as_slice())?;
-        }
+        print_file(rt, path.as_str())?;
     }
     Ok(())
+}
+
+fn print_file<R: Files + Print + AllocGlobal>(rt: &R, path: &str) -> io::Result<()> {
+    let text = fs::read_to_string(rt, path)?;
+    for paragraph in text.split("\n\n") {
+        print_paragraph(rt, paragraph)?;
+    }
+    Ok(())
+}
+
+fn print_paragraph<R: Print + AllocGlobal>(rt: &R, paragraph: &str) -> io::Result<()> {
+    let printed = rows_of::<Contract>(rt.alloc(), paragraph)?;
+    rt.write_all(printed.as_slice())
 }
