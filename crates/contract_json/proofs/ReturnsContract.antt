@@ -1,5 +1,6 @@
 -- An action, a case and a contract that were written are read as they were.
-use Rattle.std.proofs.Common.{◌≡◌, ℕ, ℤ, true, List, ◌∷◌, map, Ok, refl, ap, ◌∙◌}
+use Rattle.std.proofs.Common.{◌≡◌, ℕ, ℤ, true, ◌&&◌, Bool, List, [], ◌∷◌, map, Ok, refl, ap, ◌∙◌}
+use Rattle.std.proofs.lemmas.Bool.{and_parts}
 use Rattle.std.specs.Prelude.{codes}
 use Rattle.serde_json.specs.Data.{Data, Items, no_items, item, string, array}
 use Rattle.serde_json.specs.View.{items_of}
@@ -15,15 +16,18 @@ use Rattle.contract.specs.declared.tree.Action.TheVariants as actions
 use Rattle.contract.specs.declared.tree.Case.{Case}
 use Rattle.contract.specs.declared.tree.Contract.{Contract}
 use Rattle.contract.specs.declared.tree.Contract as made
-use Rattle.contract.specs.Tree.{value_tree, observation_tree, action_tree, case_tree, contract_tree}
-use Rattle.contract_json.specs.Forms.{contract_form, case_form, action_form}
-use Rattle.contract_json.specs.Parts.{◌>>=◌, time, all_items, list}
-use Rattle.contract_json.specs.ReadsNames.{party, payee, token, choice_id}
-use Rattle.contract_json.specs.ReadsValue.{value, observation}
-use Rattle.contract_json.specs.ReadsContract.{action, action_by, contract, contract_by, case, case_by, all_cases}
-use Rattle.contract_json.specs.Written.{one, two, three, four, five, number_json, time_fits, party_json, payee_json, token_json, bound_json, value_json, observation_json, action_json, case_json, contract_json}
-use Rattle.contract_json.proofs.ReturnsNames.{time-number_json, party-party_json, payee-payee_json, bounds-written}
-use Rattle.contract_json.proofs.ListedContract.{contract_json-Close, contract_json-Pay, contract_json-If, contract_json-When, contract_json-Let, contract_json-Assert, case_json-parts}
+use Rattle.contract.specs.Tree.{ActionTree, deposit, choice, notify, ContractTree, close, pay, if_obs, when, let_be, assert, CaseTrees, no_cases, case_then, value_of, observation_of, action_of, contract_of, cases_of}
+use Rattle.json_names.specs.Forms.{contract_form, case_form, action_form}
+use Rattle.json_names.specs.Parts.{◌>>=◌, time, all_items, list}
+use Rattle.json_names.specs.ReadsNames.{party, payee, token, choice_id}
+use Rattle.json_values.specs.ReadsValue.{value, observation}
+use Rattle.json_values.specs.ReadsAction.{action, action_by}
+use Rattle.json_contracts.specs.ReadsContract.{contract, contract_by, case, case_by, all_cases}
+use Rattle.json_writers.specs.Symbols.{ActionSymbols, ContractSymbols, CasesSymbols}
+use Rattle.json_writers.specs.Written.{one, two, three, four, five, number_json, time_fits, party_json, payee_json, token_json, choice_id_json, bound_json, value_json, observation_json, action_json, contract_json, cases_json, contract_fits, cases_fit}
+use Rattle.contract_json.proofs.Hexes.{token-token_json}
+use Rattle.contract_json.proofs.ReturnsNames.{time-number_json, party-party_json, payee-payee_json, choice_id-choice_id_json, bounds-written}
+use Rattle.contract_json.proofs.ReturnsValue.{value-back, observation-back}
 
 -- ---- actions
 
@@ -32,18 +36,18 @@ action-deposit : (v a t p : Data) (x : Value) (r q : Party) (k : Token) → valu
 unfolding action_by action_form
 action-deposit v a t p x r q k h i j l = rw (h, i, j, l) refl
 
-pub action_returns-Deposit : (d v : Data) (a p : Party) (t : Token) (x : Value) → d ≡ four (codes "deposits") v (codes "into_account") (party_json a) (codes "of_token") (token_json t) (codes "party") (party_json p)
-    → value v ≡ Ok x → token (token_json t) ≡ Ok t → action d ≡ Ok (actions.Deposit a p t x)
-action_returns-Deposit d v a p t x is h i = ap action is ∙ action-deposit v (party_json a) (token_json t) (party_json p) x a p t h (party-party_json a) i (party-party_json p)
-
-pub action_returns-Choice : (d i : Data) (id : ChoiceId) (bounds : List Bound) → d ≡ two (codes "choose_between") (array (items_of (map bound_json bounds))) (codes "for_choice") i
-    → choice_id i ≡ Ok id → action d ≡ Ok (actions.Choice id bounds)
+action-choice : (i : Data) (id : ChoiceId) (bounds : List Bound) → choice_id i ≡ Ok id → action (two (codes "choose_between") (array (items_of (map bound_json bounds))) (codes "for_choice") i) ≡ Ok (actions.Choice id bounds)
 unfolding action_by action_form
-action_returns-Choice d i id bounds is h = ap action is ∙ rw (h, bounds-written bounds) refl
+action-choice i id bounds h = rw (h, bounds-written bounds) refl
 
-pub action_returns-Notify : (d o : Data) (x : Observation) → d ≡ one (codes "notify_if") o → observation o ≡ Ok x → action d ≡ Ok (actions.Notify x)
+action-notify : (o : Data) (x : Observation) → observation o ≡ Ok x → action (one (codes "notify_if") o) ≡ Ok (actions.Notify x)
 unfolding action_by action_form
-action_returns-Notify d o x is h = ap action is ∙ rw h refl
+action-notify o x h = rw h refl
+
+pub action-back : (a : ActionTree) → ActionSymbols a → action (action_json a) ≡ Ok (action_of a)
+action-back (deposit a p t v) h = action-deposit (value_json v) (party_json a) (token_json t) (party_json p) (value_of v) a p t (value-back v h.1) (party-party_json a) (token-token_json (token_json t) t refl h.0) (party-party_json p)
+action-back (choice id bounds) h = action-choice (choice_id_json id) id bounds (choice_id-choice_id_json id)
+action-back (notify o) h = action-notify (observation_json o) (observation_of o) (observation-back o h)
 
 -- ---- contracts, from what is inside
 
@@ -77,44 +81,41 @@ case-plain : (a c : Data) (x : Action) (y : Contract) → action a ≡ Ok x → 
 unfolding contract case_by case_form
 case-plain a c x y h i = rw (h, i) refl
 
-all_cases-items : (ds : Items) → all_cases ds ≡ all_items case ds
+-- ---- along the tree
+
+left : (a b : Bool) → (a && b) ≡ true → a ≡ true
+left a b h = (and_parts a b h).0
+
+right : (a b : Bool) → (a && b) ≡ true → b ≡ true
+right a b h = (and_parts a b h).1
+
+cases-more : (d : Data) (ds : Items) (k : Case) (ks : List Case) → case d ≡ Ok k → all_cases ds ≡ Ok ks → all_cases (item d ds) ≡ Ok (k ∷ ks)
 unfolding contract
-all_cases-items no_items = refl
-all_cases-items (item d ds) = ap (λ r. case d >>= λ x. r >>= λ xs. Ok (x ∷ xs)) (all_cases-items ds)
+cases-more d ds k ks h i = rw (h, i) refl
 
--- ---- contracts, each form by its tree
+no-cases : all_cases no_items ≡ Ok []
+unfolding contract
+no-cases = refl
 
-pub contract_returns-Close : contract (contract_json (contract_tree made.Close)) ≡ Ok made.Close
-contract_returns-Close = ap contract contract_json-Close ∙ contract-close
+mutual
+  pub contract-back : (c : ContractTree) → contract_fits c ≡ true → ContractSymbols c → contract (contract_json c) ≡ Ok (contract_of c)
+  contract-back close h s = contract-close
+  contract-back (pay a p t v c) h s =
+      contract-pay (party_json a) (value_json v) (contract_json c) (payee_json p) (token_json t) a (value_of v) (contract_of c) p t
+      (party-party_json a) (value-back v s.1.0) (contract-back c (right _ _ h) s.1.1) (payee-payee_json p) (token-token_json (token_json t) t refl s.0)
+  contract-back (if_obs o c d) h s =
+      contract-if (observation_json o) (contract_json c) (contract_json d) (observation_of o) (contract_of c) (contract_of d) (observation-back o s.0) (contract-back c (right _ _ (left _ _ h)) s.1.0) (contract-back d (right _ _ h) s.1.1)
+  contract-back (when ks t c) h s =
+      contract-when (number_json t) (contract_json c) (cases_json ks) t (contract_of c) (cases_of ks) (time-number_json t (right _ _ (left _ _ h))) (contract-back c (right _ _ h) s.1) (cases-back ks (left _ _ (left _ _ h)) s.0)
+  contract-back (let_be x v c) h s = contract-let (value_json v) (contract_json c) x (value_of v) (contract_of c) (value-back v s.0) (contract-back c (right _ _ h) s.1)
+  contract-back (assert o c) h s = contract-assert (observation_json o) (contract_json c) (observation_of o) (contract_of c) (observation-back o s.0) (contract-back c (right _ _ h) s.1)
 
-pub contract_returns-Pay : (a : Party) (p : Payee) (t : Token) (v : Value) (c : Contract) → token (token_json t) ≡ Ok t → value (value_json (value_tree v)) ≡ Ok v → contract (contract_json (contract_tree c)) ≡ Ok c
-    → contract (contract_json (contract_tree (made.Pay a p t v c))) ≡ Ok (made.Pay a p t v c)
-contract_returns-Pay a p t v c h i j =
-    ap contract (contract_json-Pay a p t v c)
-    ∙ contract-pay (party_json a) (value_json (value_tree v)) (contract_json (contract_tree c)) (payee_json p) (token_json t) a v c p t (party-party_json a) i j (payee-payee_json p) h
+  cases-back : (ks : CaseTrees) → cases_fit ks ≡ true → CasesSymbols ks → all_cases (cases_json ks) ≡ Ok (cases_of ks)
+  cases-back no_cases h s = no-cases
+  cases-back (case_then a c ks) h s =
+      cases-more (two (codes "case") (action_json a) (codes "then") (contract_json c)) (cases_json ks) (record { action = action_of a; then = contract_of c }) (cases_of ks)
+      (case-plain (action_json a) (contract_json c) (action_of a) (contract_of c) (action-back a s.0.0) (contract-back c (right _ _ (left _ _ h)) s.0.1)) (cases-back ks (right _ _ h) s.1)
 
-pub contract_returns-If : (o : Observation) (c : Contract) (d : Contract) → observation (observation_json (observation_tree o)) ≡ Ok o → contract (contract_json (contract_tree c)) ≡ Ok c
-    → contract (contract_json (contract_tree d)) ≡ Ok d → contract (contract_json (contract_tree (made.If o c d))) ≡ Ok (made.If o c d)
-contract_returns-If o c d h i j =
-    ap contract (contract_json-If o c d) ∙ contract-if (observation_json (observation_tree o)) (contract_json (contract_tree c)) (contract_json (contract_tree d)) o c d h i j
-
-pub contract_returns-When : (ks : List Case) (t : ℤ) (c : Contract) → time_fits t ≡ true → list case (array (items_of (map (λ k. case_json (case_tree k)) ks))) ≡ Ok ks → contract (contract_json (contract_tree c)) ≡ Ok c
-    → contract (contract_json (contract_tree (made.When ks t c))) ≡ Ok (made.When ks t c)
-contract_returns-When ks t c h i j =
-    ap contract (contract_json-When ks t c)
-    ∙ contract-when (number_json t) (contract_json (contract_tree c)) (items_of (map (λ k. case_json (case_tree k)) ks)) t c ks (time-number_json t h) j (all_cases-items _ ∙ i)
-
-pub contract_returns-Let : (x : List ℕ) (v : Value) (c : Contract) → value (value_json (value_tree v)) ≡ Ok v → contract (contract_json (contract_tree c)) ≡ Ok c
-    → contract (contract_json (contract_tree (made.Let x v c))) ≡ Ok (made.Let x v c)
-contract_returns-Let x v c h i = ap contract (contract_json-Let x v c) ∙ contract-let (value_json (value_tree v)) (contract_json (contract_tree c)) x v c h i
-
-pub contract_returns-Assert : (o : Observation) (c : Contract) → observation (observation_json (observation_tree o)) ≡ Ok o → contract (contract_json (contract_tree c)) ≡ Ok c
-    → contract (contract_json (contract_tree (made.Assert o c))) ≡ Ok (made.Assert o c)
-contract_returns-Assert o c h i = ap contract (contract_json-Assert o c) ∙ contract-assert (observation_json (observation_tree o)) (contract_json (contract_tree c)) o c h i
-
-pub case_returns-parts : (k : Case) → action (action_json (action_tree k.action)) ≡ Ok k.action → contract (contract_json (contract_tree k.then)) ≡ Ok k.then → case (case_json (case_tree k)) ≡ Ok k
-case_returns-parts k h i = ap case (case_json-parts k) ∙ case-plain (action_json (action_tree k.action)) (contract_json (contract_tree k.then)) k.action k.then h i
-
-pub ruleset action_returns = (action_returns-Deposit, action_returns-Choice, action_returns-Notify)
-
-pub ruleset contract_returns = (contract_returns-Close, contract_returns-Pay, contract_returns-If, contract_returns-When, contract_returns-Let, contract_returns-Assert, case_returns-parts)
+pub case-back : (a : ActionTree) (c : ContractTree) → contract_fits c ≡ true → ActionSymbols a → ContractSymbols c
+    → case (two (codes "case") (action_json a) (codes "then") (contract_json c)) ≡ Ok (record { action = action_of a; then = contract_of c })
+case-back a c h s u = case-plain (action_json a) (contract_json c) (action_of a) (contract_of c) (action-back a s) (contract-back c h u)

@@ -9,13 +9,15 @@ use Rattle.contract.specs.declared.value.Value.{Value}
 use Rattle.contract.specs.declared.value.Value as values
 use Rattle.contract.specs.declared.value.Observation.{Observation}
 use Rattle.contract.specs.declared.value.Observation as observations
-use Rattle.contract.specs.Tree.{value_tree, observation_tree}
-use Rattle.contract_json.specs.Forms.{value_form, observation_form}
-use Rattle.contract_json.specs.ReadsNames.{party, token, choice_id}
-use Rattle.contract_json.specs.ReadsValue.{value, value_by, observation, observation_by}
-use Rattle.contract_json.specs.Written.{one, two, three, number_json, party_json, token_json, choice_id_json, value_json, observation_json}
+use Rattle.contract.specs.Tree.{ValueTree, available_money, constant, neg_value, add_value, sub_value, mul_value, div_value, choice_value, time_interval_start, time_interval_end, use_value, cond_value, value_of}
+use Rattle.contract.specs.Tree.{ObservationTree, and_obs, or_obs, not_obs, chose_something, value_ge, value_gt, value_lt, value_le, value_eq, true_obs, false_obs, observation_of}
+use Rattle.json_names.specs.Forms.{value_form, observation_form}
+use Rattle.json_names.specs.ReadsNames.{party, token, choice_id}
+use Rattle.json_values.specs.ReadsValue.{value, value_by, observation, observation_by}
+use Rattle.json_writers.specs.Symbols.{ValueSymbols, ObservationSymbols}
+use Rattle.json_writers.specs.Written.{one, two, three, number_json, party_json, token_json, choice_id_json, value_json, observation_json}
+use Rattle.contract_json.proofs.Hexes.{token-token_json}
 use Rattle.contract_json.proofs.ReturnsNames.{party-party_json, choice_id-choice_id_json}
-use Rattle.contract_json.proofs.ListedValues as listed
 
 -- ---- values, from what is inside
 
@@ -112,77 +114,32 @@ observation-false : observation (boolean false) ≡ Ok observations.FalseObs
 unfolding value value_by observation_by value_form observation_form
 observation-false = refl
 
--- ---- values, each form by its tree
+-- ---- along the tree
 
-pub value_returns-AvailableMoney : (p : Party) (t : Token) → token (token_json t) ≡ Ok t → value (value_json (value_tree (values.AvailableMoney p t))) ≡ Ok (values.AvailableMoney p t)
-value_returns-AvailableMoney p t h = ap value (listed.value_json-AvailableMoney p t) ∙ value-available (token_json t) (party_json p) p t h (party-party_json p)
+mutual
+  pub value-back : (v : ValueTree) → ValueSymbols v → value (value_json v) ≡ Ok (value_of v)
+  value-back (available_money p t) h = value-available (token_json t) (party_json p) p t (token-token_json (token_json t) t refl h) (party-party_json p)
+  value-back (constant n) h = value-constant n
+  value-back (neg_value v) h = value-negate (value_json v) (value_of v) (value-back v h)
+  value-back (add_value v w) h = value-add (value_json v) (value_json w) (value_of v) (value_of w) (value-back v h.0) (value-back w h.1)
+  value-back (sub_value v w) h = value-minus (value_json v) (value_json w) (value_of v) (value_of w) (value-back v h.0) (value-back w h.1)
+  value-back (mul_value v w) h = value-multiply (value_json v) (value_json w) (value_of v) (value_of w) (value-back v h.0) (value-back w h.1)
+  value-back (div_value v w) h = value-divide (value_json v) (value_json w) (value_of v) (value_of w) (value-back v h.0) (value-back w h.1)
+  value-back (choice_value id) h = value-choice (choice_id_json id) id (choice_id-choice_id_json id)
+  value-back time_interval_start h = value-start
+  value-back time_interval_end h = value-end
+  value-back (use_value x) h = value-use x
+  value-back (cond_value o v w) h = value-if (observation_json o) (value_json v) (value_json w) (observation_of o) (value_of v) (value_of w) (observation-back o h.0) (value-back v h.1.0) (value-back w h.1.1)
 
-pub value_returns-Constant : (n : ℤ) → value (value_json (value_tree (values.Constant n))) ≡ Ok (values.Constant n)
-value_returns-Constant n = ap value (listed.value_json-Constant n) ∙ value-constant n
-
-pub value_returns-NegValue : (v : Value) → value (value_json (value_tree v)) ≡ Ok v → value (value_json (value_tree (values.NegValue v))) ≡ Ok (values.NegValue v)
-value_returns-NegValue v h = ap value (listed.value_json-NegValue v) ∙ value-negate (value_json (value_tree v)) v h
-
-pub value_returns-AddValue : (v : Value) (w : Value) → value (value_json (value_tree v)) ≡ Ok v → value (value_json (value_tree w)) ≡ Ok w → value (value_json (value_tree (values.AddValue v w))) ≡ Ok (values.AddValue v w)
-value_returns-AddValue v w h k = ap value (listed.value_json-AddValue v w) ∙ value-add (value_json (value_tree v)) (value_json (value_tree w)) v w h k
-
-pub value_returns-SubValue : (v : Value) (w : Value) → value (value_json (value_tree v)) ≡ Ok v → value (value_json (value_tree w)) ≡ Ok w → value (value_json (value_tree (values.SubValue v w))) ≡ Ok (values.SubValue v w)
-value_returns-SubValue v w h k = ap value (listed.value_json-SubValue v w) ∙ value-minus (value_json (value_tree v)) (value_json (value_tree w)) v w h k
-
-pub value_returns-MulValue : (v : Value) (w : Value) → value (value_json (value_tree v)) ≡ Ok v → value (value_json (value_tree w)) ≡ Ok w → value (value_json (value_tree (values.MulValue v w))) ≡ Ok (values.MulValue v w)
-value_returns-MulValue v w h k = ap value (listed.value_json-MulValue v w) ∙ value-multiply (value_json (value_tree v)) (value_json (value_tree w)) v w h k
-
-pub value_returns-DivValue : (v : Value) (w : Value) → value (value_json (value_tree v)) ≡ Ok v → value (value_json (value_tree w)) ≡ Ok w → value (value_json (value_tree (values.DivValue v w))) ≡ Ok (values.DivValue v w)
-value_returns-DivValue v w h k = ap value (listed.value_json-DivValue v w) ∙ value-divide (value_json (value_tree v)) (value_json (value_tree w)) v w h k
-
-pub value_returns-ChoiceValue : (id : ChoiceId) → value (value_json (value_tree (values.ChoiceValue id))) ≡ Ok (values.ChoiceValue id)
-value_returns-ChoiceValue id = ap value (listed.value_json-ChoiceValue id) ∙ value-choice (choice_id_json id) id (choice_id-choice_id_json id)
-
-pub value_returns-TimeIntervalStart : value (value_json (value_tree values.TimeIntervalStart)) ≡ Ok values.TimeIntervalStart
-value_returns-TimeIntervalStart = ap value listed.value_json-TimeIntervalStart ∙ value-start
-
-pub value_returns-TimeIntervalEnd : value (value_json (value_tree values.TimeIntervalEnd)) ≡ Ok values.TimeIntervalEnd
-value_returns-TimeIntervalEnd = ap value listed.value_json-TimeIntervalEnd ∙ value-end
-
-pub value_returns-UseValue : (x : List ℕ) → value (value_json (value_tree (values.UseValue x))) ≡ Ok (values.UseValue x)
-value_returns-UseValue x = ap value (listed.value_json-UseValue x) ∙ value-use x
-
-pub value_returns-Cond : (o : Observation) (v : Value) (w : Value) → observation (observation_json (observation_tree o)) ≡ Ok o → value (value_json (value_tree v)) ≡ Ok v → value (value_json (value_tree w)) ≡ Ok w → value (value_json (value_tree (values.Cond o v w))) ≡ Ok (values.Cond o v w)
-value_returns-Cond o v w h k l = ap value (listed.value_json-Cond o v w) ∙ value-if (observation_json (observation_tree o)) (value_json (value_tree v)) (value_json (value_tree w)) o v w h k l
-
-pub observation_returns-AndObs : (o : Observation) (q : Observation) → observation (observation_json (observation_tree o)) ≡ Ok o → observation (observation_json (observation_tree q)) ≡ Ok q → observation (observation_json (observation_tree (observations.AndObs o q))) ≡ Ok (observations.AndObs o q)
-observation_returns-AndObs o q h k = ap observation (listed.observation_json-AndObs o q) ∙ observation-both (observation_json (observation_tree o)) (observation_json (observation_tree q)) o q h k
-
-pub observation_returns-OrObs : (o : Observation) (q : Observation) → observation (observation_json (observation_tree o)) ≡ Ok o → observation (observation_json (observation_tree q)) ≡ Ok q → observation (observation_json (observation_tree (observations.OrObs o q))) ≡ Ok (observations.OrObs o q)
-observation_returns-OrObs o q h k = ap observation (listed.observation_json-OrObs o q) ∙ observation-either (observation_json (observation_tree o)) (observation_json (observation_tree q)) o q h k
-
-pub observation_returns-NotObs : (o : Observation) → observation (observation_json (observation_tree o)) ≡ Ok o → observation (observation_json (observation_tree (observations.NotObs o))) ≡ Ok (observations.NotObs o)
-observation_returns-NotObs o h = ap observation (listed.observation_json-NotObs o) ∙ observation-not (observation_json (observation_tree o)) o h
-
-pub observation_returns-ChoseSomething : (id : ChoiceId) → observation (observation_json (observation_tree (observations.ChoseSomething id))) ≡ Ok (observations.ChoseSomething id)
-observation_returns-ChoseSomething id = ap observation (listed.observation_json-ChoseSomething id) ∙ observation-chose (choice_id_json id) id (choice_id-choice_id_json id)
-
-pub observation_returns-ValueGE : (v : Value) (w : Value) → value (value_json (value_tree v)) ≡ Ok v → value (value_json (value_tree w)) ≡ Ok w → observation (observation_json (observation_tree (observations.ValueGE v w))) ≡ Ok (observations.ValueGE v w)
-observation_returns-ValueGE v w h k = ap observation (listed.observation_json-ValueGE v w) ∙ observation-ge_than (value_json (value_tree v)) (value_json (value_tree w)) v w h k
-
-pub observation_returns-ValueGT : (v : Value) (w : Value) → value (value_json (value_tree v)) ≡ Ok v → value (value_json (value_tree w)) ≡ Ok w → observation (observation_json (observation_tree (observations.ValueGT v w))) ≡ Ok (observations.ValueGT v w)
-observation_returns-ValueGT v w h k = ap observation (listed.observation_json-ValueGT v w) ∙ observation-gt (value_json (value_tree v)) (value_json (value_tree w)) v w h k
-
-pub observation_returns-ValueLT : (v : Value) (w : Value) → value (value_json (value_tree v)) ≡ Ok v → value (value_json (value_tree w)) ≡ Ok w → observation (observation_json (observation_tree (observations.ValueLT v w))) ≡ Ok (observations.ValueLT v w)
-observation_returns-ValueLT v w h k = ap observation (listed.observation_json-ValueLT v w) ∙ observation-lt (value_json (value_tree v)) (value_json (value_tree w)) v w h k
-
-pub observation_returns-ValueLE : (v : Value) (w : Value) → value (value_json (value_tree v)) ≡ Ok v → value (value_json (value_tree w)) ≡ Ok w → observation (observation_json (observation_tree (observations.ValueLE v w))) ≡ Ok (observations.ValueLE v w)
-observation_returns-ValueLE v w h k = ap observation (listed.observation_json-ValueLE v w) ∙ observation-le_than (value_json (value_tree v)) (value_json (value_tree w)) v w h k
-
-pub observation_returns-ValueEQ : (v : Value) (w : Value) → value (value_json (value_tree v)) ≡ Ok v → value (value_json (value_tree w)) ≡ Ok w → observation (observation_json (observation_tree (observations.ValueEQ v w))) ≡ Ok (observations.ValueEQ v w)
-observation_returns-ValueEQ v w h k = ap observation (listed.observation_json-ValueEQ v w) ∙ observation-equal_to (value_json (value_tree v)) (value_json (value_tree w)) v w h k
-
-pub observation_returns-TrueObs : observation (observation_json (observation_tree observations.TrueObs)) ≡ Ok observations.TrueObs
-observation_returns-TrueObs = ap observation listed.observation_json-TrueObs ∙ observation-true
-
-pub observation_returns-FalseObs : observation (observation_json (observation_tree observations.FalseObs)) ≡ Ok observations.FalseObs
-observation_returns-FalseObs = ap observation listed.observation_json-FalseObs ∙ observation-false
-
-pub ruleset value_returns = (value_returns-AvailableMoney, value_returns-Constant, value_returns-NegValue, value_returns-AddValue, value_returns-SubValue, value_returns-MulValue, value_returns-DivValue, value_returns-ChoiceValue, value_returns-TimeIntervalStart, value_returns-TimeIntervalEnd, value_returns-UseValue, value_returns-Cond)
-
-pub ruleset observation_returns = (observation_returns-AndObs, observation_returns-OrObs, observation_returns-NotObs, observation_returns-ChoseSomething, observation_returns-ValueGE, observation_returns-ValueGT, observation_returns-ValueLT, observation_returns-ValueLE, observation_returns-ValueEQ, observation_returns-TrueObs, observation_returns-FalseObs)
+  pub observation-back : (o : ObservationTree) → ObservationSymbols o → observation (observation_json o) ≡ Ok (observation_of o)
+  observation-back (and_obs o q) h = observation-both (observation_json o) (observation_json q) (observation_of o) (observation_of q) (observation-back o h.0) (observation-back q h.1)
+  observation-back (or_obs o q) h = observation-either (observation_json o) (observation_json q) (observation_of o) (observation_of q) (observation-back o h.0) (observation-back q h.1)
+  observation-back (not_obs o) h = observation-not (observation_json o) (observation_of o) (observation-back o h)
+  observation-back (chose_something id) h = observation-chose (choice_id_json id) id (choice_id-choice_id_json id)
+  observation-back (value_ge v w) h = observation-ge_than (value_json v) (value_json w) (value_of v) (value_of w) (value-back v h.0) (value-back w h.1)
+  observation-back (value_gt v w) h = observation-gt (value_json v) (value_json w) (value_of v) (value_of w) (value-back v h.0) (value-back w h.1)
+  observation-back (value_lt v w) h = observation-lt (value_json v) (value_json w) (value_of v) (value_of w) (value-back v h.0) (value-back w h.1)
+  observation-back (value_le v w) h = observation-le_than (value_json v) (value_json w) (value_of v) (value_of w) (value-back v h.0) (value-back w h.1)
+  observation-back (value_eq v w) h = observation-equal_to (value_json v) (value_json w) (value_of v) (value_of w) (value-back v h.0) (value-back w h.1)
+  observation-back true_obs h = observation-true
+  observation-back false_obs h = observation-false

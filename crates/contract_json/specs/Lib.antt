@@ -5,10 +5,9 @@ pub mod ReadsValue
 pub mod ReadsContract
 pub mod ReadsInput
 pub mod ReadsState
-pub mod Rows
 pub mod ReadsText
-pub mod WrittenNames
-pub mod WrittenValues
-pub mod WrittenContract
-pub mod WrittenOutcome
+pub mod WrittenInput
 pub mod Written
+pub mod Readable
+pub mod ReadableLaws
+pub mod InputSymbols

@@ -1,14 +1,4 @@
--- What is written, and what a call that writes answers.
-use Rattle.std.specs.Prelude.{◌≡◌, Bool, true, false, Result, Ok, Err, ⊤}
-use Rattle.contract_json.specs.declared.fault.WriteFault.{WriteFault}
-use Rattle.contract_json.specs.declared.fault.WriteFault.TheVariants as faults
-pub use Rattle.contract_json.specs.WrittenNames.{one, two, three, four, five, six, pair_json, number_fits, time_fits, number_json, wide_json, party_json, token_json, choice_id_json, payee_json}
-pub use Rattle.contract_json.specs.WrittenValues.{value_json, observation_json, value_fits, observation_fits}
-pub use Rattle.contract_json.specs.WrittenContract.{bound_json, bound_fits, action_json, action_fits, contract_json, cases_json, case_json, contract_fits, cases_fit, case_fits, input_json, input_fits, interval_json, transaction_json, transaction_fits}
-pub use Rattle.contract_json.specs.WrittenOutcome.{account_row_json, choice_row_json, bound_row_json, state_json, state_fits, payment_json, warning_json, outcome_json}
-
--- A call wrote this, and JSON has all numbers; or one it doesn't have; or the call was refused for memory.
-abbrev pub Written : {Y W : Type 0} → (Y → W) → Result Y WriteFault → Bool → W → Type 0
-Written f (Ok y) fits w = (fits ≡ true) × (f y ≡ w)
-Written f (Err faults.OutOfRange) fits w = fits ≡ false
-Written f (Err faults.Memory) fits w = ⊤
+-- What is written, and what a call that writes answers, passed on from the crates in which it stands.
+pub use Rattle.json_writers.specs.Written.{Written, one, two, three, four, five, six, pair_json, number_fits, time_fits, number_json, wide_json, party_json, token_json, choice_id_json, payee_json, value_json, observation_json, value_fits, observation_fits, bound_json, bound_fits, action_json, action_fits, contract_json, cases_json, case_json, contract_fits, cases_fit, case_fits}
+pub use Rattle.json_outcomes.specs.WrittenOutcome.{account_row_json, choice_row_json, bound_row_json, state_json, state_fits, payment_json, warning_json, outcome_json}
+pub use Rattle.contract_json.specs.WrittenInput.{input_json, input_fits, interval_json, transaction_json, transaction_fits}

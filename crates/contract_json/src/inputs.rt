@@ -1,157 +1,131 @@
-//! Inputs and transactions as JSON values.
-ghost use Rattle.std.specs.Prelude.{◌≡◌, map, codes, IfOk, Ok};
+//! Inputs and transactions, written to a text.
+ghost use Rattle.std.specs.Prelude.{◌≡◌, true, map, codes, OnOk};
 ghost use Rattle.std.specs.List.{list_all};
-ghost use Rattle.serde_json.specs.Data.{array};
-ghost use Rattle.serde_json.specs.View.{view, items_of};
-ghost use Rattle.contract_json.specs.Parts.{Gives, list};
-ghost use Rattle.contract_json.specs.ReadsNames as names;
-ghost use Rattle.contract_json.specs.ReadsInput as reads;
+ghost use Rattle.hex.specs.Hex.{IsBytes};
+ghost use Rattle.serde_json.specs.Data.{array, string};
+ghost use Rattle.serde_json.specs.View.{items_of};
+ghost use Rattle.json_outcomes.specs.Each.{Each};
+ghost use Rattle.json_writers.specs.Tokens.{Puts, PutsFitting};
+ghost use Rattle.contract_json.specs.InputSymbols.{InputSymbols};
 ghost use Rattle.contract_json.specs.Written as written;
-ghost use Rattle.contract_json.specs.Written.{Written, input_fits, transaction_fits};
+ghost use Rattle.contract_json.specs.Written.{number_fits, time_fits, input_fits, transaction_fits};
 
-use crate::fault::{JsonFault, WriteFault};
-use crate::forms::{InputForm, input_form};
-use crate::look::{has_two, member};
-use crate::name_forms::{
-    choice_id_from_json, choice_id_to_json, party_from_json, party_to_json, token_from_json,
-    token_to_json,
-};
-use crate::numbers::{number_to_json, read_time, read_whole, time_json};
-use crate::objects::{four, two};
-use crate::transaction::Transaction;
-use contract::{Input, Interval, Items, Memory, Party, Token};
-use serde_json::Value as Json;
+use collections::{Items, Memory};
+use contract::{Input, Interval};
+use json::Writer;
+use json_states::Transaction;
+use json_writers::{WriteFault, put_choice_id, put_number, put_party, put_time, put_token, word};
+use names::{ChoiceId, Party, Token};
 use std::alloc::Global;
 
-/// The input that a JSON value stands for (Marlowe specification version 3, "Actions and inputs"). An
-/// amount and the number of a choice are whole numbers from -2^63 to 2^64 - 1.
-#[tactic(auto, unfolding(crate::specs::ReadsInput::input_by))]
-pub fn input_from_json(alloc: Global, json: &Json) -> Result<Input, JsonFault>
-    ensures reading { Gives result (reads.input (view json.now)) }
+fn put_whole(out: &mut Writer, number: &i128) -> Result<(), WriteFault>
+    ensures { PutsFitting result out.old out.new (number_fits number.now) (written.number_json number.now) }
 {
-    match input_form(json) {
-        InputForm::Notify => Ok(Input::Notify),
-        InputForm::Deposit => {
-            let depositor = party_from_json(alloc, member(json, "input_from_party")?)?;
-            let amount = read_whole(member(json, "that_deposits")?)?;
-            let token = token_from_json(alloc, member(json, "of_token")?)?;
-            let account = party_from_json(alloc, member(json, "into_account")?)?;
-            Ok(Input::Deposit(account, depositor, token, amount))
-        }
-        InputForm::Choice => {
-            let id = choice_id_from_json(alloc, member(json, "for_choice_id")?)?;
-            let number = read_whole(member(json, "input_that_chooses_num")?)?;
-            Ok(Input::Choice(id, number))
-        }
-        InputForm::Nothing => Err(JsonFault::NoForm),
-    }
+    put_number(out, *number)
 }
 
-fn interval_from_json(json: &Json) -> Result<Interval, JsonFault>
-    ensures { Gives result (reads.interval (view json.now)) }
-{
-    if !has_two(json, "from", "to") {
-        return Err(JsonFault::NoForm);
-    }
-    let from = read_time(member(json, "from")?)?;
-    let to = read_time(member(json, "to")?)?;
-    Ok(Interval { from, to })
-}
-
-fn inputs_from_json(alloc: Global, json: &Json) -> Result<Items<Input>, JsonFault>
-    ensures { Gives result (list reads.input (view json.now)) }
-{
-    let items = json.as_array().ok_or(JsonFault::NoForm)?;
-    let mut inputs = Items::new(alloc);
-    for item in items {
-        inputs.push(input_from_json(alloc, item)?)?;
-    }
-    Ok(inputs)
-}
-
-/// The transaction that a JSON value stands for.
-pub fn transaction_from_json(alloc: Global, json: &Json) -> Result<Transaction, JsonFault>
-    ensures reading { Gives result (reads.transaction (view json.now)) }
-{
-    if !has_two(json, "tx_interval", "tx_inputs") {
-        return Err(JsonFault::NoForm);
-    }
-    let interval = interval_from_json(member(json, "tx_interval")?)?;
-    let inputs = inputs_from_json(alloc, member(json, "tx_inputs")?)?;
-    Ok(Transaction { interval, inputs })
-}
-
-fn deposit_json(
+fn put_deposit(
     alloc: Global,
+    out: &mut Writer,
     account: &Party,
     party: &Party,
     token: &Token,
-    amount: Json,
-) -> Result<Json, Memory>
-    ensures json { IfOk result (λ v. view v ≡ written.four (codes "input_from_party") (written.party_json party.now) (codes "into_account") (written.party_json account.now)
-        (codes "of_token") (written.token_json token.now) (codes "that_deposits") (view amount)) }
-    ensures reads_back { IfOk result (λ _. names.token (written.token_json token.now) ≡ Ok token.now) }
+    amount: &i128,
+) -> Result<(), WriteFault>
+    ensures put { PutsFitting result out.old out.new (number_fits amount.now) (written.four (codes "input_from_party") (written.party_json party.now)
+        (codes "into_account") (written.party_json account.now) (codes "of_token") (written.token_json token.now) (codes "that_deposits") (written.number_json amount.now)) }
+    ensures symbol { OnOk result (IsBytes token.now.symbol) }
 {
-    let party = party_to_json(alloc, party)?;
-    let account = party_to_json(alloc, account)?;
-    let token = token_to_json(alloc, token)?;
-    four(
-        alloc,
-        ("input_from_party", party),
-        ("into_account", account),
-        ("of_token", token),
-        ("that_deposits", amount),
-    )
+    out.begin_object()?;
+    out.key("input_from_party")?;
+    put_party(out, party)?;
+    out.key("into_account")?;
+    put_party(out, account)?;
+    out.key("of_token")?;
+    put_token(alloc, out, token)?;
+    out.key("that_deposits")?;
+    put_whole(out, amount)?;
+    out.end_object()?;
+    Ok(())
 }
 
-/// An input as a JSON value (Marlowe specification version 3, "Actions and inputs"). An amount or a choice
-/// that doesn't lie from -2^63 to 2^64 - 1 is out of range.
-#[tactic(auto, using(crate::proofs::ReturnsInput::input_returns))]
-pub fn input_to_json(alloc: Global, input: &Input) -> Result<Json, WriteFault>
-    ensures written { Written view result (input_fits input.now) (written.input_json input.now) }
-    ensures reads_back { IfOk result (λ v. reads.input (view v) ≡ Ok input.now) }
+fn put_choice(out: &mut Writer, id: &ChoiceId, number: &i128) -> Result<(), WriteFault>
+    ensures { PutsFitting result out.old out.new (number_fits number.now) (written.two (codes "for_choice_id") (written.choice_id_json id.now)
+        (codes "input_that_chooses_num") (written.number_json number.now)) }
+{
+    out.begin_object()?;
+    out.key("for_choice_id")?;
+    put_choice_id(out, id)?;
+    out.key("input_that_chooses_num")?;
+    put_whole(out, number)?;
+    out.end_object()?;
+    Ok(())
+}
+
+pub(crate) fn put_input(alloc: Global, out: &mut Writer, input: &Input) -> Result<(), WriteFault>
+    ensures put { PutsFitting result out.old out.new (input_fits input.now) (written.input_json input.now) }
+    ensures symbols { OnOk result (InputSymbols input.now) }
 {
     match input {
         Input::Deposit(account, party, token, amount) => {
-            let amount = number_to_json(*amount)?;
-            Ok(deposit_json(alloc, account, party, token, amount)?)
+            put_deposit(alloc, out, account, party, token, amount)
         }
-        Input::Choice(id, number) => {
-            let number = number_to_json(*number)?;
-            let id = choice_id_to_json(alloc, id)?;
-            Ok(two(alloc, "for_choice_id", id, "input_that_chooses_num", number)?)
+        Input::Choice(id, number) => put_choice(out, id, number),
+        Input::Notify => {
+            word(out, "input_notify")?;
+            Ok(())
         }
-        Input::Notify => Ok(Json::try_from_str(alloc, "input_notify")?),
     }
 }
 
-fn interval_json(alloc: Global, interval: Interval) -> Result<Json, Memory>
-    ensures json { IfOk result (λ v. view v ≡ written.interval_json interval) }
-    ensures reads_back { IfOk result (λ v. reads.interval (view v) ≡ Ok interval) }
+fn put_inputs(alloc: Global, out: &mut Writer, inputs: &Items<Input>) -> Result<(), WriteFault>
+    ensures put { PutsFitting result out.old out.new (list_all input_fits inputs.now) (array (items_of (map written.input_json inputs.now))) }
+    ensures symbols { OnOk result (Each InputSymbols inputs.now) }
 {
-    let from = time_json(interval.from);
-    let to = time_json(interval.to);
-    two(alloc, "from", from, "to", to)
-}
-
-fn inputs_json(alloc: Global, inputs: &Items<Input>) -> Result<Json, WriteFault>
-    ensures written { Written view result (list_all input_fits inputs.now) (array (items_of (map written.input_json inputs.now))) }
-    ensures reads_back { IfOk result (λ v. list reads.input (view v) ≡ Ok inputs.now) }
-{
-    let mut items = Vec::new(alloc);
+    out.begin_array()?;
     for input in inputs.as_slice() {
-        items.push(input_to_json(alloc, input)?)?;
+        put_input(alloc, out, input)?;
     }
-    Ok(Json::from(items))
+    out.end_array()?;
+    Ok(())
 }
 
-/// A transaction as a JSON value: its interval, and its inputs in order. A number of an input that doesn't
-/// lie from -2^63 to 2^64 - 1 is out of range.
-pub fn transaction_to_json(alloc: Global, transaction: &Transaction) -> Result<Json, WriteFault>
-    ensures written { Written view result (transaction_fits transaction.now) (written.transaction_json transaction.now) }
-    ensures reads_back { IfOk result (λ v. reads.transaction (view v) ≡ Ok transaction.now) }
+fn put_moment(out: &mut Writer, time: &i64) -> Result<(), Memory>
+    ensures put { OnOk result (Puts out.old out.new (written.number_json time.now)) }
+    ensures fits { time_fits time.now ≡ true }
 {
-    let interval = interval_json(alloc, transaction.interval)?;
-    let inputs = inputs_json(alloc, &transaction.inputs)?;
-    Ok(two(alloc, "tx_inputs", inputs, "tx_interval", interval)?)
+    put_time(out, *time)
+}
+
+fn put_interval(out: &mut Writer, interval: &Interval) -> Result<(), Memory>
+    ensures put { OnOk result (Puts out.old out.new (written.interval_json interval.now)) }
+    ensures from { OnOk result (time_fits interval.now.from ≡ true) }
+    ensures to { OnOk result (time_fits interval.now.to ≡ true) }
+{
+    out.begin_object()?;
+    out.key("from")?;
+    put_moment(out, &interval.from)?;
+    out.key("to")?;
+    put_moment(out, &interval.to)?;
+    out.end_object()?;
+    Ok(())
+}
+
+pub(crate) fn put_transaction(
+    alloc: Global,
+    out: &mut Writer,
+    transaction: &Transaction,
+) -> Result<(), WriteFault>
+    ensures put { PutsFitting result out.old out.new (transaction_fits transaction.now) (written.transaction_json transaction.now) }
+    ensures symbols { OnOk result (Each InputSymbols transaction.now.inputs) }
+    ensures from { OnOk result (time_fits transaction.now.interval.from ≡ true) }
+    ensures to { OnOk result (time_fits transaction.now.interval.to ≡ true) }
+{
+    out.begin_object()?;
+    out.key("tx_inputs")?;
+    put_inputs(alloc, out, &transaction.inputs)?;
+    out.key("tx_interval")?;
+    put_interval(out, &transaction.interval)?;
+    out.end_object()?;
+    Ok(())
 }

@@ -1,37 +1,32 @@
-//! Marlowe contracts, inputs, transactions and states as JSON.
+//! Marlowe contracts, inputs, transactions, states and outcomes as JSON: read from texts and from `serde_json` values,
+//! and written to them.
 #![tactic(auto)]
 
-mod actions;
-mod contracts;
-mod fault;
-mod forms;
 mod inputs;
-mod look;
-mod name_forms;
-mod numbers;
-mod objects;
-mod outcomes;
-mod rows;
-mod states;
+mod laws;
+mod put_json;
+mod puts;
 mod texts;
-mod transaction;
-mod values;
-mod warnings;
-mod writing;
+mod to_json;
 
-pub use actions::{action_from_json, action_to_json};
-pub use contracts::{case_from_json, case_to_json, contract_from_json, contract_to_json};
-pub use fault::{JsonFault, WriteFault};
-pub use inputs::{input_from_json, input_to_json, transaction_from_json, transaction_to_json};
-pub use name_forms::{
-    bound_from_json, bound_to_json, choice_id_from_json, choice_id_to_json, party_from_json,
-    party_to_json, payee_from_json, payee_to_json, token_from_json, token_to_json,
+pub use json_contracts::{case_from_json, contract_from_json, contracts_are_read_by_form};
+pub use json_names::{
+    JsonFault, bound_from_json, choice_id_from_json, party_from_json, payee_from_json,
+    token_from_json,
 };
-pub use outcomes::{outcome_to_json, payment_to_json};
-pub use states::{state_from_json, state_to_json};
+pub use json_states::{Transaction, input_from_json, state_from_json, transaction_from_json};
+pub use json_tree::JsonValue;
+pub use json_values::{
+    action_from_json, observation_from_json, value_from_json, values_are_read_by_form,
+};
+pub use json_writers::WriteFault;
+pub use laws::what_is_read_can_be_written;
 pub use texts::{
     read_contract, read_input, read_state, read_transaction, write_contract, write_outcome,
 };
-pub use transaction::Transaction;
-pub use values::{observation_from_json, observation_to_json, value_from_json, value_to_json};
-pub use warnings::warning_to_json;
+pub use to_json::{
+    action_to_json, bound_to_json, case_to_json, choice_id_to_json, contract_to_json,
+    input_to_json, observation_to_json, outcome_to_json, party_to_json, payee_to_json,
+    payment_to_json, state_to_json, token_to_json, transaction_to_json, value_to_json,
+    warning_to_json,
+};

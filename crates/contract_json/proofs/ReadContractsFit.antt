@@ -1,0 +1,225 @@
+-- What is read as a contract can be written: JSON has its numbers.
+use Rattle.std.proofs.Common.{◌≡◌, ℕ, ℤ, Bool, true, false, cond, ◌&&◌, List, [], ◌∷◌, length, map, Option, Some, None, Ok, Err, refl, sym, subst, ap, ◌∙◌}
+use Rattle.std.specs.Prelude.{codes, nat_lt}
+use Rattle.std.specs.Str.{is_utf8}
+use Rattle.std.specs.List.{list_all}
+use Rattle.std.specs.Ordering.{nat_cmp, match_ordering}
+use Rattle.std.specs.Cmp.Lexicographic.{slice_cmp}
+use Rattle.serde_json.specs.Data.{Data, null, boolean, number, string, array, object, Items, no_items, item, Members, no_members, member}
+use Rattle.serde_json.specs.Find.{as_array}
+use Rattle.serde_json.specs.Read.{read}
+use Rattle.names.specs.declared.bound.Bound.{Bound}
+use Rattle.contract.specs.declared.tree.Action.{Action}
+use Rattle.contract.specs.declared.tree.Action.TheVariants as actions
+use Rattle.contract.specs.declared.tree.Case.{Case}
+use Rattle.contract.specs.declared.tree.Contract.{Contract}
+use Rattle.contract.specs.declared.tree.Contract as contracts
+use Rattle.contract.specs.Tree.{value_tree, observation_tree, action_tree, case_trees, case_tree, contract_tree}
+use Rattle.contract.specs.TreeLaws as laws
+use Rattle.json_names.specs.Forms.{has_two, contract_form, case_form, action_form}
+use Rattle.json_names.specs.Parts.{Reading, ◌>>=◌, At, both, nowhere, found, member_at, text, whole, time, all_items, list}
+use Rattle.json_names.specs.ReadsNames.{party, payee, token, choice_id, bound}
+use Rattle.json_names.specs.ReadsText.{json_of, json_or_not, of_text}
+use Rattle.json_names.specs.declared.fault.JsonFault.TheVariants.{NoForm, NotJson, TooLong}
+use Rattle.json_names.specs.declared.forms.ContractForm.{ContractForm}
+use Rattle.json_names.specs.declared.forms.ContractForm.TheVariants as contract_forms
+use Rattle.json_names.specs.declared.forms.CaseForm.{CaseForm}
+use Rattle.json_names.specs.declared.forms.CaseForm.TheVariants as case_forms
+use Rattle.json_names.specs.declared.forms.ActionForm.{ActionForm}
+use Rattle.json_names.specs.declared.forms.ActionForm.TheVariants as action_forms
+use Rattle.json_values.specs.ReadsAction.{action, action_by}
+use Rattle.json_values.specs.ReadsValue.{value, observation}
+use Rattle.json_contracts.specs.ReadsContract.{contract, contract_by, contract_in, case, case_by, cases, all_cases, cases_in}
+use Rattle.json_writers.specs.Written.{bound_fits, value_fits, observation_fits, action_fits, case_fits, cases_fit, contract_fits, time_fits}
+use Rattle.contract_json.proofs.Ranges.{InRange, ItemsInRange, MembersInRange, bind_ok, ok-same, whole-fits, time-fits, member_at-in-range, read-in-range}
+use Rattle.contract_json.proofs.ReadValuesFit.{value-read-fits, observation-read-fits, both-ok, either}
+
+abbrev AF : Action → Type 0
+AF a = action_fits (action_tree a) ≡ true
+
+abbrev KF : List Case → Type 0
+KF ks = cases_fit (case_trees (map case_tree ks)) ≡ true
+
+abbrev CaseF : Case → Type 0
+CaseF k = case_fits (case_tree k) ≡ true
+
+abbrev CF : Contract → Type 0
+CF c = contract_fits (contract_tree c) ≡ true
+
+-- ---- actions
+
+bound-parts : (d : Data) (b : Bound) (c : Bool) → InRange d
+    → cond c (member_at (codes "from") d >>= λ f. whole f >>= λ from. member_at (codes "to") d >>= λ t. whole t >>= λ to. Ok (record { from = from; to = to })) (Err NoForm) ≡ Ok b → bound_fits b ≡ true
+bound-parts d b true r h =
+    let f = bind_ok (member_at (codes "from") d) _ b h in
+    let from = bind_ok (whole f.0) _ b f.2 in
+    let t = bind_ok (member_at (codes "to") d) _ b from.2 in
+    let to = bind_ok (whole t.0) _ b t.2 in
+    subst (λ e. bound_fits e ≡ true) (ok-same _ _ to.2)
+    (λ i. whole-fits f.0 from.0 (member_at-in-range (codes "from") d f.0 r f.1) from.1 i && whole-fits t.0 to.0 (member_at-in-range (codes "to") d t.0 r t.1) to.1 i)
+bound-parts d b false r h = cc
+
+bound-fits : (d : Data) (b : Bound) → InRange d → bound d ≡ Ok b → bound_fits b ≡ true
+bound-fits d b r h = bound-parts d b (has_two (codes "from") (codes "to") d) r h
+
+bounds-fit : (ds : Items) (bs : List Bound) → ItemsInRange ds → all_items bound ds ≡ Ok bs → list_all bound_fits bs ≡ true
+bounds-fit no_items bs r h = subst (λ l. list_all bound_fits l ≡ true) (ok-same [] bs h) refl
+bounds-fit (item d ds) bs r h =
+    let b = bind_ok (bound d) _ bs h in
+    let rest = bind_ok (all_items bound ds) _ bs b.2 in
+    subst (λ l. list_all bound_fits l ≡ true) (ok-same _ _ rest.2) (λ i. bound-fits d b.0 r.0 b.1 i && bounds-fit ds rest.0 r.1 rest.1 i)
+
+list-fits : (d : Data) (bs : List Bound) → InRange d → list bound d ≡ Ok bs → list_all bound_fits bs ≡ true
+list-fits null bs r h = cc
+list-fits (boolean b) bs r h = cc
+list-fits (number n) bs r h = cc
+list-fits (string s) bs r h = cc
+list-fits (array ds) bs r h = bounds-fit ds bs r h
+list-fits (object ms) bs r h = cc
+
+action_by-fits : (f : ActionForm) (d : Data) (x : Action) → InRange d → action_by f d ≡ Ok x → AF x
+unfolding action_by
+action_by-fits action_forms.Deposit d x r h =
+    let p = bind_ok (member_at (codes "party") d) _ x h in
+    let depositor = bind_ok (party p.0) _ x p.2 in
+    let v = bind_ok (member_at (codes "deposits") d) _ x depositor.2 in
+    let amount = bind_ok (value v.0) _ x v.2 in
+    let t = bind_ok (member_at (codes "of_token") d) _ x amount.2 in
+    let k = bind_ok (token t.0) _ x t.2 in
+    let a = bind_ok (member_at (codes "into_account") d) _ x k.2 in
+    let account = bind_ok (party a.0) _ x a.2 in
+    subst AF (ok-same _ _ account.2) (value-read-fits v.0 amount.0 (member_at-in-range (codes "deposits") d v.0 r v.1) amount.1)
+action_by-fits action_forms.Choice d x r h =
+    let i = bind_ok (member_at (codes "for_choice") d) _ x h in
+    let id = bind_ok (choice_id i.0) _ x i.2 in
+    let l = bind_ok (member_at (codes "choose_between") d) _ x id.2 in
+    let bounds = bind_ok (list bound l.0) _ x l.2 in
+    subst AF (ok-same _ _ bounds.2) (list-fits l.0 bounds.0 (member_at-in-range (codes "choose_between") d l.0 r l.1) bounds.1)
+action_by-fits action_forms.Notify d x r h =
+    let o = bind_ok (member_at (codes "notify_if") d) _ x h in
+    let holds = bind_ok (observation o.0) _ x o.2 in
+    subst AF (ok-same _ _ holds.2) (observation-read-fits o.0 holds.0 (member_at-in-range (codes "notify_if") d o.0 r o.1) holds.1)
+action_by-fits action_forms.Nothing d x r h = cc
+
+-- ---- cases and contracts, from what is inside
+
+contract_by-fits : (f : ContractForm) (d : Data) (ca : At Contract) (ka : At (List Case)) → ((key : List ℕ) (c : Contract) → ca key ≡ Ok c → CF c) → ((key : List ℕ) (ks : List Case) → ka key ≡ Ok ks → KF ks)
+    → (x : Contract) → InRange d → contract_by f d ca ka ≡ Ok x → CF x
+unfolding contract_by
+contract_by-fits contract_forms.Close d ca ka hc hk x r h = subst CF (ok-same _ _ h) (ap contract_fits laws.contract_tree-Close)
+contract_by-fits contract_forms.Pay d ca ka hc hk x r h =
+    let v = bind_ok (member_at (codes "pay") d) _ x h in
+    let amount = bind_ok (value v.0) _ x v.2 in
+    let t = bind_ok (member_at (codes "token") d) _ x amount.2 in
+    let k = bind_ok (token t.0) _ x t.2 in
+    let a = bind_ok (member_at (codes "from_account") d) _ x k.2 in
+    let account = bind_ok (party a.0) _ x a.2 in
+    let p = bind_ok (member_at (codes "to") d) _ x account.2 in
+    let to = bind_ok (payee p.0) _ x p.2 in
+    let c = bind_ok (ca (codes "then")) _ x to.2 in
+    subst CF (ok-same _ _ c.2) (ap contract_fits (laws.contract_tree-Pay account.0 to.0 k.0 amount.0 c.0)
+    ∙ (λ i. value-read-fits v.0 amount.0 (member_at-in-range (codes "pay") d v.0 r v.1) amount.1 i && hc (codes "then") c.0 c.1 i))
+contract_by-fits contract_forms.If d ca ka hc hk x r h =
+    let o = bind_ok (member_at (codes "if") d) _ x h in
+    let holds = bind_ok (observation o.0) _ x o.2 in
+    let b = bind_ok (both (ca (codes "then")) (ca (codes "else"))) _ x holds.2 in
+    let p = both-ok (ca (codes "then")) (ca (codes "else")) b.0 b.1 in
+    subst CF (ok-same _ _ b.2) (ap contract_fits (laws.contract_tree-If holds.0 b.0.0 b.0.1)
+    ∙ (λ i. observation-read-fits o.0 holds.0 (member_at-in-range (codes "if") d o.0 r o.1) holds.1 i && hc (codes "then") b.0.0 p.0 i && hc (codes "else") b.0.1 p.1 i))
+contract_by-fits contract_forms.When d ca ka hc hk x r h =
+    let l = bind_ok (ka (codes "when")) _ x h in
+    let t = bind_ok (member_at (codes "timeout") d) _ x l.2 in
+    let timeout = bind_ok (time t.0) _ x t.2 in
+    let c = bind_ok (ca (codes "timeout_continuation")) _ x timeout.2 in
+    subst CF (ok-same _ _ c.2) (ap contract_fits (laws.contract_tree-When l.0 timeout.0 c.0)
+    ∙ (λ i. hk (codes "when") l.0 l.1 i && time-fits t.0 timeout.0 (member_at-in-range (codes "timeout") d t.0 r t.1) timeout.1 i && hc (codes "timeout_continuation") c.0 c.1 i))
+contract_by-fits contract_forms.Let d ca ka hc hk x r h =
+    let n = bind_ok (member_at (codes "let") d) _ x h in
+    let name = bind_ok (text n.0) _ x n.2 in
+    let v = bind_ok (member_at (codes "be") d) _ x name.2 in
+    let be = bind_ok (value v.0) _ x v.2 in
+    let c = bind_ok (ca (codes "then")) _ x be.2 in
+    subst CF (ok-same _ _ c.2) (ap contract_fits (laws.contract_tree-Let name.0 be.0 c.0)
+    ∙ (λ i. value-read-fits v.0 be.0 (member_at-in-range (codes "be") d v.0 r v.1) be.1 i && hc (codes "then") c.0 c.1 i))
+contract_by-fits contract_forms.Assert d ca ka hc hk x r h =
+    let o = bind_ok (member_at (codes "assert") d) _ x h in
+    let holds = bind_ok (observation o.0) _ x o.2 in
+    let c = bind_ok (ca (codes "then")) _ x holds.2 in
+    subst CF (ok-same _ _ c.2) (ap contract_fits (laws.contract_tree-Assert holds.0 c.0)
+    ∙ (λ i. observation-read-fits o.0 holds.0 (member_at-in-range (codes "assert") d o.0 r o.1) holds.1 i && hc (codes "then") c.0 c.1 i))
+contract_by-fits contract_forms.Nothing d ca ka hc hk x r h = cc
+
+case_by-fits : (f : CaseForm) (d : Data) (ca : At Contract) → ((key : List ℕ) (c : Contract) → ca key ≡ Ok c → CF c) → (x : Case) → InRange d → case_by f d ca ≡ Ok x → CaseF x
+unfolding case_by
+case_by-fits case_forms.Plain d ca hc x r h =
+    let a = bind_ok (member_at (codes "case") d) _ x h in
+    let act = bind_ok (action a.0) _ x a.2 in
+    let c = bind_ok (ca (codes "then")) _ x act.2 in
+    subst CaseF (ok-same _ _ c.2) (ap case_fits (laws.case_tree-parts (record { action = act.0; then = c.0 }))
+    ∙ (λ i. action_by-fits (action_form a.0) a.0 act.0 (member_at-in-range (codes "case") d a.0 r a.1) act.1 i && hc (codes "then") c.0 c.1 i))
+case_by-fits case_forms.Merkleized d ca hc x r h = cc
+case_by-fits case_forms.Nothing d ca hc x r h = cc
+
+nothing : {X : Type 0} (P : X → Type 0) (key : List ℕ) (x : X) → nowhere {X = X} key ≡ Ok x → P x
+nothing P key x h = cc
+
+mutual
+  unfolding contract
+  contract-read-fits : (d : Data) (c : Contract) → InRange d → contract d ≡ Ok c → CF c
+  contract-read-fits null c r h = contract_by-fits (contract_form null) null nowhere nowhere (λ key e is. nothing CF key e is) (λ key ks is. nothing KF key ks is) c r h
+  contract-read-fits (boolean b) c r h = contract_by-fits (contract_form (boolean b)) (boolean b) nowhere nowhere (λ key e is. nothing CF key e is) (λ key ks is. nothing KF key ks is) c r h
+  contract-read-fits (number n) c r h = contract_by-fits (contract_form (number n)) (number n) nowhere nowhere (λ key e is. nothing CF key e is) (λ key ks is. nothing KF key ks is) c r h
+  contract-read-fits (string s) c r h = contract_by-fits (contract_form (string s)) (string s) nowhere nowhere (λ key e is. nothing CF key e is) (λ key ks is. nothing KF key ks is) c r h
+  contract-read-fits (array ds) c r h = contract_by-fits (contract_form (array ds)) (array ds) nowhere nowhere (λ key e is. nothing CF key e is) (λ key ks is. nothing KF key ks is) c r h
+  contract-read-fits (object ms) c r h =
+      contract_by-fits (contract_form (object ms)) (object ms) (λ key. contract_in key ms) (λ key. cases_in key ms) (λ key e is. contract_in-fits key ms e r is) (λ key ks is. cases_in-fits key ms ks r is) c r h
+
+  contract_in-fits : (key : List ℕ) (ms : Members) (c : Contract) → MembersInRange ms → contract_in key ms ≡ Ok c → CF c
+  contract_in-fits key no_members c r h = cc
+  contract_in-fits key (member k d ms) c r h = either (CF c) (slice_cmp nat_cmp key k) (contract_in key ms) (contract d) c h (λ e. contract_in-fits key ms c r.1 e) (λ e. contract-read-fits d c r.0 e)
+
+  case-read-fits : (d : Data) (k : Case) → InRange d → case d ≡ Ok k → CaseF k
+  case-read-fits null k r h = case_by-fits (case_form null) null nowhere (λ key e is. nothing CF key e is) k r h
+  case-read-fits (boolean b) k r h = case_by-fits (case_form (boolean b)) (boolean b) nowhere (λ key e is. nothing CF key e is) k r h
+  case-read-fits (number n) k r h = case_by-fits (case_form (number n)) (number n) nowhere (λ key e is. nothing CF key e is) k r h
+  case-read-fits (string s) k r h = case_by-fits (case_form (string s)) (string s) nowhere (λ key e is. nothing CF key e is) k r h
+  case-read-fits (array ds) k r h = case_by-fits (case_form (array ds)) (array ds) nowhere (λ key e is. nothing CF key e is) k r h
+  case-read-fits (object ms) k r h = case_by-fits (case_form (object ms)) (object ms) (λ key. contract_in key ms) (λ key e is. contract_in-fits key ms e r is) k r h
+
+  cases-read-fit : (d : Data) (ks : List Case) → InRange d → cases d ≡ Ok ks → KF ks
+  cases-read-fit null ks r h = cc
+  cases-read-fit (boolean b) ks r h = cc
+  cases-read-fit (number n) ks r h = cc
+  cases-read-fit (string s) ks r h = cc
+  cases-read-fit (array ds) ks r h = all_cases-fit ds ks r h
+  cases-read-fit (object ms) ks r h = cc
+
+  all_cases-fit : (ds : Items) (ks : List Case) → ItemsInRange ds → all_cases ds ≡ Ok ks → KF ks
+  all_cases-fit no_items ks r h = subst KF (ok-same [] ks h) refl
+  all_cases-fit (item d ds) ks r h =
+      let k = bind_ok (case d) _ ks h in
+      let rest = bind_ok (all_cases ds) _ ks k.2 in
+      subst KF (ok-same _ _ rest.2) (λ i. case-read-fits d k.0 r.0 k.1 i && all_cases-fit ds rest.0 r.1 rest.1 i)
+
+  cases_in-fits : (key : List ℕ) (ms : Members) (ks : List Case) → MembersInRange ms → cases_in key ms ≡ Ok ks → KF ks
+  cases_in-fits key no_members ks r h = cc
+  cases_in-fits key (member k d ms) ks r h = either (KF ks) (slice_cmp nat_cmp key k) (cases_in key ms) (cases d) ks h (λ e. cases_in-fits key ms ks r.1 e) (λ e. cases-read-fit d ks r.0 e)
+
+-- ---- texts
+
+from_some : (text : List ℕ) (d : Data) → json_or_not (read text) ≡ Ok d → InRange d
+from_some text d h = elim (read text) as (λ o. read text ≡ o → json_or_not o ≡ Ok d → InRange d) [ None ↦ λ _ is. cc | Some e ↦ λ reads is. subst InRange (ok-same e d is) (read-in-range text e reads) ] refl h
+
+json_of-in-range : (text : List ℕ) (d : Data) → json_of text ≡ Ok d → InRange d
+unfolding json_of
+json_of-in-range text d h =
+    elim (nat_lt 1048576 (length text)) as (λ b. cond b (Err TooLong) (cond (is_utf8 text) (json_or_not (read text)) (Err NotJson)) ≡ Ok d → InRange d) [
+      | true ↦ λ is. cc
+      | false ↦ elim (is_utf8 text) as (λ b. cond b (json_or_not (read text)) (Err NotJson) ≡ Ok d → InRange d) [ true ↦ λ is. from_some text d is | false ↦ λ is. cc ]
+    ] h
+
+-- a contract that was read can be written
+pub read-contract-fits : (t : List ℕ) (c : Contract) → of_text contract t ≡ Ok c → CF c
+read-contract-fits t c h = let d = bind_ok (json_of t) contract c h in contract-read-fits d.0 c (json_of-in-range t d.0 d.1) d.2
+
+pub ruleset contracts_read_fit = read-contract-fits

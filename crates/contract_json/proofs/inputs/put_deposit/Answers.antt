@@ -1,0 +1,11 @@
+use Rattle.json_writers.specs.AddsLaws.{then, wrote}
+use Rattle.contract_json.proofs.inputs.put_deposit.Goals as goal
+
+pub returns-clause-put : goal.returns-clause-put
+returns-clause-put c = (
+  c.in_ok-put_whole.ensures.0,
+  then (wrote c.in_ok-begin_object.ensures) (then (wrote c.in_ok-key.ensures) (then c.in_ok-put_party.ensures
+      (then (wrote c.in_ok-key-2.ensures) (then c.in_ok-put_party-2.ensures
+      (then (wrote c.in_ok-key-3.ensures) (then c.in_ok-put_token.ensures.put
+      (then (wrote c.in_ok-key-4.ensures) (then c.in_ok-put_whole.ensures.1 (wrote c.in_ok-end_object.ensures))))))))),
+)

@@ -1,0 +1,4 @@
+pub mod ReadsInput
+pub mod ReadsState
+pub mod Rows
+pub mod RowLaws

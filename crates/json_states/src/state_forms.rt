@@ -1,0 +1,23 @@
+//! States as JSON values.
+ghost use Rattle.json_names.specs.Parts.{Gives};
+ghost use Rattle.json_states.specs.ReadsState as reads;
+
+use crate::rows::entries_from_json;
+use contract::{Account, ChoiceId, State, Text};
+use json_names::{JsonFault, has_two, member, read_time};
+use json_tree::JsonValue;
+use std::alloc::Global;
+
+/// The state that a JSON value stands for.
+pub fn state_from_json<J: JsonValue>(alloc: Global, json: &J) -> Result<State, JsonFault>
+    ensures reading { Gives result (reads.state (J.json json.now)) }
+{
+    if !(has_two(json, "accounts", "choices") && has_two(json, "boundValues", "minTime")) {
+        return Err(JsonFault::NoForm);
+    }
+    let accounts = entries_from_json::<J, Account>(alloc, member(json, "accounts")?)?;
+    let choices = entries_from_json::<J, ChoiceId>(alloc, member(json, "choices")?)?;
+    let bound_values = entries_from_json::<J, Text>(alloc, member(json, "boundValues")?)?;
+    let min_time = read_time(member(json, "minTime")?)?;
+    Ok(State::from_entries(accounts, choices, bound_values, min_time))
+}
