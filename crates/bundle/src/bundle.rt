@@ -12,7 +12,7 @@ ghost use Rattle.bundle.specs.Walks.{amount_in};
 
 use crate::adding::{is_too_large, sum_of};
 use crate::fault::BundleFault;
-use crate::taking::{lacking, take_all};
+use crate::taking::{drop_zeros, lacking, take_all};
 use crate::walk::{Entry, number_of};
 use collections::{Bytes, Entries, Memory, Text, TryClone};
 use names::Token;
@@ -128,6 +128,17 @@ impl Bundle {
         Ok(())
     }
 
+    /// Takes an amount of one token out, of which there is as much. It takes no memory and logarithmic
+    /// time, or linear time where nothing is left of the token.
+    pub fn reduce(&mut self, token: &Token, amount: i128)
+        requires positive { pos 0 <ℤ amount }
+        requires held { amount ≤ℤ amount_of self.old token.now }
+        ensures { self.new ≡ with_amount self.old token.now (amount_of self.old token.now -ℤ amount) }
+    {
+        let left = self.amount(token) - amount;
+        set_known(&mut self.entries, token, left);
+    }
+
     /// Subtracts another bundle, in time linear in both: refused with `Short` and the least token of
     /// which there is less exactly where there is one, or with `Memory` where memory to name it is
     /// refused. A refusal changes nothing, and no memory is taken where nothing is short.
@@ -174,4 +185,37 @@ fn found_amount(entries: &[Entry], symbol: &Bytes, name: &Text) -> i128
         Ok(at) => number_of(&entries[at]),
         Err(_) => 0,
     }
+}
+
+// Sets the amount of a token that is there, and 0 removes it.
+fn set_known(entries: &mut Vec<Entry>, token: &Token, amount: i128)
+    requires sorted { T (is_sorted token_cmp entries.old.items) }
+    requires positive { AllPositive entries.old.items }
+    requires natural { pos 0 ≤ℤ amount }
+    requires known { pos 0 <ℤ amount_in entries.old.items token.now }
+    ensures sorted { T (is_sorted token_cmp entries.new.items) }
+    ensures positive { AllPositive entries.new.items }
+    ensures set { map.from_sorted entries.new.items ≡ with_amount (map.from_sorted entries.old.items) token.now amount }
+{
+    write_known(entries, token, amount);
+    if amount == 0 {
+        drop_zeros(entries);
+    }
+}
+
+fn write_known(entries: &mut Vec<Entry>, token: &Token, amount: i128)
+    requires sorted { T (is_sorted token_cmp entries.old.items) }
+    requires known { pos 0 <ℤ amount_in entries.old.items token.now }
+    ensures { entries.new.items ≡ map.put token_cmp token.now amount entries.old.items }
+{
+    match place_of(entries, &token.symbol, &token.name) {
+        Ok(at) => write_amount(&mut entries[at], amount),
+        Err(_) => {}
+    }
+}
+
+fn write_amount(entry: &mut Entry, amount: i128)
+    ensures { entry.new ≡ (entry.old.0, amount) }
+{
+    entry.1 = amount;
 }

@@ -55,7 +55,8 @@ fn has_some(entry: &Entry) -> bool
     entry.1 != 0
 }
 
-fn drop_zeros(entries: &mut Vec<Entry>)
+/// Takes out the entries at 0.
+pub(crate) fn drop_zeros(entries: &mut Vec<Entry>)
     ensures { entries.new.items ≡ without_zeros entries.old.items }
 {
     entries.retain(|entry| has_some(entry));

@@ -6,7 +6,7 @@ ghost use Rattle.std.specs.Cmp.Rules.{comparing};
 
 use std::marker::Model;
 
-/// A whole number: the sum of up to 2^64 amounts, each of which an `i128` holds.
+/// A whole number: a sum of amounts, each of which an `i128` holds, where the sum itself may be larger.
 #[derive(Drop)]
 pub struct WideSum {
     high: i128,

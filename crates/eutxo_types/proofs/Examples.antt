@@ -1,0 +1,50 @@
+-- The worked spellings come out as they should.
+use Rattle.std.proofs.Common.{refl, ap, ◌++◌, ◌∷◌, []}
+use Rattle.contract_bytes.specs.Numbers.{length_bytes, number_bytes, time_bytes, text_bytes, list_bytes}
+use Rattle.contract_bytes.specs.Names.{holding_bytes}
+use Rattle.contract_bytes.specs.States.{money_bytes, chosen_bytes, bound_value_bytes}
+use Rattle.std.specs.Prelude.{pos, replicate}
+use Rattle.eutxo_types.specs.Spelling.{cont_bytes}
+use Rattle.eutxo_types.specs.Worked.{BeginsTheLedger, IsMade, Gives, Claims, Steps, KeyOfX, PayoutOfB, StartOfCloses, NothingHeld, FiveAda, Moves}
+
+pub begins_the_ledger : BeginsTheLedger
+unfolding length_bytes
+begins_the_ledger = refl
+
+pub is_made : IsMade
+unfolding length_bytes
+is_made = refl
+
+pub gives : Gives
+gives = refl
+
+pub claims : Claims
+claims = refl
+
+pub steps : Steps
+unfolding length_bytes
+steps = refl
+
+pub key_of_x : KeyOfX
+unfolding length_bytes
+key_of_x = refl
+
+pub payout_of_b : PayoutOfB
+unfolding length_bytes
+payout_of_b = refl
+
+pub start_of_closes : StartOfCloses
+unfolding length_bytes time_bytes cont_bytes
+start_of_closes s a c b m = λ i. 0x02 ∷ replicate 32 0 ++ cont_bytes 0 ++ (list_bytes money_bytes (a i) ++ list_bytes chosen_bytes (c i) ++ list_bytes bound_value_bytes (b i) ++ time_bytes (m i))
+
+pub nothing_held : NothingHeld
+unfolding length_bytes
+nothing_held m e = ap (list_bytes holding_bytes) e
+
+pub five_ada : FiveAda
+unfolding length_bytes number_bytes
+five_ada m e = ap (list_bytes holding_bytes) e
+
+pub moves : Moves
+unfolding length_bytes number_bytes time_bytes
+moves m e = λ i. (length_bytes 1 ++ replicate 10 0) ++ (length_bytes 1 ++ (((0x00 ∷ text_bytes (0x78 ∷ [])) ++ list_bytes holding_bytes (e i)) ++ [])) ++ time_bytes (pos 0) ++ time_bytes (pos 10) ++ list_bytes text_bytes ((0x78 ∷ []) ∷ [])

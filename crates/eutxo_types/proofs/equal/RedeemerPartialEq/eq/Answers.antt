@@ -1,0 +1,6 @@
+use Rattle.collections.specs.Same.{same_by_from}
+use Rattle.eutxo_types.specs.contracts.redeemer.Redeemer as it
+use Rattle.eutxo_types.proofs.equal.RedeemerPartialEq.eq.Goals as goal
+
+pub returns : goal.returns
+returns c = same_by_from it.the_row.coded _ _ _ c.same.ensures

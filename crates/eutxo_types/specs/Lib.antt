@@ -1,0 +1,4 @@
+pub mod Fitting
+pub mod Ids
+pub mod Spelling
+pub mod Worked

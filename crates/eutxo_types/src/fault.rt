@@ -1,0 +1,96 @@
+//! Why a transaction is refused.
+use contract::{Memory, Party, Same, SemFault, Token, TryClone};
+use thiserror::Error;
+
+/// Why the ledger refuses a transaction. Where several faults stand, the one that is listed first
+/// answers, and among equals the one at the lowest place. Places count inputs or outputs from 0.
+#[derive(Debug, PartialEq, Eq, Drop, Error)]
+pub enum TxFault {
+    /// 1: there is no input.
+    #[error("there is no input")]
+    NoInputs,
+    /// 2: there are more than 256 inputs, or a redeemer has more than 256.
+    #[error("there are more than 256 inputs")]
+    TooMany,
+    /// 3: the input at this place names an output that an earlier one names.
+    #[error("input {0} names an output again")]
+    RepeatedInput(u64),
+    /// 4: the output that the input at this place names isn't unspent.
+    #[error("input {0} names no unspent output")]
+    NotUnspent(u64),
+    /// 5: an accepted transaction has this id.
+    #[error("an accepted transaction has this id")]
+    IdInUse,
+    /// 6: the tick doesn't lie in the interval.
+    #[error("the tick lies outside of the interval")]
+    OutsideInterval,
+    /// 7: the output at this place has a contract lock of a script that is not published.
+    #[error("output {0} names a script that is not published")]
+    UnknownScript(u64),
+    /// 8: the key input at this place is of an address that isn't among the signers.
+    #[error("input {0} is not signed")]
+    NotSigned(u64),
+    /// 9: more than one input has a contract lock.
+    #[error("more than one contract is stepped")]
+    TwoContracts,
+    /// 10: the redeemer at this place isn't of its lock's kind.
+    #[error("the redeemer of input {0} does not fit its lock")]
+    WrongRedeemer(u64),
+    /// 11: the payout at this place is spent without its role's token.
+    #[error("the role token of input {0} is missing")]
+    RoleMissing(u64),
+    /// 12: the contract refuses the redeemer's inputs.
+    #[error("the contract refuses: {0}")]
+    Semantics(SemFault),
+    /// 13: an input of the contract needs this party, as the depositor or as the owner of the choice,
+    /// and it is neither an address among the signers nor a role whose token a key input's output holds.
+    /// Of several the one of the first such input.
+    #[error("a party is not authorised")]
+    NotAuthorised(Party),
+    /// 14: the contract goes on, and output 0 isn't the one with which it goes on.
+    #[error("output 0 does not continue the contract")]
+    WrongContinuation,
+    /// 15: the output at this place isn't the payment that is due there.
+    #[error("output {0} is not the payment that is due")]
+    WrongPayment(u64),
+    /// 16: a contract is stepped, and the output at this place is a further contract's.
+    #[error("output {0} has a contract lock beside the one that continues")]
+    StrayContract(u64),
+    /// 17: no contract is stepped, and the contract output at this place isn't a start.
+    #[error("output {0} does not start the contract")]
+    WrongStart(u64),
+    /// 18: the inputs' outputs hold another sum of this token than the outputs.
+    #[error("the sum of a token is not preserved")]
+    NotPreserved(Token),
+}
+
+impl Same for TxFault {
+    fn same(&self, other: &TxFault) -> bool {
+        *self == *other
+    }
+}
+
+impl TryClone for TxFault {
+    fn try_clone(&self) -> Result<TxFault, Memory> {
+        match self {
+            TxFault::NoInputs => Ok(TxFault::NoInputs),
+            TxFault::TooMany => Ok(TxFault::TooMany),
+            TxFault::RepeatedInput(place) => Ok(TxFault::RepeatedInput(*place)),
+            TxFault::NotUnspent(place) => Ok(TxFault::NotUnspent(*place)),
+            TxFault::IdInUse => Ok(TxFault::IdInUse),
+            TxFault::OutsideInterval => Ok(TxFault::OutsideInterval),
+            TxFault::UnknownScript(place) => Ok(TxFault::UnknownScript(*place)),
+            TxFault::NotSigned(place) => Ok(TxFault::NotSigned(*place)),
+            TxFault::TwoContracts => Ok(TxFault::TwoContracts),
+            TxFault::WrongRedeemer(place) => Ok(TxFault::WrongRedeemer(*place)),
+            TxFault::RoleMissing(place) => Ok(TxFault::RoleMissing(*place)),
+            TxFault::Semantics(fault) => Ok(TxFault::Semantics(*fault)),
+            TxFault::NotAuthorised(party) => Ok(TxFault::NotAuthorised(party.try_clone()?)),
+            TxFault::WrongContinuation => Ok(TxFault::WrongContinuation),
+            TxFault::WrongPayment(place) => Ok(TxFault::WrongPayment(*place)),
+            TxFault::StrayContract(place) => Ok(TxFault::StrayContract(*place)),
+            TxFault::WrongStart(place) => Ok(TxFault::WrongStart(*place)),
+            TxFault::NotPreserved(token) => Ok(TxFault::NotPreserved(token.try_clone()?)),
+        }
+    }
+}

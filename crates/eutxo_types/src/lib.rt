@@ -1,0 +1,32 @@
+//! Outputs and the transactions that spend and make them, why a transaction is refused, and its id.
+//!
+//! Clauses see each of these values as plain data: an amount as its finite map, a state as its maps, a list
+//! as its items. So two transactions are equal there exactly when they are the same, and an id is a function
+//! of what a transaction says.
+#![tactic(auto)]
+
+mod encode;
+mod equal;
+mod fault;
+mod id;
+mod laws;
+mod lock;
+mod output;
+mod output_ref;
+mod redeemer;
+mod spend;
+mod tx;
+mod verdict;
+
+pub use encode::encode_tx;
+pub use fault::TxFault;
+pub use id::tx_id;
+pub use laws::{no_transaction_begins_another, worked_transactions};
+pub use lock::Lock;
+pub use machine::Datum;
+pub use output::Output;
+pub use output_ref::OutputRef;
+pub use redeemer::Redeemer;
+pub use spend::Spend;
+pub use tx::Tx;
+pub use verdict::Verdict;

@@ -1,0 +1,39 @@
+//! Transactions on the ledger.
+use crate::output::Output;
+use crate::spend::Spend;
+use collections::{Items, Memory, Same, Text, TryClone};
+use contract::Interval;
+
+/// A transaction on the ledger (The Extended UTXO Model, "Extended UTXO model: EUTXO"): the outputs that it spends,
+/// those that it makes, in order, the ticks at which it may happen, both ends included and in POSIX milliseconds,
+/// and the addresses that signed it. No signature is checked: the list is taken as true.
+#[derive(Drop)]
+pub struct Tx {
+    pub inputs: Items<Spend>,
+    pub outputs: Items<Output>,
+    pub interval: Interval,
+    pub signers: Items<Text>,
+}
+
+impl TryClone for Tx {
+    fn try_clone(&self) -> Result<Tx, Memory> {
+        let inputs = self.inputs.try_clone()?;
+        let outputs = self.outputs.try_clone()?;
+        let signers = self.signers.try_clone()?;
+        Ok(Tx {
+            inputs,
+            outputs,
+            interval: self.interval,
+            signers,
+        })
+    }
+}
+
+impl Same for Tx {
+    fn same(&self, other: &Tx) -> bool {
+        self.inputs.same(&other.inputs)
+            && self.outputs.same(&other.outputs)
+            && self.interval == other.interval
+            && self.signers.same(&other.signers)
+    }
+}
