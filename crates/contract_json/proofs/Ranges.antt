@@ -1,7 +1,7 @@
 -- The numbers of what `serde_json` reads lie in their ranges.
-use Rattle.std.proofs.Common.{◌≡◌, ℕ, ℤ, pos, negsuc, drop, zero, suc, ◌^◌, ◌<◌, Bool, true, false, cond, ◌&&◌, List, [], ◌∷◌, Option, Some, None, option_map, option_and_then, Ok, Err, refl, sym, subst, ap, ◌∙◌, arith, Ordering, Less, Equal, Greater}
+use Rattle.std.proofs.Common.{◌≡◌, ℕ, ℤ, pos, drop, zero, suc, ◌^◌, Bool, true, false, cond, ◌&&◌, List, Option, Some, None, option_map, option_and_then, Ok, Err, refl, subst, ap, arith, Ordering, Less, Equal, Greater}
 use Rattle.std.proofs.lemmas.Bool.{and_parts}
-use Rattle.std.specs.Prelude.{⊤, nat_lt, nat_le, codes}
+use Rattle.std.specs.Prelude.{⊤, nat_lt, nat_le}
 use Rattle.std.specs.Ordering.{nat_cmp, match_ordering}
 use Rattle.std.specs.Cmp.Lexicographic.{slice_cmp}
 use Rattle.std.specs.Float.{float_is_finite, binary64}
@@ -9,11 +9,10 @@ use Rattle.std.specs.Prelude.{slice_index, ◌==◌}
 use Rattle.fast_float.specs.Text.{minus, Parts, scan, digits_of, nearest, with_sign}
 use Rattle.json.specs.Lex.{tokens}
 use Rattle.json.specs.Json as json
-use Rattle.json.specs.Token.{Token}
 use Rattle.serde_json.specs.Data.{Num, unsigned, negative, float, Data, null, boolean, number, string, array, object, Items, no_items, item, Members, no_members, member, put}
-use Rattle.serde_json.specs.Find.{get, get_member, as_number, as_integer}
+use Rattle.serde_json.specs.Find.{get_member}
 use Rattle.serde_json.specs.Read.{read, max_depth, is_integer, float_of, number_from, number_of, of_json, of_items, of_members}
-use Rattle.json_names.specs.Parts.{Reading, ◌>>=◌, found, integer, moment, whole, time, member_at}
+use Rattle.json_names.specs.Parts.{Reading, ◌>>=◌, found, whole, time, member_at}
 use Rattle.json_names.specs.declared.fault.JsonFault.TheVariants.{OutOfRange}
 use Rattle.json_writers.specs.Written.{number_fits, time_fits}
 

@@ -1,23 +1,20 @@
 -- What is read as a contract can be written: JSON has its numbers.
-use Rattle.std.proofs.Common.{◌≡◌, ℕ, ℤ, Bool, true, false, cond, ◌&&◌, List, [], ◌∷◌, length, map, Option, Some, None, Ok, Err, refl, sym, subst, ap, ◌∙◌}
+use Rattle.std.proofs.Common.{◌≡◌, ℕ, Bool, true, false, cond, ◌&&◌, List, [], length, map, Some, None, Ok, Err, refl, subst, ap, ◌∙◌}
 use Rattle.std.specs.Prelude.{codes, nat_lt}
 use Rattle.std.specs.Str.{is_utf8}
 use Rattle.std.specs.List.{list_all}
-use Rattle.std.specs.Ordering.{nat_cmp, match_ordering}
+use Rattle.std.specs.Ordering.{nat_cmp}
 use Rattle.std.specs.Cmp.Lexicographic.{slice_cmp}
 use Rattle.serde_json.specs.Data.{Data, null, boolean, number, string, array, object, Items, no_items, item, Members, no_members, member}
-use Rattle.serde_json.specs.Find.{as_array}
 use Rattle.serde_json.specs.Read.{read}
 use Rattle.names.specs.declared.bound.Bound.{Bound}
 use Rattle.contract.specs.declared.tree.Action.{Action}
-use Rattle.contract.specs.declared.tree.Action.TheVariants as actions
 use Rattle.contract.specs.declared.tree.Case.{Case}
 use Rattle.contract.specs.declared.tree.Contract.{Contract}
-use Rattle.contract.specs.declared.tree.Contract as contracts
-use Rattle.contract.specs.Tree.{value_tree, observation_tree, action_tree, case_trees, case_tree, contract_tree}
+use Rattle.contract.specs.Tree.{action_tree, case_trees, case_tree, contract_tree}
 use Rattle.contract.specs.TreeLaws as laws
 use Rattle.json_names.specs.Forms.{has_two, contract_form, case_form, action_form}
-use Rattle.json_names.specs.Parts.{Reading, ◌>>=◌, At, both, nowhere, found, member_at, text, whole, time, all_items, list}
+use Rattle.json_names.specs.Parts.{◌>>=◌, At, both, nowhere, member_at, text, whole, time, all_items, list}
 use Rattle.json_names.specs.ReadsNames.{party, payee, token, choice_id, bound}
 use Rattle.json_names.specs.ReadsText.{json_of, json_or_not, of_text}
 use Rattle.json_names.specs.declared.fault.JsonFault.TheVariants.{NoForm, NotJson, TooLong}
@@ -30,7 +27,7 @@ use Rattle.json_names.specs.declared.forms.ActionForm.TheVariants as action_form
 use Rattle.json_values.specs.ReadsAction.{action, action_by}
 use Rattle.json_values.specs.ReadsValue.{value, observation}
 use Rattle.json_contracts.specs.ReadsContract.{contract, contract_by, contract_in, case, case_by, cases, all_cases, cases_in}
-use Rattle.json_writers.specs.Written.{bound_fits, value_fits, observation_fits, action_fits, case_fits, cases_fit, contract_fits, time_fits}
+use Rattle.json_writers.specs.Written.{bound_fits, action_fits, case_fits, cases_fit, contract_fits}
 use Rattle.contract_json.proofs.Ranges.{InRange, ItemsInRange, MembersInRange, bind_ok, ok-same, whole-fits, time-fits, member_at-in-range, read-in-range}
 use Rattle.contract_json.proofs.ReadValuesFit.{value-read-fits, observation-read-fits, both-ok, either}
 
@@ -165,6 +162,7 @@ nothing P key x h = cc
 
 mutual
   unfolding contract
+
   contract-read-fits : (d : Data) (c : Contract) → InRange d → contract d ≡ Ok c → CF c
   contract-read-fits null c r h = contract_by-fits (contract_form null) null nowhere nowhere (λ key e is. nothing CF key e is) (λ key ks is. nothing KF key ks is) c r h
   contract-read-fits (boolean b) c r h = contract_by-fits (contract_form (boolean b)) (boolean b) nowhere nowhere (λ key e is. nothing CF key e is) (λ key ks is. nothing KF key ks is) c r h

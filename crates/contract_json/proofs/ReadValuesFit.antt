@@ -1,23 +1,21 @@
 -- What is read can be written: JSON has its numbers.
-use Rattle.std.proofs.Common.{◌≡◌, ℕ, ℤ, true, ◌&&◌, List, [], ◌∷◌, map, Ok, Err, refl, sym, subst, ap, ◌∙◌, Ordering, Less, Equal, Greater}
+use Rattle.std.proofs.Common.{◌≡◌, ℕ, true, ◌&&◌, List, Ok, Err, subst, ap, ◌∙◌, Ordering, Less, Equal, Greater}
 use Rattle.std.specs.Prelude.{codes}
 use Rattle.std.specs.Ordering.{nat_cmp, match_ordering}
 use Rattle.std.specs.Cmp.Lexicographic.{slice_cmp}
-use Rattle.serde_json.specs.Data.{Data, null, boolean, number, string, array, object, Items, no_items, item, Members, no_members, member}
+use Rattle.serde_json.specs.Data.{Data, null, boolean, number, string, array, object, Members, no_members, member}
 use Rattle.contract.specs.declared.value.Value.{Value}
-use Rattle.contract.specs.declared.value.Value as values
 use Rattle.contract.specs.declared.value.Observation.{Observation}
-use Rattle.contract.specs.declared.value.Observation as observations
 use Rattle.contract.specs.Tree.{value_tree, observation_tree}
 use Rattle.contract.specs.TreeLaws as laws
 use Rattle.json_names.specs.Forms.{value_form, observation_form}
-use Rattle.json_names.specs.Parts.{Reading, ◌>>=◌, At, both, nowhere, member_at, text, whole}
+use Rattle.json_names.specs.Parts.{Reading, At, both, nowhere, member_at, text, whole}
 use Rattle.json_names.specs.ReadsNames.{party, token, choice_id}
 use Rattle.json_names.specs.declared.forms.ValueForm.{ValueForm}
 use Rattle.json_names.specs.declared.forms.ValueForm.TheVariants as value_forms
 use Rattle.json_names.specs.declared.forms.ObservationForm.{ObservationForm}
 use Rattle.json_names.specs.declared.forms.ObservationForm.TheVariants as observation_forms
-use Rattle.json_values.specs.ReadsValue.{of_two, value_by, observation_by, value, value_in, observation, observation_in}
+use Rattle.json_values.specs.ReadsValue.{value_by, observation_by, value, value_in, observation, observation_in}
 use Rattle.json_writers.specs.Written.{value_fits, observation_fits}
 use Rattle.contract_json.proofs.Ranges.{InRange, MembersInRange, bind_ok, ok-same, whole-fits}
 
@@ -128,6 +126,7 @@ observation_by-fits observation_forms.Nothing d va oa hv ho x r h = cc
 
 mutual
   unfolding value
+
   pub value-read-fits : (d : Data) (v : Value) → InRange d → value d ≡ Ok v → VF v
   value-read-fits null v r h = value_by-fits (value_form null) null nowhere nowhere (λ key w e. nothing VF key w e) (λ key o e. nothing OF key o e) v r h
   value-read-fits (boolean b) v r h = value_by-fits (value_form (boolean b)) (boolean b) nowhere nowhere (λ key w e. nothing VF key w e) (λ key o e. nothing OF key o e) v r h

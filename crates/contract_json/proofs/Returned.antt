@@ -1,13 +1,11 @@
 -- What was written is read as it was: from the value of the code.
-use Rattle.std.proofs.Common.{◌≡◌, ℕ, ◌≤◌, true, ◌&&◌, List, length, Some, Ok, ap, ◌∙◌}
+use Rattle.std.proofs.Common.{◌≡◌, ℕ, ◌≤◌, true, List, length, Some, Ok, ap, ◌∙◌}
 use Rattle.std.proofs.lemmas.Bool.{and_parts}
 use Rattle.std.specs.Str.{IsUtf8}
-use Rattle.hex.specs.Hex.{IsBytes}
 use Rattle.serde_json.specs.Data.{Data}
 use Rattle.serde_json.specs.Read.{read}
 use Rattle.names.specs.declared.party.Party.{Party}
 use Rattle.names.specs.declared.payee.Payee.{Payee}
-use Rattle.names.specs.declared.token.Token.{Token}
 use Rattle.names.specs.declared.choice_id.ChoiceId.{ChoiceId}
 use Rattle.names.specs.declared.bound.Bound.{Bound}
 use Rattle.contract.specs.declared.value.Value.{Value}
@@ -19,7 +17,7 @@ use Rattle.contract.specs.declared.input.Input.{Input}
 use Rattle.contract.specs.Tree.{value_tree, observation_tree, action_tree, case_tree, contract_tree, action_of, contract_of}
 use Rattle.contract.specs.TreeLaws.{value_of-value_tree, observation_of-observation_tree, action_of-action_tree, case_tree-parts, contract_of-contract_tree}
 use Rattle.json_names.specs.Parts.{Reading, ◌>>=◌}
-use Rattle.json_names.specs.ReadsNames.{party, token, choice_id, payee, bound}
+use Rattle.json_names.specs.ReadsNames.{party, choice_id, payee, bound}
 use Rattle.json_names.specs.ReadsText.{of_text}
 use Rattle.json_names.specs.TextLaws.{json_of-read}
 use Rattle.json_values.specs.ReadsAction.{action}
@@ -29,7 +27,7 @@ use Rattle.json_states.specs.ReadsInput.{input, transaction}
 use Rattle.json_states.specs.declared.transaction.Transaction.{Transaction}
 use Rattle.json_outcomes.specs.Each.{Each}
 use Rattle.json_writers.specs.Symbols.{ValueSymbols, ObservationSymbols, ActionSymbols, CaseSymbols, ContractSymbols}
-use Rattle.json_writers.specs.Written.{party_json, token_json, choice_id_json, payee_json, bound_json, value_json, observation_json, action_json, action_fits, case_json, case_fits, contract_json, contract_fits, time_fits}
+use Rattle.json_writers.specs.Written.{party_json, choice_id_json, payee_json, bound_json, value_json, observation_json, action_json, action_fits, case_json, case_fits, contract_json, contract_fits, time_fits}
 use Rattle.contract_json.specs.InputSymbols.{InputSymbols}
 use Rattle.contract_json.specs.WrittenInput.{input_json, transaction_json}
 use Rattle.contract_json.proofs.Hexes.{token-token_json}

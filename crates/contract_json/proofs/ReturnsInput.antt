@@ -1,9 +1,8 @@
 -- An input and a transaction that were written are read as they were.
-use Rattle.std.proofs.Common.{◌≡◌, ℤ, true, List, [], ◌∷◌, map, Ok, refl, ap, ◌∙◌}
-use Rattle.std.specs.Prelude.{codes, ⊤}
+use Rattle.std.proofs.Common.{◌≡◌, ℤ, true, List, [], ◌∷◌, map, Ok, refl}
+use Rattle.std.specs.Prelude.{codes}
 use Rattle.serde_json.specs.Data.{Data, array}
 use Rattle.serde_json.specs.View.{items_of}
-use Rattle.hex.specs.Hex.{IsBytes}
 use Rattle.names.specs.declared.party.Party.{Party}
 use Rattle.names.specs.declared.token.Token.{Token}
 use Rattle.names.specs.declared.choice_id.ChoiceId.{ChoiceId}
@@ -11,7 +10,7 @@ use Rattle.contract.specs.declared.input.Input.{Input}
 use Rattle.contract.specs.declared.input.Input.TheVariants as inputs
 use Rattle.contract.specs.declared.interval.Interval.{Interval}
 use Rattle.json_names.specs.Forms.{input_form}
-use Rattle.json_names.specs.Parts.{◌>>=◌, whole, all_items, list}
+use Rattle.json_names.specs.Parts.{whole, all_items, list}
 use Rattle.json_names.specs.ReadsNames.{party, token, choice_id}
 use Rattle.json_states.specs.ReadsInput.{input, input_by, interval, transaction}
 use Rattle.json_states.specs.declared.transaction.Transaction.{Transaction}

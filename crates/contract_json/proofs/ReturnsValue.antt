@@ -1,5 +1,5 @@
 -- A value and an observation that were written are read as they were.
-use Rattle.std.proofs.Common.{◌≡◌, ℕ, ℤ, pos, negsuc, true, false, List, Ok, refl, ap, ◌∙◌}
+use Rattle.std.proofs.Common.{◌≡◌, ℕ, ℤ, pos, negsuc, true, false, List, Ok, refl}
 use Rattle.std.specs.Prelude.{codes}
 use Rattle.serde_json.specs.Data.{Data, boolean, string}
 use Rattle.names.specs.declared.party.Party.{Party}

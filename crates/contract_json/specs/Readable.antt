@@ -1,5 +1,5 @@
 -- JSON values that read as they were once they were written.
-use Rattle.std.specs.Prelude.{◌≡◌, ℕ, pos, negsuc, ◌^◌, ◌<◌, List, ⊤}
+use Rattle.std.specs.Prelude.{◌≡◌, pos, negsuc, ◌^◌, ◌<◌, ⊤}
 use Rattle.serde_json.specs.Data.{Num, unsigned, negative, float, Data, null, boolean, number, string, array, object, Items, no_items, item, Members, no_members, member, put}
 
 -- the members go in one after another

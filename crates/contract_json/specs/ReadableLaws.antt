@@ -16,14 +16,13 @@ use Rattle.names.specs.declared.account.Account.{Account}
 use Rattle.names.specs.declared.token.Token.{Token}
 use Rattle.contract.specs.declared.input.Input.{Input}
 use Rattle.contract.specs.declared.input.Input.TheVariants as inputs
-use Rattle.contract.specs.declared.interval.Interval.{Interval}
 use Rattle.contract.specs.declared.payment.Payment.{Payment}
 use Rattle.contract.specs.declared.warning.Warning.{Warning}
 use Rattle.contract.specs.declared.warning.Warning.TheVariants as warnings
 use Rattle.states.specs.States.{StateMaps}
 use Rattle.json_states.specs.declared.transaction.Transaction.{Transaction}
 use Rattle.json_outcomes.specs.WrittenOutcome.{account_row_json, choice_row_json, bound_row_json, state_json, payment_json, warning_json, outcome_json}
-use Rattle.contract_json.specs.WrittenInput.{input_json, input_fits, interval_json, transaction_json, transaction_fits}
+use Rattle.contract_json.specs.WrittenInput.{input_json, input_fits, transaction_json, transaction_fits}
 use Rattle.contract.specs.Tree.{ValueTree, available_money, constant, neg_value, add_value, sub_value, mul_value, div_value, choice_value, time_interval_start, time_interval_end, use_value, cond_value}
 use Rattle.contract.specs.Tree.{ObservationTree, and_obs, or_obs, not_obs, chose_something, value_ge, value_gt, value_lt, value_le, value_eq, true_obs, false_obs}
 use Rattle.contract.specs.Tree.{ActionTree, deposit, choice, notify, ContractTree, close, pay, if_obs, when, let_be, assert, CaseTrees, no_cases, case_then}
