@@ -79,6 +79,26 @@ def many_forms(n):
     return contract, NO_STATE, transaction(0, 10, [last])
 
 
+def wide_pays(n):
+    """A When of n cases of which each goes on with a Pay of its own, and the last matches."""
+    cases = []
+    for i in range(n):
+        pay = {"pay": i, "token": ADA, "from_account": {"role_token": "a"}, "to": {"party": {"address": "x"}}, "then": "close"}
+        cases.append({"case": {"notify_if": i == n - 1}, "then": pay})
+    contract = {"when": cases, "timeout": 100, "timeout_continuation": "close"}
+    state = dict(NO_STATE, accounts=[[[{"role_token": "a"}, ADA], n]])
+    return contract, state, transaction(0, 10, ["input_notify"])
+
+
+def long_remainder(n):
+    """A When whose one case goes on with a When of n Notify cases, which remains and is written."""
+    case = {"case": {"notify_if": False}, "then": "close"}
+    rest = {"when": [case] * n, "timeout": 200, "timeout_continuation": "close"}
+    first = {"case": {"notify_if": True}, "then": rest}
+    contract = {"when": [first], "timeout": 100, "timeout_continuation": "close"}
+    return contract, NO_STATE, transaction(0, 10, ["input_notify"])
+
+
 def only_json(parts):
     """The same texts, of which the first that is long has no form: they are read as JSON and no further."""
     contract, state, inputs = parts
@@ -120,7 +140,7 @@ def measure(parts, status=0):
 def main():
     start = measure(("close", dict(NO_STATE, accounts=[[[{"role_token": "a"}, ADA], 1]]), transaction(0, 10, [])))
     print(f"start-up: {start[0] * 1000:.1f} ms, {start[1]} KiB")
-    families = ((wide_when, 5_500), (many_forms, 1_300), (deep_arithmetic, 11_000), (many_accounts, 2_250), (many_values, 10_000))
+    families = ((wide_when, 5_500), (many_forms, 1_300), (deep_arithmetic, 11_000), (wide_pays, 1_250), (long_remainder, 5_500), (many_accounts, 2_250), (many_values, 10_000))
     for make, least in families:
         print(make.__doc__)
         before = None

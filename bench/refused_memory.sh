@@ -7,7 +7,7 @@ program=crates/marlowe/out/marlowe
 refused=0
 done=0
 for name in two_refunds escrow_in_one_step differences_the_price_falls_too_far; do
-  example=examples/$name
+  example=crates/rows/data/examples/$name
   want=$(cat "$example/output.json")
   limit=1600
   while [ "$limit" -le 8000 ]; do
