@@ -28,5 +28,6 @@ pub use output::Output;
 pub use output_ref::OutputRef;
 pub use redeemer::Redeemer;
 pub use spend::Spend;
+pub use table::Cont;
 pub use tx::Tx;
 pub use verdict::Verdict;
