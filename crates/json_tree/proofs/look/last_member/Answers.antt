@@ -1,8 +1,6 @@
-use Rattle.std.proofs.Common.{◌≡◌, true, ◌∙◌, arith, true≢false, option_map, take_all, ap, sym}
-use Rattle.std.specs.Prelude.{nat_eq}
-use Rattle.std.specs.Cmp.Lexicographic.{pointwise, bytes_decides}
-use Rattle.serde_json.specs.Find.{get_member}
-use Rattle.json_tree.specs.View.{view, members_view}
+use Rattle.std.proofs.Common.{◌≡◌, ◌∙◌, true≢false, option_map, ap, sym}
+use Rattle.std.specs.Cmp.Lexicographic.{bytes_decides}
+use Rattle.json_tree.specs.View.{view}
 use Rattle.json_tree.proofs.Members.{last-here, last-before}
 use Rattle.json_tree.proofs.look.last_member.Goals as goal
 use Rattle.json_tree.proofs.look.last_member.Goals.{then-eq, else-eq}

@@ -1,8 +1,7 @@
-use Rattle.std.proofs.Common.{◌≡◌, ℕ, List, string_bytes, sym, ap, ◌∙◌}
+use Rattle.std.proofs.Common.{◌≡◌, string_bytes, sym, ap, ◌∙◌}
 use Rattle.serde_json.specs.Data.{put}
-use Rattle.serde_json.specs.View.{view as value_view, members_view as entries_view}
+use Rattle.serde_json.specs.View.{members_view as entries_view}
 use Rattle.serde_json.proofs.Views.{members_view-insert_entry}
-use Rattle.json_tree.specs.View.{view, members_view}
 use Rattle.json_tree.proofs.Members.{one_more}
 use Rattle.json_tree.proofs.owned.+value_of.Goals as goal
 
