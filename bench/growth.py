@@ -156,4 +156,5 @@ def main():
         print(f"  of which reading the JSON alone takes {alone} KiB: {before[1] / alone:.2f} times that in all")
 
 
-main()
+if __name__ == "__main__":
+    main()
