@@ -1,0 +1,77 @@
+//! Amounts of tokens, as they are read and printed.
+ghost use Rattle.std.specs.Prelude.{IsTrue};
+ghost use Rattle.bundle.specs.Bundles.{AllPositive};
+
+use crate::fault::RowFault;
+use crate::words::{bytes, number, text};
+use bundle::Bundle;
+use collections::Entries;
+use names::Token;
+use std::alloc::{AllocError, Global};
+
+type Entry = (Token, i128);
+
+/// A bundle, from `TOKEN AMOUNT ..` in any order, each token once and each amount above 0.
+pub fn bundle_of(alloc: Global, words: &str) -> Result<Bundle, RowFault> {
+    let entries = entries_of(alloc, words)?;
+    let entries = Entries::from_vec(entries).ok_or(RowFault::NoSuchRow)?;
+    positive(entries).ok_or(RowFault::NoSuchRow)
+}
+
+fn entries_of(alloc: Global, words: &str) -> Result<Vec<Entry>, RowFault> {
+    let mut entries = Vec::new(alloc);
+    let mut words = words.split_whitespace();
+    while let Some(token) = words.next() {
+        let amount = number(words.next().unwrap_or(""))?;
+        entries.push((token_of(alloc, token)?, amount))?;
+    }
+    Ok(entries)
+}
+
+// A token, from `ada` or `SYMBOL.NAME`.
+fn token_of(alloc: Global, word: &str) -> Result<Token, RowFault> {
+    let (symbol, name) = match word {
+        "ada" => ("", ""),
+        _ => word.split_once('.').ok_or(RowFault::NoSuchRow)?,
+    };
+    let symbol = bytes(alloc, symbol)?;
+    let name = text(alloc, name)?;
+    Ok(Token { symbol, name })
+}
+
+fn positive(entries: Entries<Token, i128>) -> Option<Bundle> {
+    if are_positive(entries.as_slice()) {
+        Some(Bundle::from_entries(entries))
+    } else {
+        None
+    }
+}
+
+fn are_positive(entries: &[Entry]) -> bool
+    ensures { IsTrue result → AllPositive entries.now }
+{
+    match entries.split_first() {
+        Some((first, rest)) => first.1 > 0 && are_positive(rest),
+        None => true,
+    }
+}
+
+/// Puts ` TOKEN AMOUNT` for each token at the end, in the order of the tokens.
+pub fn put_amounts(alloc: Global, line: &mut String, bundle: &Bundle) -> Result<(), AllocError> {
+    for (token, amount) in bundle.entries() {
+        let word = word_of(alloc, token)?;
+        let told = format!(in alloc; " {word} {amount}")?;
+        line.push_str(told.as_str())?;
+    }
+    Ok(())
+}
+
+/// The word for a token: `ada` or `SYMBOL.NAME`.
+pub fn word_of(alloc: Global, token: &Token) -> Result<String, AllocError> {
+    let name = token.name.as_str();
+    if token.symbol.as_slice().is_empty() && name.is_empty() {
+        return String::from_str(alloc, "ada");
+    }
+    let symbol = hex::encode(alloc, token.symbol.as_slice())?;
+    format!(in alloc; "{symbol}.{name}")
+}

@@ -1,0 +1,112 @@
+//! What is printed for lines.
+use crate::fault::RowFault;
+use crate::outputs::output_of;
+use crate::spends::spend_of;
+use crate::sums::{added, subtracted};
+use crate::words::{first, number, parts, text};
+use collections::Items;
+use contract::Interval;
+use eutxo_types::{Tx, encode_tx, tx_id};
+use std::alloc::{AllocError, Global};
+
+/// What answers lines. The function that owns it is generic in it, so that no proof walks through its drop.
+pub trait Answers: Drop {
+    /// What is printed for a line, if anything.
+    fn take(&mut self, alloc: Global, line: &str) -> Result<Option<String>, RowFault>;
+}
+
+/// What is printed for the lines of a text.
+pub fn rows_of<S: Answers>(
+    alloc: Global,
+    mut session: S,
+    text: &str,
+) -> Result<Vec<u8>, AllocError> {
+    answers_of(alloc, &mut session, text)
+}
+
+fn answers_of<S: Answers>(
+    alloc: Global,
+    session: &mut S,
+    text: &str,
+) -> Result<Vec<u8>, AllocError> {
+    let mut printed = Vec::new(alloc);
+    for line in text.lines() {
+        match session.take(alloc, line) {
+            Ok(Some(answer)) => {
+                printed.extend_from_slice(answer.as_bytes())?;
+                printed.push(b'\n')?;
+            }
+            Ok(None) => {}
+            Err(RowFault::NoSuchRow) => printed.extend_from_slice(b"no such row\n")?,
+            Err(RowFault::Memory) => return Err(AllocError),
+        }
+    }
+    Ok(printed)
+}
+
+/// A transaction of nothing, from 0 to 0. Takes no memory.
+pub fn nothing(alloc: Global) -> Tx {
+    Tx {
+        inputs: Items::new(alloc),
+        outputs: Items::new(alloc),
+        interval: Interval { from: 0, to: 0 },
+        signers: Items::new(alloc),
+    }
+}
+
+// The transaction that is being written.
+impl Answers for Tx {
+    fn take(&mut self, alloc: Global, line: &str) -> Result<Option<String>, RowFault> {
+        let (word, rest) = first(line);
+        match word {
+            "" => Ok(None),
+            "#" => Ok(Some(String::from_str(alloc, line)?)),
+            "transaction" => {
+                let lines = spelled(alloc, self)?;
+                clear(self, nothing(alloc));
+                Ok(Some(lines))
+            }
+            "add" => Ok(Some(added(alloc, rest)?)),
+            "subtract" => Ok(Some(subtracted(alloc, rest)?)),
+            _ => {
+                write(alloc, self, word, rest)?;
+                Ok(None)
+            }
+        }
+    }
+}
+
+fn clear<T: Drop>(place: &mut T, empty: T) {
+    *place = empty;
+}
+
+// The bytes of a transaction and its id, a line for each.
+fn spelled(alloc: Global, tx: &Tx) -> Result<String, AllocError> {
+    let bytes = encode_tx(alloc, tx)?;
+    let id = tx_id(alloc, tx)?;
+    let bytes = hex::encode(alloc, bytes.as_slice())?;
+    let id = hex::encode(alloc, id.as_slice())?;
+    format!(in alloc; "{bytes}\n{id}")
+}
+
+// Writes a line of the transaction.
+fn write(alloc: Global, tx: &mut Tx, word: &str, rest: &str) -> Result<(), RowFault> {
+    match word {
+        "in" => tx.inputs.push(spend_of(alloc, rest)?)?,
+        "out" => tx.outputs.push(output_of(alloc, rest)?)?,
+        "from" => tx.interval = interval_of(rest)?,
+        "signer" => tx.signers.push(text(alloc, rest)?)?,
+        _ => return Err(RowFault::NoSuchRow),
+    }
+    Ok(())
+}
+
+// From `FROM to TO`.
+fn interval_of(rest: &str) -> Result<Interval, RowFault> {
+    let (from, rest) = parts(rest)?;
+    let to = rest.strip_prefix("to ").ok_or(RowFault::NoSuchRow)?;
+    Ok(Interval {
+        from: number(from)?,
+        to: number(to)?,
+    })
+}

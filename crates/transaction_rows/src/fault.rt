@@ -1,0 +1,43 @@
+//! Lines that can't be answered.
+use contract_json::JsonFault;
+use hex::FromHexError;
+use std::alloc::{AllocError, AllocFailed};
+
+/// Why a line isn't answered.
+#[derive(Clone, Copy, Debug, PartialEq, Eq)]
+pub enum RowFault {
+    /// It isn't a line of this program's.
+    NoSuchRow,
+    /// Memory was refused.
+    Memory,
+}
+
+impl From<AllocError> for RowFault {
+    fn from(_error: AllocError) -> RowFault {
+        RowFault::Memory
+    }
+}
+
+impl<T: Drop> From<AllocFailed<T>> for RowFault {
+    fn from(_error: AllocFailed<T>) -> RowFault {
+        RowFault::Memory
+    }
+}
+
+impl From<JsonFault> for RowFault {
+    fn from(fault: JsonFault) -> RowFault {
+        match fault {
+            JsonFault::Memory => RowFault::Memory,
+            _ => RowFault::NoSuchRow,
+        }
+    }
+}
+
+impl From<FromHexError> for RowFault {
+    fn from(error: FromHexError) -> RowFault {
+        match error {
+            FromHexError::OutOfMemory => RowFault::Memory,
+            _ => RowFault::NoSuchRow,
+        }
+    }
+}

@@ -1,0 +1,57 @@
+//! Inputs of a transaction.
+use crate::fault::RowFault;
+use crate::words::{first, id, number, parts};
+use collections::Items;
+use contract::Input;
+use contract_json::read_input;
+use eutxo_types::{OutputRef, Redeemer, Spend};
+use std::alloc::Global;
+
+/// An input, from `ORIGIN INDEX REDEEMER`.
+pub fn spend_of(alloc: Global, rest: &str) -> Result<Spend, RowFault> {
+    let (origin, rest) = parts(rest)?;
+    let (index, redeemer) = parts(rest)?;
+    let reference = reference_of(origin, index)?;
+    let redeemer = redeemer_of(alloc, redeemer)?;
+    Ok(Spend {
+        reference,
+        redeemer,
+    })
+}
+
+fn reference_of(origin: &str, index: &str) -> Result<OutputRef, RowFault> {
+    let index = number(index)?;
+    match origin {
+        "genesis" => Ok(OutputRef::Genesis { index }),
+        _ => Ok(OutputRef::Made {
+            id: id(origin)?,
+            index,
+        }),
+    }
+}
+
+fn redeemer_of(alloc: Global, rest: &str) -> Result<Redeemer, RowFault> {
+    let (word, inputs) = first(rest);
+    match word {
+        "none" => Ok(Redeemer::None),
+        "claim" => Ok(Redeemer::Claim),
+        "step" => Ok(Redeemer::Step(inputs_of(alloc, inputs)?)),
+        _ => Err(RowFault::NoSuchRow),
+    }
+}
+
+fn inputs_of(alloc: Global, words: &str) -> Result<Items<Input>, RowFault> {
+    let mut inputs = Items::new(alloc);
+    for word in words.split_whitespace() {
+        put_input(alloc, &mut inputs, word)?;
+    }
+    Ok(inputs)
+}
+
+fn put_input(alloc: Global, inputs: &mut Items<Input>, word: &str) -> Result<(), RowFault> {
+    match word {
+        "notify" => inputs.push(Input::Notify)?,
+        _ => inputs.push(read_input(alloc, word.as_bytes())?)?,
+    }
+    Ok(())
+}
