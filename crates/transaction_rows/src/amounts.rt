@@ -13,9 +13,10 @@ type Entry = (Token, i128);
 
 /// A bundle, from `TOKEN AMOUNT ..` in any order, each token once and each amount above 0.
 pub fn bundle_of(alloc: Global, words: &str) -> Result<Bundle, RowFault> {
-    let entries = entries_of(alloc, words)?;
-    let entries = Entries::from_vec(entries).ok_or(RowFault::NoSuchRow)?;
-    positive(entries).ok_or(RowFault::NoSuchRow)
+    match Entries::from_vec(entries_of(alloc, words)?) {
+        Some(entries) => positive(entries),
+        None => Err(RowFault::NoSuchRow),
+    }
 }
 
 fn entries_of(alloc: Global, words: &str) -> Result<Vec<Entry>, RowFault> {
@@ -39,11 +40,11 @@ fn token_of(alloc: Global, word: &str) -> Result<Token, RowFault> {
     Ok(Token { symbol, name })
 }
 
-fn positive(entries: Entries<Token, i128>) -> Option<Bundle> {
+fn positive(entries: Entries<Token, i128>) -> Result<Bundle, RowFault> {
     if are_positive(entries.as_slice()) {
-        Some(Bundle::from_entries(entries))
+        Ok(Bundle::from_entries(entries))
     } else {
-        None
+        Err(RowFault::NoSuchRow)
     }
 }
 
@@ -58,12 +59,16 @@ fn are_positive(entries: &[Entry]) -> bool
 
 /// Puts ` TOKEN AMOUNT` for each token at the end, in the order of the tokens.
 pub fn put_amounts(alloc: Global, line: &mut String, bundle: &Bundle) -> Result<(), AllocError> {
-    for (token, amount) in bundle.entries() {
-        let word = word_of(alloc, token)?;
-        let told = format!(in alloc; " {word} {amount}")?;
-        line.push_str(told.as_str())?;
+    for entry in bundle.entries() {
+        put_entry(alloc, line, entry)?;
     }
     Ok(())
+}
+
+fn put_entry(alloc: Global, line: &mut String, entry: &Entry) -> Result<(), AllocError> {
+    let word = word_of(alloc, &entry.0)?;
+    let told = format!(in alloc; " {word} {}", entry.1)?;
+    line.push_str(told.as_str())
 }
 
 /// The word for a token: `ada` or `SYMBOL.NAME`.

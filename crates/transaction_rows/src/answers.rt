@@ -3,7 +3,7 @@ use crate::fault::RowFault;
 use crate::outputs::output_of;
 use crate::spends::spend_of;
 use crate::sums::{added, subtracted};
-use crate::words::{first, number, parts, text};
+use crate::words::{first, number, parts, put, text};
 use collections::Items;
 use contract::Interval;
 use eutxo_types::{Tx, encode_tx, tx_id};
@@ -31,17 +31,27 @@ fn answers_of<S: Answers>(
 ) -> Result<Vec<u8>, AllocError> {
     let mut printed = Vec::new(alloc);
     for line in text.lines() {
-        match session.take(alloc, line) {
-            Ok(Some(answer)) => {
-                printed.extend_from_slice(answer.as_bytes())?;
-                printed.push(b'\n')?;
-            }
-            Ok(None) => {}
-            Err(RowFault::NoSuchRow) => printed.extend_from_slice(b"no such row\n")?,
-            Err(RowFault::Memory) => return Err(AllocError),
-        }
+        put_answer(&mut printed, session.take(alloc, line))?;
     }
     Ok(printed)
+}
+
+fn put_answer(
+    printed: &mut Vec<u8>,
+    answer: Result<Option<String>, RowFault>,
+) -> Result<(), AllocError> {
+    match answer {
+        Ok(Some(answer)) => put_line(printed, answer.as_bytes()),
+        Ok(None) => Ok(()),
+        Err(RowFault::NoSuchRow) => put_line(printed, b"no such row"),
+        Err(RowFault::Memory) => Err(AllocError),
+    }
+}
+
+fn put_line(printed: &mut Vec<u8>, line: &[u8]) -> Result<(), AllocError> {
+    printed.extend_from_slice(line)?;
+    printed.push(b'\n')?;
+    Ok(())
 }
 
 /// A transaction of nothing, from 0 to 0. Takes no memory.
@@ -61,11 +71,7 @@ impl Answers for Tx {
         match word {
             "" => Ok(None),
             "#" => Ok(Some(String::from_str(alloc, line)?)),
-            "transaction" => {
-                let lines = spelled(alloc, self)?;
-                clear(self, nothing(alloc));
-                Ok(Some(lines))
-            }
+            "transaction" => Ok(Some(finished(alloc, self)?)),
             "add" => Ok(Some(added(alloc, rest)?)),
             "subtract" => Ok(Some(subtracted(alloc, rest)?)),
             _ => {
@@ -74,6 +80,13 @@ impl Answers for Tx {
             }
         }
     }
+}
+
+// The bytes of a transaction and its id, after which the next one begins.
+fn finished(alloc: Global, tx: &mut Tx) -> Result<String, AllocError> {
+    let lines = spelled(alloc, tx)?;
+    clear(tx, nothing(alloc));
+    Ok(lines)
 }
 
 fn clear<T: Drop>(place: &mut T, empty: T) {
@@ -92,21 +105,21 @@ fn spelled(alloc: Global, tx: &Tx) -> Result<String, AllocError> {
 // Writes a line of the transaction.
 fn write(alloc: Global, tx: &mut Tx, word: &str, rest: &str) -> Result<(), RowFault> {
     match word {
-        "in" => tx.inputs.push(spend_of(alloc, rest)?)?,
-        "out" => tx.outputs.push(output_of(alloc, rest)?)?,
-        "from" => tx.interval = interval_of(rest)?,
-        "signer" => tx.signers.push(text(alloc, rest)?)?,
-        _ => return Err(RowFault::NoSuchRow),
+        "in" => put(&mut tx.inputs, spend_of(alloc, rest)),
+        "out" => put(&mut tx.outputs, output_of(alloc, rest)),
+        "from" => set_interval(tx, rest),
+        "signer" => put(&mut tx.signers, text(alloc, rest)),
+        _ => Err(RowFault::NoSuchRow),
     }
-    Ok(())
 }
 
 // From `FROM to TO`.
-fn interval_of(rest: &str) -> Result<Interval, RowFault> {
+fn set_interval(tx: &mut Tx, rest: &str) -> Result<(), RowFault> {
     let (from, rest) = parts(rest)?;
     let to = rest.strip_prefix("to ").ok_or(RowFault::NoSuchRow)?;
-    Ok(Interval {
+    tx.interval = Interval {
         from: number(from)?,
         to: number(to)?,
-    })
+    };
+    Ok(())
 }

@@ -37,13 +37,17 @@ fn payout(alloc: Global, rest: &str) -> Result<Output, RowFault> {
 // From `SCRIPT CONTINUATION STATE TOKEN AMOUNT ..`.
 fn contract(alloc: Global, rest: &str) -> Result<Output, RowFault> {
     let (script, rest) = parts(rest)?;
-    let (number_of, rest) = parts(rest)?;
+    let (cont, rest) = parts(rest)?;
     let (state, amounts) = first(rest);
     let script = id(script)?;
-    let cont = Cont(number(number_of)?);
-    let state = state_of(alloc, state)?;
-    let datum = Datum { cont, state };
+    let datum = datum_of(alloc, cont, state)?;
     locked(alloc, Lock::Contract { script, datum }, amounts)
+}
+
+fn datum_of(alloc: Global, cont: &str, state: &str) -> Result<Datum, RowFault> {
+    let cont = Cont(number(cont)?);
+    let state = state_of(alloc, state)?;
+    Ok(Datum { cont, state })
 }
 
 // From a state in JSON, or `empty` for the state without entries at time 0.

@@ -1,6 +1,6 @@
 //! Inputs of a transaction.
 use crate::fault::RowFault;
-use crate::words::{first, id, number, parts};
+use crate::words::{first, id, number, parts, put};
 use collections::Items;
 use contract::Input;
 use contract_json::read_input;
@@ -50,8 +50,11 @@ fn inputs_of(alloc: Global, words: &str) -> Result<Items<Input>, RowFault> {
 
 fn put_input(alloc: Global, inputs: &mut Items<Input>, word: &str) -> Result<(), RowFault> {
     match word {
-        "notify" => inputs.push(Input::Notify)?,
-        _ => inputs.push(read_input(alloc, word.as_bytes())?)?,
+        "notify" => put(inputs, Ok(Input::Notify)),
+        _ => put(inputs, input_of(alloc, word)),
     }
-    Ok(())
+}
+
+fn input_of(alloc: Global, word: &str) -> Result<Input, RowFault> {
+    Ok(read_input(alloc, word.as_bytes())?)
 }

@@ -1,6 +1,6 @@
 //! Words of a line.
 use crate::fault::RowFault;
-use collections::{Bytes, Text};
+use collections::{Bytes, Items, Text};
 use hex::FromHex;
 use std::alloc::Global;
 use std::str::FromStr;
@@ -39,4 +39,10 @@ pub fn bytes(alloc: Global, word: &str) -> Result<Bytes, RowFault> {
 /// The id of a transaction or of a script that a word spells in hexadecimal.
 pub fn id(word: &str) -> Result<[u8; 32], RowFault> {
     Ok(<[u8; 32] as FromHex>::from_hex(word)?)
+}
+
+/// Puts what was read behind the others. It is generic in it, so that no proof walks through its drop.
+pub fn put<T: Drop>(items: &mut Items<T>, item: Result<T, RowFault>) -> Result<(), RowFault> {
+    items.push(item?)?;
+    Ok(())
 }
