@@ -15,17 +15,12 @@ impl Env for OneWord<'_> {
         if i > 0 {
             return Err(FillError::NotPresent);
         }
-        if buf.len() < self.bytes.len() {
+        let len = self.bytes.len();
+        if buf.len() < len {
             return Err(FillError::TooLong);
         }
-        let mut at = 0;
-        for byte in self.bytes {
-            if at < buf.len() {
-                buf[at] = *byte;
-                at += 1;
-            }
-        }
-        Ok(at)
+        buf[..len].copy_from_slice(self.bytes);
+        Ok(len)
     }
 
     fn var(&self, _name: &str, _buf: &mut [u8]) -> Result<usize, FillError> {
