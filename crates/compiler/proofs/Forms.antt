@@ -168,6 +168,8 @@ value-some time_interval_end = omega arith
 value-some (use_value x) = omega arith
 value-some (cond_value o v w) = omega arith
 
+pub ruleset value_sizes = (value-some)
+
 pub ruleset value_forms = (
   code-AvailableMoney,
   high-AvailableMoney,

@@ -37,23 +37,19 @@ pub(crate) fn add_value(builder: &mut Builder, value: &Value) -> Result<u32, Mem
             builder.put_value(ValueNode::NegValue(number))
         }
         Value::AddValue(a, b) => {
-            let left = add_value(builder, a.get())?;
-            let right = add_value(builder, b.get())?;
+            let (left, right) = add_values(builder, a.get(), b.get())?;
             builder.put_value(ValueNode::AddValue(left, right))
         }
         Value::SubValue(a, b) => {
-            let left = add_value(builder, a.get())?;
-            let right = add_value(builder, b.get())?;
+            let (left, right) = add_values(builder, a.get(), b.get())?;
             builder.put_value(ValueNode::SubValue(left, right))
         }
         Value::MulValue(a, b) => {
-            let left = add_value(builder, a.get())?;
-            let right = add_value(builder, b.get())?;
+            let (left, right) = add_values(builder, a.get(), b.get())?;
             builder.put_value(ValueNode::MulValue(left, right))
         }
         Value::DivValue(a, b) => {
-            let left = add_value(builder, a.get())?;
-            let right = add_value(builder, b.get())?;
+            let (left, right) = add_values(builder, a.get(), b.get())?;
             builder.put_value(ValueNode::DivValue(left, right))
         }
         Value::ChoiceValue(id) => builder.put_value(ValueNode::ChoiceValue(id.try_clone()?)),
@@ -62,11 +58,33 @@ pub(crate) fn add_value(builder: &mut Builder, value: &Value) -> Result<u32, Mem
         Value::UseValue(name) => builder.put_value(ValueNode::UseValue(name.try_clone()?)),
         Value::Cond(observation, a, b) => {
             let condition = add_observation(builder, observation.get())?;
-            let left = add_value(builder, a.get())?;
-            let right = add_value(builder, b.get())?;
+            let (left, right) = add_values(builder, a.get(), b.get())?;
             builder.put_value(ValueNode::Cond(condition, left, right))
         }
     }
+}
+
+// The numbers of two values, the first of which is made first.
+#[cycle(add_value)]
+#[tactic(auto, using(crate::proofs::Forms::value_sizes))]
+fn add_values(builder: &mut Builder, a: &Value, b: &Value) -> Result<(u32, u32), Memory>
+    requires low_left { value_height (value_tree a.now) ≤ 999 }
+    requires low_right { value_height (value_tree b.now) ≤ 999 }
+    requires room { others_in builder.old + (value_size (value_tree a.now) + value_size (value_tree b.now)) ≤ 1000000 }
+    ensures code { IfOk result (λ _. builder.new ≡ (code_value (value_tree b.now) (code_value (value_tree a.now) builder.old).0).0) }
+    ensures left { IfOk result (λ ns. ns.0 ≡ (code_value (value_tree a.now) builder.old).1) }
+    ensures right { IfOk result (λ ns. ns.1 ≡ (code_value (value_tree b.now) (code_value (value_tree a.now) builder.old).0).1) }
+    ensures left_stands { IfOk result (λ ns. ns.0 < length builder.new.values) }
+    ensures right_stands { IfOk result (λ ns. ns.1 < length builder.new.values) }
+    ensures left_tree { IfOk result (λ ns. (trees builder.new).value ns.0 ≡ value_tree a.now) }
+    ensures right_tree { IfOk result (λ ns. (trees builder.new).value ns.1 ≡ value_tree b.now) }
+    ensures keeps { IfOk result (λ _. Keeps builder.old builder.new) }
+    ensures others { IfOk result (λ _. others_in builder.new ≤ others_in builder.old + (value_size (value_tree a.now) + value_size (value_tree b.now))) }
+    ensures conts { IfOk result (λ _. length builder.new.conts ≤ length builder.old.conts) }
+{
+    let left = add_value(builder, a)?;
+    let right = add_value(builder, b)?;
+    Ok((left, right))
 }
 
 // The number of an observation: its operands first.
@@ -105,28 +123,23 @@ pub(crate) fn add_observation(
             builder.put_observation(ObservationNode::ChoseSomething(id.try_clone()?))
         }
         Observation::ValueGE(a, b) => {
-            let left = add_value(builder, a.get())?;
-            let right = add_value(builder, b.get())?;
+            let (left, right) = add_values(builder, a.get(), b.get())?;
             builder.put_observation(ObservationNode::ValueGE(left, right))
         }
         Observation::ValueGT(a, b) => {
-            let left = add_value(builder, a.get())?;
-            let right = add_value(builder, b.get())?;
+            let (left, right) = add_values(builder, a.get(), b.get())?;
             builder.put_observation(ObservationNode::ValueGT(left, right))
         }
         Observation::ValueLT(a, b) => {
-            let left = add_value(builder, a.get())?;
-            let right = add_value(builder, b.get())?;
+            let (left, right) = add_values(builder, a.get(), b.get())?;
             builder.put_observation(ObservationNode::ValueLT(left, right))
         }
         Observation::ValueLE(a, b) => {
-            let left = add_value(builder, a.get())?;
-            let right = add_value(builder, b.get())?;
+            let (left, right) = add_values(builder, a.get(), b.get())?;
             builder.put_observation(ObservationNode::ValueLE(left, right))
         }
         Observation::ValueEQ(a, b) => {
-            let left = add_value(builder, a.get())?;
-            let right = add_value(builder, b.get())?;
+            let (left, right) = add_values(builder, a.get(), b.get())?;
             builder.put_observation(ObservationNode::ValueEQ(left, right))
         }
         Observation::TrueObs => builder.put_observation(ObservationNode::TrueObs),
