@@ -1,5 +1,5 @@
 -- The code of a tree stands for that tree.
-use Rattle.std.proofs.Common.{◌≡◌, refl, sym, ap, subst, ◌∙◌, ℕ, ◌+◌, ◌<◌, ◌≤◌, max, List, [], ◌∷◌, ◌++◌, length, map, arith, length-append}
+use Rattle.std.proofs.Common.{◌≡◌, refl, sym, ap, ◌∙◌, ℕ, ◌<◌, ◌≤◌, List, length, map, arith}
 use Rattle.contract.specs.Tree.{ValueTree, available_money, constant, neg_value, add_value, sub_value, mul_value, div_value, choice_value, time_interval_start, time_interval_end, use_value, cond_value}
 use Rattle.contract.specs.Tree.{ObservationTree, and_obs, or_obs, not_obs, chose_something, value_ge, value_gt, value_lt, value_le, value_eq, true_obs, false_obs}
 use Rattle.contract.specs.Tree.{ActionTree, deposit, choice, notify, ContractTree, close, pay, if_obs, when, let_be, assert, CaseTrees, no_cases, case_then, case_trees}
@@ -12,10 +12,10 @@ use Rattle.nodes.specs.declared.case_node.CaseNode.{CaseNode}
 use Rattle.nodes.specs.declared.cont_node.ContNode.{ContNode}
 use Rattle.nodes.specs.declared.cont_node.ContNode.TheVariants as conts
 use Rattle.table.specs.Heights.{value_height, observation_height, case_over, case_height, contract_height}
-use Rattle.table.specs.Flat.{Flat, nothing, trees, value_of, observation_of, case_of, cont_of, value_parts, observation_parts, case_parts, cont_parts, height_above, Part, a_value, an_observation, a_case, a_cont, Stands, AllStand, Fine, parts_of, height_of, IsFlat}
+use Rattle.table.specs.Flat.{Flat, nothing, trees, value_of, observation_of, case_of, cont_of, value_parts, observation_parts, case_parts, cont_parts, Part, a_value, an_observation, a_case, a_cont, Stands, AllStand, Fine, parts_of, height_of, IsFlat}
 use Rattle.table.specs.Laws.{value_above, observation_above, case_above, cont_above, above_is}
 use Rattle.table.specs.Pushing.{pushed_value, pushed_observation, pushed_case, pushed_cont}
-use Rattle.compiler.specs.Code.{put_value, put_observation, put_case, put_cont, code_value, code_observation, code_action, case_node, code_case, code_contract, code_cases, code}
+use Rattle.compiler.specs.Code.{put_value, put_observation, put_case, put_cont, code_value, code_observation, code_action, case_node, code_contract, code_cases, code}
 use Rattle.compiler.specs.Building.{cases_height, ActionStands, Keeps}
 use Rattle.compiler.specs.Laws.{CodesStand, CodesTellApart}
 use Rattle.compiler.proofs.Trees.{action-lasts, then-low, listed-last, listed-same}

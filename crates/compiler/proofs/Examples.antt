@@ -1,10 +1,10 @@
 -- Tables of small contracts, computed on the definitions.
-use Rattle.std.proofs.Common.{◌≡◌, refl, ℕ, ℤ, pos, List, [], ◌∷◌}
+use Rattle.std.proofs.Common.{◌≡◌, refl, ℕ, pos, [], ◌∷◌}
 use Rattle.names.specs.declared.party.Party.{Party}
 use Rattle.names.specs.declared.party.Party.TheVariants as parties
 use Rattle.names.specs.declared.payee.Payee.TheVariants as payees
 use Rattle.names.specs.declared.token.Token.{Token}
-use Rattle.contract.specs.Tree.{constant, use_value, cond_value, value_gt, true_obs, deposit, choice, notify, close, pay, if_obs, when, let_be, no_cases, case_then}
+use Rattle.contract.specs.Tree.{constant, cond_value, true_obs, deposit, choice, notify, close, pay, when, let_be, no_cases, case_then}
 use Rattle.nodes.specs.declared.cont.Cont.{Cont}
 use Rattle.nodes.specs.declared.value_node.ValueNode.TheVariants as values
 use Rattle.nodes.specs.declared.observation_node.ObservationNode.TheVariants as observations

@@ -1,5 +1,5 @@
 -- What is kept of a table that others extend.
-use Rattle.std.proofs.Common.{◌≡◌, refl, ◌∙◌, ℕ, suc, zero, ◌<◌, ◌≤◌, List, [], ◌∷◌, length, arith}
+use Rattle.std.proofs.Common.{refl, ◌∙◌, ℕ, ◌<◌, ◌≤◌, List, [], ◌∷◌, length, arith}
 use Rattle.std.specs.Prelude.{Result, Ok, Err, IfOk, OnOk}
 use Rattle.table.specs.Flat.{Flat, a_value, an_observation, a_case, a_cont, Extends}
 use Rattle.compiler.specs.Building.{Keeps}

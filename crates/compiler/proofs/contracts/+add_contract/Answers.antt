@@ -1,5 +1,5 @@
 use Rattle.std.proofs.lemmas.Result.{IfOk-weaker}
-use Rattle.std.proofs.Common.{rules, to_z, of_z, w64, ◌≡◌, ap, sym, subst, ◌∙◌, arith, ℕ, ◌+◌, ◌∷◌, List, map, drop}
+use Rattle.std.proofs.Common.{rules, to_z, of_z, w64, ◌≡◌, ap, sym, subst, ◌∙◌, arith, ℕ, ◌+◌, List, map, drop}
 use Rattle.contract.specs.declared.tree.Case.{Case}
 use Rattle.std.specs.declared.alloc.AllocError.{AllocError}
 use Rattle.contract.specs.declared.tree.Contract.{Contract}
@@ -7,7 +7,7 @@ use Rattle.contract.specs.Tree.{contract_tree, case_trees, when}
 use Rattle.nodes.specs.declared.cont.Cont.{Cont}
 use Rattle.table.specs.Flat.{Flat, trees}
 use Rattle.compiler.proofs.Trees.{listed-last, listed-same, high-first, conts-first, others-first}
-use Rattle.compiler.proofs.Cases.{Progress, progress-start, progress-at, progress-step, Done, progress-end, when-low, when-tree}
+use Rattle.compiler.proofs.Cases.{Progress, progress-start, progress-at, progress-step, progress-end, when-low, when-tree}
 use Rattle.compiler.proofs.contracts.«+add_contract».Goals as goal
 
 pub add_cases-loop-case-init : goal.add_cases-loop-case-init

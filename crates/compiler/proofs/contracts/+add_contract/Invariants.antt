@@ -1,6 +1,6 @@
 use Rattle.std.proofs.Common.{◌+◌, ◌*◌, map, drop}
 use Rattle.contract.specs.Tree.{contract_tree, case_tree, case_trees}
-use Rattle.compiler.specs.Sizes.{conts, conts_of, others_of}
+use Rattle.compiler.specs.Sizes.{conts, conts_of}
 use Rattle.compiler.proofs.Cases.{Progress}
 use Rattle.compiler.proofs.contracts.«+add_contract».Given as goal
 

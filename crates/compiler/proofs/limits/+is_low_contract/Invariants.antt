@@ -1,4 +1,4 @@
-use Rattle.std.proofs.Common.{◌≡◌, ◌≤◌, map, drop}
+use Rattle.std.proofs.Common.{◌≤◌, map, drop}
 use Rattle.contract.specs.Tree.{case_tree, case_trees}
 use Rattle.compiler.specs.Building.{cases_height}
 use Rattle.compiler.proofs.limits.«+is_low_contract».Given as goal
