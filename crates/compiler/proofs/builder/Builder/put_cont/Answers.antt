@@ -1,0 +1,15 @@
+use Rattle.std.proofs.Common.{◌≡◌, subst}
+use Rattle.std.specs.Prelude.{IfOk}
+use Rattle.table.specs.Flat.{Flat}
+use Rattle.table.specs.Pushing.{with_cont}
+use Rattle.compiler.specs.Building.{Keeps}
+use Rattle.compiler.specs.Code.{put_cont}
+use Rattle.compiler.proofs.Keeping.{kept_where}
+use Rattle.compiler.proofs.builder.Builder.put_cont.Goals as goal
+
+pub returns-clause-keeps : goal.returns-clause-keeps
+returns-clause-keeps c = subst (λ (f : Flat). IfOk c.push_cont.result (λ _. Keeps f c.push_cont.new.self)) c.self.view_is (kept_where c.push_cont.result _ _ c.push_cont.ensures.keeps)
+
+pub returns-clause-code : goal.returns-clause-code
+unfolding put_cont
+returns-clause-code c = subst (λ (f : Flat). IfOk c.push_cont.result (λ _. c.push_cont.new.self ≡ with_cont f c.args.node)) c.self.view_is c.push_cont.ensures.pushed
