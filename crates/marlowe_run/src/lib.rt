@@ -4,10 +4,12 @@
 
 mod fault;
 mod fault_names;
+mod laws;
 mod refusal_line;
 mod transaction;
 
 pub use fault::{Fault, RunFault};
 pub use fault_names::{json_fault_name, sem_fault_name, write_fault_name};
+pub use laws::parts_can_be_written;
 pub use refusal_line::refusal;
 pub use transaction::run;

@@ -1,4 +1,4 @@
-use Rattle.std.proofs.Common.{◌≡◌, ◌&&◌, true, refl, ap, sym, ◌∙◌}
+use Rattle.std.proofs.Common.{◌&&◌}
 use Rattle.contract.specs.Tree.{case_tree}
 use Rattle.json_writers.specs.Written.{case_json, case_fits}
 use Rattle.json_writers.specs.AddsLaws.{then, wrote}
