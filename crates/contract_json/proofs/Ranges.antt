@@ -12,7 +12,7 @@ use Rattle.json.specs.Json as json
 use Rattle.serde_json.specs.Data.{Num, unsigned, negative, float, Data, null, boolean, number, string, array, object, Items, no_items, item, Members, no_members, member, put}
 use Rattle.serde_json.specs.Find.{get_member}
 use Rattle.serde_json.specs.Read.{read, max_depth, is_integer, float_of, number_from, number_of, of_json, of_items, of_members}
-use Rattle.json_names.specs.Parts.{Reading, ◌>>=◌, found, whole, time, member_at}
+use Rattle.json_names.specs.Parts.{Reading, ◌>>=◌, found, whole, time, member_at, reading_at}
 use Rattle.json_names.specs.declared.fault.JsonFault.TheVariants.{OutOfRange}
 use Rattle.json_writers.specs.Written.{number_fits, time_fits}
 
@@ -143,13 +143,18 @@ found-some : (o : Option Data) (e : Data) → found o ≡ Ok e → o ≡ Some e
 found-some None e h = cc
 found-some (Some d) e h = ap Some (ok-same d e h)
 
-pub member_at-in-range : (key : List ℕ) (d e : Data) → InRange d → member_at key d ≡ Ok e → InRange e
+member_at-in-range : (key : List ℕ) (d e : Data) → InRange d → member_at key d ≡ Ok e → InRange e
 member_at-in-range key null e r h = cc
 member_at-in-range key (boolean b) e r h = cc
 member_at-in-range key (number n) e r h = cc
 member_at-in-range key (string s) e r h = cc
 member_at-in-range key (array ds) e r h = cc
 member_at-in-range key (object ms) e r h = get_member-in-range key ms e r (found-some (get_member key ms) e h)
+
+-- what holds of each reading of a value in range holds of the reading of a member
+pub at-fits : {X : Type 0} (P : X → Type 0) (reading : Data → Reading X) → ((e : Data) (x : X) → InRange e → reading e ≡ Ok x → P x)
+    → (d : Data) (key : List ℕ) (x : X) → InRange d → reading_at reading d key ≡ Ok x → P x
+at-fits P reading each d key x r h = let e = bind_ok (member_at key d) reading x h in each e.0 x (member_at-in-range key d e.0 r e.1) e.2
 
 pub whole-fits : (d : Data) (n : ℤ) → InRange d → whole d ≡ Ok n → number_fits n ≡ true
 whole-fits null n r h = cc

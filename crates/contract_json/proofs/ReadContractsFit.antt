@@ -1,5 +1,5 @@
 -- What is read as a contract can be written: JSON has its numbers.
-use Rattle.std.proofs.Common.{◌≡◌, ℕ, Bool, true, false, cond, ◌&&◌, List, [], length, map, Some, None, Ok, Err, refl, subst, ap, ◌∙◌}
+use Rattle.std.proofs.Common.{◌≡◌, ℕ, ℤ, Bool, true, false, cond, ◌&&◌, List, [], length, map, Some, None, Ok, Err, refl, subst, ap, ◌∙◌}
 use Rattle.std.specs.Prelude.{codes, nat_lt}
 use Rattle.std.specs.Str.{is_utf8}
 use Rattle.std.specs.List.{list_all}
@@ -14,7 +14,7 @@ use Rattle.contract.specs.declared.tree.Contract.{Contract}
 use Rattle.contract.specs.Tree.{action_tree, case_trees, case_tree, contract_tree}
 use Rattle.contract.specs.TreeLaws as laws
 use Rattle.json_names.specs.Forms.{has_two, contract_form, case_form, action_form}
-use Rattle.json_names.specs.Parts.{◌>>=◌, At, both, nowhere, member_at, text, whole, time, all_items, list}
+use Rattle.json_names.specs.Parts.{◌>>=◌, ByKey, reading_at, both_readings, nowhere, text, whole, time, all_items, list}
 use Rattle.json_names.specs.ReadsNames.{party, payee, token, choice_id, bound}
 use Rattle.json_names.specs.ReadsText.{json_of, json_or_not, of_text}
 use Rattle.json_names.specs.declared.fault.JsonFault.TheVariants.{NoForm, NotJson, TooLong}
@@ -27,9 +27,18 @@ use Rattle.json_names.specs.declared.forms.ActionForm.TheVariants as action_form
 use Rattle.json_values.specs.ReadsAction.{action, action_by}
 use Rattle.json_values.specs.ReadsValue.{value, observation}
 use Rattle.json_contracts.specs.ReadsContract.{contract, contract_by, contract_in, case, case_by, cases, all_cases, cases_in}
-use Rattle.json_writers.specs.Written.{bound_fits, action_fits, case_fits, cases_fit, contract_fits}
-use Rattle.contract_json.proofs.Ranges.{InRange, ItemsInRange, MembersInRange, bind_ok, ok-same, whole-fits, time-fits, member_at-in-range, read-in-range}
-use Rattle.contract_json.proofs.ReadValuesFit.{value-read-fits, observation-read-fits, both-ok, either}
+use Rattle.json_writers.specs.Written.{number_fits, time_fits, bound_fits, action_fits, case_fits, cases_fit, contract_fits}
+use Rattle.contract_json.proofs.Ranges.{InRange, ItemsInRange, MembersInRange, bind_ok, ok-same, at-fits, whole-fits, time-fits, read-in-range}
+use Rattle.contract_json.proofs.ReadValuesFit.{VF, OF, value-read-fits, observation-read-fits, both-ok, either}
+
+abbrev NF : ℤ → Type 0
+NF n = number_fits n ≡ true
+
+abbrev TF : ℤ → Type 0
+TF t = time_fits t ≡ true
+
+abbrev BF : List Bound → Type 0
+BF bs = list_all bound_fits bs ≡ true
 
 abbrev AF : Action → Type 0
 AF a = action_fits (action_tree a) ≡ true
@@ -46,14 +55,12 @@ CF c = contract_fits (contract_tree c) ≡ true
 -- ---- actions
 
 bound-parts : (d : Data) (b : Bound) (c : Bool) → InRange d
-    → cond c (member_at (codes "from") d >>= λ f. whole f >>= λ from. member_at (codes "to") d >>= λ t. whole t >>= λ to. Ok (record { from = from; to = to })) (Err NoForm) ≡ Ok b → bound_fits b ≡ true
+    → cond c (reading_at whole d (codes "from") >>= λ from. reading_at whole d (codes "to") >>= λ to. Ok (record { from = from; to = to })) (Err NoForm) ≡ Ok b → bound_fits b ≡ true
 bound-parts d b true r h =
-    let f = bind_ok (member_at (codes "from") d) _ b h in
-    let from = bind_ok (whole f.0) _ b f.2 in
-    let t = bind_ok (member_at (codes "to") d) _ b from.2 in
-    let to = bind_ok (whole t.0) _ b t.2 in
+    let from = bind_ok (reading_at whole d (codes "from")) _ b h in
+    let to = bind_ok (reading_at whole d (codes "to")) _ b from.2 in
     subst (λ e. bound_fits e ≡ true) (ok-same _ _ to.2)
-    (λ i. whole-fits f.0 from.0 (member_at-in-range (codes "from") d f.0 r f.1) from.1 i && whole-fits t.0 to.0 (member_at-in-range (codes "to") d t.0 r t.1) to.1 i)
+    (λ i. at-fits NF whole whole-fits d (codes "from") from.0 r from.1 i && at-fits NF whole whole-fits d (codes "to") to.0 r to.1 i)
 bound-parts d b false r h = cc
 
 bound-fits : (d : Data) (b : Bound) → InRange d → bound d ≡ Ok b → bound_fits b ≡ true
@@ -77,83 +84,66 @@ list-fits (object ms) bs r h = cc
 action_by-fits : (f : ActionForm) (d : Data) (x : Action) → InRange d → action_by f d ≡ Ok x → AF x
 unfolding action_by
 action_by-fits action_forms.Deposit d x r h =
-    let p = bind_ok (member_at (codes "party") d) _ x h in
-    let depositor = bind_ok (party p.0) _ x p.2 in
-    let v = bind_ok (member_at (codes "deposits") d) _ x depositor.2 in
-    let amount = bind_ok (value v.0) _ x v.2 in
-    let t = bind_ok (member_at (codes "of_token") d) _ x amount.2 in
-    let k = bind_ok (token t.0) _ x t.2 in
-    let a = bind_ok (member_at (codes "into_account") d) _ x k.2 in
-    let account = bind_ok (party a.0) _ x a.2 in
-    subst AF (ok-same _ _ account.2) (value-read-fits v.0 amount.0 (member_at-in-range (codes "deposits") d v.0 r v.1) amount.1)
+    let depositor = bind_ok (reading_at party d (codes "party")) _ x h in
+    let amount = bind_ok (reading_at value d (codes "deposits")) _ x depositor.2 in
+    let k = bind_ok (reading_at token d (codes "of_token")) _ x amount.2 in
+    let account = bind_ok (reading_at party d (codes "into_account")) _ x k.2 in
+    subst AF (ok-same _ _ account.2) (at-fits VF value value-read-fits d (codes "deposits") amount.0 r amount.1)
 action_by-fits action_forms.Choice d x r h =
-    let i = bind_ok (member_at (codes "for_choice") d) _ x h in
-    let id = bind_ok (choice_id i.0) _ x i.2 in
-    let l = bind_ok (member_at (codes "choose_between") d) _ x id.2 in
-    let bounds = bind_ok (list bound l.0) _ x l.2 in
-    subst AF (ok-same _ _ bounds.2) (list-fits l.0 bounds.0 (member_at-in-range (codes "choose_between") d l.0 r l.1) bounds.1)
+    let id = bind_ok (reading_at choice_id d (codes "for_choice")) _ x h in
+    let bounds = bind_ok (reading_at (list bound) d (codes "choose_between")) _ x id.2 in
+    subst AF (ok-same _ _ bounds.2) (at-fits BF (list bound) list-fits d (codes "choose_between") bounds.0 r bounds.1)
 action_by-fits action_forms.Notify d x r h =
-    let o = bind_ok (member_at (codes "notify_if") d) _ x h in
-    let holds = bind_ok (observation o.0) _ x o.2 in
-    subst AF (ok-same _ _ holds.2) (observation-read-fits o.0 holds.0 (member_at-in-range (codes "notify_if") d o.0 r o.1) holds.1)
+    let holds = bind_ok (reading_at observation d (codes "notify_if")) _ x h in
+    subst AF (ok-same _ _ holds.2) (at-fits OF observation observation-read-fits d (codes "notify_if") holds.0 r holds.1)
 action_by-fits action_forms.Nothing d x r h = cc
 
 -- ---- cases and contracts, from what is inside
 
-contract_by-fits : (f : ContractForm) (d : Data) (ca : At Contract) (ka : At (List Case)) → ((key : List ℕ) (c : Contract) → ca key ≡ Ok c → CF c) → ((key : List ℕ) (ks : List Case) → ka key ≡ Ok ks → KF ks)
+contract_by-fits : (f : ContractForm) (d : Data) (ca : ByKey Contract) (ka : ByKey (List Case)) → ((key : List ℕ) (c : Contract) → ca key ≡ Ok c → CF c) → ((key : List ℕ) (ks : List Case) → ka key ≡ Ok ks → KF ks)
     → (x : Contract) → InRange d → contract_by f d ca ka ≡ Ok x → CF x
 unfolding contract_by
 contract_by-fits contract_forms.Close d ca ka hc hk x r h = subst CF (ok-same _ _ h) (ap contract_fits laws.contract_tree-Close)
 contract_by-fits contract_forms.Pay d ca ka hc hk x r h =
-    let v = bind_ok (member_at (codes "pay") d) _ x h in
-    let amount = bind_ok (value v.0) _ x v.2 in
-    let t = bind_ok (member_at (codes "token") d) _ x amount.2 in
-    let k = bind_ok (token t.0) _ x t.2 in
-    let a = bind_ok (member_at (codes "from_account") d) _ x k.2 in
-    let account = bind_ok (party a.0) _ x a.2 in
-    let p = bind_ok (member_at (codes "to") d) _ x account.2 in
-    let to = bind_ok (payee p.0) _ x p.2 in
+    let amount = bind_ok (reading_at value d (codes "pay")) _ x h in
+    let k = bind_ok (reading_at token d (codes "token")) _ x amount.2 in
+    let account = bind_ok (reading_at party d (codes "from_account")) _ x k.2 in
+    let to = bind_ok (reading_at payee d (codes "to")) _ x account.2 in
     let c = bind_ok (ca (codes "then")) _ x to.2 in
     subst CF (ok-same _ _ c.2) (ap contract_fits (laws.contract_tree-Pay account.0 to.0 k.0 amount.0 c.0)
-    ∙ (λ i. value-read-fits v.0 amount.0 (member_at-in-range (codes "pay") d v.0 r v.1) amount.1 i && hc (codes "then") c.0 c.1 i))
+    ∙ (λ i. at-fits VF value value-read-fits d (codes "pay") amount.0 r amount.1 i && hc (codes "then") c.0 c.1 i))
 contract_by-fits contract_forms.If d ca ka hc hk x r h =
-    let o = bind_ok (member_at (codes "if") d) _ x h in
-    let holds = bind_ok (observation o.0) _ x o.2 in
-    let b = bind_ok (both (ca (codes "then")) (ca (codes "else"))) _ x holds.2 in
+    let holds = bind_ok (reading_at observation d (codes "if")) _ x h in
+    let b = bind_ok (both_readings (ca (codes "then")) (ca (codes "else"))) _ x holds.2 in
     let p = both-ok (ca (codes "then")) (ca (codes "else")) b.0 b.1 in
     subst CF (ok-same _ _ b.2) (ap contract_fits (laws.contract_tree-If holds.0 b.0.0 b.0.1)
-    ∙ (λ i. observation-read-fits o.0 holds.0 (member_at-in-range (codes "if") d o.0 r o.1) holds.1 i && hc (codes "then") b.0.0 p.0 i && hc (codes "else") b.0.1 p.1 i))
+    ∙ (λ i. at-fits OF observation observation-read-fits d (codes "if") holds.0 r holds.1 i && hc (codes "then") b.0.0 p.0 i && hc (codes "else") b.0.1 p.1 i))
 contract_by-fits contract_forms.When d ca ka hc hk x r h =
     let l = bind_ok (ka (codes "when")) _ x h in
-    let t = bind_ok (member_at (codes "timeout") d) _ x l.2 in
-    let timeout = bind_ok (time t.0) _ x t.2 in
+    let timeout = bind_ok (reading_at time d (codes "timeout")) _ x l.2 in
     let c = bind_ok (ca (codes "timeout_continuation")) _ x timeout.2 in
     subst CF (ok-same _ _ c.2) (ap contract_fits (laws.contract_tree-When l.0 timeout.0 c.0)
-    ∙ (λ i. hk (codes "when") l.0 l.1 i && time-fits t.0 timeout.0 (member_at-in-range (codes "timeout") d t.0 r t.1) timeout.1 i && hc (codes "timeout_continuation") c.0 c.1 i))
+    ∙ (λ i. hk (codes "when") l.0 l.1 i && at-fits TF time time-fits d (codes "timeout") timeout.0 r timeout.1 i && hc (codes "timeout_continuation") c.0 c.1 i))
 contract_by-fits contract_forms.Let d ca ka hc hk x r h =
-    let n = bind_ok (member_at (codes "let") d) _ x h in
-    let name = bind_ok (text n.0) _ x n.2 in
-    let v = bind_ok (member_at (codes "be") d) _ x name.2 in
-    let be = bind_ok (value v.0) _ x v.2 in
+    let name = bind_ok (reading_at text d (codes "let")) _ x h in
+    let be = bind_ok (reading_at value d (codes "be")) _ x name.2 in
     let c = bind_ok (ca (codes "then")) _ x be.2 in
     subst CF (ok-same _ _ c.2) (ap contract_fits (laws.contract_tree-Let name.0 be.0 c.0)
-    ∙ (λ i. value-read-fits v.0 be.0 (member_at-in-range (codes "be") d v.0 r v.1) be.1 i && hc (codes "then") c.0 c.1 i))
+    ∙ (λ i. at-fits VF value value-read-fits d (codes "be") be.0 r be.1 i && hc (codes "then") c.0 c.1 i))
 contract_by-fits contract_forms.Assert d ca ka hc hk x r h =
-    let o = bind_ok (member_at (codes "assert") d) _ x h in
-    let holds = bind_ok (observation o.0) _ x o.2 in
+    let holds = bind_ok (reading_at observation d (codes "assert")) _ x h in
     let c = bind_ok (ca (codes "then")) _ x holds.2 in
     subst CF (ok-same _ _ c.2) (ap contract_fits (laws.contract_tree-Assert holds.0 c.0)
-    ∙ (λ i. observation-read-fits o.0 holds.0 (member_at-in-range (codes "assert") d o.0 r o.1) holds.1 i && hc (codes "then") c.0 c.1 i))
+    ∙ (λ i. at-fits OF observation observation-read-fits d (codes "assert") holds.0 r holds.1 i && hc (codes "then") c.0 c.1 i))
 contract_by-fits contract_forms.Nothing d ca ka hc hk x r h = cc
 
-case_by-fits : (f : CaseForm) (d : Data) (ca : At Contract) → ((key : List ℕ) (c : Contract) → ca key ≡ Ok c → CF c) → (x : Case) → InRange d → case_by f d ca ≡ Ok x → CaseF x
+case_by-fits : (f : CaseForm) (d : Data) (ca : ByKey Contract) → ((key : List ℕ) (c : Contract) → ca key ≡ Ok c → CF c) → (x : Case) → InRange d → case_by f d ca ≡ Ok x → CaseF x
 unfolding case_by
 case_by-fits case_forms.Plain d ca hc x r h =
-    let a = bind_ok (member_at (codes "case") d) _ x h in
-    let act = bind_ok (action a.0) _ x a.2 in
+    let act = bind_ok (reading_at action d (codes "case")) _ x h in
     let c = bind_ok (ca (codes "then")) _ x act.2 in
     subst CaseF (ok-same _ _ c.2) (ap case_fits (laws.case_tree-parts (record { action = act.0; then = c.0 }))
-    ∙ (λ i. action_by-fits (action_form a.0) a.0 act.0 (member_at-in-range (codes "case") d a.0 r a.1) act.1 i && hc (codes "then") c.0 c.1 i))
+    ∙ (λ i. at-fits AF action (λ e a. action_by-fits (action_form e) e a) d (codes "case") act.0 r act.1 i && hc (codes "then") c.0 c.1 i))
 case_by-fits case_forms.Merkleized d ca hc x r h = cc
 case_by-fits case_forms.Nothing d ca hc x r h = cc
 

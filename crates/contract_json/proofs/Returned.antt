@@ -19,7 +19,7 @@ use Rattle.contract.specs.TreeLaws.{value_of-value_tree, observation_of-observat
 use Rattle.json_names.specs.Parts.{Reading, ◌>>=◌}
 use Rattle.json_names.specs.ReadsNames.{party, choice_id, payee, bound}
 use Rattle.json_names.specs.ReadsText.{of_text}
-use Rattle.json_names.specs.TextLaws.{json_of-read}
+use Rattle.json_names.proofs.TextLaws.{json_of-read}
 use Rattle.json_values.specs.ReadsAction.{action}
 use Rattle.json_values.specs.ReadsValue.{value, observation}
 use Rattle.json_contracts.specs.ReadsContract.{contract, case}

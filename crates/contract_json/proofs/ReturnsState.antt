@@ -34,7 +34,7 @@ use Rattle.contract_json.proofs.Hexes.{token-token_json}
 use Rattle.contract_json.proofs.ReturnsNames.{time-number_json, whole-number_json, party-party_json, choice_id-choice_id_json}
 use Rattle.json_names.specs.declared.fault.JsonFault.{JsonFault}
 use Rattle.json_names.specs.declared.fault.JsonFault.TheVariants.{BadState}
-use Rattle.json_states.specs.RowLaws.{looked_at, rows_into-until_fault}
+use Rattle.json_states.proofs.RowLaws.{looked_at, rows_into-until_fault}
 
 both : (a b : Bool) → (a && b) ≡ true → (a ≡ true) × (b ≡ true)
 both true b h = (refl, h)

@@ -1,3 +1,4 @@
+-- No reader needs this file: it serves the proofs of this crate and those above it.
 -- The currency symbol of an input's token is made of bytes.
 use Rattle.std.specs.Prelude.{⊤}
 use Rattle.hex.specs.Hex.{IsBytes}

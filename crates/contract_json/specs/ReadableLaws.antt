@@ -1,3 +1,4 @@
+-- No reader needs this file: it serves the proofs of this crate and those above it.
 -- Whatever is written reads as it was, where its numbers fit.
 use Rattle.std.proofs.Common.{◌≡◌, ℕ, ℤ, pos, negsuc, true, false, cond, ◌&&◌, Bool, List, map, [], ◌∷◌, refl, arith}
 use Rattle.std.proofs.lemmas.Bool.{and_parts}

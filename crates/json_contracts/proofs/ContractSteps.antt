@@ -6,11 +6,11 @@ use Rattle.std.specs.Cmp.Lexicographic.{slice_cmp}
 use Rattle.serde_json.specs.Data.{Data, null, boolean, number, string, array, object, Items, no_items, item, Members, no_members, member}
 use Rattle.serde_json.specs.Find.{get_member}
 use Rattle.json_names.specs.Forms.{contract_form, case_form}
-use Rattle.json_names.specs.Parts.{Reading, ◌>>=◌, At, both, found, member_at, reading_at, time, list, all_items}
+use Rattle.json_names.specs.Parts.{Reading, ◌>>=◌, ByKey, both_readings, found, reading_at, time, list, all_items}
 use Rattle.json_names.specs.ReadsNames.{party, payee, token}
 use Rattle.json_values.specs.ReadsValue.{value}
 use Rattle.json_contracts.specs.ReadsContract.{contract_by, case_by, contract, contract_in, case, cases, all_cases, cases_in}
-use Rattle.json_names.specs.ListLaws.{read_found, two-step, then_at, then_two}
+use Rattle.json_names.proofs.ListLaws.{read_found, then_two}
 use Rattle.json_names.specs.declared.forms.ContractForm.TheVariants.{Pay, When}
 use Rattle.contract.specs.declared.tree.Case.{Case}
 use Rattle.contract.specs.declared.tree.Contract.{Contract}
@@ -62,23 +62,24 @@ case-step (array ds) = refl
 case-step (object ms) = λ i. case_by (case_form (object ms)) (object ms) (λ key. contract_in-found key ms i)
 
 -- a Pay, by what its members stand for two by two
-pub pay-step : (d : Data) (then : At Contract) (cases : At (List Case)) → contract_by Pay d then cases
-    ≡ (both (both (reading_at value d (codes "pay")) (reading_at token d (codes "token"))) (both (reading_at party d (codes "from_account")) (reading_at payee d (codes "to"))) >>= λ p.
+pub pay-step : (d : Data) (then : ByKey Contract) (cases : ByKey (List Case)) → contract_by Pay d then cases
+    ≡ (both_readings (both_readings (reading_at value d (codes "pay")) (reading_at token d (codes "token"))) (both_readings (reading_at party d (codes "from_account")) (reading_at payee d (codes "to"))) >>= λ p.
     then (codes "then") >>= λ c. Ok (contracts.Pay p.1.0 p.1.1 p.0.1 p.0.0 c))
 unfolding contract_by
 pay-step d then _ =
-    two-step (codes "pay") (codes "token") d value token (λ v t. member_at (codes "from_account") d >>= λ a. party a >>= λ owner. member_at (codes "to") d >>= λ p. payee p >>= λ q. then (codes "then") >>= λ c. Ok (contracts.Pay owner q t v c))
-    ∙ (λ i. both (reading_at value d (codes "pay")) (reading_at token d (codes "token")) >>= λ p.
-    two-step (codes "from_account") (codes "to") d party payee (λ a q. then (codes "then") >>= λ c. Ok (contracts.Pay a q p.1 p.0 c)) i)
-    ∙ then_two (both (reading_at value d (codes "pay")) (reading_at token d (codes "token"))) (both (reading_at party d (codes "from_account")) (reading_at payee d (codes "to"))) (λ p q. then (codes "then") >>= λ c. Ok (contracts.Pay q.0 q.1 p.1 p.0 c))
+    then_two (reading_at value d (codes "pay")) (reading_at token d (codes "token"))
+    (λ v t. reading_at party d (codes "from_account") >>= λ a. reading_at payee d (codes "to") >>= λ q. then (codes "then") >>= λ c. Ok (contracts.Pay a q t v c))
+    ∙ (λ i. both_readings (reading_at value d (codes "pay")) (reading_at token d (codes "token")) >>= λ p.
+    then_two (reading_at party d (codes "from_account")) (reading_at payee d (codes "to")) (λ a q. then (codes "then") >>= λ c. Ok (contracts.Pay a q p.1 p.0 c)) i)
+    ∙ then_two (both_readings (reading_at value d (codes "pay")) (reading_at token d (codes "token"))) (both_readings (reading_at party d (codes "from_account")) (reading_at payee d (codes "to")))
+    (λ p q. then (codes "then") >>= λ c. Ok (contracts.Pay q.0 q.1 p.1 p.0 c))
 
 -- a When, by its cases and what its other members stand for together
-pub when-step : (d : Data) (then : At Contract) (cases : At (List Case)) → contract_by When d then cases
-    ≡ (cases (codes "when") >>= λ ks. both (reading_at time d (codes "timeout")) (then (codes "timeout_continuation")) >>= λ p. Ok (contracts.When ks p.0 p.1))
+pub when-step : (d : Data) (then : ByKey Contract) (cases : ByKey (List Case)) → contract_by When d then cases
+    ≡ (cases (codes "when") >>= λ ks. both_readings (reading_at time d (codes "timeout")) (then (codes "timeout_continuation")) >>= λ p. Ok (contracts.When ks p.0 p.1))
 unfolding contract_by
 when-step d then cases = λ i. cases (codes "when") >>= λ ks.
-    (then_at (member_at (codes "timeout") d) time (λ t. then (codes "timeout_continuation") >>= λ c. Ok (contracts.When ks t c))
-    ∙ then_two (reading_at time d (codes "timeout")) (then (codes "timeout_continuation")) (λ t c. Ok (contracts.When ks t c))) i
+    then_two (reading_at time d (codes "timeout")) (then (codes "timeout_continuation")) (λ t c. Ok (contracts.When ks t c)) i
 
 pub ruleset contract_steps = (contract-step, case-step)
 

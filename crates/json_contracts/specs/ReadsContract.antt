@@ -7,7 +7,7 @@ use Rattle.contract.specs.declared.tree.Case.{Case}
 use Rattle.contract.specs.declared.tree.Contract.{Contract}
 use Rattle.contract.specs.declared.tree.Contract as contracts
 use Rattle.json_names.specs.Forms.{contract_form, case_form}
-use Rattle.json_names.specs.Parts.{Reading, ◌>>=◌, At, both, nowhere, member_at, text, time}
+use Rattle.json_names.specs.Parts.{Reading, ◌>>=◌, ByKey, reading_at, both_readings, nowhere, text, time}
 use Rattle.json_names.specs.ReadsNames.{party, token, payee}
 use Rattle.json_values.specs.ReadsValue.{value, observation}
 use Rattle.json_values.specs.ReadsAction.{action}
@@ -18,49 +18,39 @@ use Rattle.json_names.specs.declared.forms.CaseForm.{CaseForm}
 use Rattle.json_names.specs.declared.forms.CaseForm.TheVariants as case_forms
 
 -- A contract of each form, from what the members stand for.
-unfoldable pub contract_by : ContractForm → Data → At Contract → At (List Case) → Reading Contract
+unfoldable pub contract_by : ContractForm → Data → ByKey Contract → ByKey (List Case) → Reading Contract
 contract_by contract_forms.Close d contract cases = Ok contracts.Close
 contract_by contract_forms.Pay d contract cases = do
-  v ← member_at (codes "pay") d
-  amount ← value v
-  t ← member_at (codes "token") d
-  token ← token t
-  a ← member_at (codes "from_account") d
-  account ← party a
-  p ← member_at (codes "to") d
-  payee ← payee p
+  amount ← reading_at value d (codes "pay")
+  token ← reading_at token d (codes "token")
+  account ← reading_at party d (codes "from_account")
+  payee ← reading_at payee d (codes "to")
   then ← contract (codes "then")
   Ok (contracts.Pay account payee token amount then)
 contract_by contract_forms.If d contract cases = do
-  o ← member_at (codes "if") d
-  holds ← observation o
-  branches ← both (contract (codes "then")) (contract (codes "else"))
+  holds ← reading_at observation d (codes "if")
+  branches ← both_readings (contract (codes "then")) (contract (codes "else"))
   Ok (contracts.If holds branches.0 branches.1)
 contract_by contract_forms.When d contract cases = do
   list ← cases (codes "when")
-  t ← member_at (codes "timeout") d
-  timeout ← time t
+  timeout ← reading_at time d (codes "timeout")
   then ← contract (codes "timeout_continuation")
   Ok (contracts.When list timeout then)
 contract_by contract_forms.Let d contract cases = do
-  n ← member_at (codes "let") d
-  name ← text n
-  v ← member_at (codes "be") d
-  value ← value v
+  name ← reading_at text d (codes "let")
+  value ← reading_at value d (codes "be")
   then ← contract (codes "then")
   Ok (contracts.Let name value then)
 contract_by contract_forms.Assert d contract cases = do
-  o ← member_at (codes "assert") d
-  holds ← observation o
+  holds ← reading_at observation d (codes "assert")
   then ← contract (codes "then")
   Ok (contracts.Assert holds then)
 contract_by contract_forms.Nothing d contract cases = Err NoForm
 
 -- A case of each form, from what the members stand for.
-unfoldable pub case_by : CaseForm → Data → At Contract → Reading Case
+unfoldable pub case_by : CaseForm → Data → ByKey Contract → Reading Case
 case_by case_forms.Plain d contract = do
-  a ← member_at (codes "case") d
-  action ← action a
+  action ← reading_at action d (codes "case")
   then ← contract (codes "then")
   Ok (record { action = action; then = then })
 case_by case_forms.Merkleized d contract = Err Merkleized

@@ -1,6 +1,6 @@
 //! Cases and contracts as JSON values.
 ghost use Rattle.std.specs.Prelude.{codes};
-ghost use Rattle.json_names.specs.Parts.{Gives, both, list, nowhere, reading_at, time};
+ghost use Rattle.json_names.specs.Parts.{Gives, both_readings, list, nowhere, reading_at, time};
 ghost use Rattle.json_names.specs.ReadsNames.{party, payee, token};
 ghost use Rattle.json_names.specs.declared.forms.ContractForm.TheVariants.{Pay, When};
 ghost use Rattle.json_values.specs.ReadsValue.{value};
@@ -63,8 +63,8 @@ fn what_is_paid<J: JsonValue>(
     alloc: Global,
     json: &J,
 ) -> Result<((Value, Token), (Party, Payee)), JsonFault>
-    ensures { Gives result (both (both (reading_at value (J.json json.now) (codes "pay")) (reading_at token (J.json json.now) (codes "token")))
-        (both (reading_at party (J.json json.now) (codes "from_account")) (reading_at payee (J.json json.now) (codes "to")))) }
+    ensures { Gives result (both_readings (both_readings (reading_at value (J.json json.now) (codes "pay")) (reading_at token (J.json json.now) (codes "token")))
+        (both_readings (reading_at party (J.json json.now) (codes "from_account")) (reading_at payee (J.json json.now) (codes "to")))) }
 {
     let amount = amount_and_token(alloc, json)?;
     beside(amount, account_and_payee(alloc, json))
@@ -72,7 +72,7 @@ fn what_is_paid<J: JsonValue>(
 
 // What a Pay takes.
 fn amount_and_token<J: JsonValue>(alloc: Global, json: &J) -> Result<(Value, Token), JsonFault>
-    ensures { Gives result (both (reading_at value (J.json json.now) (codes "pay")) (reading_at token (J.json json.now) (codes "token"))) }
+    ensures { Gives result (both_readings (reading_at value (J.json json.now) (codes "pay")) (reading_at token (J.json json.now) (codes "token"))) }
 {
     let amount = value_from_json(alloc, member(json, "pay")?)?;
     beside(amount, token_at(alloc, json, "token"))
@@ -86,7 +86,7 @@ fn token_at<J: JsonValue>(alloc: Global, json: &J, key: &str) -> Result<Token, J
 
 // Where a Pay takes it from, and whom it gives it to.
 fn account_and_payee<J: JsonValue>(alloc: Global, json: &J) -> Result<(Party, Payee), JsonFault>
-    ensures { Gives result (both (reading_at party (J.json json.now) (codes "from_account")) (reading_at payee (J.json json.now) (codes "to"))) }
+    ensures { Gives result (both_readings (reading_at party (J.json json.now) (codes "from_account")) (reading_at payee (J.json json.now) (codes "to"))) }
 {
     let account = party_from_json(alloc, member(json, "from_account")?)?;
     let payee = payee_from_json(alloc, member(json, "to")?)?;
@@ -110,7 +110,7 @@ fn timeout_and_then<J: JsonValue>(
     alloc: Global,
     json: &J,
 ) -> Result<(i64, Boxed<Contract>), JsonFault>
-    ensures { Gives result (both (reading_at time (J.json json.now) (codes "timeout")) (reading_at reads.contract (J.json json.now) (codes "timeout_continuation"))) }
+    ensures { Gives result (both_readings (reading_at time (J.json json.now) (codes "timeout")) (reading_at reads.contract (J.json json.now) (codes "timeout_continuation"))) }
 {
     let timeout = read_time(member(json, "timeout")?)?;
     let then = contract_at(alloc, json, "timeout_continuation")?;
@@ -125,7 +125,7 @@ fn contracts_at<J: JsonValue>(
     a: &str,
     b: &str,
 ) -> Result<(Boxed<Contract>, Boxed<Contract>), JsonFault>
-    ensures { Gives result (both (reading_at reads.contract (J.json json.now) a.now) (reading_at reads.contract (J.json json.now) b.now)) }
+    ensures { Gives result (both_readings (reading_at reads.contract (J.json json.now) a.now) (reading_at reads.contract (J.json json.now) b.now)) }
 {
     let first = contract_at(alloc, json, a)?;
     beside(first, contract_at(alloc, json, b))
@@ -170,7 +170,7 @@ fn then_of_case<J: JsonValue>(alloc: Global, json: &J) -> Result<Contract, JsonF
 }
 
 #[cycle(contract_from_json)]
-#[tactic(auto, using(json_names::specs::DepthLaws::item_deeper))]
+#[tactic(auto, using(json_names::proofs::DepthLaws::item_deeper))]
 fn cases_from_json<J: JsonValue>(alloc: Global, json: &J) -> Result<Items<Case>, JsonFault>
     ensures { Gives result (list reads.case (J.json json.now)) }
 {

@@ -41,22 +41,29 @@ abbrev pub member_at : List ℕ → Data → Reading Data
 member_at key d = found (get key d)
 
 -- the readings of an object's members, by key
-abbrev pub At : Type 0 → Type 0
-At X = List ℕ → Reading X
+abbrev pub ByKey : Type 0 → Type 0
+ByKey X = List ℕ → Reading X
 
 -- the reading of the member at a key
-abbrev pub reading_at : {X : Type 0} → (Data → Reading X) → Data → At X
+abbrev pub reading_at : {X : Type 0} → (Data → Reading X) → Data → ByKey X
 reading_at reading d key = member_at key d >>= reading
 
 -- two readings, the first before the second
-abbrev pub both : {A B : Type 0} → Reading A → Reading B → Reading (A × B)
-both first second = do
+abbrev pub both_readings : {A B : Type 0} → Reading A → Reading B → Reading (A × B)
+both_readings first second = do
   a ← first
   b ← second
   Ok (a, b)
 
+-- what is made of one reading, and of two, the first before the second
+abbrev pub of_one : {A B : Type 0} → (A → B) → Reading A → Reading B
+of_one make reading = reading >>= λ x. Ok (make x)
+
+abbrev pub of_two : {A B C : Type 0} → (A → B → C) → Reading A → Reading B → Reading C
+of_two make first second = both_readings first second >>= λ p. Ok (make p.0 p.1)
+
 -- nothing is inside
-abbrev pub nowhere : {X : Type 0} → At X
+abbrev pub nowhere : {X : Type 0} → ByKey X
 nowhere key = Err faults.NoForm
 
 -- a text

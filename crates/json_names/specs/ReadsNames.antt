@@ -9,57 +9,39 @@ use Rattle.names.specs.declared.payee.Payee.{Payee}
 use Rattle.names.specs.declared.payee.Payee.TheVariants as payees
 use Rattle.names.specs.declared.bound.Bound.{Bound}
 use Rattle.json_names.specs.Forms.{has, has_two}
-use Rattle.json_names.specs.Parts.{Reading, ◌>>=◌, member_at, text, bytes, whole}
+use Rattle.json_names.specs.Parts.{Reading, ◌>>=◌, of_one, reading_at, text, bytes, whole}
 use Rattle.json_names.specs.declared.fault.JsonFault.TheVariants.{NoForm}
 
 abbrev pub party : Data → Reading Party
 party d =
-    if has (codes "address") d then (do
-      a ← member_at (codes "address") d
-      address ← text a
-      Ok (parties.Address address))
-    else (do
-      r ← member_at (codes "role_token") d
-      role ← text r
-      Ok (parties.Role role))
+    if has (codes "address") d then of_one parties.Address (reading_at text d (codes "address"))
+    else of_one parties.Role (reading_at text d (codes "role_token"))
 
 abbrev pub token : Data → Reading Token
 token d =
     if has_two (codes "currency_symbol") (codes "token_name") d then (do
-      s ← member_at (codes "currency_symbol") d
-      symbol ← bytes s
-      n ← member_at (codes "token_name") d
-      name ← text n
+      symbol ← reading_at bytes d (codes "currency_symbol")
+      name ← reading_at text d (codes "token_name")
       Ok (record { symbol = symbol; name = name }))
     else Err NoForm
 
 abbrev pub choice_id : Data → Reading ChoiceId
 choice_id d =
     if has_two (codes "choice_name") (codes "choice_owner") d then (do
-      n ← member_at (codes "choice_name") d
-      name ← text n
-      o ← member_at (codes "choice_owner") d
-      owner ← party o
+      name ← reading_at text d (codes "choice_name")
+      owner ← reading_at party d (codes "choice_owner")
       Ok (record { name = name; owner = owner }))
     else Err NoForm
 
 abbrev pub payee : Data → Reading Payee
 payee d =
-    if has (codes "account") d then (do
-      a ← member_at (codes "account") d
-      owner ← party a
-      Ok (payees.Account owner))
-    else (do
-      p ← member_at (codes "party") d
-      party ← party p
-      Ok (payees.Party party))
+    if has (codes "account") d then of_one payees.Account (reading_at party d (codes "account"))
+    else of_one payees.Party (reading_at party d (codes "party"))
 
 abbrev pub bound : Data → Reading Bound
 bound d =
     if has_two (codes "from") (codes "to") d then (do
-      f ← member_at (codes "from") d
-      from ← whole f
-      t ← member_at (codes "to") d
-      to ← whole t
+      from ← reading_at whole d (codes "from")
+      to ← reading_at whole d (codes "to")
       Ok (record { from = from; to = to }))
     else Err NoForm

@@ -2,7 +2,7 @@
 ghost use Rattle.std.specs.Prelude.{◌≡◌, ◌<◌, Ok, IfOk};
 ghost use Rattle.serde_json.specs.Data.{depth};
 ghost use Rattle.json_names.specs.Forms.{has, has_two, has_three, is_number, is_word};
-ghost use Rattle.json_names.specs.Parts.{Gives, GivesBy, both, member_at, pair, text, bytes};
+ghost use Rattle.json_names.specs.Parts.{Gives, GivesBy, both_readings, member_at, pair, text, bytes};
 
 use crate::fault::JsonFault;
 use collections::{Bytes, Text};
@@ -48,7 +48,7 @@ pub fn is_word<J: JsonValue>(json: &J, word: &str) -> bool
 }
 
 /// The member at a key. Where there is none, the value has no form.
-#[tactic(auto, using(crate::specs::DepthLaws::deeper))]
+#[tactic(auto, using(crate::proofs::DepthLaws::deeper))]
 pub fn member<'j, J: JsonValue>(json: &'j J, key: &str) -> Result<&'j J, JsonFault>
     ensures found { GivesBy (λ v. J.json v.now) result (member_at key.now (J.json json.now)) }
     ensures deeper { IfOk result (λ v. depth (J.json v.now) < depth (J.json json.now)) }
@@ -95,7 +95,7 @@ pub fn read_bytes<J: JsonValue>(alloc: Global, json: &J) -> Result<Bytes, JsonFa
 /// What was read, beside what was read after it. Where that has a fault, it is the fault, and what was read before
 /// is dropped.
 pub fn beside<A: Drop, B>(first: A, second: Result<B, JsonFault>) -> Result<(A, B), JsonFault>
-    ensures { result ≡ both (Ok first) second }
+    ensures { result ≡ both_readings (Ok first) second }
 {
     match second {
         Ok(second) => Ok((first, second)),

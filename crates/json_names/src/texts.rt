@@ -14,7 +14,7 @@ const MAX_LEN: usize = 1_048_576;
 
 /// The JSON value of a text of at most 1,048,576 bytes. Its texts are borrowed, from the text where they have no
 /// escape, and else from `scratch`.
-#[tactic(auto, using(crate::specs::TextLaws::text_steps))]
+#[tactic(auto, using(crate::proofs::TextLaws::text_steps))]
 pub fn json_of<'a>(
     alloc: Global,
     text: &'a [u8],

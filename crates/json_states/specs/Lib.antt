@@ -1,4 +1,3 @@
 pub mod ReadsInput
 pub mod ReadsState
 pub mod Rows
-pub mod RowLaws

@@ -9,7 +9,7 @@ use Rattle.names.specs.declared.choice_id.ChoiceId.{ChoiceId}
 use Rattle.names.specs.Orders.{bytes_cmp, account_cmp, choice_id_cmp}
 use Rattle.states.specs.States.{StateMaps}
 use Rattle.json_names.specs.Forms.{has_two}
-use Rattle.json_names.specs.Parts.{Reading, ◌>>=◌, found, member_at, text, whole, time, pair}
+use Rattle.json_names.specs.Parts.{Reading, ◌>>=◌, found, reading_at, text, whole, time, pair}
 use Rattle.json_names.specs.ReadsNames.{party, token, choice_id}
 use Rattle.json_names.specs.declared.fault.JsonFault.TheVariants.{NoForm, BadState}
 
@@ -58,13 +58,9 @@ rows R row d = found (as_array d) >>= rows_into row empty
 abbrev pub state : Data → Reading StateMaps
 state d =
     if has_two (codes "accounts") (codes "choices") d && has_two (codes "boundValues") (codes "minTime") d then (do
-      a ← member_at (codes "accounts") d
-      accounts ← rows account_cmp account_row a
-      c ← member_at (codes "choices") d
-      choices ← rows choice_id_cmp choice_row c
-      b ← member_at (codes "boundValues") d
-      bound_values ← rows bytes_cmp bound_row b
-      t ← member_at (codes "minTime") d
-      min_time ← time t
+      accounts ← reading_at (rows account_cmp account_row) d (codes "accounts")
+      choices ← reading_at (rows choice_id_cmp choice_row) d (codes "choices")
+      bound_values ← reading_at (rows bytes_cmp bound_row) d (codes "boundValues")
+      min_time ← reading_at time d (codes "minTime")
       Ok (record { accounts = accounts; choices = choices; bound_values = bound_values; min_time = min_time }))
     else Err NoForm

@@ -3,20 +3,21 @@ use Rattle.std.proofs.Common.{◌≡◌, Ok, ◌∙◌}
 use Rattle.std.specs.Prelude.{codes}
 use Rattle.serde_json.specs.Data.{Data}
 use Rattle.contract.specs.declared.tree.Action.TheVariants as actions
-use Rattle.json_names.specs.ListLaws.{two-step}
-use Rattle.json_names.specs.Parts.{◌>>=◌, both, member_at, reading_at}
+use Rattle.json_names.proofs.ListLaws.{then_two}
+use Rattle.json_names.specs.Parts.{◌>>=◌, both_readings, reading_at}
 use Rattle.json_names.specs.ReadsNames.{party, token}
 use Rattle.json_names.specs.declared.forms.ActionForm.TheVariants.{Deposit}
 use Rattle.json_values.specs.ReadsAction.{action_by}
 use Rattle.json_values.specs.ReadsValue.{value}
 
 pub deposit-step : (d : Data) → action_by Deposit d
-    ≡ (both (reading_at party d (codes "party")) (reading_at value d (codes "deposits")) >>= λ p.
-    both (reading_at token d (codes "of_token")) (reading_at party d (codes "into_account")) >>= λ q. Ok (actions.Deposit q.1 p.0 q.0 p.1))
+    ≡ (both_readings (reading_at party d (codes "party")) (reading_at value d (codes "deposits")) >>= λ p.
+    both_readings (reading_at token d (codes "of_token")) (reading_at party d (codes "into_account")) >>= λ q. Ok (actions.Deposit q.1 p.0 q.0 p.1))
 unfolding action_by
 deposit-step d =
-    two-step (codes "party") (codes "deposits") d party value (λ depositor amount. member_at (codes "of_token") d >>= λ t. token t >>= λ k. member_at (codes "into_account") d >>= λ a. party a >>= λ account. Ok (actions.Deposit account depositor k amount))
-    ∙ (λ i. both (reading_at party d (codes "party")) (reading_at value d (codes "deposits")) >>= λ p.
-    two-step (codes "of_token") (codes "into_account") d token party (λ k account. Ok (actions.Deposit account p.0 k p.1)) i)
+    then_two (reading_at party d (codes "party")) (reading_at value d (codes "deposits"))
+    (λ depositor amount. reading_at token d (codes "of_token") >>= λ k. reading_at party d (codes "into_account") >>= λ account. Ok (actions.Deposit account depositor k amount))
+    ∙ (λ i. both_readings (reading_at party d (codes "party")) (reading_at value d (codes "deposits")) >>= λ p.
+    then_two (reading_at token d (codes "of_token")) (reading_at party d (codes "into_account")) (λ k account. Ok (actions.Deposit account p.0 k p.1)) i)
 
 pub ruleset deposit_steps = deposit-step

@@ -6,7 +6,7 @@ use Rattle.serde_json.specs.Data.{Data, null, boolean, number, string, array, ob
 use Rattle.serde_json.specs.Find.{get_member}
 use Rattle.json_names.specs.Forms.{value_form, observation_form}
 use Rattle.json_names.specs.Parts.{Reading, ◌>>=◌, found, reading_at}
-use Rattle.json_names.specs.ListLaws.{read_found}
+use Rattle.json_names.proofs.ListLaws.{read_found}
 use Rattle.json_values.specs.ReadsValue.{value_by, observation_by, value, value_in, observation, observation_in}
 
 value_in-found : (key : List ℕ) (ms : Members) → value_in key ms ≡ (found (get_member key ms) >>= value)

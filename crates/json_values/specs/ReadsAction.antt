@@ -4,7 +4,7 @@ use Rattle.serde_json.specs.Data.{Data}
 use Rattle.contract.specs.declared.tree.Action.{Action}
 use Rattle.contract.specs.declared.tree.Action.TheVariants as actions
 use Rattle.json_names.specs.Forms.{action_form}
-use Rattle.json_names.specs.Parts.{Reading, ◌>>=◌, member_at, list}
+use Rattle.json_names.specs.Parts.{Reading, ◌>>=◌, reading_at, of_one, list}
 use Rattle.json_names.specs.ReadsNames.{party, token, choice_id, bound}
 use Rattle.json_names.specs.declared.fault.JsonFault.TheVariants.{NoForm}
 use Rattle.json_names.specs.declared.forms.ActionForm.{ActionForm}
@@ -14,25 +14,16 @@ use Rattle.json_values.specs.ReadsValue.{value, observation}
 -- An action of each form.
 unfoldable pub action_by : ActionForm → Data → Reading Action
 action_by action_forms.Deposit d = do
-  p ← member_at (codes "party") d
-  depositor ← party p
-  v ← member_at (codes "deposits") d
-  amount ← value v
-  t ← member_at (codes "of_token") d
-  token ← token t
-  a ← member_at (codes "into_account") d
-  account ← party a
+  depositor ← reading_at party d (codes "party")
+  amount ← reading_at value d (codes "deposits")
+  token ← reading_at token d (codes "of_token")
+  account ← reading_at party d (codes "into_account")
   Ok (actions.Deposit account depositor token amount)
 action_by action_forms.Choice d = do
-  i ← member_at (codes "for_choice") d
-  id ← choice_id i
-  l ← member_at (codes "choose_between") d
-  bounds ← list bound l
+  id ← reading_at choice_id d (codes "for_choice")
+  bounds ← reading_at (list bound) d (codes "choose_between")
   Ok (actions.Choice id bounds)
-action_by action_forms.Notify d = do
-  o ← member_at (codes "notify_if") d
-  holds ← observation o
-  Ok (actions.Notify holds)
+action_by action_forms.Notify d = of_one actions.Notify (reading_at observation d (codes "notify_if"))
 action_by action_forms.Nothing d = Err NoForm
 
 abbrev pub action : Data → Reading Action

@@ -9,7 +9,7 @@ use Rattle.contract.specs.declared.value.Value as values
 use Rattle.contract.specs.declared.value.Observation.{Observation}
 use Rattle.contract.specs.declared.value.Observation as observations
 use Rattle.json_names.specs.Forms.{value_form, observation_form}
-use Rattle.json_names.specs.Parts.{Reading, ◌>>=◌, At, both, nowhere, member_at, text, whole}
+use Rattle.json_names.specs.Parts.{Reading, ◌>>=◌, ByKey, reading_at, both_readings, of_one, of_two, nowhere, text, whole}
 use Rattle.json_names.specs.ReadsNames.{party, token, choice_id}
 use Rattle.json_names.specs.declared.fault.JsonFault.TheVariants.{NoForm}
 use Rattle.json_names.specs.declared.forms.ValueForm.{ValueForm}
@@ -17,59 +17,36 @@ use Rattle.json_names.specs.declared.forms.ValueForm.TheVariants as value_forms
 use Rattle.json_names.specs.declared.forms.ObservationForm.{ObservationForm}
 use Rattle.json_names.specs.declared.forms.ObservationForm.TheVariants as observation_forms
 
--- what two members stand for, the first before the second
-abbrev pub of_two : {A B C : Type 0} → (A → B → C) → Reading A → Reading B → Reading C
-of_two make first second = do
-  p ← both first second
-  Ok (make p.0 p.1)
-
 -- A value of each form, from what the members stand for.
-unfoldable pub value_by : ValueForm → Data → At Value → At Observation → Reading Value
-value_by value_forms.Constant d value observation = do
-  n ← whole d
-  Ok (values.Constant n)
+unfoldable pub value_by : ValueForm → Data → ByKey Value → ByKey Observation → Reading Value
+value_by value_forms.Constant d value observation = of_one values.Constant (whole d)
 value_by value_forms.TimeIntervalStart d value observation = Ok values.TimeIntervalStart
 value_by value_forms.TimeIntervalEnd d value observation = Ok values.TimeIntervalEnd
 value_by value_forms.AvailableMoney d value observation = do
-  t ← member_at (codes "amount_of_token") d
-  token ← token t
-  a ← member_at (codes "in_account") d
-  account ← party a
+  token ← reading_at token d (codes "amount_of_token")
+  account ← reading_at party d (codes "in_account")
   Ok (values.AvailableMoney account token)
-value_by value_forms.NegValue d value observation = do
-  v ← value (codes "negate")
-  Ok (values.NegValue v)
+value_by value_forms.NegValue d value observation = of_one values.NegValue (value (codes "negate"))
 value_by value_forms.AddValue d value observation = of_two values.AddValue (value (codes "add")) (value (codes "and"))
 value_by value_forms.SubValue d value observation = of_two values.SubValue (value (codes "value")) (value (codes "minus"))
 value_by value_forms.MulValue d value observation = of_two values.MulValue (value (codes "multiply")) (value (codes "times"))
 value_by value_forms.DivValue d value observation = of_two values.DivValue (value (codes "divide")) (value (codes "by"))
-value_by value_forms.ChoiceValue d value observation = do
-  i ← member_at (codes "value_of_choice") d
-  id ← choice_id i
-  Ok (values.ChoiceValue id)
-value_by value_forms.UseValue d value observation = do
-  n ← member_at (codes "use_value") d
-  name ← text n
-  Ok (values.UseValue name)
+value_by value_forms.ChoiceValue d value observation = of_one values.ChoiceValue (reading_at choice_id d (codes "value_of_choice"))
+value_by value_forms.UseValue d value observation = of_one values.UseValue (reading_at text d (codes "use_value"))
 value_by value_forms.Cond d value observation = do
   holds ← observation (codes "if")
-  branches ← both (value (codes "then")) (value (codes "else"))
+  branches ← both_readings (value (codes "then")) (value (codes "else"))
   Ok (values.Cond holds branches.0 branches.1)
 value_by value_forms.Nothing d value observation = Err NoForm
 
 -- An observation of each form, from what the members stand for.
-unfoldable pub observation_by : ObservationForm → Data → At Value → At Observation → Reading Observation
+unfoldable pub observation_by : ObservationForm → Data → ByKey Value → ByKey Observation → Reading Observation
 observation_by observation_forms.TrueObs d value observation = Ok observations.TrueObs
 observation_by observation_forms.FalseObs d value observation = Ok observations.FalseObs
 observation_by observation_forms.AndObs d value observation = of_two observations.AndObs (observation (codes "both")) (observation (codes "and"))
 observation_by observation_forms.OrObs d value observation = of_two observations.OrObs (observation (codes "either")) (observation (codes "or"))
-observation_by observation_forms.NotObs d value observation = do
-  o ← observation (codes "not")
-  Ok (observations.NotObs o)
-observation_by observation_forms.ChoseSomething d value observation = do
-  i ← member_at (codes "chose_something_for") d
-  id ← choice_id i
-  Ok (observations.ChoseSomething id)
+observation_by observation_forms.NotObs d value observation = of_one observations.NotObs (observation (codes "not"))
+observation_by observation_forms.ChoseSomething d value observation = of_one observations.ChoseSomething (reading_at choice_id d (codes "chose_something_for"))
 observation_by observation_forms.ValueGE d value observation = of_two observations.ValueGE (value (codes "value")) (value (codes "ge_than"))
 observation_by observation_forms.ValueGT d value observation = of_two observations.ValueGT (value (codes "value")) (value (codes "gt"))
 observation_by observation_forms.ValueLT d value observation = of_two observations.ValueLT (value (codes "value")) (value (codes "lt"))

@@ -1,6 +1,6 @@
 //! Actions as JSON values.
 ghost use Rattle.std.specs.Prelude.{codes};
-ghost use Rattle.json_names.specs.Parts.{Gives, both, list, reading_at};
+ghost use Rattle.json_names.specs.Parts.{Gives, both_readings, list, reading_at};
 ghost use Rattle.json_names.specs.ReadsNames.{bound, party, token};
 ghost use Rattle.json_names.specs.declared.forms.ActionForm.TheVariants.{Deposit};
 ghost use Rattle.json_values.specs.ReadsAction as reads;
@@ -48,7 +48,7 @@ fn deposit_from_json<J: JsonValue>(alloc: Global, json: &J) -> Result<Action, Js
 
 // Who deposits, and how much.
 fn party_and_value<J: JsonValue>(alloc: Global, json: &J) -> Result<(Party, Value), JsonFault>
-    ensures { Gives result (both (reading_at party (J.json json.now) (codes "party")) (reading_at value (J.json json.now) (codes "deposits"))) }
+    ensures { Gives result (both_readings (reading_at party (J.json json.now) (codes "party")) (reading_at value (J.json json.now) (codes "deposits"))) }
 {
     let depositor = party_from_json(alloc, member(json, "party")?)?;
     let amount = value_from_json(alloc, member(json, "deposits")?)?;
@@ -57,7 +57,7 @@ fn party_and_value<J: JsonValue>(alloc: Global, json: &J) -> Result<(Party, Valu
 
 // Of what token, and into whose account.
 fn token_and_account<J: JsonValue>(alloc: Global, json: &J) -> Result<(Token, Party), JsonFault>
-    ensures { Gives result (both (reading_at token (J.json json.now) (codes "of_token")) (reading_at party (J.json json.now) (codes "into_account"))) }
+    ensures { Gives result (both_readings (reading_at token (J.json json.now) (codes "of_token")) (reading_at party (J.json json.now) (codes "into_account"))) }
 {
     let token = token_from_json(alloc, member(json, "of_token")?)?;
     let account = party_from_json(alloc, member(json, "into_account")?)?;

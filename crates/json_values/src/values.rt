@@ -1,5 +1,5 @@
 //! Values and observations as JSON values.
-ghost use Rattle.json_names.specs.Parts.{Gives, both, reading_at};
+ghost use Rattle.json_names.specs.Parts.{Gives, both_readings, reading_at};
 ghost use Rattle.json_values.specs.ReadsValue as reads;
 
 use contract::{Boxed, Observation, Value};
@@ -138,7 +138,7 @@ fn values_at<J: JsonValue>(
     a: &str,
     b: &str,
 ) -> Result<(Boxed<Value>, Boxed<Value>), JsonFault>
-    ensures { Gives result (both (reading_at reads.value (J.json json.now) a.now) (reading_at reads.value (J.json json.now) b.now)) }
+    ensures { Gives result (both_readings (reading_at reads.value (J.json json.now) a.now) (reading_at reads.value (J.json json.now) b.now)) }
 {
     let first = value_at(alloc, json, a)?;
     beside(first, value_at(alloc, json, b))
@@ -152,7 +152,7 @@ fn observations_at<J: JsonValue>(
     a: &str,
     b: &str,
 ) -> Result<(Boxed<Observation>, Boxed<Observation>), JsonFault>
-    ensures { Gives result (both (reading_at reads.observation (J.json json.now) a.now) (reading_at reads.observation (J.json json.now) b.now)) }
+    ensures { Gives result (both_readings (reading_at reads.observation (J.json json.now) a.now) (reading_at reads.observation (J.json json.now) b.now)) }
 {
     let first = observation_at(alloc, json, a)?;
     beside(first, observation_at(alloc, json, b))

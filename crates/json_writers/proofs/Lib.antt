@@ -1,3 +1,5 @@
 pub mod ListedValues
 pub mod ListedContract
 pub mod SymbolsOf
+pub mod AddsLaws
+pub mod ListedLaws

@@ -4,5 +4,3 @@ pub mod WrittenContract
 pub mod Written
 pub mod Symbols
 pub mod Tokens
-pub mod AddsLaws
-pub mod ListedLaws

@@ -54,6 +54,7 @@ abbrev mutual
 abbrev pub CaseSymbols : ActionTree × ContractTree → Type 0
 CaseSymbols k = ActionSymbols k.0 × ContractSymbols k.1
 
+-- the same of the cases in a list, which no reader needs: it serves the proofs of this crate
 abbrev pub ListSymbols : List (ActionTree × ContractTree) → Type 0
 ListSymbols [] = ⊤
 ListSymbols (k ∷ ks) = CaseSymbols k × ListSymbols ks

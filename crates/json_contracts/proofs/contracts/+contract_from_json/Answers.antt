@@ -1,5 +1,5 @@
 use Rattle.std.proofs.Common.{◌∙◌}
-use Rattle.json_names.specs.ListLaws.{front_step}
+use Rattle.json_names.proofs.ListLaws.{front_step}
 use Rattle.json_contracts.specs.ReadsContract.{case}
 use Rattle.json_contracts.proofs.contracts.+contract_from_json.Goals as goal
 

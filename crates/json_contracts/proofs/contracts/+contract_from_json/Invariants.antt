@@ -2,7 +2,7 @@ use Rattle.std.proofs.Common.{◌≡◌, ◌+◌, ◌*◌, drop, map}
 use Rattle.serde_json.specs.Data.{depth}
 use Rattle.serde_json.specs.View.{items_of}
 use Rattle.json_names.specs.Parts.{all_items}
-use Rattle.json_names.specs.ListLaws.{with_front}
+use Rattle.json_names.proofs.ListLaws.{with_front}
 use Rattle.json_contracts.specs.ReadsContract.{case}
 use Rattle.json_contracts.proofs.contracts.+contract_from_json.Given as goal
 

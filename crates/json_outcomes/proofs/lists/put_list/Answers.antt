@@ -1,7 +1,7 @@
 use Rattle.std.proofs.Common.{refl}
-use Rattle.json_writers.specs.AddsLaws.{wrote}
-use Rattle.json_writers.specs.ListedLaws.{listed, closed}
-use Rattle.json_outcomes.specs.EachLaws.{each-more, each-over}
+use Rattle.json_writers.proofs.AddsLaws.{wrote}
+use Rattle.json_writers.proofs.ListedLaws.{listed, closed}
+use Rattle.json_outcomes.proofs.EachLaws.{each-more, each-over}
 use Rattle.json_outcomes.proofs.lists.put_list.Goals as goal
 
 pub loop-item-preserved : goal.loop-item-preserved

@@ -1,6 +1,6 @@
 use Rattle.std.proofs.Common.{take, map}
 use Rattle.json_writers.specs.Tokens.{Adds}
-use Rattle.json_writers.specs.ListedLaws.{front}
+use Rattle.json_writers.proofs.ListedLaws.{front}
 use Rattle.json_outcomes.specs.Each.{Each}
 use Rattle.json_outcomes.proofs.lists.put_list.Given as goal
 

@@ -1,4 +1,4 @@
-use Rattle.json_writers.specs.AddsLaws.{then, wrote}
+use Rattle.json_writers.proofs.AddsLaws.{then, wrote}
 use Rattle.json_outcomes.proofs.outcomes.put_outcome.Goals as goal
 
 pub returns-clause-put : goal.returns-clause-put

@@ -1,4 +1,4 @@
-use Rattle.json_writers.specs.AddsLaws.{then, wrote}
+use Rattle.json_writers.proofs.AddsLaws.{then, wrote}
 use Rattle.json_outcomes.proofs.warnings.put_deposit_warning.Goals as goal
 
 pub returns : goal.returns

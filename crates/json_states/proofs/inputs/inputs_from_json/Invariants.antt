@@ -1,7 +1,7 @@
 use Rattle.std.proofs.Common.{◌≡◌, drop, map}
 use Rattle.serde_json.specs.View.{items_of}
 use Rattle.json_names.specs.Parts.{all_items}
-use Rattle.json_names.specs.ListLaws.{with_front}
+use Rattle.json_names.proofs.ListLaws.{with_front}
 use Rattle.json_states.specs.ReadsInput.{input}
 use Rattle.json_states.proofs.inputs.inputs_from_json.Given as goal
 

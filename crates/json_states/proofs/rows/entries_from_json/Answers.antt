@@ -2,7 +2,7 @@ use Rattle.std.proofs.Common.{◌≡◌, Some, map, refl, sym, ◌∙◌, arith}
 use Rattle.std.proofs.lemmas.Grind.{common_steps}
 use Rattle.serde_json.specs.Find.{as_array}
 use Rattle.serde_json.specs.View.{items_of}
-use Rattle.json_states.specs.RowLaws.{rows-repeated, rows-fault, rows-map, Fails-of, is_repeated}
+use Rattle.json_states.proofs.RowLaws.{rows-repeated, rows-fault, rows-map, Fails-of, is_repeated}
 use Rattle.json_states.proofs.rows.entries_from_json.Goals as goal
 
 pub returns-in-None-clause-reading : goal.returns-in-None-clause-reading

@@ -1,4 +1,4 @@
-use Rattle.json_states.specs.RowLaws.{accounts-positive}
+use Rattle.json_states.proofs.RowLaws.{accounts-positive}
 use Rattle.json_states.proofs.state_forms.state_from_json.Goals as goal
 
 pub from_entries-requires : goal.from_entries-requires

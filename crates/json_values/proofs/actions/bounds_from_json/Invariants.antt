@@ -2,7 +2,7 @@ use Rattle.std.proofs.Common.{◌≡◌, drop, map}
 use Rattle.serde_json.specs.View.{items_of}
 use Rattle.json_names.specs.Parts.{all_items}
 use Rattle.json_names.specs.ReadsNames.{bound}
-use Rattle.json_names.specs.ListLaws.{with_front}
+use Rattle.json_names.proofs.ListLaws.{with_front}
 use Rattle.json_values.proofs.actions.bounds_from_json.Given as goal
 
 -- those so far and those of what is left are those of all

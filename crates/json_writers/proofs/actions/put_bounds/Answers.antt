@@ -1,6 +1,6 @@
 use Rattle.json_writers.specs.Written.{bound_json, bound_fits}
-use Rattle.json_writers.specs.AddsLaws.{wrote}
-use Rattle.json_writers.specs.ListedLaws.{listed-at, closed, all-more-at, all-over}
+use Rattle.json_writers.proofs.AddsLaws.{wrote}
+use Rattle.json_writers.proofs.ListedLaws.{listed-at, closed, all-more-at, all-over}
 use Rattle.json_writers.proofs.actions.put_bounds.Goals as goal
 
 pub loop-bound-preserved : goal.loop-bound-preserved

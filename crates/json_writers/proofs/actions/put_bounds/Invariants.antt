@@ -2,7 +2,7 @@ use Rattle.std.proofs.Common.{◌≡◌, true, take, map}
 use Rattle.std.specs.List.{list_all}
 use Rattle.json_writers.specs.Tokens.{Adds}
 use Rattle.json_writers.specs.Written.{bound_json, bound_fits}
-use Rattle.json_writers.specs.ListedLaws.{front}
+use Rattle.json_writers.proofs.ListedLaws.{front}
 use Rattle.json_writers.proofs.actions.put_bounds.Given as goal
 
 -- the bounds so far fit, and are written

@@ -1,8 +1,8 @@
 use Rattle.std.proofs.Common.{◌&&◌}
 use Rattle.contract.specs.Tree.{case_tree}
 use Rattle.json_writers.specs.Written.{case_json, case_fits}
-use Rattle.json_writers.specs.AddsLaws.{then, wrote}
-use Rattle.json_writers.specs.ListedLaws.{listed, closed, all-more, all-over}
+use Rattle.json_writers.proofs.AddsLaws.{then, wrote}
+use Rattle.json_writers.proofs.ListedLaws.{listed, closed, all-more, all-over}
 use Rattle.json_writers.proofs.SymbolsOf.{symbols-more, symbols-over}
 use Rattle.json_writers.proofs.ListedContract.{contract_fits-Pay, contract_json-Pay, contract_fits-If, contract_json-If, contract_fits-When, contract_json-When, contract_fits-Let, contract_json-Let, contract_fits-Assert, contract_json-Assert}
 use Rattle.json_writers.proofs.contracts.+put_contract.Goals as goal

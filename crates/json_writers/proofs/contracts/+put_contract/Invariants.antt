@@ -4,7 +4,7 @@ use Rattle.contract.specs.Tree.{case_tree}
 use Rattle.json_writers.specs.Symbols.{ListSymbols}
 use Rattle.json_writers.specs.Tokens.{Adds}
 use Rattle.json_writers.specs.Written.{case_json, case_fits}
-use Rattle.json_writers.specs.ListedLaws.{front}
+use Rattle.json_writers.proofs.ListedLaws.{front}
 use Rattle.json_writers.proofs.contracts.+put_contract.Given as goal
 
 -- the cases so far fit, are written, and have symbols of bytes

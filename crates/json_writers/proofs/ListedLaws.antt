@@ -11,7 +11,7 @@ use Rattle.serde_json.specs.Data.{Data}
 use Rattle.serde_json.specs.View.{items_of}
 use Rattle.serde_json.specs.Written.{items_outline}
 use Rattle.json_writers.specs.Tokens.{Adds, data_tokens}
-use Rattle.json_writers.specs.AddsLaws.{then}
+use Rattle.json_writers.proofs.AddsLaws.{then}
 
 -- the tokens of the items, without the closing bracket
 abbrev pub front : List Data → List Token

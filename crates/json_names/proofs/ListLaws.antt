@@ -4,7 +4,7 @@ use Rattle.std.proofs.lemmas.List.{at_drop_more}
 use Rattle.std.specs.Ordering.{match_ordering}
 use Rattle.serde_json.specs.Data.{Data}
 use Rattle.serde_json.specs.View.{items_of}
-use Rattle.json_names.specs.Parts.{Reading, ◌>>=◌, both, found, member_at, reading_at, all_items}
+use Rattle.json_names.specs.Parts.{Reading, ◌>>=◌, both_readings, found, all_items}
 
 -- the reading of the rest, behind what was read before
 abbrev pub with_front : {X : Type 0} → List X → Reading (List X) → Reading (List X)
@@ -32,20 +32,8 @@ read_found Less later next d f e = e
 read_found Equal later next d f e = refl
 read_found Greater later next d f e = e
 
--- a member is read, and then the rest
-pub then_at : {A B : Type 0} (m : Reading Data) (f : Data → Reading A) (g : A → Reading B) → (m >>= λ d. f d >>= g) ≡ ((m >>= f) >>= g)
-then_at (Ok d) f g = refl
-then_at (Err fault) f g = refl
-
 -- two members are read, and then the rest
-pub then_two : {A B C : Type 0} (a : Reading A) (b : Reading B) (g : A → B → Reading C) → (a >>= λ x. b >>= λ y. g x y) ≡ (both a b >>= λ p. g p.0 p.1)
+pub then_two : {A B C : Type 0} (a : Reading A) (b : Reading B) (g : A → B → Reading C) → (a >>= λ x. b >>= λ y. g x y) ≡ (both_readings a b >>= λ p. g p.0 p.1)
 then_two (Ok x) (Ok y) g = refl
 then_two (Ok x) (Err fault) g = refl
 then_two (Err fault) b g = refl
-
-pub two-step : {A B C : Type 0} (k l : List ℕ) (d : Data) (f : Data → Reading A) (g : Data → Reading B) (h : A → B → Reading C)
-    → (member_at k d >>= λ m. f m >>= λ x. member_at l d >>= λ n. g n >>= λ y. h x y) ≡ (both (reading_at f d k) (reading_at g d l) >>= λ p. h p.0 p.1)
-two-step k l d f g h =
-    then_at (member_at k d) f (λ x. member_at l d >>= λ n. g n >>= λ y. h x y)
-    ∙ (λ i. reading_at f d k >>= λ x. then_at (member_at l d) g (λ y. h x y) i)
-    ∙ then_two (reading_at f d k) (reading_at g d l) h

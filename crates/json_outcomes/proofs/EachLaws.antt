@@ -1,6 +1,6 @@
 -- Laws for writers: what holds of each item, item by item.
 use Rattle.std.proofs.Common.{◌≡◌, ℕ, ◌+◌, ◌<◌, ◌≤◌, List, [], ◌∷◌, ◌++◌, length, get_or, take, take_all, sym, subst}
-use Rattle.json_writers.specs.ListedLaws.{take-more}
+use Rattle.json_writers.proofs.ListedLaws.{take-more}
 use Rattle.json_outcomes.specs.Each.{Each}
 
 each-push : {X : Type 0} (P : X → Type 0) (xs : List X) (x : X) → Each P xs → P x → Each P (xs ++ x ∷ [])
