@@ -4,7 +4,7 @@ pub mod Settling
 pub mod Applying
 pub mod Transaction
 pub mod Computed
-pub mod Same
+pub mod PlainLaws
 pub mod Reduced
 pub mod Money
 pub mod Laws
