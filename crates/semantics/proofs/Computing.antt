@@ -17,7 +17,7 @@ use Rattle.evaluation.specs.Evaluation.{eval, visited, holds, looked}
 use Rattle.evaluation.specs.Path.{waits_for}
 use Rattle.semantics.specs.Reduction.{Reduction, refund_of, choosing, timing_out, binding, asserting}
 use Rattle.semantics.specs.Settling.{after}
-use Rattle.semantics.specs.Transaction.{trimmed, begun, finished}
+use Rattle.semantics.specs.Transaction.{trimmed, finished}
 use Rattle.semantics.specs.Computed.{pay_step, settled, first_match, first_place, tried_to_match, take_match, applied, one_input, all_inputs, from_start, computed}
 use Rattle.semantics.specs.Reduced.{fixed, is_quiet, is_none_left}
 use Rattle.semantics.proofs.Integers.{lt_true, lt_false}
@@ -100,10 +100,10 @@ none_brought (x ∷ xs) h = absurd (omega (arith, eqb_zero h))
 -- ---- from the interval on
 
 abbrev by_tests : Bool → Bool → Interval → StateMaps → ContractTree → List Input → Walk
-by_tests b d i s c xs = cond b (ended (Err InvalidInterval)) (cond d (ended (Err IntervalInPast)) (from_start (trimmed i s) (begun i s) c xs))
+by_tests b d i s c xs = cond b (ended (Err InvalidInterval)) (cond d (ended (Err IntervalInPast)) (from_start (trimmed i s) s c xs))
 
 -- what holds of both refusals, and of what follows the interval, holds of a transaction
-module _ (P : Walk → Type 0) (i : Interval) (s : StateMaps) (c : ContractTree) (xs : List Input) (invalid : P (ended (Err InvalidInterval))) (past : P (ended (Err IntervalInPast))) (well : P (from_start (trimmed i s) (begun i s) c xs)) where
+module _ (P : Walk → Type 0) (i : Interval) (s : StateMaps) (c : ContractTree) (xs : List Input) (invalid : P (ended (Err InvalidInterval))) (past : P (ended (Err IntervalInPast))) (well : P (from_start (trimmed i s) s c xs)) where
   by_interval : (b d : Bool) → P (by_tests b d i s c xs)
   by_interval true d = invalid
   by_interval false true = past
@@ -121,14 +121,14 @@ pub computed_past : (i : Interval) (s : StateMaps) (c : ContractTree) (xs : List
 unfolding computed
 computed_past i s c xs h k = rw (lt_false i.to i.from h, lt_true i.to s.min_time k) refl
 
-pub computed_well : (i : Interval) (s : StateMaps) (c : ContractTree) (xs : List Input) → i.from ≤ℤ i.to → s.min_time ≤ℤ i.to → computed i s c xs ≡ from_start (trimmed i s) (begun i s) c xs
+pub computed_well : (i : Interval) (s : StateMaps) (c : ContractTree) (xs : List Input) → i.from ≤ℤ i.to → s.min_time ≤ℤ i.to → computed i s c xs ≡ from_start (trimmed i s) s c xs
 unfolding computed
 computed_well i s c xs h k = rw (lt_false i.to i.from h, lt_false i.to s.min_time k) refl
 
 -- what follows from how the interval is fixed
 abbrev from_fixed : Result Interval SemFault → StateMaps → ContractTree → List Input → Walk
 from_fixed (Err f) s c xs = ended (Err f)
-from_fixed (Ok i) s c xs = from_start i (record s { min_time = i.from }) c xs
+from_fixed (Ok i) s c xs = from_start i s c xs
 
 tests_fix : (i : Interval) (s : StateMaps) (c : ContractTree) (xs : List Input) (b d : Bool) → by_tests b d i s c xs ≡ from_fixed (cond b (Err InvalidInterval) (cond d (Err IntervalInPast) (Ok (trimmed i s)))) s c xs
 tests_fix i s c xs true d = refl

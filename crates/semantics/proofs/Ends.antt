@@ -21,7 +21,7 @@ use Rattle.semantics.specs.Reduction.{Reduction, Reduces, Quiet, account_of, bal
 use Rattle.evaluation.specs.Evaluation.{eval}
 use Rattle.semantics.specs.Settling.{Runs, Ends}
 use Rattle.semantics.specs.Applying.{taken}
-use Rattle.semantics.specs.Transaction.{trimmed, begun, finished}
+use Rattle.semantics.specs.Transaction.{trimmed, finished}
 use Rattle.semantics.specs.Computed.{settled, first_match, first_place, tried_to_match, take_match, applied, one_input, all_inputs, from_start, computed}
 use Rattle.semantics.proofs.Integers.{true_lt}
 use Rattle.semantics.proofs.Relations.{settles_so}
@@ -71,10 +71,11 @@ module _ (i : Interval) (P : At → Type 0) (settles : (a : At) → P a → AtEn
   at_inputs [] a h = at_ended P a h
   at_inputs (x ∷ xs) a h = at_then P P (one_input i x a) (all_inputs i xs) (at_input x a h) (λ b. at_inputs xs b)
 
-  at_start : (s : StateMaps) (c : ContractTree) (xs : List Input) → P (at s c) → AtEnd P (from_start i s c xs)
+  at_start : (s : StateMaps) (c : ContractTree) (xs : List Input) → P (at (record s { min_time = i.from }) c) → AtEnd P (from_start i s c xs)
   unfolding from_start
   at_start s c xs h =
-      at_finished P (then_walk (settled i s c) (all_inputs i xs)) (at_then P P (settled i s c) (all_inputs i xs) (settles (at s c) h) (λ b. at_inputs xs b))
+      let t : StateMaps = record s { min_time = i.from } in
+      at_finished P (then_walk (settled i t c) (all_inputs i xs)) (at_then P P (settled i t c) (all_inputs i xs) (settles (at t c) h) (λ b. at_inputs xs b))
 
 -- ---- the minimum time
 
@@ -127,13 +128,13 @@ greater a b = by_test (int_lt b a) refl
     by_test : (t : Bool) → int_lt b a ≡ t → b ≤ℤ cond (int_lt b a) a b
     by_test t h = at_least (int_lt b a) refl
 
-at_computed : (P : At → Type 0) (i : Interval) (s : StateMaps) (c : ContractTree) (xs : List Input) → AtEnd P (from_start (trimmed i s) (begun i s) c xs) → AtEnd P (computed i s c xs)
+at_computed : (P : At → Type 0) (i : Interval) (s : StateMaps) (c : ContractTree) (xs : List Input) → AtEnd P (from_start (trimmed i s) s c xs) → AtEnd P (computed i s c xs)
 at_computed P i s c xs h = computed_by (AtEnd P) i s c xs (at_fault P (ended (Err InvalidInterval)) InvalidInterval refl) (at_fault P (ended (Err IntervalInPast)) IntervalInPast refl) h
 
 time_computed : (i : Interval) (s : StateMaps) (c : ContractTree) (xs : List Input) → AtEnd (λ a. a.state.min_time ≡ int_max i.from s.min_time) (computed i s c xs)
 time_computed i s c xs =
     let P : At → Type 0 = λ a. a.state.min_time ≡ int_max i.from s.min_time in
-    at_computed P i s c xs (at_start (trimmed i s) P (λ a. settled_time (trimmed i s) (int_max i.from s.min_time) a) (λ x a k h. taken_time a.state x ∙ h) (begun i s) c xs refl)
+    at_computed P i s c xs (at_start (trimmed i s) P (λ a. settled_time (trimmed i s) (int_max i.from s.min_time) a) (λ x a k h. taken_time a.state x ∙ h) s c xs refl)
 
 pub time_goes_on : (i : Interval) (s : StateMaps) (c : ContractTree) (xs : List Input) (a : At) → (computed i s c xs).end ≡ Ok a → (a.state.min_time ≡ int_max i.from s.min_time) × (s.min_time ≤ℤ a.state.min_time)
 time_goes_on i s c xs a e =
@@ -159,7 +160,8 @@ quiet_inputs i (x ∷ xs) a h = at_then (QuietAt i) (QuietAt i) (one_input i x a
 quiet_start : (i : Interval) (s : StateMaps) (c : ContractTree) (xs : List Input) → AtEnd (QuietAt i) (from_start i s c xs)
 unfolding from_start
 quiet_start i s c xs =
-    at_finished (QuietAt i) (then_walk (settled i s c) (all_inputs i xs)) (at_then (QuietAt i) (QuietAt i) (settled i s c) (all_inputs i xs) (settled_quiet i (at s c)) (λ b. quiet_inputs i xs b))
+    let t : StateMaps = record s { min_time = i.from } in
+    at_finished (QuietAt i) (then_walk (settled i t c) (all_inputs i xs)) (at_then (QuietAt i) (QuietAt i) (settled i t c) (all_inputs i xs) (settled_quiet i (at t c)) (λ b. quiet_inputs i xs b))
 
 quiet_forms : (i : Interval) (s : StateMaps) (c : ContractTree) → Quiet i s c →
     ((c ≡ close) × (entries s.accounts ≡ [])) ⊎ ((ks : CaseTrees) × (timeout : ℤ) × (then : ContractTree) × (c ≡ when ks timeout then) × (i.to <ℤ timeout))
@@ -172,4 +174,4 @@ quiet_forms i s (when ks t c) h = inr (ks, t, c, refl, h)
 
 pub ends_quiet : (i : Interval) (s : StateMaps) (c : ContractTree) (xs : List Input) (a : At) → (computed i s c xs).end ≡ Ok a →
     ((a.contract ≡ close) × (entries a.state.accounts ≡ [])) ⊎ ((ks : CaseTrees) × (timeout : ℤ) × (then : ContractTree) × (a.contract ≡ when ks timeout then) × (i.to <ℤ timeout))
-ends_quiet i s c xs a e = quiet_forms (trimmed i s) a.state a.contract (at_computed (QuietAt (trimmed i s)) i s c xs (quiet_start (trimmed i s) (begun i s) c xs) a e)
+ends_quiet i s c xs a e = quiet_forms (trimmed i s) a.state a.contract (at_computed (QuietAt (trimmed i s)) i s c xs (quiet_start (trimmed i s) s c xs) a e)

@@ -12,7 +12,7 @@ use Rattle.evaluation.specs.Numbers.{all_fit}
 use Rattle.semantics.specs.Walk.{At, Walk, then_from, then_walk, answer_of}
 use Rattle.evaluation.specs.Path.{waits_for}
 use Rattle.semantics.specs.Settling.{Ends}
-use Rattle.semantics.specs.Transaction.{trimmed, begun, finished}
+use Rattle.semantics.specs.Transaction.{trimmed, finished}
 use Rattle.semantics.specs.Computed.{settled, first_match, first_place, tried_to_match, take_match, applied, one_input, all_inputs, from_start, computed}
 use Rattle.semantics.proofs.Relations.{settles_so}
 use Rattle.semantics.proofs.Computing.{computed_by}
@@ -59,10 +59,12 @@ sound_finished w h = by_turns (is_ok w.end && is_none (slice_get w.turns 0))
 
 sound_start : (i : Interval) (s : StateMaps) (c : ContractTree) (xs : List Input) → Sound (from_start i s c xs)
 unfolding from_start
-sound_start i s c xs = sound_finished (then_walk (settled i s c) (all_inputs i xs)) (sound_then (settled i s c) (all_inputs i xs) (sound_settled i s c) (sound_inputs i xs))
+sound_start i s c xs =
+    let t : StateMaps = record s { min_time = i.from } in
+    sound_finished (then_walk (settled i t c) (all_inputs i xs)) (sound_then (settled i t c) (all_inputs i xs) (sound_settled i t c) (sound_inputs i xs))
 
 sound_computed : (i : Interval) (s : StateMaps) (c : ContractTree) (xs : List Input) → Sound (computed i s c xs)
-sound_computed i s c xs = computed_by Sound i s c xs (λ e. cc) (λ e. cc) (sound_start (trimmed i s) (begun i s) c xs)
+sound_computed i s c xs = computed_by Sound i s c xs (λ e. cc) (λ e. cc) (sound_start (trimmed i s) s c xs)
 
 sound_answer : (b : Bool) (end : Result At SemFault) → (end ≡ Err Memory → ⊥) → cond b end (Err Leaves128) ≡ Err Memory → ⊥
 sound_answer true end h = h

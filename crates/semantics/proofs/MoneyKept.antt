@@ -22,7 +22,7 @@ use Rattle.evaluation.specs.Path.{waits_for}
 use Rattle.semantics.specs.Reduction.{Reduction, going, account_of, balance, debited, credited, paying, not_paying, timing_out, binding, asserting}
 use Rattle.semantics.specs.Settling.{after}
 use Rattle.semantics.specs.Applying.{taken, refused}
-use Rattle.semantics.specs.Transaction.{trimmed, begun}
+use Rattle.semantics.specs.Transaction.{trimmed}
 use Rattle.semantics.specs.Computed.{pay_step, refunds, settled, first_match, first_place, tried_to_match, take_match, applied, one_input, all_inputs, from_start, computed}
 use Rattle.semantics.specs.Money.{counted, brought, deposited, paid_out, MoneyIsKept}
 use Rattle.semantics.proofs.Computing.{computed_by}
@@ -170,10 +170,11 @@ finished_keeps token n s w false h = h
 start_keeps : (token : Token) (i : Interval) (s : StateMaps) (c : ContractTree) (xs : List Input) → Keeps token (deposited token xs) s (from_start i s c xs)
 unfolding from_start
 start_keeps token i s c xs =
-    let w = then_walk (settled i s c) (all_inputs i xs) in
+    let t : StateMaps = record s { min_time = i.from } in
+    let w = then_walk (settled i t c) (all_inputs i xs) in
     finished_keeps token (deposited token xs) s w (is_ok w.end && is_none (slice_get w.turns 0))
     (subst (λ n. Keeps token n s w) (no_first (deposited token xs))
-    (keeps_then token (pos 0) (deposited token xs) s (settled i s c) (all_inputs i xs) (settled_keeps token i s c) (inputs_keep token i xs)))
+    (keeps_then token (pos 0) (deposited token xs) s (settled i t c) (all_inputs i xs) (settled_keeps token i t c) (inputs_keep token i xs)))
 
 pub money_is_kept : MoneyIsKept
 money_is_kept token i s c xs =
@@ -181,4 +182,4 @@ money_is_kept token i s c xs =
     computed_by (Keeps token n s) i s c xs
     (keeps_fault token n s (ended (Err InvalidInterval)) InvalidInterval refl)
     (keeps_fault token n s (ended (Err IntervalInPast)) IntervalInPast refl)
-    (start_keeps token (trimmed i s) (begun i s) c xs)
+    (start_keeps token (trimmed i s) s c xs)

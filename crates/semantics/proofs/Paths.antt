@@ -19,7 +19,7 @@ use Rattle.evaluation.specs.Path.{case_list, waits_for, part, along}
 use Rattle.semantics.specs.Reduction.{balance, paying, not_paying, choosing, timing_out, with_bound}
 use Rattle.evaluation.specs.Evaluation.{eval, visited, holds, looked}
 use Rattle.semantics.specs.Applying.{matches, taken}
-use Rattle.semantics.specs.Transaction.{trimmed, begun}
+use Rattle.semantics.specs.Transaction.{trimmed}
 use Rattle.semantics.specs.Computed.{settled, first_match, first_place, tried_to_match, take_match, applied, one_input, all_inputs, from_start, computed}
 use Rattle.semantics.specs.Laws.{EndsWhereTurnsLead as Leads}
 use Rattle.semantics.proofs.Walks.{went}
@@ -134,9 +134,10 @@ leads_finished false w c h = h
 leads_start : (i : Interval) (s : StateMaps) (c : ContractTree) (xs : List Input) → Leads c (from_start i s c xs)
 unfolding from_start
 leads_start i s c xs =
-    let w = then_walk (settled i s c) (all_inputs i xs) in
-    leads_finished (is_ok w.end && is_none (slice_get w.turns 0)) w c (leads_then (settled i s c) (all_inputs i xs) c (leads_settled i s c) (leads_inputs i xs))
+    let t : StateMaps = record s { min_time = i.from } in
+    let w = then_walk (settled i t c) (all_inputs i xs) in
+    leads_finished (is_ok w.end && is_none (slice_get w.turns 0)) w c (leads_then (settled i t c) (all_inputs i xs) c (leads_settled i t c) (leads_inputs i xs))
 
 pub leads_computed : (i : Interval) (s : StateMaps) (c : ContractTree) (xs : List Input) → Leads c (computed i s c xs)
 leads_computed i s c xs =
-    computed_by (Leads c) i s c xs (leads_fault c (ended (Err InvalidInterval)) InvalidInterval refl) (leads_fault c (ended (Err IntervalInPast)) IntervalInPast refl) (leads_start (trimmed i s) (begun i s) c xs)
+    computed_by (Leads c) i s c xs (leads_fault c (ended (Err InvalidInterval)) InvalidInterval refl) (leads_fault c (ended (Err IntervalInPast)) IntervalInPast refl) (leads_start (trimmed i s) s c xs)

@@ -16,7 +16,7 @@ use Rattle.evaluation.specs.Path.{waits_for}
 use Rattle.semantics.specs.Reduction.{Reduction, refund_of, balance, paying, not_paying, choosing, timing_out, binding, asserting}
 use Rattle.semantics.specs.Settling.{after}
 use Rattle.semantics.specs.Applying.{matches, tried, taking, refused}
-use Rattle.semantics.specs.Transaction.{trimmed, begun, finished}
+use Rattle.semantics.specs.Transaction.{trimmed, finished}
 
 -- all refunds of a Close, in order
 abbrev pub refunds : StateMaps → Walk
@@ -31,8 +31,7 @@ abbrev pub settled : Interval → StateMaps → ContractTree → Walk
 settled i s close = refunds s
 settled i s (pay p y t v c) = let r = pay_step s p y t (eval i s v) (visited i s v) c in after r (settled i r.state c)
 settled i s (if_obs o c d) = after (choosing s (holds i s o) (looked i s o) c d) (if holds i s o then settled i s c else settled i s d)
-settled i s (when ks timeout c) =
-    if int_lt i.to timeout then ended (Ok (at s (when ks timeout c))) else (if int_le timeout i.from then after (timing_out s c) (settled i s c) else ended (Err Ambiguous))
+settled i s (when ks timeout c) = if int_lt i.to timeout then ended (Ok (at s (when ks timeout c))) else (if int_le timeout i.from then after (timing_out s c) (settled i s c) else ended (Err Ambiguous))
 settled i s (let_be x v c) = let r = binding s x (eval i s v) (visited i s v) c in after r (settled i r.state c)
 settled i s (assert o c) = after (asserting s (holds i s o) (looked i s o) c) (settled i s c)
 
@@ -69,11 +68,10 @@ abbrev pub all_inputs : Interval → List Input → At → Walk
 all_inputs i [] a = ended (Ok a)
 all_inputs i (x ∷ xs) a = then_walk (one_input i x a) (all_inputs i xs)
 
--- what follows once the interval is fixed
+-- what follows once the interval is fixed, whose start becomes the minimum time
 unfoldable pub from_start : Interval → StateMaps → ContractTree → List Input → Walk
-from_start i s c xs = finished (then_walk (settled i s c) (all_inputs i xs))
+from_start i s c xs = finished (then_walk (settled i (record s { min_time = i.from }) c) (all_inputs i xs))
 
 -- the transaction: its interval is refused, or it goes on from the interval as it is fixed
 unfoldable pub computed : Interval → StateMaps → ContractTree → List Input → Walk
-computed i s c xs =
-    if int_lt i.to i.from then ended (Err InvalidInterval) else (if int_lt i.to s.min_time then ended (Err IntervalInPast) else from_start (trimmed i s) (begun i s) c xs)
+computed i s c xs = if int_lt i.to i.from then ended (Err InvalidInterval) else (if int_lt i.to s.min_time then ended (Err IntervalInPast) else from_start (trimmed i s) s c xs)
