@@ -73,12 +73,6 @@ abbrev pub Moves : {P : Type 0} → (P → Type 0) → (P → Turn → P → Typ
 Moves Contains E p step None = Leads E p (turns_of step) p
 Moves Contains E p step (Some q) = Contains q × E p (turn_of step) q
 
--- a contract that is gone on with, as its tree
-abbrev pub tree_of_next : {P : Type 0} → (P → ContractTree) → Result (Option P) SemFault → Result (Option ContractTree) SemFault
-tree_of_next tree (Ok None) = Ok None
-tree_of_next tree (Ok (Some p)) = Ok (Some (tree p))
-tree_of_next tree (Err f) = Err f
-
 -- a contract where a part ends, as its tree, with the state
 abbrev pub seen : {P : Type 0} → (P → ContractTree) → Result P SemFault → StateMaps → Result At SemFault
 seen tree (Ok p) s = Ok (at s (tree p))
