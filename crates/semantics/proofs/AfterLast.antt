@@ -3,7 +3,6 @@ use Rattle.std.proofs.Common.{◌≡◌, ℤ, pos, ◌+ℤ◌, ◌≤ℤ◌, int
 use Rattle.std.specs.Prelude.{map, slice_get}
 use Rattle.std.specs.Option.{is_none}
 use Rattle.std.proofs.lemmas.Int.{ints}
-use Rattle.std.specs.Int.{int_max}
 use Rattle.std.specs.FinMap.{entries, empty, entries-from_sorted}
 use Rattle.collections.specs.Total.{total}
 use Rattle.collections.proofs.Maps.{no_entries}

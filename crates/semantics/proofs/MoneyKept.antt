@@ -23,7 +23,7 @@ use Rattle.semantics.specs.Reduction.{Reduction, going, account_of, balance, deb
 use Rattle.semantics.specs.Settling.{after}
 use Rattle.semantics.specs.Applying.{taken, refused}
 use Rattle.semantics.specs.Transaction.{trimmed}
-use Rattle.semantics.specs.Computed.{pay_step, refunds, settled, first_match, first_place, tried_to_match, take_match, applied, one_input, all_inputs, from_start, computed}
+use Rattle.semantics.specs.Computed.{pay_step, refunds, settled, first_match, first_place, tried_to_match, take_match, applied, one_input, all_inputs, from_start}
 use Rattle.semantics.specs.Money.{counted, brought, deposited, paid_out, MoneyIsKept}
 use Rattle.semantics.proofs.Computing.{computed_by}
 use Rattle.semantics.proofs.MoneySums.{no_more, no_first, grows, shrinks, paid_out_append, refunds_pay_all, nothing_left}
