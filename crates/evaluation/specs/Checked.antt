@@ -1,3 +1,4 @@
+-- No reader needs this file: it serves the proofs of this crate and those above it.
 -- Evaluation that stops at the first number that leaves 128 bits.
 use Rattle.std.specs.Prelude.{ℤ, ◌+ℤ◌, ◌-ℤ◌, ◌*ℤ◌, neg_ℤ, int_le, int_lt, Bool, true, false, not, if◌then◌else◌, is_some, Result, Ok, Err}
 use Rattle.std.specs.Ordering.{int_eq}

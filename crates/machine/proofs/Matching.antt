@@ -4,7 +4,7 @@ use Rattle.contract.specs.declared.fault.SemFault.{SemFault}
 use Rattle.contract.specs.Tree.{ContractTree}
 use Rattle.evaluation.specs.Numbers.{within}
 use Rattle.nodes.specs.declared.cont.Cont.{Cont}
-use Rattle.semantics.specs.Reduced.{tree_of_next}
+use Rattle.semantics.specs.Answer.{tree_of_next}
 use Rattle.table.specs.declared.leaves.Leaves128.{Leaves128}
 use Rattle.table.specs.Flat.{Flat, cont_tree}
 use Rattle.table.specs.Leaves.{fitting, fitting_ok, fitting_err}

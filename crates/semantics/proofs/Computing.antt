@@ -1,21 +1,26 @@
 -- The parts of a transaction.
-use Rattle.std.proofs.Common.{◌≡◌, ℕ, ◌+◌, ◌<◌, ◌≤◌, ◌==◌, ℤ, Bool, true, false, cond, ◌&&◌, List, [], ◌∷◌, ◌++◌, length, get_or, drop, map, int_lt, int_le, refl, sym, ap, ◌∙◌, Result, Ok, Err, is_ok, Option, Some, None, inl, subst, arith}
+use Rattle.std.proofs.Common.{◌≡◌, ℕ, ◌+◌, ◌<◌, ◌≤◌, ◌==◌, ℤ, ◌≤ℤ◌, ◌<ℤ◌, Bool, true, false, cond, ◌&&◌, List, [], ◌∷◌, ◌++◌, length, get_or, drop, map, int_lt, int_le, refl, sym, ap, ◌∙◌, Result, Ok, Err, is_ok, Option, Some, None, inl, subst, arith}
+use Rattle.std.specs.Prelude.{slice_get}
+use Rattle.std.specs.Option.{is_none}
 use Rattle.std.proofs.lemmas.List.{at_drop_more, drop_all}
 use Rattle.std.proofs.lemmas.Bool.Decides.{nat_tests}
 use Rattle.std.specs.FinMap.{entries, empty}
 use Rattle.names.specs.declared.account.Account.{Account}
 use Rattle.contract.specs.declared.fault.SemFault.{SemFault}
-use Rattle.contract.specs.declared.fault.SemFault.TheVariants.{Useless, Ambiguous}
+use Rattle.contract.specs.declared.fault.SemFault.TheVariants.{InvalidInterval, IntervalInPast, Useless, Ambiguous}
 use Rattle.contract.specs.declared.input.Input.{Input}
 use Rattle.contract.specs.declared.interval.Interval.{Interval}
 use Rattle.states.specs.States.{StateMaps}
 use Rattle.contract.specs.Tree.{ContractTree, close, pay, if_obs, when, let_be, assert}
 use Rattle.semantics.specs.Walk.{Turn, refund, At, at, Walk, ended, joined, then_from, then_walk, answer_of, Aside}
+use Rattle.evaluation.specs.Evaluation.{eval, visited, holds, looked}
 use Rattle.evaluation.specs.Path.{waits_for}
-use Rattle.semantics.specs.Reduction.{Reduction, refund_of, timing_out}
-use Rattle.semantics.specs.Transaction.{no_turns, finished}
-use Rattle.semantics.specs.Computed.{stops, goes, go_on, settled, first_match, first_place, tried_to_match, take_match, applied, one_input, all_inputs, fixed, from_start, from_fixed, computed}
-use Rattle.semantics.specs.Reduced.{is_quiet, is_none_left}
+use Rattle.semantics.specs.Reduction.{Reduction, refund_of, choosing, timing_out, binding, asserting}
+use Rattle.semantics.specs.Settling.{after}
+use Rattle.semantics.specs.Transaction.{trimmed, finished}
+use Rattle.semantics.specs.Computed.{pay_step, settled, first_match, first_place, tried_to_match, take_match, applied, one_input, all_inputs, from_start, computed}
+use Rattle.semantics.specs.Reduced.{fixed, is_quiet, is_none_left}
+use Rattle.semantics.proofs.Integers.{lt_true, lt_false}
 use Rattle.semantics.proofs.Walks.{Follows, follows, fails_first, finished_fails, finished_busy, Busy, busy_then, and_false}
 
 -- ---- whether anything was done
@@ -28,41 +33,44 @@ busy_input : (i : Interval) (x : Input) (a : At) → Busy (one_input i x a)
 unfolding one_input applied
 busy_input i x a =
     let ks = waits_for a.contract in
-    busy_then _ _ (busy_match a.state x (tried_to_match i a.state x ks) (first_place i a.state x ks) (first_match i a.state x ks))
+    busy_then (applied i x a) (λ b. settled i b.state b.contract) (busy_match a.state x (tried_to_match i a.state x ks) (first_place i a.state x ks) (first_match i a.state x ks))
 
 -- a contract that isn't quiet takes a turn, or ends with a fault
-busy_refunds : (s : StateMaps) (es : List (Account × ℤ)) → is_none_left es ≡ false → true && no_turns (map (λ _. refund) es) ≡ false
+busy_refunds : (s : StateMaps) (es : List (Account × ℤ)) → is_none_left es ≡ false → true && is_none (slice_get (map (λ _. refund) es) 0) ≡ false
 busy_refunds s [] h = absurd (cc)
 busy_refunds s (e ∷ es) h = refl
 
-busy_when : (go : StateMaps → Walk) (b d : Bool) (a : At) (r : Reduction) → b ≡ false → Busy (go_on go (cond b (stops (ended (Ok a))) (cond d (goes r) (stops (ended (Err Ambiguous))))))
-busy_when go true d a r h = absurd (cc)
-busy_when go false true a r h = and_false (is_ok (go r.state).end) false refl
-busy_when go false false a r h = refl
+busy_after : (r : Reduction) (w : Walk) → Busy (after r w)
+busy_after r w = and_false (is_ok w.end) false refl
+
+busy_when : (b d : Bool) (a : At) (r : Reduction) (w : Walk) → b ≡ false → Busy (cond b (ended (Ok a)) (cond d (after r w) (ended (Err Ambiguous))))
+busy_when true d a r w h = absurd (cc)
+busy_when false true a r w h = busy_after r w
+busy_when false false a r w h = refl
 
 busy_settled : (i : Interval) (s : StateMaps) (c : ContractTree) → is_quiet i s c ≡ false → Busy (settled i s c)
 busy_settled i s close h = busy_refunds s (entries s.accounts) h
-busy_settled i s (pay p y t v c) h = and_false _ false refl
-busy_settled i s (if_obs o c d) h = and_false _ false refl
-busy_settled i s (let_be x v c) h = and_false _ false refl
-busy_settled i s (assert o c) h = and_false _ false refl
-busy_settled i s (when ks t c) h = busy_when (λ u. settled i u c) (int_lt i.to t) (int_le t i.from) (at s (when ks t c)) (timing_out s c) h
+busy_settled i s (pay p y t v c) h = let r = pay_step s p y t (eval i s v) (visited i s v) c in busy_after r (settled i r.state c)
+busy_settled i s (if_obs o c d) h = busy_after (choosing s (holds i s o) (looked i s o) c d) (cond (holds i s o) (settled i s c) (settled i s d))
+busy_settled i s (let_be x v c) h = let r = binding s x (eval i s v) (visited i s v) c in busy_after r (settled i r.state c)
+busy_settled i s (assert o c) h = busy_after (asserting s (holds i s o) (looked i s o) c) (settled i s c)
+busy_settled i s (when ks t c) h = busy_when (int_lt i.to t) (int_le t i.from) (at s (when ks t c)) (timing_out s c) (settled i s c) h
 
-turns_after : (b : Bool) (ts us : List Turn) → b && no_turns us ≡ false → b && no_turns (ts ++ us) ≡ false
+turns_after : (b : Bool) (ts us : List Turn) → b && is_none (slice_get us 0) ≡ false → b && is_none (slice_get (ts ++ us) 0) ≡ false
 turns_after b [] us h = h
 turns_after b (t ∷ ts) us h = and_false b false refl
 
 -- what is done later counts, too
-busy_after : (w : Walk) (end : Result At SemFault) (f : At → Walk) → w.end ≡ end → ((a : At) → Busy (f a)) → Busy (then_from w end f)
-busy_after w (Ok a) f q h = turns_after (is_ok (f a).end) w.turns (f a).turns (h a)
-busy_after w (Err e) f q h = rw q refl
+busy_later : (w : Walk) (end : Result At SemFault) (f : At → Walk) → w.end ≡ end → ((a : At) → Busy (f a)) → Busy (then_from w end f)
+busy_later w (Ok a) f q h = turns_after (is_ok (f a).end) w.turns (f a).turns (h a)
+busy_later w (Err e) f q h = rw q refl
 
 -- where an input is brought, or the contract isn't quiet, something is done or a fault is met
 busy_by : (i : Interval) (s : StateMaps) (c : ContractTree) (xs : List Input) (b : Bool) → is_quiet i s c ≡ b → (length xs == 0) && b ≡ false → Busy (then_walk (settled i s c) (all_inputs i xs))
 busy_by i s c xs false q h = busy_then (settled i s c) (all_inputs i xs) (busy_settled i s c q)
 busy_by i s c [] true q h = absurd (cc)
 busy_by i s c (x ∷ xs) true q h =
-    busy_after (settled i s c) (settled i s c).end (all_inputs i (x ∷ xs)) refl (λ a. busy_then (one_input i x a) (all_inputs i xs) (busy_input i x a))
+    busy_later (settled i s c) (settled i s c).end (all_inputs i (x ∷ xs)) refl (λ a. busy_then (one_input i x a) (all_inputs i xs) (busy_input i x a))
 
 -- where nothing is done, the transaction is useless
 useless_refunds : (es : List (Account × ℤ)) (a : At) → is_none_left es ≡ true →
@@ -70,10 +78,9 @@ useless_refunds : (es : List (Account × ℤ)) (a : At) → is_none_left es ≡ 
 useless_refunds [] a h = refl
 useless_refunds (e ∷ es) a h = absurd (cc)
 
-useless_when : (i : Interval) (go : StateMaps → Walk) (b d : Bool) (a : At) (r : Reduction) → b ≡ true →
-    answer_of (finished (then_walk (go_on go (cond b (stops (ended (Ok a))) (cond d (goes r) (stops (ended (Err Ambiguous)))))) (all_inputs i []))) ≡ Err Useless
-useless_when i go true d a r h = refl
-useless_when i go false d a r h = absurd (cc)
+useless_when : (i : Interval) (b d : Bool) (a : At) (w : Walk) → b ≡ true → answer_of (finished (then_walk (cond b (ended (Ok a)) (cond d w (ended (Err Ambiguous)))) (all_inputs i []))) ≡ Err Useless
+useless_when i true d a w h = refl
+useless_when i false d a w h = absurd (cc)
 
 useless : (i : Interval) (s : StateMaps) (c : ContractTree) → is_quiet i s c ≡ true → answer_of (finished (then_walk (settled i s c) (all_inputs i []))) ≡ Err Useless
 useless i s close h = useless_refunds (entries s.accounts) (at (record s { accounts = empty }) close) h
@@ -81,7 +88,7 @@ useless i s (pay p y t v c) h = absurd (cc)
 useless i s (if_obs o c d) h = absurd (cc)
 useless i s (let_be x v c) h = absurd (cc)
 useless i s (assert o c) h = absurd (cc)
-useless i s (when ks t c) h = useless_when i (λ u. settled i u c) (int_lt i.to t) (int_le t i.from) (at s (when ks t c)) (timing_out s c) h
+useless i s (when ks t c) h = useless_when i (int_lt i.to t) (int_le t i.from) (at s (when ks t c)) (after (timing_out s c) (settled i s c)) h
 
 none_brought : (xs : List Input) → true ≡ (length xs == 0) → xs ≡ []
 none_brought [] h = refl
@@ -92,14 +99,53 @@ none_brought (x ∷ xs) h = absurd (omega (arith, eqb_zero h))
 
 -- ---- from the interval on
 
-pub computed_refused : (i : Interval) (s : StateMaps) (c : ContractTree) (xs : List Input) (f : SemFault) → Err f ≡ fixed i s → Aside {A = At} (Err f) (answer_of (computed i s c xs))
+abbrev by_tests : Bool → Bool → Interval → StateMaps → ContractTree → List Input → Walk
+by_tests b d i s c xs = cond b (ended (Err InvalidInterval)) (cond d (ended (Err IntervalInPast)) (from_start (trimmed i s) s c xs))
+
+-- what holds of both refusals, and of what follows the interval, holds of a transaction
+module _ (P : Walk → Type 0) (i : Interval) (s : StateMaps) (c : ContractTree) (xs : List Input) (invalid : P (ended (Err InvalidInterval))) (past : P (ended (Err IntervalInPast))) (well : P (from_start (trimmed i s) s c xs)) where
+  by_interval : (b d : Bool) → P (by_tests b d i s c xs)
+  by_interval true d = invalid
+  by_interval false true = past
+  by_interval false false = well
+
+  pub computed_by : P (computed i s c xs)
+  unfolding computed
+  computed_by = by_interval (int_lt i.to i.from) (int_lt i.to s.min_time)
+
+pub computed_invalid : (i : Interval) (s : StateMaps) (c : ContractTree) (xs : List Input) → i.to <ℤ i.from → computed i s c xs ≡ ended (Err InvalidInterval)
 unfolding computed
-computed_refused i s c xs f h = inl (ap (λ r. answer_of (from_fixed r s c xs)) h)
+computed_invalid i s c xs h = rw (lt_true i.to i.from h) refl
+
+pub computed_past : (i : Interval) (s : StateMaps) (c : ContractTree) (xs : List Input) → i.from ≤ℤ i.to → i.to <ℤ s.min_time → computed i s c xs ≡ ended (Err IntervalInPast)
+unfolding computed
+computed_past i s c xs h k = rw (lt_false i.to i.from h, lt_true i.to s.min_time k) refl
+
+pub computed_well : (i : Interval) (s : StateMaps) (c : ContractTree) (xs : List Input) → i.from ≤ℤ i.to → s.min_time ≤ℤ i.to → computed i s c xs ≡ from_start (trimmed i s) s c xs
+unfolding computed
+computed_well i s c xs h k = rw (lt_false i.to i.from h, lt_false i.to s.min_time k) refl
+
+-- what follows from how the interval is fixed
+abbrev from_fixed : Result Interval SemFault → StateMaps → ContractTree → List Input → Walk
+from_fixed (Err f) s c xs = ended (Err f)
+from_fixed (Ok i) s c xs = from_start i s c xs
+
+tests_fix : (i : Interval) (s : StateMaps) (c : ContractTree) (xs : List Input) (b d : Bool) → by_tests b d i s c xs ≡ from_fixed (cond b (Err InvalidInterval) (cond d (Err IntervalInPast) (Ok (trimmed i s)))) s c xs
+tests_fix i s c xs true d = refl
+tests_fix i s c xs false true = refl
+tests_fix i s c xs false false = refl
+
+computed_is : (i : Interval) (s : StateMaps) (c : ContractTree) (xs : List Input) → computed i s c xs ≡ from_fixed (fixed i s) s c xs
+unfolding computed
+computed_is i s c xs = tests_fix i s c xs (int_lt i.to i.from) (int_lt i.to s.min_time)
+
+pub computed_refused : (i : Interval) (s : StateMaps) (c : ContractTree) (xs : List Input) (f : SemFault) → Err f ≡ fixed i s → Aside {A = At} (Err f) (answer_of (computed i s c xs))
+computed_refused i s c xs f h = inl (ap (λ r. answer_of (from_fixed r s c xs)) h ∙ sym (ap answer_of (computed_is i s c xs)))
 
 pub computed_fixed : (i : Interval) (s : StateMaps) (j : Interval) (t : StateMaps) (c : ContractTree) (xs : List Input) → Ok j ≡ fixed i s → t ≡ record s { min_time = j.from } →
     computed i s c xs ≡ finished (then_walk (settled j t c) (all_inputs j xs))
-unfolding computed from_start
-computed_fixed i s j t c xs h k = ap (λ r. from_fixed r s c xs) (sym h) ∙ ap (λ u. finished (then_walk (settled j u c) (all_inputs j xs))) (sym k)
+unfolding from_start
+computed_fixed i s j t c xs h k = computed_is i s c xs ∙ ap (λ r. from_fixed r s c xs) (sym h) ∙ ap (λ u. finished (then_walk (settled j u c) (all_inputs j xs))) (sym k)
 
 pub computed_useless : (i : Interval) (s : StateMaps) (j : Interval) (t : StateMaps) (c : ContractTree) (xs : List Input) → Ok j ≡ fixed i s → t ≡ record s { min_time = j.from } →
     true ≡ (length xs == 0) → true ≡ is_quiet j t c → Aside {A = At} (Err Useless) (answer_of (computed i s c xs))

@@ -1,5 +1,7 @@
 -- What holds where a transaction ends.
 use Rattle.std.proofs.Common.{◌≡◌, ℕ, ℤ, pos, ◌+ℤ◌, ◌≤ℤ◌, ◌<ℤ◌, int_lt, Bool, true, false, cond, ◌&&◌, List, [], ◌∷◌, refl, sym, ap, ◌∙◌, subst, arith, Result, Ok, Err, is_ok, Option, Some, None, inl, inr, ◌⊎◌}
+use Rattle.std.specs.Prelude.{slice_get}
+use Rattle.std.specs.Option.{is_none}
 use Rattle.std.specs.Int.{int_min, int_max}
 use Rattle.std.proofs.lemmas.Int.{ints}
 use Rattle.std.specs.FinMap.{entries}
@@ -7,7 +9,7 @@ use Rattle.names.specs.declared.payee.Payee.{Payee}
 use Rattle.names.specs.declared.payee.Payee.TheVariants.{Account as ToAccount, Party as ToParty}
 use Rattle.names.specs.declared.token.Token.{Token}
 use Rattle.contract.specs.declared.fault.SemFault.{SemFault}
-use Rattle.contract.specs.declared.fault.SemFault.TheVariants.{Useless, Ambiguous}
+use Rattle.contract.specs.declared.fault.SemFault.TheVariants.{InvalidInterval, IntervalInPast, Useless, Ambiguous}
 use Rattle.contract.specs.declared.input.Input.{Input}
 use Rattle.contract.specs.declared.input.Input.TheVariants.{Deposit, Choice, Notify}
 use Rattle.contract.specs.declared.interval.Interval.{Interval}
@@ -19,10 +21,11 @@ use Rattle.semantics.specs.Reduction.{Reduction, Reduces, Quiet, account_of, bal
 use Rattle.evaluation.specs.Evaluation.{eval}
 use Rattle.semantics.specs.Settling.{Runs, Ends}
 use Rattle.semantics.specs.Applying.{taken}
-use Rattle.semantics.specs.Transaction.{no_turns, finished, trimmed}
-use Rattle.semantics.specs.Computed.{settled, first_match, first_place, tried_to_match, take_match, applied, one_input, all_inputs, from_start, from_fixed, computed}
+use Rattle.semantics.specs.Transaction.{trimmed, finished}
+use Rattle.semantics.specs.Computed.{settled, first_match, first_place, tried_to_match, take_match, applied, one_input, all_inputs, from_start, computed}
 use Rattle.semantics.proofs.Integers.{true_lt}
 use Rattle.semantics.proofs.Relations.{settles_so}
+use Rattle.semantics.proofs.Computing.{computed_by}
 
 ok_same : (a b : At) → ◌≡◌ {A = Result At SemFault} (Ok a) (Ok b) → a ≡ b
 ok_same a b e = cc
@@ -49,7 +52,7 @@ at_match P s x ns n None h a e = absurd (cc)
 at_match P s x ns n (Some c) h a e = subst P (ok_same (at (taken s x) c) a e) (h c)
 
 at_finished : (P : At → Type 0) (w : Walk) → AtEnd P w → AtEnd P (finished w)
-at_finished P w h = by_turns (is_ok w.end && no_turns w.turns)
+at_finished P w h = by_turns (is_ok w.end && is_none (slice_get w.turns 0))
   where
     by_turns : (b : Bool) → AtEnd P (record w { end = cond b (Err Useless) w.end })
     by_turns true = at_fault P (record w { end = Err Useless }) Useless refl
@@ -68,10 +71,11 @@ module _ (i : Interval) (P : At → Type 0) (settles : (a : At) → P a → AtEn
   at_inputs [] a h = at_ended P a h
   at_inputs (x ∷ xs) a h = at_then P P (one_input i x a) (all_inputs i xs) (at_input x a h) (λ b. at_inputs xs b)
 
-  at_start : (s : StateMaps) (c : ContractTree) (xs : List Input) → P (at s c) → AtEnd P (from_start i s c xs)
+  at_start : (s : StateMaps) (c : ContractTree) (xs : List Input) → P (at (record s { min_time = i.from }) c) → AtEnd P (from_start i s c xs)
   unfolding from_start
   at_start s c xs h =
-      at_finished P (then_walk (settled i s c) (all_inputs i xs)) (at_then P P (settled i s c) (all_inputs i xs) (settles (at s c) h) (λ b. at_inputs xs b))
+      let t : StateMaps = record s { min_time = i.from } in
+      at_finished P (then_walk (settled i t c) (all_inputs i xs)) (at_then P P (settled i t c) (all_inputs i xs) (settles (at t c) h) (λ b. at_inputs xs b))
 
 -- ---- the minimum time
 
@@ -124,18 +128,17 @@ greater a b = by_test (int_lt b a) refl
     by_test : (t : Bool) → int_lt b a ≡ t → b ≤ℤ cond (int_lt b a) a b
     by_test t h = at_least (int_lt b a) refl
 
-time_fixed : (i : Interval) (s : StateMaps) (c : ContractTree) (xs : List Input) (b d : Bool) (r q : SemFault) →
-    AtEnd (λ a. a.state.min_time ≡ int_max i.from s.min_time) (from_fixed (cond b (Err r) (cond d (Err q) (Ok (trimmed i s)))) s c xs)
-time_fixed i s c xs true d r q = at_fault _ (ended (Err r)) r refl
-time_fixed i s c xs false true r q = at_fault _ (ended (Err q)) q refl
-time_fixed i s c xs false false r q =
-    at_start (trimmed i s) (λ a. a.state.min_time ≡ int_max i.from s.min_time) (λ a. settled_time (trimmed i s) (int_max i.from s.min_time) a) (λ x a k h. taken_time a.state x ∙ h)
-    (record s { min_time = int_max i.from s.min_time }) c xs refl
+at_computed : (P : At → Type 0) (i : Interval) (s : StateMaps) (c : ContractTree) (xs : List Input) → AtEnd P (from_start (trimmed i s) s c xs) → AtEnd P (computed i s c xs)
+at_computed P i s c xs h = computed_by (AtEnd P) i s c xs (at_fault P (ended (Err InvalidInterval)) InvalidInterval refl) (at_fault P (ended (Err IntervalInPast)) IntervalInPast refl) h
+
+time_computed : (i : Interval) (s : StateMaps) (c : ContractTree) (xs : List Input) → AtEnd (λ a. a.state.min_time ≡ int_max i.from s.min_time) (computed i s c xs)
+time_computed i s c xs =
+    let P : At → Type 0 = λ a. a.state.min_time ≡ int_max i.from s.min_time in
+    at_computed P i s c xs (at_start (trimmed i s) P (λ a. settled_time (trimmed i s) (int_max i.from s.min_time) a) (λ x a k h. taken_time a.state x ∙ h) s c xs refl)
 
 pub time_goes_on : (i : Interval) (s : StateMaps) (c : ContractTree) (xs : List Input) (a : At) → (computed i s c xs).end ≡ Ok a → (a.state.min_time ≡ int_max i.from s.min_time) × (s.min_time ≤ℤ a.state.min_time)
-unfolding computed
 time_goes_on i s c xs a e =
-    let h = time_fixed i s c xs (int_lt i.to i.from) (int_lt i.to s.min_time) _ _ a e in
+    let h = time_computed i s c xs a e in
     (h, subst (λ t. s.min_time ≤ℤ t) (sym h) (greater i.from s.min_time))
 
 -- ---- at rest
@@ -157,13 +160,8 @@ quiet_inputs i (x ∷ xs) a h = at_then (QuietAt i) (QuietAt i) (one_input i x a
 quiet_start : (i : Interval) (s : StateMaps) (c : ContractTree) (xs : List Input) → AtEnd (QuietAt i) (from_start i s c xs)
 unfolding from_start
 quiet_start i s c xs =
-    at_finished (QuietAt i) (then_walk (settled i s c) (all_inputs i xs)) (at_then (QuietAt i) (QuietAt i) (settled i s c) (all_inputs i xs) (settled_quiet i (at s c)) (λ b. quiet_inputs i xs b))
-
-quiet_fixed : (i : Interval) (s : StateMaps) (c : ContractTree) (xs : List Input) (b d : Bool) (r q : SemFault) →
-    AtEnd (QuietAt (trimmed i s)) (from_fixed (cond b (Err r) (cond d (Err q) (Ok (trimmed i s)))) s c xs)
-quiet_fixed i s c xs true d r q = at_fault _ (ended (Err r)) r refl
-quiet_fixed i s c xs false true r q = at_fault _ (ended (Err q)) q refl
-quiet_fixed i s c xs false false r q = quiet_start (trimmed i s) (record s { min_time = int_max i.from s.min_time }) c xs
+    let t : StateMaps = record s { min_time = i.from } in
+    at_finished (QuietAt i) (then_walk (settled i t c) (all_inputs i xs)) (at_then (QuietAt i) (QuietAt i) (settled i t c) (all_inputs i xs) (settled_quiet i (at t c)) (λ b. quiet_inputs i xs b))
 
 quiet_forms : (i : Interval) (s : StateMaps) (c : ContractTree) → Quiet i s c →
     ((c ≡ close) × (entries s.accounts ≡ [])) ⊎ ((ks : CaseTrees) × (timeout : ℤ) × (then : ContractTree) × (c ≡ when ks timeout then) × (i.to <ℤ timeout))
@@ -176,5 +174,4 @@ quiet_forms i s (when ks t c) h = inr (ks, t, c, refl, h)
 
 pub ends_quiet : (i : Interval) (s : StateMaps) (c : ContractTree) (xs : List Input) (a : At) → (computed i s c xs).end ≡ Ok a →
     ((a.contract ≡ close) × (entries a.state.accounts ≡ [])) ⊎ ((ks : CaseTrees) × (timeout : ℤ) × (then : ContractTree) × (a.contract ≡ when ks timeout then) × (i.to <ℤ timeout))
-unfolding computed
-ends_quiet i s c xs a e = quiet_forms (trimmed i s) a.state a.contract (quiet_fixed i s c xs (int_lt i.to i.from) (int_lt i.to s.min_time) _ _ a e)
+ends_quiet i s c xs a e = quiet_forms (trimmed i s) a.state a.contract (at_computed (QuietAt (trimmed i s)) i s c xs (quiet_start (trimmed i s) s c xs) a e)

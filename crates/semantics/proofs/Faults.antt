@@ -1,7 +1,9 @@
 -- With what a transaction is refused.
-use Rattle.std.proofs.Common.{◌≡◌, ℕ, ℤ, int_lt, Bool, true, false, cond, ◌&&◌, List, [], ◌∷◌, refl, sym, ◌∙◌, Result, Ok, Err, is_ok, Option, Some, None, inl, inr}
+use Rattle.std.proofs.Common.{◌≡◌, ℕ, ℤ, Bool, true, false, cond, ◌&&◌, List, [], ◌∷◌, refl, sym, ◌∙◌, Result, Ok, Err, is_ok, Option, Some, None, inl, inr}
+use Rattle.std.specs.Prelude.{slice_get}
+use Rattle.std.specs.Option.{is_none}
 use Rattle.contract.specs.declared.fault.SemFault.{SemFault}
-use Rattle.contract.specs.declared.fault.SemFault.TheVariants.{InvalidInterval, IntervalInPast, Ambiguous, Useless, Leaves128, Memory}
+use Rattle.contract.specs.declared.fault.SemFault.TheVariants.{Ambiguous, Useless, Leaves128, Memory}
 use Rattle.contract.specs.declared.input.Input.{Input}
 use Rattle.contract.specs.declared.interval.Interval.{Interval}
 use Rattle.states.specs.States.{StateMaps}
@@ -10,9 +12,10 @@ use Rattle.evaluation.specs.Numbers.{all_fit}
 use Rattle.semantics.specs.Walk.{At, Walk, then_from, then_walk, answer_of}
 use Rattle.evaluation.specs.Path.{waits_for}
 use Rattle.semantics.specs.Settling.{Ends}
-use Rattle.semantics.specs.Transaction.{no_turns, finished, trimmed}
-use Rattle.semantics.specs.Computed.{settled, first_match, first_place, tried_to_match, take_match, applied, one_input, all_inputs, fixed, from_start, from_fixed, computed}
+use Rattle.semantics.specs.Transaction.{trimmed, finished}
+use Rattle.semantics.specs.Computed.{settled, first_match, first_place, tried_to_match, take_match, applied, one_input, all_inputs, from_start, computed}
 use Rattle.semantics.proofs.Relations.{settles_so}
+use Rattle.semantics.proofs.Computing.{computed_by}
 
 -- a walk that doesn't end for want of memory
 abbrev Sound : Walk → Type 0
@@ -48,7 +51,7 @@ sound_inputs i [] a = λ e. cc
 sound_inputs i (x ∷ xs) a = sound_then (one_input i x a) (all_inputs i xs) (sound_input i x a) (sound_inputs i xs)
 
 sound_finished : (w : Walk) → Sound w → Sound (finished w)
-sound_finished w h = by_turns (is_ok w.end && no_turns w.turns)
+sound_finished w h = by_turns (is_ok w.end && is_none (slice_get w.turns 0))
   where
     by_turns : (b : Bool) → Sound (record w { end = cond b (Err Useless) w.end })
     by_turns true = λ e. cc
@@ -56,19 +59,16 @@ sound_finished w h = by_turns (is_ok w.end && no_turns w.turns)
 
 sound_start : (i : Interval) (s : StateMaps) (c : ContractTree) (xs : List Input) → Sound (from_start i s c xs)
 unfolding from_start
-sound_start i s c xs = sound_finished (then_walk (settled i s c) (all_inputs i xs)) (sound_then (settled i s c) (all_inputs i xs) (sound_settled i s c) (sound_inputs i xs))
+sound_start i s c xs =
+    let t : StateMaps = record s { min_time = i.from } in
+    sound_finished (then_walk (settled i t c) (all_inputs i xs)) (sound_then (settled i t c) (all_inputs i xs) (sound_settled i t c) (sound_inputs i xs))
 
-sound_fixed : (i : Interval) (s : StateMaps) (c : ContractTree) (xs : List Input) (b d : Bool) → Sound (from_fixed (cond b (Err InvalidInterval) (cond d (Err IntervalInPast) (Ok (trimmed i s)))) s c xs)
-sound_fixed i s c xs true d = λ e. cc
-sound_fixed i s c xs false true = λ e. cc
-sound_fixed i s c xs false false = sound_start (trimmed i s) (record s { min_time = (trimmed i s).from }) c xs
+sound_computed : (i : Interval) (s : StateMaps) (c : ContractTree) (xs : List Input) → Sound (computed i s c xs)
+sound_computed i s c xs = computed_by Sound i s c xs (λ e. cc) (λ e. cc) (sound_start (trimmed i s) s c xs)
 
 sound_answer : (b : Bool) (end : Result At SemFault) → (end ≡ Err Memory → ⊥) → cond b end (Err Leaves128) ≡ Err Memory → ⊥
 sound_answer true end h = h
 sound_answer false end h = λ e. cc
 
 pub never_memory : (i : Interval) (s : StateMaps) (c : ContractTree) (xs : List Input) → answer_of (computed i s c xs) ≡ Err Memory → ⊥
-unfolding computed
-never_memory i s c xs =
-    let w = from_fixed (fixed i s) s c xs in
-    sound_answer (all_fit w.numbers) w.end (sound_fixed i s c xs (int_lt i.to i.from) (int_lt i.to s.min_time))
+never_memory i s c xs = let w = computed i s c xs in sound_answer (all_fit w.numbers) w.end (sound_computed i s c xs)

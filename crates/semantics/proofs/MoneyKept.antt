@@ -1,5 +1,7 @@
 -- Money is kept by every part of a transaction.
 use Rattle.std.proofs.Common.{◌≡◌, ℕ, ℤ, pos, ◌+ℤ◌, int_lt, int_le, Bool, true, false, cond, ◌&&◌, List, [], ◌∷◌, refl, ap, sym, ◌∙◌, arith, subst, Result, Ok, Err, is_ok, Option, Some, None}
+use Rattle.std.specs.Prelude.{slice_get}
+use Rattle.std.specs.Option.{is_none}
 use Rattle.std.proofs.lemmas.Int.{ints}
 use Rattle.std.specs.Int.{int_min}
 use Rattle.std.specs.FinMap.{entries, empty}
@@ -8,7 +10,7 @@ use Rattle.names.specs.declared.party.Party.{Party}
 use Rattle.names.specs.declared.payee.Payee.{Payee}
 use Rattle.names.specs.declared.payee.Payee.TheVariants.{Account as ToAccount, Party as ToParty}
 use Rattle.contract.specs.declared.fault.SemFault.{SemFault}
-use Rattle.contract.specs.declared.fault.SemFault.TheVariants.{Useless, Ambiguous, NoMatch}
+use Rattle.contract.specs.declared.fault.SemFault.TheVariants.{InvalidInterval, IntervalInPast, Useless, Ambiguous, NoMatch}
 use Rattle.contract.specs.declared.input.Input.{Input}
 use Rattle.contract.specs.declared.input.Input.TheVariants.{Deposit, Choice, Notify}
 use Rattle.contract.specs.declared.interval.Interval.{Interval}
@@ -20,9 +22,10 @@ use Rattle.evaluation.specs.Path.{waits_for}
 use Rattle.semantics.specs.Reduction.{Reduction, going, account_of, balance, debited, credited, paying, not_paying, timing_out, binding, asserting}
 use Rattle.semantics.specs.Settling.{after}
 use Rattle.semantics.specs.Applying.{taken, refused}
-use Rattle.semantics.specs.Transaction.{no_turns}
-use Rattle.semantics.specs.Computed.{stops, goes, pays, go_on, refunds, settled, first_match, first_place, tried_to_match, take_match, applied, one_input, all_inputs, fixed, from_start, from_fixed, computed}
+use Rattle.semantics.specs.Transaction.{trimmed}
+use Rattle.semantics.specs.Computed.{pay_step, refunds, settled, first_match, first_place, tried_to_match, take_match, applied, one_input, all_inputs, from_start}
 use Rattle.semantics.specs.Money.{counted, brought, deposited, paid_out, MoneyIsKept}
+use Rattle.semantics.proofs.Computing.{computed_by}
 use Rattle.semantics.proofs.MoneySums.{no_more, no_first, grows, shrinks, paid_out_append, refunds_pay_all, nothing_left}
 
 -- where a part ends well: what the accounts had at its start and what was deposited is what they have and
@@ -98,11 +101,11 @@ refunds_keep : (token : Token) (s : StateMaps) → Keeps token (pos 0) s (refund
 refunds_keep token s =
     keeps_at token (pos 0) s (refunds s) (at (record s { accounts = empty }) close) refl (all_out _ _ _ (nothing_left token s) (refunds_pay_all token (entries s.accounts)))
 
-when_keeps : (token : Token) (s : StateMaps) (go : StateMaps → Walk) (b d : Bool) (here : At) (c : ContractTree) → here.state ≡ s → Keeps token (pos 0) s (go s) →
-    Keeps token (pos 0) s (go_on go (cond b (stops (ended (Ok here))) (cond d (goes (timing_out s c)) (stops (ended (Err Ambiguous))))))
-when_keeps token s go true d here c e h = subst (λ u. Keeps token (pos 0) u (ended (Ok here))) e (keeps_ended token here)
-when_keeps token s go false true here c e h = keeps_after token s (timing_out s c) (go s) (unmoved token s s refl) h
-when_keeps token s go false false here c e h = keeps_fault token (pos 0) s (ended (Err Ambiguous)) Ambiguous refl
+when_keeps : (token : Token) (s : StateMaps) (w : Walk) (b d : Bool) (here : At) (c : ContractTree) → here.state ≡ s → Keeps token (pos 0) s w →
+    Keeps token (pos 0) s (cond b (ended (Ok here)) (cond d (after (timing_out s c) w) (ended (Err Ambiguous))))
+when_keeps token s w true d here c e h = subst (λ u. Keeps token (pos 0) u (ended (Ok here))) e (keeps_ended token here)
+when_keeps token s w false true here c e h = keeps_after token s (timing_out s c) w (unmoved token s s refl) h
+when_keeps token s w false false here c e h = keeps_fault token (pos 0) s (ended (Err Ambiguous)) Ambiguous refl
 
 either_keeps : (token : Token) (s : StateMaps) (b : Bool) (w v : Walk) → Keeps token (pos 0) s w → Keeps token (pos 0) s v → Keeps token (pos 0) s (cond b w v)
 either_keeps token s true w v h k = h
@@ -111,14 +114,14 @@ either_keeps token s false w v h k = k
 settled_keeps : (token : Token) (i : Interval) (s : StateMaps) (c : ContractTree) → Keeps token (pos 0) s (settled i s c)
 settled_keeps token i s close = refunds_keep token s
 settled_keeps token i s (pay p y t v c) =
-    let r = pays s p y t (eval i s v) (visited i s v) c in
+    let r = pay_step s p y t (eval i s v) (visited i s v) c in
     keeps_after token s r (settled i r.state c) (pays_keeps token s p y t (eval i s v) (visited i s v) c (int_lt (pos 0) (eval i s v))) (settled_keeps token i r.state c)
 settled_keeps token i s (if_obs o c d) =
     either_keeps token s (holds i s o) _ _
     (keeps_after token s (going (looked i s o) [] then_branch s c) (settled i s c) (unmoved token s s refl) (settled_keeps token i s c))
     (keeps_after token s (going (looked i s o) [] else_branch s d) (settled i s d) (unmoved token s s refl) (settled_keeps token i s d))
 settled_keeps token i s (when ks t c) =
-    when_keeps token s (λ u. settled i u c) (int_lt i.to t) (int_le t i.from) (at s (when ks t c)) c refl (settled_keeps token i s c)
+    when_keeps token s (settled i s c) (int_lt i.to t) (int_le t i.from) (at s (when ks t c)) c refl (settled_keeps token i s c)
 settled_keeps token i s (let_be x v c) =
     let r = binding s x (eval i s v) (visited i s v) c in
     keeps_after token s r (settled i r.state c) (unmoved token s r.state refl) (settled_keeps token i r.state c)
@@ -167,15 +170,16 @@ finished_keeps token n s w false h = h
 start_keeps : (token : Token) (i : Interval) (s : StateMaps) (c : ContractTree) (xs : List Input) → Keeps token (deposited token xs) s (from_start i s c xs)
 unfolding from_start
 start_keeps token i s c xs =
-    let w = then_walk (settled i s c) (all_inputs i xs) in
-    finished_keeps token (deposited token xs) s w (is_ok w.end && no_turns w.turns)
+    let t : StateMaps = record s { min_time = i.from } in
+    let w = then_walk (settled i t c) (all_inputs i xs) in
+    finished_keeps token (deposited token xs) s w (is_ok w.end && is_none (slice_get w.turns 0))
     (subst (λ n. Keeps token n s w) (no_first (deposited token xs))
-    (keeps_then token (pos 0) (deposited token xs) s (settled i s c) (all_inputs i xs) (settled_keeps token i s c) (inputs_keep token i xs)))
-
-fixed_keeps : (token : Token) (r : Result Interval SemFault) (s : StateMaps) (c : ContractTree) (xs : List Input) → Keeps token (deposited token xs) s (from_fixed r s c xs)
-fixed_keeps token (Err f) s c xs = keeps_fault token (deposited token xs) s (ended (Err f)) f refl
-fixed_keeps token (Ok i) s c xs = start_keeps token i (record s { min_time = i.from }) c xs
+    (keeps_then token (pos 0) (deposited token xs) s (settled i t c) (all_inputs i xs) (settled_keeps token i t c) (inputs_keep token i xs)))
 
 pub money_is_kept : MoneyIsKept
-unfolding computed
-money_is_kept token i s c xs = fixed_keeps token (fixed i s) s c xs
+money_is_kept token i s c xs =
+    let n = deposited token xs in
+    computed_by (Keeps token n s) i s c xs
+    (keeps_fault token n s (ended (Err InvalidInterval)) InvalidInterval refl)
+    (keeps_fault token n s (ended (Err IntervalInPast)) IntervalInPast refl)
+    (start_keeps token (trimmed i s) s c xs)

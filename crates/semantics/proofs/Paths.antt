@@ -1,14 +1,14 @@
 -- The turns of a transaction lead to where it ends.
 use Rattle.std.proofs.Common.{◌≡◌, ℕ, suc, ℤ, pos, Bool, true, false, cond, ◌&&◌, List, [], ◌∷◌, ◌++◌, map, int_lt, int_le, refl, sym, ap, ◌∙◌, Result, Ok, Err, is_ok, Option, Some, None}
 use Rattle.std.specs.Prelude.{slice_get, option_map}
-use Rattle.std.specs.Option.{option_and_then}
+use Rattle.std.specs.Option.{is_none, option_and_then}
 use Rattle.std.specs.FinMap.{entries, empty}
 use Rattle.std.specs.Int.{int_min}
 use Rattle.names.specs.declared.party.Party.{Party}
 use Rattle.names.specs.declared.payee.Payee.{Payee}
 use Rattle.names.specs.declared.token.Token.{Token}
 use Rattle.contract.specs.declared.fault.SemFault.{SemFault}
-use Rattle.contract.specs.declared.fault.SemFault.TheVariants.{Useless, Ambiguous}
+use Rattle.contract.specs.declared.fault.SemFault.TheVariants.{InvalidInterval, IntervalInPast, Useless, Ambiguous}
 use Rattle.contract.specs.declared.input.Input.{Input}
 use Rattle.contract.specs.declared.interval.Interval.{Interval}
 use Rattle.states.specs.States.{StateMaps}
@@ -19,9 +19,11 @@ use Rattle.evaluation.specs.Path.{case_list, waits_for, part, along}
 use Rattle.semantics.specs.Reduction.{balance, paying, not_paying, choosing, timing_out, with_bound}
 use Rattle.evaluation.specs.Evaluation.{eval, visited, holds, looked}
 use Rattle.semantics.specs.Applying.{matches, taken}
-use Rattle.semantics.specs.Transaction.{no_turns}
-use Rattle.semantics.specs.Computed.{stops, goes, go_on, settled, first_match, first_place, tried_to_match, take_match, applied, one_input, all_inputs, fixed, from_start, from_fixed, computed}
-use Rattle.semantics.specs.Laws.{Leads}
+use Rattle.semantics.specs.Transaction.{trimmed}
+use Rattle.semantics.specs.Computed.{settled, first_match, first_place, tried_to_match, take_match, applied, one_input, all_inputs, from_start, computed}
+use Rattle.semantics.specs.Laws.{EndsWhereTurnsLead as Leads}
+use Rattle.semantics.proofs.Walks.{went}
+use Rattle.semantics.proofs.Computing.{computed_by}
 
 ok_same : (a b : At) → ◌≡◌ {A = Result At SemFault} (Ok a) (Ok b) → a ≡ b
 ok_same a b e = cc
@@ -38,14 +40,14 @@ refunds_stay : {A : Type 0} (es : List A) → along close (map (λ _. refund) es
 refunds_stay [] = refl
 refunds_stay (e ∷ es) = refunds_stay es
 
-leads_when : (go : StateMaps → Walk) (b d : Bool) (ks : CaseTrees) (t : ℤ) (c : ContractTree) (s : StateMaps) → Leads c (go s) →
-    Leads (when ks t c) (go_on go (cond b (stops (ended (Ok (at s (when ks t c))))) (cond d (goes (timing_out s c)) (stops (ended (Err Ambiguous))))))
-leads_when go true d ks t c s h = leads_ended (at s (when ks t c))
-leads_when go false true ks t c s h = h
-leads_when go false false ks t c s h = leads_fault (when ks t c) (ended (Err Ambiguous)) Ambiguous refl
+leads_when : (w : Walk) (b d : Bool) (ks : CaseTrees) (t : ℤ) (c : ContractTree) (s : StateMaps) → Leads c w →
+    Leads (when ks t c) (cond b (ended (Ok (at s (when ks t c)))) (cond d (after (timing_out s c) w) (ended (Err Ambiguous))))
+leads_when w true d ks t c s h = leads_ended (at s (when ks t c))
+leads_when w false true ks t c s h = h
+leads_when w false false ks t c s h = leads_fault (when ks t c) (ended (Err Ambiguous)) Ambiguous refl
 
 leads_pay : (go : StateMaps → Walk) (b : Bool) (s : StateMaps) (p : Party) (y : Payee) (t : Token) (v : ValueTree) (due paid : ℤ) (ns : List ℤ) (c : ContractTree) → ((u : StateMaps) → Leads c (go u)) →
-    Leads (pay p y t v c) (go_on go (goes (cond b (paying s p y t due paid ns c) (not_paying s p y t due ns c))))
+    Leads (pay p y t v c) (went go (cond b (paying s p y t due paid ns c) (not_paying s p y t due ns c)))
 leads_pay go true s p y t v due paid ns c h = h (paying s p y t due paid ns c).state
 leads_pay go false s p y t v due paid ns c h = h s
 
@@ -60,7 +62,7 @@ leads_settled i s (pay p y t v c) =
 leads_settled i s (if_obs o c d) = leads_if (holds i s o) s o (looked i s o) c d (settled i s c) (settled i s d) (leads_settled i s c) (leads_settled i s d)
 leads_settled i s (let_be x v c) = leads_settled i (with_bound s x (eval i s v)) c
 leads_settled i s (assert o c) = leads_settled i s c
-leads_settled i s (when ks t c) = leads_when (λ u. settled i u c) (int_lt i.to t) (int_le t i.from) ks t c s (leads_settled i s c)
+leads_settled i s (when ks t c) = leads_when (settled i s c) (int_lt i.to t) (int_le t i.from) ks t c s (leads_settled i s c)
 
 -- ---- one part after another
 
@@ -132,13 +134,10 @@ leads_finished false w c h = h
 leads_start : (i : Interval) (s : StateMaps) (c : ContractTree) (xs : List Input) → Leads c (from_start i s c xs)
 unfolding from_start
 leads_start i s c xs =
-    let w = then_walk (settled i s c) (all_inputs i xs) in
-    leads_finished (is_ok w.end && no_turns w.turns) w c (leads_then (settled i s c) (all_inputs i xs) c (leads_settled i s c) (leads_inputs i xs))
-
-leads_fixed : (r : Result Interval SemFault) (s : StateMaps) (c : ContractTree) (xs : List Input) → Leads c (from_fixed r s c xs)
-leads_fixed (Err f) s c xs = leads_fault c (ended (Err f)) f refl
-leads_fixed (Ok i) s c xs = leads_start i (record s { min_time = i.from }) c xs
+    let t : StateMaps = record s { min_time = i.from } in
+    let w = then_walk (settled i t c) (all_inputs i xs) in
+    leads_finished (is_ok w.end && is_none (slice_get w.turns 0)) w c (leads_then (settled i t c) (all_inputs i xs) c (leads_settled i t c) (leads_inputs i xs))
 
 pub leads_computed : (i : Interval) (s : StateMaps) (c : ContractTree) (xs : List Input) → Leads c (computed i s c xs)
-unfolding computed
-leads_computed i s c xs = leads_fixed (fixed i s) s c xs
+leads_computed i s c xs =
+    computed_by (Leads c) i s c xs (leads_fault c (ended (Err InvalidInterval)) InvalidInterval refl) (leads_fault c (ended (Err IntervalInPast)) IntervalInPast refl) (leads_start (trimmed i s) s c xs)

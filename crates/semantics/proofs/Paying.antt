@@ -11,8 +11,8 @@ use Rattle.contract.specs.Tree.{ContractTree, close}
 use Rattle.evaluation.specs.Numbers.{all_fit, within}
 use Rattle.semantics.specs.Walk.{Aside}
 use Rattle.semantics.specs.Reduction.{Reduction, balance, debited, account_sums, paying, not_paying}
-use Rattle.semantics.specs.Computed.{pays, goes}
-use Rattle.semantics.specs.Reduced.{reply}
+use Rattle.semantics.specs.Computed.{pay_step}
+use Rattle.semantics.specs.Reduced.{goes, reply}
 use Rattle.evaluation.proofs.Numbers.{all_fit_append, within_ok}
 use Rattle.semantics.proofs.Walks.{not_memory}
 
@@ -25,7 +25,7 @@ same_part true r q c h k = h
 same_part false r q c h k = k
 
 -- what follows a Pay
-pub pays_contract : (s : StateMaps) (p : Party) (y : Payee) (t : Token) (due : ℤ) (ns : List ℤ) (c : ContractTree) → (pays s p y t due ns c).contract ≡ c
+pub pays_contract : (s : StateMaps) (p : Party) (y : Payee) (t : Token) (due : ℤ) (ns : List ℤ) (c : ContractTree) → (pay_step s p y t due ns c).contract ≡ c
 pays_contract s p y t due ns c = same_part (int_lt (pos 0) due) (paying s p y t due (int_min (balance s p t) due) ns c) (not_paying s p y t due ns c) c refl refl
 
 pick : (b : Bool) (ns : List ℤ) (r q r' q' : Reduction) → all_fit r.numbers ≡ all_fit ns && all_fit r'.numbers → all_fit q.numbers ≡ all_fit ns && all_fit q'.numbers →
@@ -35,7 +35,7 @@ pick false ns r q r' q' h k = k
 
 -- the numbers of its amount, and then its sums
 pub pay_numbers : (s : StateMaps) (p : Party) (y : Payee) (t : Token) (due : ℤ) (ns : List ℤ) (c : ContractTree) →
-    all_fit (pays s p y t due ns c).numbers ≡ all_fit ns && all_fit (pays s p y t due [] close).numbers
+    all_fit (pay_step s p y t due ns c).numbers ≡ all_fit ns && all_fit (pay_step s p y t due [] close).numbers
 pay_numbers s p y t due ns c =
     let paid = int_min (balance s p t) due in
     pick (int_lt (pos 0) due) ns (paying s p y t due paid ns c) (not_paying s p y t due ns c) (paying s p y t due paid [] close) (not_paying s p y t due [] close)
@@ -49,12 +49,12 @@ fault_through false d x z f q (inr h) = inr (cc)
 
 -- where a sum doesn't fit, once the amount does
 pub pay_fault : (s : StateMaps) (p : Party) (y : Payee) (t : Token) (due n : ℤ) (ns : List ℤ) (c : ContractTree) (f : SemFault) →
-    Ok n ≡ within ns due → Aside (Err f) (within (pays s p y t n [] close).numbers (tt {0})) →
-    Aside (Err f) (reply (goes (pays s p y t due ns c)))
+    Ok n ≡ within ns due → Aside (Err f) (within (pay_step s p y t n [] close).numbers (tt {0})) →
+    Aside (Err f) (reply (goes (pay_step s p y t due ns c)))
 pay_fault s p y t due n ns c f h k =
     let w = within_ok ns due n h in
     let l = rw w.1 at k in
-    fault_through _ _ (tt {0}) (Some (pays s p y t due ns c).contract) f (rw (pay_numbers s p y t due ns c, w.0)) l
+    fault_through _ _ (tt {0}) (Some (pay_step s p y t due ns c).contract) f (rw (pay_numbers s p y t due ns c, w.0)) l
 
 through : {A B : Type 0} (b d : Bool) (f : SemFault) (x : A) (z : B) → Err f ≡ cond b (Ok x) (Err Leaves128) → Err f ≡ cond (b && d) (Ok z) (Err Leaves128)
 through true d f x z h = absurd (cc)
@@ -62,15 +62,15 @@ through false d f x z h = cc
 
 -- where the amount doesn't fit
 pub due_fault : (s : StateMaps) (p : Party) (y : Payee) (t : Token) (due : ℤ) (ns : List ℤ) (c : ContractTree) (f : SemFault) →
-    Err f ≡ within ns due → Aside {A = Option ContractTree} (Err f) (reply (goes (pays s p y t due ns c)))
-due_fault s p y t due ns c f h = inl (rw (pay_numbers s p y t due ns c) (through (all_fit ns) _ f due (Some (pays s p y t due ns c).contract) h))
+    Err f ≡ within ns due → Aside {A = Option ContractTree} (Err f) (reply (goes (pay_step s p y t due ns c)))
+due_fault s p y t due ns c f h = inl (rw (pay_numbers s p y t due ns c) (through (all_fit ns) _ f due (Some (pay_step s p y t due ns c).contract) h))
 
 -- where both fit
 pub pay_ok : (s : StateMaps) (p : Party) (y : Payee) (t : Token) (due n : ℤ) (ns : List ℤ) (c : ContractTree) →
-    Ok n ≡ within ns due → Aside (Ok (tt {0})) (within (pays s p y t n [] close).numbers (tt {0})) →
-    Aside {A = Option ContractTree} (Ok (Some c)) (reply (goes (pays s p y t due ns c)))
+    Ok n ≡ within ns due → Aside (Ok (tt {0})) (within (pay_step s p y t n [] close).numbers (tt {0})) →
+    Aside {A = Option ContractTree} (Ok (Some c)) (reply (goes (pay_step s p y t due ns c)))
 pay_ok s p y t due n ns c h k =
     let w = within_ok ns due n h in
     let l = rw w.1 at k in
-    let m = within_ok (pays s p y t due [] close).numbers (tt {0}) (tt {0}) (not_memory (tt {0}) _ l) in
+    let m = within_ok (pay_step s p y t due [] close).numbers (tt {0}) (tt {0}) (not_memory (tt {0}) _ l) in
     inl (rw (pay_numbers s p y t due ns c, w.0, m.0, pays_contract s p y t due ns c) refl)

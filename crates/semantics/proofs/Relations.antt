@@ -16,7 +16,9 @@ use Rattle.semantics.specs.Walk.{refund, At, at, Walk, ended}
 use Rattle.semantics.specs.Reduction.{Reduction, Reduces, Quiet, IsAmbiguous, balance, refund_of, refunded, paying, not_paying, choosing, timing_out, binding, asserting}
 use Rattle.evaluation.specs.Evaluation.{eval, visited, holds, looked}
 use Rattle.semantics.specs.Settling.{Runs, Ends, after, walk_of, Settles}
-use Rattle.semantics.specs.Computed.{stops, goes, pays, go_on, settled, refunds}
+use Rattle.semantics.specs.Computed.{pay_step, settled, refunds}
+use Rattle.semantics.specs.Reduced.{goes}
+use Rattle.semantics.proofs.Walks.{went}
 use Rattle.semantics.proofs.Refunds.{entries-refund}
 use Rattle.semantics.proofs.Settling.{settled_goes}
 use Rattle.semantics.proofs.Integers.{lt_true, lt_false, le_true, le_false, true_lt, false_lt, true_le, false_le, before_both, not_both, reaches}
@@ -72,7 +74,7 @@ pays_so i s p y t v c false h = inl (false_lt _ _ h, refl)
 
 pub reduces_unless_quiet : (i : Interval) (s : StateMaps) (c : ContractTree) → ((r : Reduction) × Reduces i s c r) ⊎ (Quiet i s c ⊎ IsAmbiguous i s c)
 reduces_unless_quiet i s close = refunds_unless_empty i s (entries s.accounts) refl
-reduces_unless_quiet i s (pay p y t v c) = inl (pays s p y t (eval i s v) (visited i s v) c, pays_so i s p y t v c (int_lt (pos 0) (eval i s v)) refl)
+reduces_unless_quiet i s (pay p y t v c) = inl (pay_step s p y t (eval i s v) (visited i s v) c, pays_so i s p y t v c (int_lt (pos 0) (eval i s v)) refl)
 reduces_unless_quiet i s (if_obs o c d) = inl (choosing s (holds i s o) (looked i s o) c d, refl)
 reduces_unless_quiet i s (let_be x v c) = inl (binding s x (eval i s v) (visited i s v) c, refl)
 reduces_unless_quiet i s (assert o c) = inl (asserting s (holds i s o) (looked i s o) c, refl)
@@ -113,9 +115,7 @@ goes_by_reduction i s (if_obs o c d) r v h = settled_goes i s (if_obs o c d) r (
 goes_by_reduction i s (let_be x u c) r v h = settled_goes i s (let_be x u c) r (ap goes (sym h))
 goes_by_reduction i s (assert o c) r v h = settled_goes i s (assert o c) r (ap goes (sym h))
 goes_by_reduction i s (when ks t c) r v h =
-    ap (λ b. go_on (λ u. settled i u c) (cond b (stops (ended (Ok (at s (when ks t c))))) (cond (int_le t i.from) (goes (timing_out s c)) (stops (ended (Err Ambiguous)))))) (lt_false i.to t (reaches _ _ _ h.0 v))
-    ∙ (ap (λ d. go_on (λ u. settled i u c) (cond d (goes (timing_out s c)) (stops (ended (Err Ambiguous))))) (le_true t i.from h.0)
-    ∙ ap (λ (q : Reduction). after q (settled i q.state q.contract)) (sym h.1))
+    rw (lt_false i.to t (reaches _ _ _ h.0 v), le_true t i.from h.0, h.1) refl
 
 pub rests_when_quiet : (i : Interval) (s : StateMaps) (c : ContractTree) → Quiet i s c → settled i s c ≡ ended (Ok (at s c))
 rests_when_quiet i s close h = quiet_close s h
@@ -124,7 +124,7 @@ rests_when_quiet i s (if_obs o c d) h = absurd h
 rests_when_quiet i s (let_be x v c) h = absurd h
 rests_when_quiet i s (assert o c) h = absurd h
 rests_when_quiet i s (when ks t c) h =
-    ap (λ b. go_on (λ u. settled i u c) (cond b (stops (ended (Ok (at s (when ks t c))))) (cond (int_le t i.from) (goes (timing_out s c)) (stops (ended (Err Ambiguous)))))) (lt_true i.to t h)
+    rw (lt_true i.to t h) refl
 
 pub fails_when_ambiguous : (i : Interval) (s : StateMaps) (c : ContractTree) → IsAmbiguous i s c → settled i s c ≡ ended (Err Ambiguous)
 fails_when_ambiguous i s close h = absurd h
@@ -133,8 +133,7 @@ fails_when_ambiguous i s (if_obs o c d) h = absurd h
 fails_when_ambiguous i s (let_be x v c) h = absurd h
 fails_when_ambiguous i s (assert o c) h = absurd h
 fails_when_ambiguous i s (when ks t c) h =
-    ap (λ b. go_on (λ u. settled i u c) (cond b (stops (ended (Ok (at s (when ks t c))))) (cond (int_le t i.from) (goes (timing_out s c)) (stops (ended (Err Ambiguous)))))) (lt_false i.to t h.1)
-    ∙ ap (λ d. go_on (λ u. settled i u c) (cond d (goes (timing_out s c)) (stops (ended (Err Ambiguous))))) (le_false t i.from h.0)
+    rw (lt_false i.to t h.1, le_false t i.from h.0) refl
 
 -- ---- each settling is this one
 
@@ -166,14 +165,14 @@ close_settles i s (e ∷ es) h =
     (goes_first i s close (refunded s e) (refunds (with_money s e.0 (pos 0))) (e, first, refl)
     (close_settles i (with_money s e.0 (pos 0)) es (entries-refund s e es h)))
 
-when_settles : (i : Interval) (s : StateMaps) (ks : CaseTrees) (t : ℤ) (c : ContractTree) (go : StateMaps → Walk) (b d : Bool) → int_lt i.to t ≡ b → int_le t i.from ≡ d → Settles i s c (go s) →
-    Settles i s (when ks t c) (go_on go (cond b (stops (ended (Ok (at s (when ks t c))))) (cond d (goes (timing_out s c)) (stops (ended (Err Ambiguous))))))
-when_settles i s ks t c go true d h k g = stays i (at s (when ks t c)) (Ok (at s (when ks t c))) (inl (true_lt _ _ h, refl))
-when_settles i s ks t c go false true h k g = goes_first i s (when ks t c) (timing_out s c) (go s) (true_le _ _ k, refl) g
-when_settles i s ks t c go false false h k g = stays i (at s (when ks t c)) (Err Ambiguous) (inr ((false_le _ _ k, false_lt _ _ h), refl))
+when_settles : (i : Interval) (s : StateMaps) (ks : CaseTrees) (t : ℤ) (c : ContractTree) (w : Walk) (b d : Bool) → int_lt i.to t ≡ b → int_le t i.from ≡ d → Settles i s c w →
+    Settles i s (when ks t c) (cond b (ended (Ok (at s (when ks t c)))) (cond d (after (timing_out s c) w) (ended (Err Ambiguous))))
+when_settles i s ks t c w true d h k g = stays i (at s (when ks t c)) (Ok (at s (when ks t c))) (inl (true_lt _ _ h, refl))
+when_settles i s ks t c w false true h k g = goes_first i s (when ks t c) (timing_out s c) w (true_le _ _ k, refl) g
+when_settles i s ks t c w false false h k g = stays i (at s (when ks t c)) (Err Ambiguous) (inr ((false_le _ _ k, false_lt _ _ h), refl))
 
 pay_settles : (i : Interval) (s : StateMaps) (p : Party) (y : Payee) (t : Token) (v : ValueTree) (c : ContractTree) (go : StateMaps → Walk) (b : Bool) → int_lt (pos 0) (eval i s v) ≡ b → ((u : StateMaps) → Settles i u c (go u)) →
-    Settles i s (pay p y t v c) (go_on go (goes (cond b (paying s p y t (eval i s v) (int_min (balance s p t) (eval i s v)) (visited i s v) c) (not_paying s p y t (eval i s v) (visited i s v) c))))
+    Settles i s (pay p y t v c) (went go (cond b (paying s p y t (eval i s v) (int_min (balance s p t) (eval i s v)) (visited i s v) c) (not_paying s p y t (eval i s v) (visited i s v) c)))
 pay_settles i s p y t v c go true h g =
     let r = paying s p y t (eval i s v) (int_min (balance s p t) (eval i s v)) (visited i s v) c in
     goes_first i s (pay p y t v c) r (go r.state) (pays_so i s p y t v c true h) (g r.state)
@@ -194,4 +193,4 @@ settles_so i s (let_be x v c) =
     goes_first i s (let_be x v c) r (settled i r.state c) refl (settles_so i r.state c)
 settles_so i s (assert o c) =
     goes_first i s (assert o c) (asserting s (holds i s o) (looked i s o) c) (settled i s c) refl (settles_so i s c)
-settles_so i s (when ks t c) = when_settles i s ks t c (λ u. settled i u c) (int_lt i.to t) (int_le t i.from) refl refl (settles_so i s c)
+settles_so i s (when ks t c) = when_settles i s ks t c (settled i s c) (int_lt i.to t) (int_le t i.from) refl refl (settles_so i s c)

@@ -1,5 +1,5 @@
 -- How a contract settles, one step at a time.
-use Rattle.std.proofs.Common.{◌≡◌, suc, ◌+◌, ◌<◌, Bool, true, false, cond, ◌&&◌, ◌∷◌, ◌++◌, refl, sym, ap, ◌∙◌, arith, int_lt, int_le, Option, Some, None, Result, Ok, Err, inl, inr, subst}
+use Rattle.std.proofs.Common.{◌≡◌, ℕ, suc, ◌+◌, ◌<◌, Bool, true, false, cond, ◌&&◌, ◌∷◌, ◌++◌, refl, sym, ap, ◌∙◌, arith, int_lt, int_le, Option, Some, None, Result, Ok, Err, inl, inr, subst}
 use Rattle.contract.specs.declared.fault.SemFault.{SemFault}
 use Rattle.contract.specs.declared.fault.SemFault.TheVariants.{Ambiguous, Leaves128}
 use Rattle.contract.specs.declared.interval.Interval.{Interval}
@@ -9,14 +9,29 @@ use Rattle.semantics.specs.Walk.{At, at, Walk, ended, answer_of, Aside}
 use Rattle.evaluation.specs.Numbers.{all_fit}
 use Rattle.semantics.specs.Reduction.{Reduction, choosing, timing_out, binding, asserting}
 use Rattle.semantics.specs.Settling.{after}
-use Rattle.semantics.specs.Computed.{Step, stops, goes, pays, step, go_on, settled}
+use Rattle.semantics.specs.Computed.{pay_step, settled}
 use Rattle.evaluation.specs.Evaluation.{eval, visited, holds, looked}
 use Rattle.semantics.proofs.Paying.{pays_contract}
 use Rattle.evaluation.proofs.Numbers.{all_fit_append, from_cond}
 use Rattle.semantics.proofs.Walks.{not_memory, ok_answer, same_end}
-use Rattle.semantics.specs.Reduced.{reply, stop_reply, state_after, end_state, warnings_of, payments_of, turn_of, turns_of, height}
+use Rattle.semantics.specs.Reduced.{Step, stops, goes, step, reply, stop_reply, state_after, end_state, warnings_of, payments_of, turn_of, turns_of}
+
+-- at least as many as the reductions that can still enter a part
+abbrev pub height : ContractTree → ℕ
+height close = 0
+height (pay p y t v c) = suc (height c)
+height (if_obs o c d) = suc (height c + height d)
+height (when ks timeout c) = suc (height c)
+height (let_be x v c) = suc (height c)
+height (assert o c) = suc (height c)
 
 -- ---- each form
+
+-- a When that stops does no more than that
+when_rests : (b d : Bool) (w v u x : Walk) (q : Reduction) → cond b (stops w) (cond d (goes q) (stops v)) ≡ stops x → cond b w (cond d (after q u) v) ≡ x
+when_rests true d w v u x q e = cc
+when_rests false true w v u x q e = absurd (cc)
+when_rests false false w v u x q e = cc
 
 -- a When that goes on does so by its timeout
 when_goes : (b d : Bool) (w v : Walk) (q r : Reduction) → cond b (stops w) (cond d (goes q) (stops v)) ≡ goes r → (b ≡ false) × (d ≡ true) × (r ≡ q)
@@ -40,14 +55,14 @@ pub settled_stops : (i : Interval) (s : StateMaps) (c : ContractTree) (w : Walk)
 settled_stops i s close w e = cc
 settled_stops i s (pay p y t v c) w e = absurd (cc)
 settled_stops i s (if_obs o c d) w e = absurd (cc)
-settled_stops i s (when ks t c) w e = ap (go_on (λ u. settled i u c)) e
+settled_stops i s (when ks t c) w e = when_rests (int_lt i.to t) (int_le t i.from) _ _ (settled i s c) w (timing_out s c) e
 settled_stops i s (let_be x v c) w e = absurd (cc)
 settled_stops i s (assert o c) w e = absurd (cc)
 
 pub settled_goes : (i : Interval) (s : StateMaps) (c : ContractTree) (r : Reduction) → step i s c ≡ goes r → settled i s c ≡ after r (settled i r.state r.contract)
 settled_goes i s close r e = absurd (cc)
 settled_goes i s (pay p y t v c) r e =
-    let q = goes_same (pays s p y t (eval i s v) (visited i s v) c) r e in
+    let q = goes_same (pay_step s p y t (eval i s v) (visited i s v) c) r e in
     ap (λ x. after x (settled i x.state c)) q
     ∙ ap (λ d. after r (settled i r.state d)) (sym (pays_contract s p y t (eval i s v) (visited i s v) c) ∙ ap (λ x. x.contract) q)
 settled_goes i s (if_obs o c d) r e =
@@ -59,12 +74,12 @@ settled_goes i s (assert o c) r e =
     ap (λ y. after y (settled i y.state y.contract)) (goes_same (asserting s (holds i s o) (looked i s o) c) r e)
 settled_goes i s (when ks t c) r e =
     let q = when_goes (int_lt i.to t) (int_le t i.from) _ _ (timing_out s c) r e in
-    ap (go_on (λ u. settled i u c)) e ∙ ap (λ d. after r (settled i r.state d)) (ap (λ x. x.contract) (sym q.2))
+    rw (q.0, q.1, q.2) refl
 
 pub step_less : (i : Interval) (s : StateMaps) (c : ContractTree) (r : Reduction) → step i s c ≡ goes r → height r.contract < height c
 step_less i s close r e = absurd (cc)
 step_less i s (pay p y t v c) r e =
-    let q = goes_same (pays s p y t (eval i s v) (visited i s v) c) r e in
+    let q = goes_same (pay_step s p y t (eval i s v) (visited i s v) c) r e in
     subst (λ d. height d < suc (height c)) (sym (pays_contract s p y t (eval i s v) (visited i s v) c) ∙ ap (λ x. x.contract) q) (omega arith)
 step_less i s (if_obs o c d) r e =
     let q = goes_same (choosing s (holds i s o) (looked i s o) c d) r e in

@@ -13,8 +13,8 @@ use Rattle.evaluation.specs.Numbers.{fits}
 use Rattle.semantics.specs.Reduction.{account_of, balance}
 use Rattle.evaluation.specs.Evaluation.{quotient}
 use Rattle.semantics.specs.Computed.{applied, one_input, from_start, computed}
-use Rattle.semantics.specs.Rows.{party_a, party_b, ada, name_x, a_has_three, nothing}
-use Rattle.semantics.specs.Rows.{PaysWhatThereIs, PaysNothing, PaysZero, PaysItself, EntersNothing, MinusSevenByTwoIsBound, SevenByZeroIsBound, LeastIsBound, LeastByMinusOneIsRefused, CondIsBound, CondIsRefused, LaterIsBound, IfChooses, FalseAndFails, TrueAndIsRefused, TrueOrIsSilent, FirstIsTaken, EndsAreChosen, OutsideIsNoMatch, ZeroIsDeposited}
+use Rattle.semantics.specs.Rows.{party_a, party_b, party_x, ada, name_x, a_has_three, two_accounts, nothing}
+use Rattle.semantics.specs.Rows.{PaysWhatThereIs, PaysNothing, PaysZero, PaysItself, EntersNothing, MinusSevenByTwoIsBound, SevenByZeroIsBound, LeastIsBound, LeastByMinusOneIsRefused, CondIsBound, CondIsRefused, LaterIsBound, IfChooses, FalseAndFails, TrueAndIsRefused, TrueOrIsSilent, FirstIsTaken, EndsAreChosen, OutsideIsNoMatch, ZeroIsDeposited, RefundsInOrder, CloseIsUseless}
 use Rattle.semantics.proofs.Refunds.{entries-refund}
 
 -- ---- maps of no entry and of one
@@ -159,3 +159,18 @@ outside_is_no_match = refl
 pub zero_is_deposited : ZeroIsDeposited
 unfolding computed from_start one_input applied fits
 zero_is_deposited = record { warns = refl; pays = rw no_entries refl; answers = refl }
+
+-- ---- Close
+
+two_entries : entries two_accounts.accounts ≡ (account_of party_x ada, pos 7) ∷ (account_of party_a ada, pos 5) ∷ []
+two_entries =
+    entries-insert account_total (insert empty (account_of party_a ada) (pos 5)) (account_of party_x ada) (pos 7)
+    ∙ ap (put account_cmp (account_of party_x ada) (pos 7)) (entries-insert account_total empty (account_of party_a ada) (pos 5) ∙ ap (put account_cmp (account_of party_a ada) (pos 5)) no_entries)
+
+pub refunds_in_order : RefundsInOrder
+unfolding computed from_start fits
+refunds_in_order = record { warns = refl; pays = rw two_entries refl; answers = rw two_entries refl }
+
+pub close_is_useless : CloseIsUseless
+unfolding computed from_start
+close_is_useless = rw no_entries refl

@@ -4,12 +4,15 @@ pub mod Settling
 pub mod Applying
 pub mod Transaction
 pub mod Computed
-pub mod Same
+pub mod PlainLaws
 pub mod Reduced
 pub mod Money
+pub mod Naturals
+pub mod Closing
 pub mod Laws
 pub mod Answer
 pub mod Rows
 pub use Rattle.evaluation.specs.Numbers
 pub use Rattle.evaluation.specs.Evaluation
 pub use Rattle.evaluation.specs.Path
+pub use Rattle.evaluation.specs.Timeouts

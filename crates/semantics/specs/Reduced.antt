@@ -1,17 +1,38 @@
--- What one step of the code answers and leaves, and how far the contract is from its end.
-use Rattle.std.specs.Prelude.{ℕ, suc, ◌+◌, Bool, true, false, List, [], ◌∷◌, if◌then◌else◌, int_lt, Option, Some, None, Result, Ok, Err}
+-- No reader needs this file: it serves the proofs of this crate and those above it.
+-- What one step of the code answers and leaves, and how it fixes the interval.
+use Rattle.std.specs.Prelude.{ℤ, Bool, true, false, List, [], ◌∷◌, if◌then◌else◌, int_lt, int_le, Option, Some, None, Result, Ok, Err}
 use Rattle.std.specs.FinMap.{entries}
 use Rattle.contract.specs.declared.fault.SemFault.{SemFault}
-use Rattle.contract.specs.declared.fault.SemFault.TheVariants.{Leaves128}
+use Rattle.contract.specs.declared.fault.SemFault.TheVariants.{InvalidInterval, IntervalInPast, Ambiguous, Leaves128}
 use Rattle.contract.specs.declared.interval.Interval.{Interval}
 use Rattle.contract.specs.declared.payment.Payment.{Payment}
 use Rattle.contract.specs.declared.warning.Warning.{Warning}
 use Rattle.states.specs.States.{StateMaps}
 use Rattle.contract.specs.Tree.{ContractTree, close, pay, if_obs, when, let_be, assert}
 use Rattle.evaluation.specs.Numbers.{all_fit}
-use Rattle.semantics.specs.Walk.{Turn, refund, At, at, answer_of}
+use Rattle.evaluation.specs.Evaluation.{eval, visited, holds, looked}
 use Rattle.evaluation.specs.Parts.{Leads}
-use Rattle.semantics.specs.Computed.{Step, stops, goes}
+use Rattle.semantics.specs.Walk.{Turn, refund, At, at, Walk, ended, answer_of}
+use Rattle.semantics.specs.Reduction.{Reduction, choosing, timing_out, binding, asserting}
+use Rattle.semantics.specs.Transaction.{trimmed}
+use Rattle.semantics.specs.Computed.{refunds, pay_step}
+
+-- what there is to do: all that is left, or a reduction that enters a part of the contract
+pub data Step : Type 0 where
+  stops : Walk → Step
+  goes : Reduction → Step
+
+-- a When waits, goes on with its timeout continuation, or its interval is ambiguous
+abbrev pub when_step : Interval → ℤ → At → Reduction → Step
+when_step i timeout here r = if int_lt i.to timeout then stops (ended (Ok here)) else (if int_le timeout i.from then goes r else stops (ended (Err Ambiguous)))
+
+abbrev pub step : Interval → StateMaps → ContractTree → Step
+step i s close = stops (refunds s)
+step i s (pay p y t v c) = goes (pay_step s p y t (eval i s v) (visited i s v) c)
+step i s (if_obs o c d) = goes (choosing s (holds i s o) (looked i s o) c d)
+step i s (when ks timeout c) = when_step i timeout (at s (when ks timeout c)) (timing_out s c)
+step i s (let_be x v c) = goes (binding s x (eval i s v) (visited i s v) c)
+step i s (assert o c) = goes (asserting s (holds i s o) (looked i s o) c)
 
 abbrev pub stop_reply : Result At SemFault → Result (Option ContractTree) SemFault
 stop_reply (Ok a) = Ok None
@@ -52,12 +73,6 @@ abbrev pub Moves : {P : Type 0} → (P → Type 0) → (P → Turn → P → Typ
 Moves Contains E p step None = Leads E p (turns_of step) p
 Moves Contains E p step (Some q) = Contains q × E p (turn_of step) q
 
--- a contract that is gone on with, as its tree
-abbrev pub tree_of_next : {P : Type 0} → (P → ContractTree) → Result (Option P) SemFault → Result (Option ContractTree) SemFault
-tree_of_next tree (Ok None) = Ok None
-tree_of_next tree (Ok (Some p)) = Ok (Some (tree p))
-tree_of_next tree (Err f) = Err f
-
 -- a contract where a part ends, as its tree, with the state
 abbrev pub seen : {P : Type 0} → (P → ContractTree) → Result P SemFault → StateMaps → Result At SemFault
 seen tree (Ok p) s = Ok (at s (tree p))
@@ -73,11 +88,6 @@ is_quiet i s close = is_none_left (entries s.accounts)
 is_quiet i s (when ks timeout c) = int_lt i.to timeout
 is_quiet i s _ = false
 
--- at least as many as the reductions that can still enter a part
-abbrev pub height : ContractTree → ℕ
-height close = 0
-height (pay p y t v c) = suc (height c)
-height (if_obs o c d) = suc (height c + height d)
-height (when ks timeout c) = suc (height c)
-height (let_be x v c) = suc (height c)
-height (assert o c) = suc (height c)
+-- why the interval is refused, or how it is fixed
+abbrev pub fixed : Interval → StateMaps → Result Interval SemFault
+fixed i s = if int_lt i.to i.from then Err InvalidInterval else (if int_lt i.to s.min_time then Err IntervalInPast else Ok (trimmed i s))

@@ -2,7 +2,7 @@
 use Rattle.std.specs.Prelude.{◌≡◌, ℕ, ◌^◌, ℤ, pos, neg_ℤ, List, [], ◌∷◌, Ok, Err}
 use Rattle.std.specs.FinMap.{empty, from_sorted, insert}
 use Rattle.names.specs.declared.party.Party.{Party}
-use Rattle.names.specs.declared.party.Party.TheVariants.{Role}
+use Rattle.names.specs.declared.party.Party.TheVariants.{Address, Role}
 use Rattle.names.specs.declared.token.Token.{Token}
 use Rattle.names.specs.declared.account.Account.{Account}
 use Rattle.names.specs.declared.payee.Payee.TheVariants.{Account as ToAccount, Party as ToParty}
@@ -221,3 +221,24 @@ OutsideIsNoMatch = IsRefused (interval (pos 0) (pos 10)) nothing chooses (Choice
 -- a deposit of 0 by the role b into the account of the role a is taken, and adds nothing
 abbrev pub ZeroIsDeposited : Type 0
 ZeroIsDeposited = Does nothing (when (case_then (deposit party_a party_b ada (constant (pos 0))) close no_cases) (pos 100) close) (Deposit party_a party_b ada (pos 0) ∷ []) (NonPositiveDeposit party_a party_b ada (pos 0) ∷ []) [] nothing
+
+-- ---- Close
+
+abbrev pub party_x : Party
+party_x = Address (120 ∷ [])
+
+-- a party's account of lovelace
+abbrev pub lovelace_of : Party → Account
+lovelace_of p = record { owner = p; token = ada }
+
+-- the role a has 5, and the address x, which came later and stands before it, has 7
+abbrev pub two_accounts : StateMaps
+two_accounts = record nothing { accounts = insert (insert empty (lovelace_of party_a) (pos 5)) (lovelace_of party_x) (pos 7) }
+
+-- the accounts are paid back in their order
+abbrev pub RefundsInOrder : Type 0
+RefundsInOrder = Does two_accounts close [] [] (refund_of (lovelace_of party_x, pos 7) ∷ refund_of (lovelace_of party_a, pos 5) ∷ []) nothing
+
+-- a Close without accounts has nothing to do
+abbrev pub CloseIsUseless : Type 0
+CloseIsUseless = IsRefused (interval (pos 0) (pos 10)) nothing close [] Useless

@@ -10,7 +10,8 @@ ghost use Rattle.evaluation.specs.Path.{waits_for};
 ghost use Rattle.semantics.specs.Applying.{agrees, in_bound, matches, tried, taken, taken_numbers, taken_warnings};
 ghost use Rattle.semantics.specs.Computed.{first_match, first_place, tried_to_match, applied};
 ghost use Rattle.evaluation.specs.Parts.{Leads, IsEntered, StandsWait, wait_tree};
-ghost use Rattle.semantics.specs.Reduced.{tree_of_next, seen};
+ghost use Rattle.semantics.specs.Answer.{tree_of_next};
+ghost use Rattle.semantics.specs.Reduced.{seen};
 
 use crate::accounts::deposit;
 use crate::log::Log;

@@ -14,9 +14,10 @@ mod transaction;
 
 pub use apply::matching_case;
 pub use laws::{
-    contracts_settle_in_one_way, reductions_have_one_result, time_never_goes_back,
-    transactions_end_quiet, transactions_have_one_answer, turns_lead_to_the_remaining_contract,
-    worked_inputs, worked_reductions, worked_transactions,
+    accounts_stay_above_zero, contracts_close_after_the_last_timeout, contracts_settle_in_one_way,
+    payments_are_natural, reductions_have_one_result, time_never_goes_back, transactions_end_quiet,
+    transactions_have_one_answer, turns_lead_to_the_remaining_contract, worked_inputs,
+    worked_reductions, worked_transactions,
 };
 pub use money::money_is_kept;
 pub use plain::Plain;

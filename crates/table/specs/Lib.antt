@@ -2,7 +2,6 @@ pub mod Heights
 pub mod Flat
 pub mod Laws
 pub mod Pushing
-pub mod Timeouts
 pub mod At
 pub mod AtLaws
 pub mod Leaves

@@ -1,6 +1,6 @@
 //! The last timeout.
 ghost use Rattle.std.specs.Prelude.{◌≡◌, map};
-ghost use Rattle.table.specs.Timeouts.{later, last};
+ghost use Rattle.evaluation.specs.Timeouts.{later, last};
 ghost use Rattle.table.specs.Flat.{cont_tree, Stands, a_cont, follows};
 
 use crate::table::Table;

@@ -1,7 +1,7 @@
 use Rattle.std.proofs.Common.{◌≡◌, ◌<◌, map, drop}
 use Rattle.contract.specs.Tree.{case_trees}
 use Rattle.table.specs.Heights.{contract_height, greatest, case_heights}
-use Rattle.table.specs.Timeouts.{later, last, last_in}
+use Rattle.evaluation.specs.Timeouts.{later, last, last_in}
 use Rattle.table.specs.Flat.{AllStand, a_case, trees, cont_tree}
 use Rattle.table.proofs.table.Table.«+last_timeout».Given as goal
 
