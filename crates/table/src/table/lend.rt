@@ -1,4 +1,4 @@
-//! Nodes, lent with their heights.
+//! Nodes, lent with their heights, one by one or a list at a time.
 ghost use Rattle.std.specs.Prelude.{◌≡◌, ◌≤◌};
 ghost use Rattle.table.specs.Heights.{value_height, observation_height, case_height, contract_height};
 ghost use Rattle.table.specs.Flat.{trees, value_of, observation_of, case_of, cont_of, value_tree, observation_tree, case_tree, cont_tree, value_entry, observation_entry, case_entry, cont_entry, Stands, AllStand, a_value, an_observation, a_case, a_cont, value_parts, observation_parts, case_parts, cont_parts};
@@ -7,6 +7,34 @@ use crate::table::Table;
 use nodes::{CaseNode, Cont, ContNode, Entry, ObservationNode, ValueNode};
 
 impl Table {
+    /// All values in order, each with its height; takes no memory.
+    pub fn values(&self) -> &[Entry<ValueNode>]
+        ensures { result.now ≡ self.now.values }
+    {
+        self.values.as_slice()
+    }
+
+    /// All observations in order, each with its height; takes no memory.
+    pub fn observations(&self) -> &[Entry<ObservationNode>]
+        ensures { result.now ≡ self.now.observations }
+    {
+        self.observations.as_slice()
+    }
+
+    /// All cases in order, each with its height; takes no memory.
+    pub fn cases(&self) -> &[Entry<CaseNode>]
+        ensures { result.now ≡ self.now.cases }
+    {
+        self.cases.as_slice()
+    }
+
+    /// All continuations in order, each with its height; takes no memory.
+    pub fn conts(&self) -> &[Entry<ContNode>]
+        ensures { result.now ≡ self.now.conts }
+    {
+        self.conts.as_slice()
+    }
+
     /// A value's node with its height; takes no memory. The number stands for the node's tree, what the node names
     /// stands, and the height is the tree's.
     pub fn value_node(&self, number: u32) -> &Entry<ValueNode>

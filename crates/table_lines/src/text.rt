@@ -1,0 +1,36 @@
+//! The whole text.
+use crate::lines::Line;
+use collections::Memory;
+use nodes::{Cont, Entry};
+use std::alloc::Global;
+use std::fmt::Write;
+use table::Table;
+
+/// The text of a table and the continuation at its root: a line for each node, all values first, then the observations, the
+/// cases and the continuations, each list counted from 0, and last the line `root kN`. Each line ends in a line feed.
+/// Parties, tokens, choices, payees and names are compact JSON.
+pub fn table_lines(alloc: Global, table: &Table, root: Cont) -> Result<Vec<u8>, Memory> {
+    let mut out = String::new(alloc);
+    print_lines(alloc, &mut out, "v", table.values())?;
+    print_lines(alloc, &mut out, "o", table.observations())?;
+    print_lines(alloc, &mut out, "c", table.cases())?;
+    print_lines(alloc, &mut out, "k", table.conts())?;
+    let root = root.0;
+    write!(out, "root k{root}\n")?;
+    Ok(out.into_bytes())
+}
+
+// Prints the lines of a list.
+fn print_lines<N: Line>(
+    alloc: Global,
+    out: &mut String,
+    letter: &str,
+    entries: &[Entry<N>],
+) -> Result<(), Memory> {
+    for (number, entry) in entries.iter().enumerate() {
+        write!(out, "{letter}{number} ")?;
+        entry.node.print(alloc, out)?;
+        out.push_str("\n")?;
+    }
+    Ok(())
+}
