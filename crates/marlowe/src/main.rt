@@ -1,6 +1,6 @@
 //! `marlowe`: what a Marlowe contract pays, and to whom, from JSON files.
 //!
-//! Status 0: the outcome is on standard output. Status 1: the input is refused, by one line on
+//! Status 0: the outcome or the table is on standard output. Status 1: the input is refused, by one line on
 //! standard error. Status 2: a file that can't be read, a fault of the command line, or a standard
 //! output that can't be written.
 #![tactic(auto)]
@@ -8,7 +8,7 @@
 use clap::Error;
 use clap::error::ErrorKind;
 use command_line::{LoadFault, Task, WordsFault, line, load, words};
-use marlowe_run::{Fault, RunFault, refusal, run};
+use marlowe_run::{Fault, RunFault, refusal, run, table_text};
 use std::alloc::Global;
 use std::process::ExitCode;
 use std::rt::Files;
@@ -29,22 +29,16 @@ fn main(rt: HostRuntime) -> ExitCode {
                 state,
                 transaction,
             },
-        ) => match run_files(&rt, contract, state, transaction) {
-            Ok(text) => print(&rt, text.as_slice()),
-            Err(Stop::Refused(fault)) => refuse(rt.alloc(), &rt.stderr(), &fault),
-            Err(Stop::Unreadable(path)) => {
-                let _ = eprintln!(rt; "unreadable {path}");
-                ExitCode::from(2)
-            }
-        },
+        ) => tell_answer(&rt, run_files(&rt, contract, state, transaction)),
+        Ok(Task::Table { contract }) => tell_answer(&rt, table_of_file(&rt, contract)),
         Err(error) => match error.kind() {
             ErrorKind::OutOfMemory => refuse_for_memory(rt.alloc(), &rt.stderr()),
-            _ => tell(&rt, &error),
+            _ => tell_fault(&rt, &error),
         },
     }
 }
 
-// Why no outcome is printed.
+// Why no text is printed.
 #[derive(Drop)]
 enum Stop<'a> {
     Refused(Fault),
@@ -70,6 +64,15 @@ fn run_files<'a, R: Files + AllocGlobal>(
     .map_err(|fault| Stop::Refused(Fault::Run(fault)))
 }
 
+// Reads the file, and then compiles its contract.
+fn table_of_file<'a, R: Files + AllocGlobal>(
+    rt: &R,
+    contract: &'a str,
+) -> Result<Vec<u8>, Stop<'a>> {
+    let contract = text_of(rt, contract)?;
+    table_text(rt.alloc(), contract.as_slice()).map_err(|fault| Stop::Refused(Fault::Table(fault)))
+}
+
 // What a file holds, as far as it is read.
 fn text_of<'a, R: Files + AllocGlobal>(rt: &R, path: &'a str) -> Result<Vec<u8>, Stop<'a>> {
     match load(rt, path) {
@@ -79,7 +82,19 @@ fn text_of<'a, R: Files + AllocGlobal>(rt: &R, path: &'a str) -> Result<Vec<u8>,
     }
 }
 
-// Prints the outcome.
+// Prints the text of a task, or tells why there is none.
+fn tell_answer(rt: &HostRuntime, answer: Result<Vec<u8>, Stop<'_>>) -> ExitCode {
+    match answer {
+        Ok(text) => print(rt, text.as_slice()),
+        Err(Stop::Refused(fault)) => refuse(rt.alloc(), &rt.stderr(), &fault),
+        Err(Stop::Unreadable(path)) => {
+            let _ = eprintln!(rt; "unreadable {path}");
+            ExitCode::from(2)
+        }
+    }
+}
+
+// Prints a text.
 fn print(rt: &(impl Print + Eprint), text: &[u8]) -> ExitCode {
     match rt.write_all(text) {
         Ok(()) => ExitCode::SUCCESS,
@@ -91,7 +106,7 @@ fn print(rt: &(impl Print + Eprint), text: &[u8]) -> ExitCode {
 }
 
 // Prints the text of `clap`: help and the version on standard output, else what is wrong with the command line.
-fn tell(rt: &(impl Print + Eprint), error: &Error) -> ExitCode {
+fn tell_fault(rt: &(impl Print + Eprint), error: &Error) -> ExitCode {
     let status = if error.use_stderr() { 2 } else { 0 };
     let _ = error.print(rt);
     ExitCode::from(status)

@@ -1,1 +1,2 @@
 mod PartsFit
+mod Told
