@@ -12,6 +12,8 @@ for example in crates/rows/data/examples/*/; do
   status=$?
   if [ -f "$example/output.json" ]; then want=$(cat "$example/output.json"); wanted=0
   else want=$(cat "$example/refusal.txt"); wanted=1; fi
+  table=$("$program" table "$example/contract.json" 2>&1)
+  if [ "$table" != "$(cat "$example/table.txt")" ]; then echo "$name: another table"; failed=1; fi
   if [ "$out" = "$want" ] && [ "$status" = "$wanted" ]; then echo "$name: as written"
   else echo "$name: status $status, $out"; failed=1; fi
 done

@@ -1,7 +1,8 @@
 //! `ledger_rows`: worked rows of the first ledger as data. It reads the files that its arguments name, and prints a line for
 //! each verdict; `stdout` has what it must print. A new row is some lines in `data/` and one in `stdout`.
 //!
-//! A paragraph is a ledger of its own. Its first line is `contract TEXT` with the contract in JSON, its second
+//! A paragraph is a ledger of its own, which runs twice: over the contract's tree, and over its table. Where the two answer
+//! alike, an answer is printed once, else both. Its first line is `contract TEXT` with the contract in JSON, its second
 //! `ledger TICK ADDRESS AMOUNT ..` with the key outputs that it begins with. Then come, in any number:
 //!
 //! - `tx FROM TO SIGNER ..` begins a transaction;
@@ -23,6 +24,7 @@ mod drafts;
 mod fault;
 mod ledgers;
 mod places;
+mod sessions;
 mod verdicts;
 mod words;
 

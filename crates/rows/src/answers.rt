@@ -1,6 +1,7 @@
 //! Rows and what is printed for them.
 use crate::forms::{Form, form_of, text_of};
 use crate::given::{Given, Row};
+use crate::on_tables::beside;
 use crate::texts::{Spelled, Text};
 use command_line::{Task, line};
 use contract::{
@@ -44,13 +45,15 @@ fn same_or_other(same: bool) -> &'static str {
 fn run_row(alloc: Global, given: &Given<'_>, text: &str) -> Result<Vec<u8>, AllocError> {
     let contract = given.contract.as_bytes();
     let state = given.state.as_bytes();
-    match run(alloc, contract, state, given.text(text)) {
+    let transaction = given.text(text);
+    let told = match run(alloc, contract, state, transaction) {
         Ok(mut text) => {
             text.pop();
-            Ok(text)
+            text
         }
-        Err(fault) => refusal(alloc, &Fault::Run(fault)),
-    }
+        Err(fault) => refusal(alloc, &Fault::Run(fault))?,
+    };
+    beside(alloc, contract, state, transaction, told)
 }
 
 // What a command line asks for.
@@ -68,6 +71,10 @@ fn line_row(alloc: Global, text: &str) -> Result<Vec<u8>, AllocError> {
             },
         ) => {
             let told = format!(in alloc; "run {contract} {state} {transaction}")?;
+            Ok(told.into_bytes())
+        }
+        Ok(Task::Table { contract }) => {
+            let told = format!(in alloc; "table {contract}")?;
             Ok(told.into_bytes())
         }
         Err(error) if error.use_stderr() => bytes(alloc, "on standard error"),

@@ -1,6 +1,7 @@
 //! Examples: a folder for each, with the three files of a run and what the program prints for them.
+use crate::on_tables::beside;
 use command_line::{LoadFault, load};
-use marlowe_run::{Fault, refusal, run};
+use marlowe_run::{Fault, refusal, run, table_text};
 use std::io::ErrorKind;
 use std::rt::Files;
 use std::{fs, io};
@@ -33,38 +34,55 @@ fn names_in<R: Files + AllocGlobal + Clone + Drop>(rt: &R, path: &str) -> io::Re
     Ok(names)
 }
 
-// Runs the example in a folder: `as written`, or what is printed in place of it.
+// Runs the example in a folder, on the contract's tree and on its table, and prints the table: `as written`, or what is
+// printed in place of it.
 fn example<R: Files + AllocGlobal>(rt: &R, folder: &str) -> io::Result<Vec<u8>> {
     let contract = file_of(rt, folder, "contract.json")?;
     let state = file_of(rt, folder, "state.json")?;
     let transaction = file_of(rt, folder, "transaction.json")?;
-    match run(
-        rt.alloc(),
+    let texts = (
         contract.as_slice(),
         state.as_slice(),
         transaction.as_slice(),
-    ) {
-        Ok(text) => as_in(rt, folder, "output.json", text),
+    );
+    match run(rt.alloc(), texts.0, texts.1, texts.2) {
+        Ok(mut text) => {
+            text.pop();
+            let told = beside(rt.alloc(), texts.0, texts.1, texts.2, text)?;
+            as_in(rt, folder, "output.json", told)
+        }
         Err(fault) => {
-            let mut line = refusal(rt.alloc(), &Fault::Run(fault))?;
-            line.push(b'\n')?;
-            as_in(rt, folder, "refusal.txt", line)
+            let line = refusal(rt.alloc(), &Fault::Run(fault))?;
+            let told = beside(rt.alloc(), texts.0, texts.1, texts.2, line)?;
+            as_in(rt, folder, "refusal.txt", told)
         }
     }
 }
 
-// `as written` where a text is what a file of the folder holds, and else the text, without its line feed.
+// Whether what is printed for the contract's table is what the folder holds.
+fn is_table<R: Files + AllocGlobal>(rt: &R, folder: &str, contract: &[u8]) -> io::Result<bool> {
+    let wanted = file_of(rt, folder, "table.txt")?;
+    match table_text(rt.alloc(), contract) {
+        Ok(text) => Ok(text.as_slice() == wanted.as_slice()),
+        Err(fault) => {
+            let mut line = refusal(rt.alloc(), &Fault::Table(fault))?;
+            line.push(b'\n')?;
+            Ok(line.as_slice() == wanted.as_slice())
+        }
+    }
+}
+
+// `as written` where a text and a line feed are what a file of the folder holds, and else the text.
 fn as_in<R: Files + AllocGlobal>(
     rt: &R,
     folder: &str,
     name: &str,
-    mut text: Vec<u8>,
+    text: Vec<u8>,
 ) -> io::Result<Vec<u8>> {
     let wanted = file_of(rt, folder, name)?;
-    if wanted.as_slice() == text.as_slice() {
+    if wanted.as_slice().strip_suffix(b"\n") == Some(text.as_slice()) {
         Ok(Vec::from_slice(rt.alloc(), b"as written")?)
     } else {
-        text.pop();
         Ok(text)
     }
 }

@@ -10,7 +10,8 @@
 //! These are rows:
 //!
 //! - `#` prints the line, so that the answers can be read beside their names;
-//! - `run` runs the transaction of its text, and prints the outcome or the line of the refusal;
+//! - `run` runs the transaction of its text, on the contract's tree and on its table, and prints the outcome or the line of the
+//!   refusal once where both tell the same, and the table stands for the contract;
 //! - `read SORT` reads the text as a value of that sort and prints what is written for it, or the fault;
 //! - `back SORT` also reads what was written, and prints whether that is the `same` value, and how many bytes it has;
 //! - `form SORT` does as `read`, by way of a JSON value, for each sort that has a form;
@@ -31,6 +32,7 @@ mod examples;
 mod files;
 mod forms;
 mod given;
+mod on_tables;
 mod texts;
 
 use crate::answers::answer;

@@ -1,0 +1,122 @@
+//! Rows and what is printed for them.
+use crate::large::{nested, wide};
+use compiler::{CompileFault, compile};
+use contract::Contract;
+use contract_json::read_contract;
+use marlowe_run::{Fault, compile_fault_name, refusal, table_text};
+use std::alloc::{AllocError, Global};
+use table::{Cont, Table};
+
+/// What is printed for a row, each line with a line feed.
+pub fn answer(alloc: Global, line: &str) -> Result<Vec<u8>, AllocError> {
+    let (word, rest) = line.split_once(' ').unwrap_or((line, ""));
+    match word {
+        "#" => told(alloc, line),
+        "table" => table_row(alloc, rest),
+        "last" => last_row(alloc, rest),
+        "nested" => nested_row(alloc, rest),
+        "wide" => wide_row(alloc, rest),
+        _ => told(alloc, "no such row"),
+    }
+}
+
+fn told(alloc: Global, line: &str) -> Result<Vec<u8>, AllocError> {
+    let told = format!(in alloc; "{line}\n")?;
+    Ok(told.into_bytes())
+}
+
+fn told_fault(alloc: Global, fault: CompileFault) -> Result<Vec<u8>, AllocError> {
+    told(alloc, compile_fault_name(fault))
+}
+
+// Lends what would else be owned by a function of many ways out.
+fn lent<T: Drop, U, F: FnOnce(&T) -> U>(thing: T, lend: F) -> U
+    requires { F.IsAlwaysCallable lend }
+{
+    lend(&thing)
+}
+
+fn table_row(alloc: Global, text: &str) -> Result<Vec<u8>, AllocError> {
+    match table_text(alloc, text.as_bytes()) {
+        Ok(text) => Ok(text),
+        Err(fault) => {
+            let mut line = refusal(alloc, &Fault::Table(fault))?;
+            line.push(b'\n')?;
+            Ok(line)
+        }
+    }
+}
+
+// What is printed of the table of a contract and the number of its root.
+#[derive(Clone, Copy)]
+enum Asked {
+    LastTimeout,
+    Height,
+    Root,
+}
+
+fn last_row(alloc: Global, text: &str) -> Result<Vec<u8>, AllocError> {
+    match read_contract(alloc, text.as_bytes()) {
+        Ok(contract) => lent(
+            contract,
+            |contract| compiled(alloc, contract, Asked::LastTimeout),
+        ),
+        Err(_) => told(alloc, "no such row"),
+    }
+}
+
+fn nested_row(alloc: Global, text: &str) -> Result<Vec<u8>, AllocError> {
+    let contract = nested(alloc, text.parse().unwrap_or(0))?;
+    lent(
+        contract,
+        |contract| compiled(alloc, contract, Asked::Height),
+    )
+}
+
+fn wide_row(alloc: Global, text: &str) -> Result<Vec<u8>, AllocError> {
+    let contract = wide(alloc, text.parse().unwrap_or(0))?;
+    lent(contract, |contract| compiled(alloc, contract, Asked::Root))
+}
+
+fn compiled(alloc: Global, contract: &Contract, asked: Asked) -> Result<Vec<u8>, AllocError> {
+    match compile(alloc, contract) {
+        Ok((table, root)) => lent(table, |table| asked_of(alloc, table, root, asked)),
+        Err(fault) => told_fault(alloc, fault),
+    }
+}
+
+fn asked_of(alloc: Global, table: &Table, root: Cont, asked: Asked) -> Result<Vec<u8>, AllocError> {
+    match asked {
+        Asked::LastTimeout => last(alloc, table, root),
+        Asked::Height => height(alloc, table, root),
+        Asked::Root => number(alloc, root),
+    }
+}
+
+fn last(alloc: Global, table: &Table, root: Cont) -> Result<Vec<u8>, AllocError> {
+    if !table.contains(root) {
+        return told(alloc, "no such number");
+    }
+    match table.last_timeout(root) {
+        Some(time) => {
+            let line = format!(in alloc; "{time}\n")?;
+            Ok(line.into_bytes())
+        }
+        None => told(alloc, "none"),
+    }
+}
+
+fn height(alloc: Global, table: &Table, root: Cont) -> Result<Vec<u8>, AllocError> {
+    if !table.contains(root) {
+        return told(alloc, "no such number");
+    }
+    let height = table.cont_node(root).height;
+    let line = format!(in alloc; "height {height}\n")?;
+    Ok(line.into_bytes())
+}
+
+fn number(alloc: Global, root: Cont) -> Result<Vec<u8>, AllocError> {
+    let number = root.0;
+    let line = format!(in alloc; "root k{number}\n")?;
+    Ok(line.into_bytes())
+}
