@@ -1,5 +1,5 @@
 #!/usr/bin/env python3
-"""Makes inputs of n, 2n and 4n, runs the built program on them, and prints time, peak memory and the ratios.
+"""Makes inputs of n, 2n and 4n, runs the built program on them, prints their tables with it, and prints time, peak memory and the ratios.
 
 Build the program first: (cd crates/marlowe && rt run -- --version)
 Start-up, the time and memory of the smallest run, is taken off before a ratio is formed.
@@ -107,11 +107,11 @@ def only_json(parts):
     return {"json": contract}, state, inputs
 
 
-def child(paths):
+def child(words):
     """Runs the program once; gives seconds, peak memory in KiB and status."""
     begin = time.perf_counter()
     run = subprocess.run(
-        [TIME, "-f", "%M", PROGRAM, "run", *paths],
+        [TIME, "-f", "%M", PROGRAM, *words],
         stdout=subprocess.DEVNULL,
         stderr=subprocess.PIPE,
         text=True,
@@ -120,8 +120,8 @@ def child(paths):
     return seconds, int(run.stderr.split()[-1]), run.returncode
 
 
-def measure(parts, status=0):
-    """The least time and peak memory of five runs, which end with this status."""
+def measure(parts, status=0, word="run"):
+    """The least time and peak memory of five runs, or tables, which end with this status."""
     with tempfile.TemporaryDirectory() as folder:
         paths = []
         for name, value in zip(("contract", "state", "transaction"), parts):
@@ -131,7 +131,8 @@ def measure(parts, status=0):
             paths.append(os.path.join(folder, name))
             with open(paths[-1], "w") as file:
                 file.write(text)
-        runs = [child(paths) for _ in range(5)]
+        words = ["run", *paths] if word == "run" else ["table", paths[0]]
+        runs = [child(words) for _ in range(5)]
     if any(run[2] != status for run in runs):
         sys.exit(f"the program ended with another status than {status}")
     return min(run[0] for run in runs), min(run[1] for run in runs)
@@ -143,17 +144,20 @@ def main():
     families = ((wide_when, 5_500), (many_forms, 1_300), (deep_arithmetic, 11_000), (wide_pays, 1_250), (long_remainder, 5_500), (many_accounts, 2_250), (many_values, 10_000))
     for make, least in families:
         print(make.__doc__)
-        before = None
-        for n in (least, 2 * least, 4 * least):
-            seconds, peak = measure(make(n))
-            seconds, peak = seconds - start[0], peak - start[1]
-            line = f"  {n:6}: {seconds * 1000:8.1f} ms, {peak:7} KiB"
-            if before:
-                line += f", times {seconds / before[0]:.2f} and {peak / before[1]:.2f}"
-            print(line)
-            before = (seconds, peak)
+        for word in ("run", "table"):
+            before = None
+            for n in (least, 2 * least, 4 * least):
+                seconds, peak = measure(make(n), 0, word)
+                seconds, peak = seconds - start[0], peak - start[1]
+                line = f"  {word:5} {n:6}: {seconds * 1000:8.1f} ms, {peak:7} KiB"
+                if before:
+                    line += f", times {seconds / before[0]:.2f} and {peak / before[1]:.2f}"
+                print(line)
+                before = (seconds, peak)
+            if make is many_accounts:
+                break
         alone = measure(only_json(make(4 * least)), 1)[1] - start[1]
-        print(f"  of which reading the JSON alone takes {alone} KiB: {before[1] / alone:.2f} times that in all")
+        print(f"  reading the JSON alone takes {alone} KiB")
 
 
 if __name__ == "__main__":

@@ -25,6 +25,7 @@ BEGIN, END = "<!-- written by tools/believe.py -->", "<!-- to here -->"
 # What the page has a table for: a title, and the calls as `FILE: CALL CALL; FILE: ..`. A trait's name stands for its laws.
 CALLS = [
     ("`marlowe_run::run`", "marlowe_run/src/transaction.rt: run"),
+    ("`marlowe_run::table_text`", "marlowe_run/src/tables.rt: table_text"),
     ("`marlowe_run::refusal`", "marlowe_run/src/refusal_line.rt: refusal"),
     ("`semantics::Steps::compute`", "semantics/src/steps.rt: compute"),
     ("`semantics::Steps`, with `is_closed` and the laws", "semantics/src/steps.rt: compute is_closed Steps"),
@@ -47,6 +48,7 @@ CALLS = [
     ("`table::Table`: `value` and `holds`", "table/src/table/evaluate.rt: value holds"),
     ("`table::Table`: `last_timeout`", "table/src/table/timeout.rt: last_timeout"),
     ("`table::Table`: `decompile`", "table/src/table/decompile.rt: decompile"),
+    ("`compiler::compile`", "compiler/src/compiling.rt: compile"),
     ("`machine::compute`", "machine/src/machine.rt: compute"),
     ("`machine::matching_case`", "machine/src/machine.rt: matching_case"),
     ("`bundle::Bundle`", "bundle/src/bundle.rt: new from_entries entries is_empty amount amount_by covers add reduce subtract"),

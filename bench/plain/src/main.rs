@@ -1,8 +1,9 @@
-//! One transaction of Marlowe Core in plain Rust over `serde_json::Value`, as an expert would write it without
-//! proofs: what `bench/beside_plain.py` measures the engine beside. It reads the three files that `marlowe run` reads and
-//! prints the same outcome; a refusal is one line on standard error.
+//! One transaction of Marlowe Core, and the table of a contract, in plain Rust over `serde_json::Value`, as an expert would
+//! write it without proofs: what `bench/beside_plain.py` measures the engine beside. It takes the words that `marlowe` takes
+//! and prints the same outcome or table; a refusal is one line on standard error.
 mod reading;
 mod semantics;
+mod table;
 mod tree;
 mod writing;
 
@@ -19,10 +20,18 @@ fn run(contract: &[u8], state: &[u8], transaction: &[u8]) -> Option<Result<Vec<u
     }))
 }
 
+fn table(contract: &[u8]) -> Option<Result<Vec<u8>, &'static str>> {
+    let contract = reading::contract(&serde_json::from_slice(contract).ok()?)?;
+    let mut table = table::Table::default();
+    let root = table.cont(&contract);
+    Some(Ok(table.text(root).unwrap()))
+}
+
 fn main() -> ExitCode {
     let words: Vec<String> = std::env::args().collect();
-    let texts: Vec<Vec<u8>> = words[2..5].iter().map(|path| std::fs::read(path).unwrap()).collect();
-    match run(&texts[0], &texts[1], &texts[2]) {
+    let texts: Vec<Vec<u8>> = words[2..].iter().map(|path| std::fs::read(path).unwrap()).collect();
+    let answer = if words[1] == "table" { table(&texts[0]) } else { run(&texts[0], &texts[1], &texts[2]) };
+    match answer {
         Some(Ok(text)) => {
             use std::io::Write;
             std::io::stdout().write_all(&text).unwrap();

@@ -16,22 +16,22 @@ fn hex(bytes: &[u8]) -> String {
     bytes.iter().map(|byte| format!("{byte:02x}")).collect()
 }
 
-fn party(p: &Party) -> Json {
+pub fn party(p: &Party) -> Json {
     match p {
         Party::Address(text) => json!({ "address": text }),
         Party::Role(text) => json!({ "role_token": text }),
     }
 }
 
-fn token(t: &Token) -> Json {
+pub fn token(t: &Token) -> Json {
     json!({ "currency_symbol": hex(&t.symbol), "token_name": t.name })
 }
 
-fn choice_id(id: &ChoiceId) -> Json {
+pub fn choice_id(id: &ChoiceId) -> Json {
     json!({ "choice_name": id.name, "choice_owner": party(&id.owner) })
 }
 
-fn payee(p: &Payee) -> Json {
+pub fn payee(p: &Payee) -> Json {
     match p {
         Payee::Account(p) => json!({ "account": party(p) }),
         Payee::Party(p) => json!({ "party": party(p) }),
