@@ -1,5 +1,5 @@
 //! Contracts from their numbers.
-ghost use Rattle.std.specs.Prelude.{◌≡◌, IfOk, map};
+ghost use Rattle.std.specs.Prelude.{◌≡◌, IfOk, Ok, map};
 ghost use Rattle.contract.specs.Tree as trees;
 ghost use Rattle.table.specs.Flat as flat;
 ghost use Rattle.table.specs.Flat.{Stands, AllStand, a_value, an_observation, a_case, a_cont};
@@ -33,13 +33,17 @@ fn contract_at(table: &Table, alloc: Global, cont: Cont) -> Result<Contract, Mem
         ContNode::Close => Ok(Contract::Close),
         ContNode::Pay(from, to, token, amount, then) => {
             let then = boxed_contract_at(table, alloc, *then)?;
-            let amount = value_at(table, alloc, *amount)?;
+            let (then, amount) = both(then, value_at(table, alloc, *amount))?;
             pay(from, to, token, amount, then)
         }
         ContNode::If(observation, then, otherwise) => {
             let then = boxed_contract_at(table, alloc, *then)?;
-            let otherwise = boxed_contract_at(table, alloc, *otherwise)?;
-            let observation = observation_at(table, alloc, *observation)?;
+            let branches = both(then, boxed_contract_at(table, alloc, *otherwise))?;
+            let (branches, observation) = both(
+                branches,
+                observation_at(table, alloc, *observation),
+            )?;
+            let (then, otherwise) = branches;
             Ok(Contract::If(observation, then, otherwise))
         }
         ContNode::When(cases, timeout, then) => {
@@ -49,12 +53,12 @@ fn contract_at(table: &Table, alloc: Global, cont: Cont) -> Result<Contract, Mem
         }
         ContNode::Let(name, bound, then) => {
             let then = boxed_contract_at(table, alloc, *then)?;
-            let bound = value_at(table, alloc, *bound)?;
+            let (then, bound) = both(then, value_at(table, alloc, *bound))?;
             let_be(name, bound, then)
         }
         ContNode::Assert(observation, then) => {
             let then = boxed_contract_at(table, alloc, *then)?;
-            let observation = observation_at(table, alloc, *observation)?;
+            let (then, observation) = both(then, observation_at(table, alloc, *observation))?;
             Ok(Contract::Assert(observation, then))
         }
     }
@@ -88,7 +92,7 @@ fn case_at(table: &Table, alloc: Global, number: u32) -> Result<Case, Memory>
 {
     let node = &table.case_node(number).node;
     let then = contract_at(table, alloc, follows(node))?;
-    let action = action_at(table, alloc, node)?;
+    let (then, action) = both(then, action_at(table, alloc, node))?;
     Ok(Case { action, then })
 }
 
@@ -164,6 +168,15 @@ fn let_be(name: &Text, bound: Value, then: Boxed<Contract>) -> Result<Contract, 
     Ok(Contract::Let(name, bound, then))
 }
 
+// What is handed in, and what was made beside it. It is generic in both, so that no proof walks through the drop of a tree where
+// the second was refused.
+fn both<A: Drop, B: Drop>(a: A, b: Result<B, Memory>) -> Result<(A, B), Memory>
+    ensures { IfOk result (λ made. (made.0 ≡ a) × (b ≡ Ok made.1)) }
+{
+    let b = b?;
+    Ok((a, b))
+}
+
 // A copy, beside what is handed in.
 fn beside<A: TryClone + Drop, T: Drop>(a: &A, rest: T) -> Result<(A, T), Memory>
     ensures { IfOk result (λ made. (made.0 ≡ a.now) × (made.1 ≡ rest)) }
@@ -201,19 +214,23 @@ pub(super) fn value_at(table: &Table, alloc: Global, number: u32) -> Result<Valu
         ValueNode::NegValue(a) => Ok(Value::NegValue(boxed_value_at(table, alloc, *a)?)),
         ValueNode::AddValue(a, b) => {
             let x = boxed_value_at(table, alloc, *a)?;
-            Ok(Value::AddValue(x, boxed_value_at(table, alloc, *b)?))
+            let (x, y) = both(x, boxed_value_at(table, alloc, *b))?;
+            Ok(Value::AddValue(x, y))
         }
         ValueNode::SubValue(a, b) => {
             let x = boxed_value_at(table, alloc, *a)?;
-            Ok(Value::SubValue(x, boxed_value_at(table, alloc, *b)?))
+            let (x, y) = both(x, boxed_value_at(table, alloc, *b))?;
+            Ok(Value::SubValue(x, y))
         }
         ValueNode::MulValue(a, b) => {
             let x = boxed_value_at(table, alloc, *a)?;
-            Ok(Value::MulValue(x, boxed_value_at(table, alloc, *b)?))
+            let (x, y) = both(x, boxed_value_at(table, alloc, *b))?;
+            Ok(Value::MulValue(x, y))
         }
         ValueNode::DivValue(a, b) => {
             let x = boxed_value_at(table, alloc, *a)?;
-            Ok(Value::DivValue(x, boxed_value_at(table, alloc, *b)?))
+            let (x, y) = both(x, boxed_value_at(table, alloc, *b))?;
+            Ok(Value::DivValue(x, y))
         }
         ValueNode::ChoiceValue(id) => Ok(Value::ChoiceValue(id.try_clone()?)),
         ValueNode::TimeIntervalStart => Ok(Value::TimeIntervalStart),
@@ -221,8 +238,9 @@ pub(super) fn value_at(table: &Table, alloc: Global, number: u32) -> Result<Valu
         ValueNode::UseValue(name) => Ok(Value::UseValue(name.try_clone()?)),
         ValueNode::Cond(observation, a, b) => {
             let observation = boxed_observation_at(table, alloc, *observation)?;
-            let x = boxed_value_at(table, alloc, *a)?;
-            Ok(Value::Cond(observation, x, boxed_value_at(table, alloc, *b)?))
+            let (observation, x) = both(observation, boxed_value_at(table, alloc, *a))?;
+            let ((observation, x), y) = both((observation, x), boxed_value_at(table, alloc, *b))?;
+            Ok(Value::Cond(observation, x, y))
         }
     }
 }
@@ -244,11 +262,13 @@ fn observation_at(table: &Table, alloc: Global, number: u32) -> Result<Observati
     match &table.observation_node(number).node {
         ObservationNode::AndObs(a, b) => {
             let x = boxed_observation_at(table, alloc, *a)?;
-            Ok(Observation::AndObs(x, boxed_observation_at(table, alloc, *b)?))
+            let (x, y) = both(x, boxed_observation_at(table, alloc, *b))?;
+            Ok(Observation::AndObs(x, y))
         }
         ObservationNode::OrObs(a, b) => {
             let x = boxed_observation_at(table, alloc, *a)?;
-            Ok(Observation::OrObs(x, boxed_observation_at(table, alloc, *b)?))
+            let (x, y) = both(x, boxed_observation_at(table, alloc, *b))?;
+            Ok(Observation::OrObs(x, y))
         }
         ObservationNode::NotObs(a) => {
             Ok(Observation::NotObs(boxed_observation_at(table, alloc, *a)?))
@@ -256,23 +276,28 @@ fn observation_at(table: &Table, alloc: Global, number: u32) -> Result<Observati
         ObservationNode::ChoseSomething(id) => Ok(Observation::ChoseSomething(id.try_clone()?)),
         ObservationNode::ValueGE(a, b) => {
             let x = boxed_value_at(table, alloc, *a)?;
-            Ok(Observation::ValueGE(x, boxed_value_at(table, alloc, *b)?))
+            let (x, y) = both(x, boxed_value_at(table, alloc, *b))?;
+            Ok(Observation::ValueGE(x, y))
         }
         ObservationNode::ValueGT(a, b) => {
             let x = boxed_value_at(table, alloc, *a)?;
-            Ok(Observation::ValueGT(x, boxed_value_at(table, alloc, *b)?))
+            let (x, y) = both(x, boxed_value_at(table, alloc, *b))?;
+            Ok(Observation::ValueGT(x, y))
         }
         ObservationNode::ValueLT(a, b) => {
             let x = boxed_value_at(table, alloc, *a)?;
-            Ok(Observation::ValueLT(x, boxed_value_at(table, alloc, *b)?))
+            let (x, y) = both(x, boxed_value_at(table, alloc, *b))?;
+            Ok(Observation::ValueLT(x, y))
         }
         ObservationNode::ValueLE(a, b) => {
             let x = boxed_value_at(table, alloc, *a)?;
-            Ok(Observation::ValueLE(x, boxed_value_at(table, alloc, *b)?))
+            let (x, y) = both(x, boxed_value_at(table, alloc, *b))?;
+            Ok(Observation::ValueLE(x, y))
         }
         ObservationNode::ValueEQ(a, b) => {
             let x = boxed_value_at(table, alloc, *a)?;
-            Ok(Observation::ValueEQ(x, boxed_value_at(table, alloc, *b)?))
+            let (x, y) = both(x, boxed_value_at(table, alloc, *b))?;
+            Ok(Observation::ValueEQ(x, y))
         }
         ObservationNode::TrueObs => Ok(Observation::TrueObs),
         ObservationNode::FalseObs => Ok(Observation::FalseObs),
