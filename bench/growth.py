@@ -154,7 +154,7 @@ def main():
                     line += f", times {seconds / before[0]:.2f} and {peak / before[1]:.2f}"
                 print(line)
                 before = (seconds, peak)
-            if make is many_accounts:
+            if make in (many_accounts, many_values):
                 break
         alone = measure(only_json(make(4 * least)), 1)[1] - start[1]
         print(f"  reading the JSON alone takes {alone} KiB")
