@@ -92,7 +92,7 @@ fn rows_until_fault<J: JsonValue, K: RowKey + Drop>(
     ensures ok { IfOk result (λ read. (read.0.items, read.1) ≡ until_fault K.reading [] (items_of (map J.json items.now))) }
     ensures err { IfErr result (λ fault. fault ≡ faults.Memory) }
 {
-    let mut rows = Vec::new(alloc);
+    let mut rows = Vec::with_capacity(alloc, items.len())?;
     for item in items {
         match K::row_from_json(alloc, item) {
             Ok(row) => rows.push(row)?,
