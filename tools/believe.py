@@ -44,6 +44,7 @@ CALLS = [
     ("`contract_bytes::encode_party`, `encode_token`, `encode_input`", "contract_bytes/src/encode.rt: encode_party encode_token encode_input"),
     ("`table::Table`: what stands, and the nodes that it lends", "table/src/table.rt: new contains has_value has_observation has_case; "
      "table/src/table/lend.rt: value_node observation_node case_node cont_node"),
+    ("`table::Table`: `turns_lead`", "table/src/table.rt: turns_lead"),
     ("`table::Table`: the pushes", "table/src/table/push.rt: push_value push_observation push_case push_cont"),
     ("`table::Table`: `value` and `holds`", "table/src/table/evaluate.rt: value holds"),
     ("`table::Table`: `last_timeout`", "table/src/table/timeout.rt: last_timeout"),
@@ -54,10 +55,25 @@ CALLS = [
     ("`bundle::Bundle`", "bundle/src/bundle.rt: new from_entries entries is_empty amount amount_by covers add reduce subtract"),
     ("`bundle::WideSum` and `total_of`", "bundle/src/wide_sum.rt: zero add is_at_most; bundle/src/total.rt: total_of"),
     ("`eutxo_types::encode_tx` and `tx_id`", "eutxo_types/src/encode.rt: encode_tx; eutxo_types/src/id.rt: tx_id"),
-    ("`eutxo::First`: `new` and `submit`", "eutxo/src/first.rt: new submit; semantics/src/steps.rt: Steps"),
-    ("`eutxo::First`: `accepted`", "eutxo/src/first.rt: accepted; semantics/src/steps.rt: Steps"),
-    ("`eutxo::First`, all clauses", "eutxo/src/first.rt: new submit accepted submits_keep_the_theorem steps_are_signed submits_have_one_verdict; "
-     "semantics/src/steps.rt: Steps"),
+    ("`eutxo::check`", "eutxo/src/checked.rt: check"),
+    ("`eutxo::local_fault`, `tx_fault` and `has_signed`", "eutxo/src/local.rt: local; eutxo/src/of_tx.rt: of_tx has_signed"),
+    ("`eutxo::Resolved`, `Scripts`, `Shared`, `Spent` and `Checked`", "eutxo/src/resolved.rt: equals; eutxo/src/scripts.rt: new from_entries get insert equals; "
+     "eutxo/src/shared.rt: new get; eutxo/src/spent.rt: new spend output; eutxo/src/checked.rt: tx id found verdict"),
+    ("`eutxo::Validator`", "eutxo/src/validator.rt: step start claim Validator"),
+    ("`roles::publish`", "roles/src/publishing.rt: publish"),
+    ("`roles::Published` as a `Validator`", "roles/src/step.rt: step_of; roles/src/script.rt: starts_from; roles/src/authorise.rt: holds_role"),
+    ("`judging::judge` and `resolve`", "judging/src/rules.rt: judge; judging/src/found.rt: resolve"),
+    ("`builder::Look::resolve`", "builder/src/shown.rt: resolve"),
+    ("`chain::Chain`", "chain/src/chain.rt: genesis step tick resolve"),
+    ("`chain::Chain::history`, with its laws", "chain/src/chain.rt: history"),
+    ("the laws of `semantics`", "semantics/src/laws.rt: reductions_have_one_result contracts_settle_in_one_way transactions_have_one_answer "
+     "turns_lead_to_the_remaining_contract transactions_end_quiet time_never_goes_back payments_are_natural accounts_stay_above_zero "
+     "contracts_close_after_the_last_timeout; semantics/src/money.rt: money_is_kept"),
+    ("the laws of `eutxo`", "eutxo/src/laws.rt: equal_resolutions_decide_alike checks_decide found_is_enough sums_are_preserved"),
+    ("the laws of `roles`", "roles/src/laws.rt: published_are_tables published_tell_contracts_apart"),
+    ("the laws of `history`, whatever the scripts", "history/src/ledger.rt: steps_stand_on_threads contracts_end_threads tokens_are_preserved "
+     "outputs_are_spent_once starting_is_sound accepting_is_sound publishing_is_sound"),
+    ("the laws of `history` on Marlowe's contracts", "history/src/threads.rt: threads_are_runs contracts_are_funded parties_are_authorised"),
 ]
 
 # words of the language, and names that are there without an import

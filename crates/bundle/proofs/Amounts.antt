@@ -12,7 +12,7 @@ use Rattle.collections.proofs.Places.{second, third, find_below, below_equal}
 use Rattle.names.specs.declared.token.Token.{Token}
 use Rattle.names.specs.Orders.{token_cmp}
 use Rattle.names.specs.Totals.{token_total}
-use Rattle.names.specs.Exact.{token_exact}
+use Rattle.names.proofs.Exact.{token_exact}
 use Rattle.bundle.specs.Bundles.{Amounts, amount_of, with_amount, each}
 use Rattle.bundle.specs.Laws.{SumsAreOfEachToken, RestsAreOfEachToken}
 

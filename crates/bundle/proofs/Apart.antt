@@ -4,7 +4,7 @@ use Rattle.std.proofs.lemmas.Int.{ints}
 use Rattle.std.specs.Option.{unwrap_or}
 use Rattle.std.specs.FinMap.{entries, get, get-entries, same_map}
 use Rattle.names.specs.Totals.{token_total}
-use Rattle.names.specs.Exact.{token_exact}
+use Rattle.names.proofs.Exact.{token_exact}
 use Rattle.bundle.specs.Laws.{AmountsTellApart}
 use Rattle.bundle.proofs.Positive.{FoundPositive, AllPositive-find}
 

@@ -13,7 +13,7 @@ use Rattle.collections.proofs.Places.{second, third, below_head, below_tail, bel
 use Rattle.names.specs.declared.token.Token.{Token}
 use Rattle.names.specs.Orders.{token_cmp}
 use Rattle.names.specs.Totals.{token_total}
-use Rattle.names.specs.Exact.{token_exact}
+use Rattle.names.proofs.Exact.{token_exact}
 use Rattle.bundle.specs.Bundles.{Amounts, amount_of, with_amount, first_short, any_large}
 use Rattle.bundle.specs.Laws.{CoversEachToken, EachTokenIsCovered}
 use Rattle.bundle.proofs.Positive.{amount_of-natural}

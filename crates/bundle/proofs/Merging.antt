@@ -2,7 +2,8 @@
 use Rattle.std.proofs.Common.{◌≡◌, ℕ, ◌+◌, ◌-◌, ◌<◌, ◌≤◌, ℤ, pos, ◌+ℤ◌, ◌<ℤ◌, ◌≤ℤ◌, true, false, List, [], ◌∷◌, ◌++◌, length, take, drop, get_or, append_assoc, refl, sym, ◌∙◌, ap, subst, arith}
 use Rattle.std.proofs.Math.Dec.{T}
 use Rattle.std.proofs.lemmas.Int.{ints}
-use Rattle.std.proofs.lemmas.List.{take_more}
+use Rattle.std.proofs.lemmas.List.{take_more, take_rest, drop_all}
+use Rattle.std.specs.Prelude.{Result, Ok, Err, OnOk}
 use Rattle.std.specs.Ordering.{ordering_reverse, is_eq}
 use Rattle.std.specs.declared.cmp.Ordering.TheVariants.{Equal, Greater}
 use Rattle.std.specs.FinMap.{from_sorted}
@@ -10,10 +11,10 @@ use Rattle.std.specs.FinMap.Entries.{by_order, put, is_sorted, is_sorted-put}
 use Rattle.names.specs.declared.token.Token.{Token}
 use Rattle.names.specs.Orders.{token_cmp}
 use Rattle.names.specs.Totals.{token_total}
-use Rattle.names.specs.Exact.{token_exact}
-use Rattle.bundle.specs.Bundles.{Amounts, with_amount, AllPositive}
+use Rattle.names.proofs.Exact.{token_exact}
+use Rattle.bundle.specs.Bundles.{Amounts, with_amount, each, is_large, AllPositive}
 use Rattle.bundle.specs.Walks.{amount_in, AllBefore, NoneAfter, StartsFrom, starts_with}
-use Rattle.bundle.proofs.Looping.{IsAdding, added}
+use Rattle.bundle.proofs.Looping.{IsAdding, added, now_fits}
 use Rattle.bundle.proofs.Positive.{AllPositive-put}
 use Rattle.bundle.proofs.Walking.{less, amount-before, found_here, found_none, put-before, before-append, before_greater, sorted-right, part_left, here, starts_within, starts_at, amount_in-natural}
 use Rattle.bundle.proofs.Zeros.{amount_of-from_sorted, put_is_change}
@@ -80,6 +81,29 @@ merged held all es e left h =
       sorted = is_sorted-put token_cmp token_total e.0 (amount_in es e.0 +ℤ e.1) es h.sorted;
       positive = AllPositive-put e.0 (amount_in es e.0 +ℤ e.1) es positive h.positive;
     }
+
+-- the next of the entries that are left
+pub merging_next : (held : Amounts) (more es : List (Token × ℤ)) (i : ℕ) (e : Token × ℤ) → i < length more → e ≡ get_or more i e → IsMerging held more es (drop i more) → IsMerging held more es (e ∷ drop (i + 1) more)
+merging_next held more es i e l is h = subst (IsMerging held more es) (here more i e l is) h
+
+pub merging_fits : (held : Amounts) (more es : List (Token × ℤ)) (e : Token × ℤ) (left : List (Token × ℤ)) → IsMerging held more es (e ∷ left) → is_large (amount_in es e.0) e.1 ≡ false
+merging_fits held more es e left h = subst (λ n. is_large n e.1 ≡ false) (amount_of-from_sorted es e.0 h.sorted) (now_fits held more (from_sorted es) e left h.adding)
+
+pub merging_more : (held : Amounts) (more es new : List (Token × ℤ)) (e : Token × ℤ) (left : List (Token × ℤ)) → new ≡ put token_cmp e.0 (amount_in es e.0 +ℤ e.1) es → IsMerging held more es (e ∷ left) → IsMerging held more new left
+merging_more held more es new e left is h = subst (λ xs. IsMerging held more xs left) (sym is) (merged held more es e left h)
+
+-- nothing is left
+pub record IsMerged (held : Amounts) (more es : List (Token × ℤ)) : Type 0 where
+  pub sorted : T (is_sorted token_cmp es)
+  pub positive : AllPositive es
+  pub whole : from_sorted es ≡ each (λ m n. m +ℤ n) held more
+
+none_left : (held : Amounts) (more es : List (Token × ℤ)) → IsMerging held more es [] → IsMerged held more es
+none_left held more es h = record { sorted = h.sorted; positive = h.positive; whole = h.adding.whole }
+
+pub merging_done : {E : Type 0} (r : Result Unit E) (held : Amounts) (more sum rest new : List (Token × ℤ)) (at i : ℕ) → length more ≤ i → IsMerging held more (sum ++ drop at rest) (drop i more) → OnOk r (new ≡ sum ++ take (length rest - at) (drop at rest)) → OnOk r (IsMerged held more new)
+merging_done (Ok x) held more sum rest new at i l h is = subst (IsMerged held more) (sym (is ∙ ap (λ xs. sum ++ xs) (take_rest rest at))) (none_left held more _ (subst (IsMerging held more (sum ++ drop at rest)) (drop_all i more l) h))
+merging_done (Err e) held more sum rest new at i l h is = tt
 
 -- what was put and what is left of what is held are the sum so far
 module _ (t : Token) (part held : List (Token × ℤ)) (at : ℕ) (sum : List (Token × ℤ)) (whole : part ++ drop at held ≡ sum) (before : AllBefore t part) where

@@ -12,7 +12,7 @@ use Rattle.collections.proofs.Halving.{rises}
 use Rattle.names.specs.declared.token.Token.{Token}
 use Rattle.names.specs.Orders.{token_cmp}
 use Rattle.names.specs.Totals.{token_total}
-use Rattle.names.specs.Exact.{token_exact}
+use Rattle.names.proofs.Exact.{token_exact}
 
 turned : (a b : Token) (r : Ordering) → token_cmp a b ≡ r → token_cmp b a ≡ ordering_reverse r
 turned a b r h = token_total.antisymm b a ∙ ap ordering_reverse h

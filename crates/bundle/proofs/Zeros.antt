@@ -13,7 +13,7 @@ use Rattle.collections.proofs.Maps.{put_is_insert}
 use Rattle.names.specs.declared.token.Token.{Token}
 use Rattle.names.specs.Orders.{token_cmp}
 use Rattle.names.specs.Totals.{token_total}
-use Rattle.names.specs.Exact.{token_exact}
+use Rattle.names.proofs.Exact.{token_exact}
 use Rattle.bundle.specs.Bundles.{amount_of, with_amount, AllPositive}
 use Rattle.bundle.specs.Walks.{amount_in, without_zeros, AllNatural}
 

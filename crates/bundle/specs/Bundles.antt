@@ -1,9 +1,10 @@
 -- Amounts of several tokens, as finite maps: a token that isn't there has 0.
-use Rattle.std.specs.Prelude.{ℤ, pos, ◌+ℤ◌, ◌-ℤ◌, ◌-◌, ◌^◌, ◌<ℤ◌, int_lt, Bool, false, ◌||◌, cond, if◌then◌else◌, List, [], ◌∷◌, Option, Some, None, is_none}
+use Rattle.std.specs.Prelude.{ℤ, pos, ◌+ℤ◌, ◌-ℤ◌, ◌-◌, ◌^◌, int_lt, Bool, false, ◌||◌, cond, if◌then◌else◌, List, [], ◌∷◌, Option, Some, None, is_none}
 use Rattle.std.specs.Option.{unwrap_or}
 use Rattle.std.specs.Ordering.{int_eq}
 use Rattle.std.specs.FinMap as map
 use Rattle.std.specs.FinMap.{FinMap}
+pub use Rattle.collections.specs.Positive.{AllPositive}
 use Rattle.names.specs.declared.token.Token.{Token}
 use Rattle.names.specs.Orders.{token_cmp}
 
@@ -14,11 +15,6 @@ Amounts = FinMap token_cmp ℤ
 -- how much there is of a token
 abbrev pub amount_of : Amounts → Token → ℤ
 amount_of m t = unwrap_or (map.get m t) (pos 0)
-
--- each amount is above 0
-abbrev pub AllPositive : List (Token × ℤ) → Type 0
-AllPositive [] = Unit {0}
-AllPositive (e ∷ es) = (pos 0 <ℤ e.1) × AllPositive es
 
 -- the amounts with this one in the token's place, which 0 removes
 abbrev pub with_amount : Amounts → Token → ℤ → Amounts

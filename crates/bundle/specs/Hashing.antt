@@ -1,3 +1,4 @@
+-- No reader needs this file: it serves the proofs of this crate and those above it.
 -- What a hasher is fed of a bundle.
 use Rattle.std.specs.Prelude.{ℤ, ◌++◌}
 use Rattle.std.specs.FinMap.{entries}

@@ -1,9 +1,9 @@
 -- Sums of what a list holds of one token: whole numbers without bounds.
-use Rattle.std.specs.Prelude.{ℤ, pos, ◌+ℤ◌, List, [], ◌∷◌}
+use Rattle.std.specs.Prelude.{ℤ, List}
+use Rattle.collections.specs.Total.{total}
 use Rattle.names.specs.declared.token.Token.{Token}
 use Rattle.bundle.specs.Bundles.{Amounts, amount_of}
 
 -- the sum of a token over what each item holds
 abbrev pub total_of : {A : Type 0} → (A → Amounts) → Token → List A → ℤ
-total_of held t [] = pos 0
-total_of held t (x ∷ xs) = amount_of (held x) t +ℤ total_of held t xs
+total_of held t items = total (λ x. amount_of (held x) t) items

@@ -1,3 +1,4 @@
+-- No reader needs this file: it serves the proofs of this crate and those above it.
 -- Entries in the order of their tokens, and a walk along them.
 use Rattle.std.specs.Prelude.{◌≡◌, ◌≢◌, ℤ, pos, ◌≤ℤ◌, Bool, false, not, List, [], ◌∷◌}
 use Rattle.std.specs.Option.{unwrap_or}

@@ -22,7 +22,8 @@ impl Same for Bundle {
 }
 
 impl PartialEq for Bundle {
-    ghost use Rattle.collections.specs.Same.{same_by, same_by-partial};
+    ghost use Rattle.collections.specs.Same.{same_by};
+    ghost use Rattle.collections.proofs.SameLaws.{same_by-partial};
     ghost use Rattle.bundle.specs.contracts.bundle.Bundle as it;
 
     ghost eq = { same_by it.the_row.coded };
@@ -35,14 +36,14 @@ impl PartialEq for Bundle {
 }
 
 impl Eq for Bundle {
-    ghost use Rattle.collections.specs.Same.{same_by-equiv};
+    ghost use Rattle.collections.proofs.SameLaws.{same_by-equiv};
     ghost use Rattle.bundle.specs.contracts.bundle.Bundle as it;
 
     ghost laws = { same_by-equiv it.the_row.coded };
 }
 
 impl Hash for Bundle {
-    ghost use Rattle.collections.specs.Same.{same_by_decides};
+    ghost use Rattle.collections.proofs.SameLaws.{same_by_decides};
     ghost use Rattle.std.proofs.Common.{ap};
     ghost use Rattle.bundle.specs.Hashing.{bundle_fed};
     ghost use Rattle.bundle.specs.contracts.bundle.Bundle as it;

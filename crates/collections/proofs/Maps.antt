@@ -7,7 +7,7 @@ use Rattle.std.specs.Cmp.{IsTotalOrder, alike_right, eq_by_cmp_equiv}
 use Rattle.std.specs.FinMap.{from_sorted, insert, remove, empty, same_entries_map, entries-from_sorted, get-from_sorted, entries-insert, get-remove, same_map, empty_of_len, len-entries}
 use Rattle.std.specs.FinMap.Entries.{find, put, is_sorted, is_sorted-put, is_sorted-where_key, find-where_key}
 use Rattle.std.proofs.lemmas.Map.Lookups.{CmpEqualImpliesEq}
-use Rattle.collections.specs.Search.{without}
+use Rattle.collections.specs.Keys.{without}
 
 -- tests that agree, one of them turned round, choose alike
 turned : {A : Type 0} (a b : Bool) (x y : A) → a ≡ b → cond (not a) x y ≡ cond b y x

@@ -7,7 +7,8 @@ use Rattle.std.specs.List.{insert, remove}
 use Rattle.std.specs.Ordering.{is_eq, is_lt, match_ordering}
 use Rattle.std.specs.Cmp.{IsTotalOrder}
 use Rattle.std.specs.FinMap.Entries.{by_order, find, put, below_all, is_sorted}
-use Rattle.collections.specs.Search.{search, later, without}
+use Rattle.collections.specs.Keys.{without}
+use Rattle.collections.specs.Search.{search, later}
 
 -- two tests that pass, pass together
 pub both : (a b : Bool) → T a → T b → T (a && b)

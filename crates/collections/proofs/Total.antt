@@ -10,7 +10,7 @@ use Rattle.std.specs.Cmp.{IsTotalOrder, tied_itself}
 use Rattle.std.specs.FinMap.{FinMap, from_sorted, entries, entries_sorted, get, insert, remove, same_entries_map, entries-from_sorted, entries-insert, get-entries}
 use Rattle.std.specs.FinMap.Entries.{by_order, find, put, is_sorted, is_sorted-where_key}
 use Rattle.std.proofs.lemmas.Map.Lookups.{CmpEqualImpliesEq}
-use Rattle.collections.specs.Search.{without}
+use Rattle.collections.specs.Keys.{without}
 use Rattle.collections.specs.Total.{total}
 use Rattle.collections.proofs.Places.{second, third, find_below, below_less, without_below, below_equal, without_at}
 use Rattle.collections.proofs.Maps.{without_is_remove}
@@ -43,6 +43,10 @@ only a z h = omega (arith, ints)
 none : (z : ℤ) → z ≡ pos 0 → pos 0 +ℤ z ≡ pos 0
 none z h = omega (arith, ints)
 
+-- what w gives a key with its value
+abbrev pub by : {K : Type 0} → (K → ℤ → ℤ) → K × ℤ → ℤ
+by w e = w e.0 e.1
+
 module _ {K : Type 0} (R : K → K → Ordering) (o : IsTotalOrder R) (exact : CmpEqualImpliesEq R) where
   -- the entries without a key
   pub entries-remove : {X : Type 0} (m : FinMap R X) (k : K) → entries (remove m k) ≡ without R k (entries m)
@@ -59,32 +63,32 @@ module _ {K : Type 0} (R : K → K → Ordering) (o : IsTotalOrder R) (exact : C
 
   module _ (w : K → ℤ → ℤ) (nothing : (k : K) → w k (pos 0) ≡ pos 0) where
     -- the total after an entry is put in its place
-    total-put : (k : K) (v : ℤ) (es : List (K × ℤ)) → T (is_sorted R es) → total w (put R k v es) +ℤ w k (unwrap_or (find R k es) (pos 0)) ≡ total w es +ℤ w k v
+    total-put : (k : K) (v : ℤ) (es : List (K × ℤ)) → T (is_sorted R es) → total (by w) (put R k v es) +ℤ w k (unwrap_or (find R k es) (pos 0)) ≡ total (by w) es +ℤ w k v
     total-put k v [] s = only (w k v) (w k (pos 0)) (nothing k)
     total-put k v (e ∷ es) s =
-        elim (R k e.0) as (λ r. R k e.0 ≡ r → total w (by_order r ((k, v) ∷ e ∷ es) ((e.0, v) ∷ es) (e ∷ put R k v es)) +ℤ w k (unwrap_or (cond (is_eq r) (Some e.1) (find R k es)) (pos 0)) ≡ (w e.0 e.1 +ℤ total w es) +ℤ w k v) [
+        elim (R k e.0) as (λ r. R k e.0 ≡ r → total (by w) (by_order r ((k, v) ∷ e ∷ es) ((e.0, v) ∷ es) (e ∷ put R k v es)) +ℤ w k (unwrap_or (cond (is_eq r) (Some e.1) (find R k es)) (pos 0)) ≡ (w e.0 e.1 +ℤ total (by w) es) +ℤ w k v) [
           | Less ↦ λ p.
-              rw (find_below R k es (below_less R k o e.0 es p (second _ _ s))) (first_new (w k v) (w e.0 e.1) (total w es) (w k (pos 0)) (nothing k))
+              rw (find_below R k es (below_less R k o e.0 es p (second _ _ s))) (first_new (w k v) (w e.0 e.1) (total (by w) es) (w k (pos 0)) (nothing k))
           | Equal ↦ λ p.
-              replaced (w k v) (w k e.1) (total w es) (w e.0 v) (w e.0 e.1) (ap (λ x. w x v) (sym (exact _ _ p))) (ap (λ x. w x e.1) (sym (exact _ _ p)))
-          | Greater ↦ λ p. more (w e.0 e.1) (total w (put R k v es)) (w k (unwrap_or (find R k es) (pos 0))) (total w es) (w k v) (total-put k v es (third _ _ s))
+              replaced (w k v) (w k e.1) (total (by w) es) (w e.0 v) (w e.0 e.1) (ap (λ x. w x v) (sym (exact _ _ p))) (ap (λ x. w x e.1) (sym (exact _ _ p)))
+          | Greater ↦ λ p. more (w e.0 e.1) (total (by w) (put R k v es)) (w k (unwrap_or (find R k es) (pos 0))) (total (by w) es) (w k v) (total-put k v es (third _ _ s))
         ] refl
 
-    -- the total without a key
-    total-without : (k : K) (es : List (K × ℤ)) → T (is_sorted R es) → total w (without R k es) +ℤ w k (unwrap_or (find R k es) (pos 0)) ≡ total w es
+    -- the total (by w)ithout a key
+    total-without : (k : K) (es : List (K × ℤ)) → T (is_sorted R es) → total (by w) (without R k es) +ℤ w k (unwrap_or (find R k es) (pos 0)) ≡ total (by w) es
     total-without k [] s = none (w k (pos 0)) (nothing k)
     total-without k (e ∷ es) s =
-        elim (R k e.0) as (λ r. R k e.0 ≡ r → total w (cond (not (is_eq r)) (e ∷ without R k es) (without R k es)) +ℤ w k (unwrap_or (cond (is_eq r) (Some e.1) (find R k es)) (pos 0)) ≡ w e.0 e.1 +ℤ total w es) [
-          | Less ↦ λ p. left_more (w e.0 e.1) (total w (without R k es)) (w k (unwrap_or (find R k es) (pos 0))) (total w es) (total-without k es (third _ _ s))
+        elim (R k e.0) as (λ r. R k e.0 ≡ r → total (by w) (cond (not (is_eq r)) (e ∷ without R k es) (without R k es)) +ℤ w k (unwrap_or (cond (is_eq r) (Some e.1) (find R k es)) (pos 0)) ≡ w e.0 e.1 +ℤ total (by w) es) [
+          | Less ↦ λ p. left_more (w e.0 e.1) (total (by w) (without R k es)) (w k (unwrap_or (find R k es) (pos 0))) (total (by w) es) (total-without k es (third _ _ s))
           | Equal ↦ λ p.
-              rw (without_below R k es (below_equal R k o e.0 es p (second _ _ s))) (taken (w k e.1) (total w es) (w e.0 e.1) (ap (λ x. w x e.1) (sym (exact _ _ p))))
-          | Greater ↦ λ p. left_more (w e.0 e.1) (total w (without R k es)) (w k (unwrap_or (find R k es) (pos 0))) (total w es) (total-without k es (third _ _ s))
+              rw (without_below R k es (below_equal R k o e.0 es p (second _ _ s))) (taken (w k e.1) (total (by w) es) (w e.0 e.1) (ap (λ x. w x e.1) (sym (exact _ _ p))))
+          | Greater ↦ λ p. left_more (w e.0 e.1) (total (by w) (without R k es)) (w k (unwrap_or (find R k es) (pos 0))) (total (by w) es) (total-without k es (third _ _ s))
         ] refl
 
     -- the total after an insert
-    pub total-insert : (m : FinMap R ℤ) (k : K) (v : ℤ) → total w (entries (insert m k v)) +ℤ w k (unwrap_or (get m k) (pos 0)) ≡ total w (entries m) +ℤ w k v
+    pub total-insert : (m : FinMap R ℤ) (k : K) (v : ℤ) → total (by w) (entries (insert m k v)) +ℤ w k (unwrap_or (get m k) (pos 0)) ≡ total (by w) (entries m) +ℤ w k v
     total-insert m k v = rw (entries-insert o m k v, get-entries m k) (total-put k v (entries m) (entries_sorted m))
 
     -- the total after a removal
-    pub total-remove : (m : FinMap R ℤ) (k : K) → total w (entries (remove m k)) +ℤ w k (unwrap_or (get m k) (pos 0)) ≡ total w (entries m)
+    pub total-remove : (m : FinMap R ℤ) (k : K) → total (by w) (entries (remove m k)) +ℤ w k (unwrap_or (get m k) (pos 0)) ≡ total (by w) (entries m)
     total-remove m k = rw (entries-remove m k, get-entries m k) (total-without k (entries m) (entries_sorted m))

@@ -1,3 +1,6 @@
+pub mod Answers
+pub mod Keys
+pub mod Positive
 pub mod Repeats
 pub mod Same
 pub mod Search

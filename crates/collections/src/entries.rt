@@ -6,7 +6,8 @@ ghost use Rattle.std.specs.List.{IsAllAdjacentAnswer};
 ghost use Rattle.std.specs.List.Sorted.{IsPermutation};
 ghost use Rattle.std.specs.Ordering.{is_lt};
 ghost use Rattle.collections.specs.Repeats.{has_repeat};
-ghost use Rattle.collections.specs.Search.{search, without};
+ghost use Rattle.collections.specs.Keys.{without};
+ghost use Rattle.collections.specs.Search.{search};
 
 use crate::try_clone::{Memory, TryClone};
 use std::alloc::Global;

@@ -7,7 +7,7 @@ use crate::entries::Entries;
 use crate::items::Items;
 use crate::text::Text;
 
-/// A value with an exact equality. Where such a value has `==`, it answers the same.
+/// A value with an exact equality.
 pub trait Same {
     /// Whether the two are the same value.
     fn same(&self, other: &Self) -> bool

@@ -1,5 +1,1 @@
-pub mod Code
-pub mod Sizes
 pub mod Limits
-pub mod Laws
-pub mod Building

@@ -1,7 +1,8 @@
 -- A contract and its tree determine each other, under names for the code.
 use Rattle.std.proofs.Common.{◌≡◌, sym, ◌∙◌, ap}
-use Rattle.contract.specs.Tree.{value_tree, value_of, observation_tree, observation_of, action_tree, action_of, contract_tree, contract_of}
-use Rattle.contract.specs.TreeLaws.{value_tree-value_of, value_of-value_tree, observation_tree-observation_of, observation_of-observation_tree, action_tree-action_of, action_of-action_tree, contract_tree-contract_of, contract_of-contract_tree}
+use Rattle.contract.specs.Tree.{value_tree, observation_tree, action_tree, contract_tree}
+use Rattle.contract.specs.TreeInverse.{value_of, observation_of, action_of, contract_of}
+use Rattle.contract.proofs.TreeLaws.{value_tree-value_of, value_of-value_tree, observation_tree-observation_of, observation_of-observation_tree, action_tree-action_of, action_of-action_tree, contract_tree-contract_of, contract_of-contract_tree}
 use Rattle.contract.specs.Laws.{OneTreeEach}
 
 one_tree_each : {X T : Type 0} (tree : X → T) (of : T → X) → ((t : T) → tree (of t) ≡ t) → ((x : X) → of (tree x) ≡ x) → OneTreeEach tree of

@@ -1,3 +1,3 @@
-pub mod Tree
-pub mod TreeLaws
 pub mod Laws
+pub mod Tree
+pub mod TreeInverse

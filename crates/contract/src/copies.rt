@@ -1,6 +1,7 @@
 //! Copies of contracts. A copy is the same contract, or is refused for memory.
 ghost use Rattle.std.specs.Prelude.{◌≡◌, IfOk};
 
+use crate::together::{both, three_copies, two_copies};
 use crate::tree::{Action, Case, Contract};
 use crate::value::{Observation, Value};
 use collections::{Boxed, Items, Memory, Text, TryClone};
@@ -22,13 +23,15 @@ impl TryClone for Observation {
 impl TryClone for Action {
     fn try_clone(&self) -> Result<Action, Memory> {
         match self {
-            Action::Deposit(account, party, token, value) => Ok(Action::Deposit(
-                account.try_clone()?,
-                party.try_clone()?,
-                token.try_clone()?,
-                copy_value(value)?,
-            )),
-            Action::Choice(id, bounds) => Ok(Action::Choice(id.try_clone()?, bounds.try_clone()?)),
+            Action::Deposit(account, party, token, value) => {
+                let (value, names) = value_with(value, account, party, token)?;
+                let (account, party, token) = names;
+                Ok(Action::Deposit(account, party, token, value))
+            }
+            Action::Choice(id, bounds) => {
+                let (id, bounds) = two_copies(id, bounds)?;
+                Ok(Action::Choice(id, bounds))
+            }
             Action::Notify(observation) => Ok(Action::Notify(copy_observation(observation)?)),
         }
     }
@@ -68,25 +71,43 @@ fn copy_value(value: &Value) -> Result<Value, Memory>
     ensures { IfOk result (λ copy. copy ≡ value.now) }
 {
     match value {
-        Value::AvailableMoney(party, token) => Ok(Value::AvailableMoney(
-            party.try_clone()?,
-            token.try_clone()?,
-        )),
+        Value::AvailableMoney(party, token) => {
+            let (party, token) = two_copies(party, token)?;
+            Ok(Value::AvailableMoney(party, token))
+        }
         Value::Constant(number) => Ok(Value::Constant(*number)),
         Value::NegValue(a) => Ok(Value::NegValue(copy_boxed_value(a)?)),
-        Value::AddValue(a, b) => Ok(Value::AddValue(copy_boxed_value(a)?, copy_boxed_value(b)?)),
-        Value::SubValue(a, b) => Ok(Value::SubValue(copy_boxed_value(a)?, copy_boxed_value(b)?)),
-        Value::MulValue(a, b) => Ok(Value::MulValue(copy_boxed_value(a)?, copy_boxed_value(b)?)),
-        Value::DivValue(a, b) => Ok(Value::DivValue(copy_boxed_value(a)?, copy_boxed_value(b)?)),
+        Value::AddValue(a, b) => {
+            let a = copy_boxed_value(a)?;
+            let (a, b) = both(a, copy_boxed_value(b))?;
+            Ok(Value::AddValue(a, b))
+        }
+        Value::SubValue(a, b) => {
+            let a = copy_boxed_value(a)?;
+            let (a, b) = both(a, copy_boxed_value(b))?;
+            Ok(Value::SubValue(a, b))
+        }
+        Value::MulValue(a, b) => {
+            let a = copy_boxed_value(a)?;
+            let (a, b) = both(a, copy_boxed_value(b))?;
+            Ok(Value::MulValue(a, b))
+        }
+        Value::DivValue(a, b) => {
+            let a = copy_boxed_value(a)?;
+            let (a, b) = both(a, copy_boxed_value(b))?;
+            Ok(Value::DivValue(a, b))
+        }
         Value::ChoiceValue(id) => Ok(Value::ChoiceValue(id.try_clone()?)),
         Value::TimeIntervalStart => Ok(Value::TimeIntervalStart),
         Value::TimeIntervalEnd => Ok(Value::TimeIntervalEnd),
         Value::UseValue(name) => Ok(Value::UseValue(name.try_clone()?)),
-        Value::Cond(observation, a, b) => Ok(Value::Cond(
-            copy_boxed_observation(observation)?,
-            copy_boxed_value(a)?,
-            copy_boxed_value(b)?,
-        )),
+        Value::Cond(observation, a, b) => {
+            let observation = copy_boxed_observation(observation)?;
+            let (observation, a) = both(observation, copy_boxed_value(a))?;
+            let (parts, b) = both((observation, a), copy_boxed_value(b))?;
+            let (observation, a) = parts;
+            Ok(Value::Cond(observation, a, b))
+        }
     }
 }
 
@@ -95,39 +116,58 @@ fn copy_observation(observation: &Observation) -> Result<Observation, Memory>
     ensures { IfOk result (λ copy. copy ≡ observation.now) }
 {
     match observation {
-        Observation::AndObs(a, b) => Ok(Observation::AndObs(
-            copy_boxed_observation(a)?,
-            copy_boxed_observation(b)?,
-        )),
-        Observation::OrObs(a, b) => Ok(Observation::OrObs(
-            copy_boxed_observation(a)?,
-            copy_boxed_observation(b)?,
-        )),
+        Observation::AndObs(a, b) => {
+            let a = copy_boxed_observation(a)?;
+            let (a, b) = both(a, copy_boxed_observation(b))?;
+            Ok(Observation::AndObs(a, b))
+        }
+        Observation::OrObs(a, b) => {
+            let a = copy_boxed_observation(a)?;
+            let (a, b) = both(a, copy_boxed_observation(b))?;
+            Ok(Observation::OrObs(a, b))
+        }
         Observation::NotObs(a) => Ok(Observation::NotObs(copy_boxed_observation(a)?)),
         Observation::ChoseSomething(id) => Ok(Observation::ChoseSomething(id.try_clone()?)),
-        Observation::ValueGE(a, b) => Ok(Observation::ValueGE(
-            copy_boxed_value(a)?,
-            copy_boxed_value(b)?,
-        )),
-        Observation::ValueGT(a, b) => Ok(Observation::ValueGT(
-            copy_boxed_value(a)?,
-            copy_boxed_value(b)?,
-        )),
-        Observation::ValueLT(a, b) => Ok(Observation::ValueLT(
-            copy_boxed_value(a)?,
-            copy_boxed_value(b)?,
-        )),
-        Observation::ValueLE(a, b) => Ok(Observation::ValueLE(
-            copy_boxed_value(a)?,
-            copy_boxed_value(b)?,
-        )),
-        Observation::ValueEQ(a, b) => Ok(Observation::ValueEQ(
-            copy_boxed_value(a)?,
-            copy_boxed_value(b)?,
-        )),
+        Observation::ValueGE(a, b) => {
+            let a = copy_boxed_value(a)?;
+            let (a, b) = both(a, copy_boxed_value(b))?;
+            Ok(Observation::ValueGE(a, b))
+        }
+        Observation::ValueGT(a, b) => {
+            let a = copy_boxed_value(a)?;
+            let (a, b) = both(a, copy_boxed_value(b))?;
+            Ok(Observation::ValueGT(a, b))
+        }
+        Observation::ValueLT(a, b) => {
+            let a = copy_boxed_value(a)?;
+            let (a, b) = both(a, copy_boxed_value(b))?;
+            Ok(Observation::ValueLT(a, b))
+        }
+        Observation::ValueLE(a, b) => {
+            let a = copy_boxed_value(a)?;
+            let (a, b) = both(a, copy_boxed_value(b))?;
+            Ok(Observation::ValueLE(a, b))
+        }
+        Observation::ValueEQ(a, b) => {
+            let a = copy_boxed_value(a)?;
+            let (a, b) = both(a, copy_boxed_value(b))?;
+            Ok(Observation::ValueEQ(a, b))
+        }
         Observation::TrueObs => Ok(Observation::TrueObs),
         Observation::FalseObs => Ok(Observation::FalseObs),
     }
+}
+
+fn value_with<A: TryClone + Drop, B: TryClone + Drop, C: TryClone>(
+    value: &Value,
+    a: &A,
+    b: &B,
+    c: &C,
+) -> Result<(Value, (A, B, C)), Memory>
+    ensures { IfOk result (λ copies. (copies.0 ≡ value.now) × (copies.1 ≡ (a.now, b.now, c.now))) }
+{
+    let value = copy_value(value)?;
+    both(value, three_copies(a, b, c))
 }
 
 fn pay_with(
@@ -139,13 +179,10 @@ fn pay_with(
 ) -> Result<Contract, Memory>
     ensures { IfOk result (λ copy. copy ≡ Contract.Pay from.now to.now token.now value.now then) }
 {
-    Ok(Contract::Pay(
-        from.try_clone()?,
-        to.try_clone()?,
-        token.try_clone()?,
-        copy_value(value)?,
-        then,
-    ))
+    let (then, parts) = both(then, value_with(value, from, to, token))?;
+    let (value, names) = parts;
+    let (from, to, token) = names;
+    Ok(Contract::Pay(from, to, token, value, then))
 }
 
 fn if_with(
@@ -155,19 +192,25 @@ fn if_with(
 ) -> Result<Contract, Memory>
     ensures { IfOk result (λ copy. copy ≡ Contract.If observation.now then otherwise) }
 {
-    Ok(Contract::If(copy_observation(observation)?, then, otherwise))
+    let (branches, observation) = both((then, otherwise), copy_observation(observation))?;
+    let (then, otherwise) = branches;
+    Ok(Contract::If(observation, then, otherwise))
 }
 
 fn let_with(name: &Text, value: &Value, then: Boxed<Contract>) -> Result<Contract, Memory>
     ensures { IfOk result (λ copy. copy ≡ Contract.Let name.now value.now then) }
 {
-    Ok(Contract::Let(name.try_clone()?, copy_value(value)?, then))
+    let (then, value) = both(then, copy_value(value))?;
+    let (parts, name) = both((value, then), name.try_clone())?;
+    let (value, then) = parts;
+    Ok(Contract::Let(name, value, then))
 }
 
 fn assert_with(observation: &Observation, then: Boxed<Contract>) -> Result<Contract, Memory>
     ensures { IfOk result (λ copy. copy ≡ Contract.Assert observation.now then) }
 {
-    Ok(Contract::Assert(copy_observation(observation)?, then))
+    let (then, observation) = both(then, copy_observation(observation))?;
+    Ok(Contract::Assert(observation, then))
 }
 
 #[cycle(copy_contract)]
@@ -182,7 +225,7 @@ fn copy_case(case: &Case) -> Result<Case, Memory>
     ensures { IfOk result (λ copy. copy ≡ case.now) }
 {
     let action = case.action.try_clone()?;
-    let then = copy_contract(&case.then)?;
+    let (action, then) = both(action, copy_contract(&case.then))?;
     Ok(Case { action, then })
 }
 
@@ -208,11 +251,13 @@ fn copy_contract(contract: &Contract) -> Result<Contract, Memory>
         }
         Contract::If(observation, then, otherwise) => {
             let then = copy_boxed(then)?;
-            if_with(observation, then, copy_boxed(otherwise)?)
+            let (then, otherwise) = both(then, copy_boxed(otherwise))?;
+            if_with(observation, then, otherwise)
         }
         Contract::When(cases, timeout, then) => {
             let cases = copy_cases(then.allocator(), cases)?;
-            Ok(Contract::When(cases, *timeout, copy_boxed(then)?))
+            let (cases, then) = both(cases, copy_boxed(then))?;
+            Ok(Contract::When(cases, *timeout, then))
         }
         Contract::Let(name, value, then) => let_with(name, value, copy_boxed(then)?),
         Contract::Assert(observation, then) => assert_with(observation, copy_boxed(then)?),

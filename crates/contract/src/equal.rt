@@ -298,7 +298,8 @@ fn same_contract(a: &Contract, b: &Contract) -> bool
 }
 
 impl PartialEq for Input {
-    ghost use Rattle.collections.specs.Same.{same_by, same_by-partial};
+    ghost use Rattle.collections.specs.Same.{same_by};
+    ghost use Rattle.collections.proofs.SameLaws.{same_by-partial};
     ghost use Rattle.contract.specs.contracts.input.Input as it;
 
     ghost eq = { same_by it.the_row.coded };
@@ -311,14 +312,15 @@ impl PartialEq for Input {
 }
 
 impl Eq for Input {
-    ghost use Rattle.collections.specs.Same.{same_by-equiv};
+    ghost use Rattle.collections.proofs.SameLaws.{same_by-equiv};
     ghost use Rattle.contract.specs.contracts.input.Input as it;
 
     ghost laws = { same_by-equiv it.the_row.coded };
 }
 
 impl PartialEq for Warning {
-    ghost use Rattle.collections.specs.Same.{same_by, same_by-partial};
+    ghost use Rattle.collections.specs.Same.{same_by};
+    ghost use Rattle.collections.proofs.SameLaws.{same_by-partial};
     ghost use Rattle.contract.specs.contracts.warning.Warning as it;
 
     ghost eq = { same_by it.the_row.coded };
@@ -331,14 +333,15 @@ impl PartialEq for Warning {
 }
 
 impl Eq for Warning {
-    ghost use Rattle.collections.specs.Same.{same_by-equiv};
+    ghost use Rattle.collections.proofs.SameLaws.{same_by-equiv};
     ghost use Rattle.contract.specs.contracts.warning.Warning as it;
 
     ghost laws = { same_by-equiv it.the_row.coded };
 }
 
 impl PartialEq for Payment {
-    ghost use Rattle.collections.specs.Same.{same_by, same_by-partial};
+    ghost use Rattle.collections.specs.Same.{same_by};
+    ghost use Rattle.collections.proofs.SameLaws.{same_by-partial};
     ghost use Rattle.contract.specs.contracts.payment.Payment as it;
 
     ghost eq = { same_by it.the_row.coded };
@@ -351,14 +354,15 @@ impl PartialEq for Payment {
 }
 
 impl Eq for Payment {
-    ghost use Rattle.collections.specs.Same.{same_by-equiv};
+    ghost use Rattle.collections.proofs.SameLaws.{same_by-equiv};
     ghost use Rattle.contract.specs.contracts.payment.Payment as it;
 
     ghost laws = { same_by-equiv it.the_row.coded };
 }
 
 impl PartialEq for Value {
-    ghost use Rattle.collections.specs.Same.{same_by, same_by-partial};
+    ghost use Rattle.collections.specs.Same.{same_by};
+    ghost use Rattle.collections.proofs.SameLaws.{same_by-partial};
     ghost use Rattle.contract.specs.contracts.value.Value as it;
 
     ghost eq = { same_by it.the_row.coded };
@@ -371,14 +375,15 @@ impl PartialEq for Value {
 }
 
 impl Eq for Value {
-    ghost use Rattle.collections.specs.Same.{same_by-equiv};
+    ghost use Rattle.collections.proofs.SameLaws.{same_by-equiv};
     ghost use Rattle.contract.specs.contracts.value.Value as it;
 
     ghost laws = { same_by-equiv it.the_row.coded };
 }
 
 impl PartialEq for Observation {
-    ghost use Rattle.collections.specs.Same.{same_by, same_by-partial};
+    ghost use Rattle.collections.specs.Same.{same_by};
+    ghost use Rattle.collections.proofs.SameLaws.{same_by-partial};
     ghost use Rattle.contract.specs.contracts.value.Observation as it;
 
     ghost eq = { same_by it.the_row.coded };
@@ -391,14 +396,15 @@ impl PartialEq for Observation {
 }
 
 impl Eq for Observation {
-    ghost use Rattle.collections.specs.Same.{same_by-equiv};
+    ghost use Rattle.collections.proofs.SameLaws.{same_by-equiv};
     ghost use Rattle.contract.specs.contracts.value.Observation as it;
 
     ghost laws = { same_by-equiv it.the_row.coded };
 }
 
 impl PartialEq for Action {
-    ghost use Rattle.collections.specs.Same.{same_by, same_by-partial};
+    ghost use Rattle.collections.specs.Same.{same_by};
+    ghost use Rattle.collections.proofs.SameLaws.{same_by-partial};
     ghost use Rattle.contract.specs.contracts.tree.Action as it;
 
     ghost eq = { same_by it.the_row.coded };
@@ -411,14 +417,15 @@ impl PartialEq for Action {
 }
 
 impl Eq for Action {
-    ghost use Rattle.collections.specs.Same.{same_by-equiv};
+    ghost use Rattle.collections.proofs.SameLaws.{same_by-equiv};
     ghost use Rattle.contract.specs.contracts.tree.Action as it;
 
     ghost laws = { same_by-equiv it.the_row.coded };
 }
 
 impl PartialEq for Case {
-    ghost use Rattle.collections.specs.Same.{same_by, same_by-partial};
+    ghost use Rattle.collections.specs.Same.{same_by};
+    ghost use Rattle.collections.proofs.SameLaws.{same_by-partial};
     ghost use Rattle.contract.specs.contracts.tree.Case as it;
 
     ghost eq = { same_by it.the_row.coded };
@@ -431,14 +438,15 @@ impl PartialEq for Case {
 }
 
 impl Eq for Case {
-    ghost use Rattle.collections.specs.Same.{same_by-equiv};
+    ghost use Rattle.collections.proofs.SameLaws.{same_by-equiv};
     ghost use Rattle.contract.specs.contracts.tree.Case as it;
 
     ghost laws = { same_by-equiv it.the_row.coded };
 }
 
 impl PartialEq for Contract {
-    ghost use Rattle.collections.specs.Same.{same_by, same_by-partial};
+    ghost use Rattle.collections.specs.Same.{same_by};
+    ghost use Rattle.collections.proofs.SameLaws.{same_by-partial};
     ghost use Rattle.contract.specs.contracts.tree.Contract as it;
 
     ghost eq = { same_by it.the_row.coded };
@@ -451,7 +459,7 @@ impl PartialEq for Contract {
 }
 
 impl Eq for Contract {
-    ghost use Rattle.collections.specs.Same.{same_by-equiv};
+    ghost use Rattle.collections.proofs.SameLaws.{same_by-equiv};
     ghost use Rattle.contract.specs.contracts.tree.Contract as it;
 
     ghost laws = { same_by-equiv it.the_row.coded };

@@ -1,4 +1,5 @@
 //! Inputs.
+use crate::together::three_copies;
 use collections::{Memory, TryClone};
 use names::{ChoiceId, Party, Token};
 
@@ -18,12 +19,10 @@ pub enum Input {
 impl TryClone for Input {
     fn try_clone(&self) -> Result<Input, Memory> {
         match self {
-            Input::Deposit(account, party, token, amount) => Ok(Input::Deposit(
-                account.try_clone()?,
-                party.try_clone()?,
-                token.try_clone()?,
-                *amount,
-            )),
+            Input::Deposit(account, party, token, amount) => {
+                let (account, party, token) = three_copies(account, party, token)?;
+                Ok(Input::Deposit(account, party, token, *amount))
+            }
             Input::Choice(id, number) => Ok(Input::Choice(id.try_clone()?, *number)),
             Input::Notify => Ok(Input::Notify),
         }
@@ -33,7 +32,7 @@ impl TryClone for Input {
 #[derived]
 impl Hash for Input {
     ghost use Rattle.std.specs.Hash.{same_Alike};
-    ghost use Rattle.collections.specs.Same.{same_by_decides};
+    ghost use Rattle.collections.proofs.SameLaws.{same_by_decides};
     ghost use Rattle.contract.specs.contracts.input.Input as it;
 
     ghost respects_eq = { (same_Alike _ (same_by_decides it.the_row.coded)).fed };

@@ -1,5 +1,6 @@
 //! Laws of contracts, each the contract of a function that does nothing.
-ghost use Rattle.contract.specs.Tree.{value_tree, value_of, observation_tree, observation_of, action_tree, action_of, contract_tree, contract_of};
+ghost use Rattle.contract.specs.Tree.{value_tree, observation_tree, action_tree, contract_tree};
+ghost use Rattle.contract.specs.TreeInverse.{value_of, observation_of, action_of, contract_of};
 ghost use Rattle.contract.specs.Laws.{OneTreeEach};
 
 /// A contract and its tree determine each other; so do a value, an observation or an action and its own.

@@ -10,6 +10,7 @@ mod interval;
 mod laws;
 mod outcome;
 mod payment;
+mod together;
 mod tree;
 mod value;
 mod warning;

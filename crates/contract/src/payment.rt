@@ -1,4 +1,5 @@
 //! Payments.
+use crate::together::three_copies;
 use collections::{Memory, TryClone};
 use names::{Party, Payee, Token};
 
@@ -14,9 +15,7 @@ pub struct Payment {
 
 impl TryClone for Payment {
     fn try_clone(&self) -> Result<Payment, Memory> {
-        let from = self.from.try_clone()?;
-        let to = self.to.try_clone()?;
-        let token = self.token.try_clone()?;
+        let (from, to, token) = three_copies(&self.from, &self.to, &self.token)?;
         Ok(Payment {
             from,
             to,
@@ -29,7 +28,7 @@ impl TryClone for Payment {
 #[derived]
 impl Hash for Payment {
     ghost use Rattle.std.specs.Hash.{same_Alike};
-    ghost use Rattle.collections.specs.Same.{same_by_decides};
+    ghost use Rattle.collections.proofs.SameLaws.{same_by_decides};
     ghost use Rattle.contract.specs.contracts.payment.Payment as it;
 
     ghost respects_eq = { (same_Alike _ (same_by_decides it.the_row.coded)).fed };

@@ -1,4 +1,5 @@
 //! Warnings.
+use crate::together::three_copies;
 use collections::{Memory, Text, TryClone};
 use names::{Party, Payee, Token};
 
@@ -21,27 +22,18 @@ pub enum Warning {
 impl TryClone for Warning {
     fn try_clone(&self) -> Result<Warning, Memory> {
         match self {
-            Warning::NonPositiveDeposit(account, party, token, amount) => Ok(
-                Warning::NonPositiveDeposit(
-                    account.try_clone()?,
-                    party.try_clone()?,
-                    token.try_clone()?,
-                    *amount,
-                ),
-            ),
-            Warning::NonPositivePay(account, payee, token, amount) => Ok(Warning::NonPositivePay(
-                account.try_clone()?,
-                payee.try_clone()?,
-                token.try_clone()?,
-                *amount,
-            )),
-            Warning::PartialPay(account, payee, token, paid, expected) => Ok(Warning::PartialPay(
-                account.try_clone()?,
-                payee.try_clone()?,
-                token.try_clone()?,
-                *paid,
-                *expected,
-            )),
+            Warning::NonPositiveDeposit(account, party, token, amount) => {
+                let (account, party, token) = three_copies(account, party, token)?;
+                Ok(Warning::NonPositiveDeposit(account, party, token, *amount))
+            }
+            Warning::NonPositivePay(account, payee, token, amount) => {
+                let (account, payee, token) = three_copies(account, payee, token)?;
+                Ok(Warning::NonPositivePay(account, payee, token, *amount))
+            }
+            Warning::PartialPay(account, payee, token, paid, expected) => {
+                let (account, payee, token) = three_copies(account, payee, token)?;
+                Ok(Warning::PartialPay(account, payee, token, *paid, *expected))
+            }
             Warning::Shadowing(name, old, new) => {
                 Ok(Warning::Shadowing(name.try_clone()?, *old, *new))
             }
@@ -53,7 +45,7 @@ impl TryClone for Warning {
 #[derived]
 impl Hash for Warning {
     ghost use Rattle.std.specs.Hash.{same_Alike};
-    ghost use Rattle.collections.specs.Same.{same_by_decides};
+    ghost use Rattle.collections.proofs.SameLaws.{same_by_decides};
     ghost use Rattle.contract.specs.contracts.warning.Warning as it;
 
     ghost respects_eq = { (same_Alike _ (same_by_decides it.the_row.coded)).fed };

@@ -23,7 +23,7 @@ text_bytes text = length_bytes (length text) ++ text
 abbrev pub list_bytes : {X : Type 0} → (X → List ℕ) → List X → List ℕ
 list_bytes spelling items = length_bytes (length items) ++ flat_map spelling items
 
--- ---- what fits
+-- ---- what fits: everything that was spelled (the clause `fits` of the encode calls)
 
 abbrev pub NumberFits : ℤ → Type 0
 NumberFits n = FitsSigned w128 n

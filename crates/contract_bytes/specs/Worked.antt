@@ -2,6 +2,7 @@
 use Rattle.std.specs.Prelude.{◌≡◌, pos, negsuc, ◌-◌, ◌^◌, [], ◌∷◌, replicate}
 use Rattle.std.specs.FinMap.{entries}
 use Rattle.names.specs.declared.party.Party.TheVariants as parties
+use Rattle.names.specs.Equal.{ada}
 use Rattle.contract.specs.declared.input.Input.TheVariants as inputs
 use Rattle.states.specs.States.{StateMaps}
 use Rattle.contract.specs.Tree.{close, when, no_cases}
@@ -23,7 +24,7 @@ abbrev pub Addresses : Type 0
 Addresses = party_bytes (parties.Address (0x78 ∷ [])) ≡ 0x00 ∷ 0 ∷ 0 ∷ 0 ∷ 0 ∷ 0 ∷ 0 ∷ 0 ∷ 1 ∷ 0x78 ∷ []
 
 abbrev pub AdaIsZeros : Type 0
-AdaIsZeros = token_bytes (record { symbol = []; name = [] }) ≡ replicate 16 0
+AdaIsZeros = token_bytes ada ≡ replicate 16 0
 
 abbrev pub Notifies : Type 0
 Notifies = input_bytes inputs.Notify ≡ 0x02 ∷ []

@@ -1,6 +1,6 @@
 //! Inputs.
 ghost use Rattle.std.specs.Prelude.{◌≡◌, ◌++◌, OnOk};
-ghost use Rattle.contract_bytes.specs.Inputs.{input_bytes};
+ghost use Rattle.contract_bytes.specs.Inputs.{input_bytes, InputFits};
 
 use crate::names_of::{put_choice_id, put_party, put_token};
 use crate::number::{put_byte, put_number};
@@ -9,7 +9,8 @@ use contract::Input;
 
 /// Appends an input: a tag, then its parts.
 pub fn put_input(out: &mut Vec<u8>, input: &Input) -> Result<(), Memory>
-    ensures { OnOk result (out.new.items ≡ out.old.items ++ input_bytes input.now) }
+    ensures spelling { OnOk result (out.new.items ≡ out.old.items ++ input_bytes input.now) }
+    ensures fits { OnOk result (InputFits input.now) }
 {
     match input {
         Input::Deposit(account, party, token, amount) => {

@@ -1,6 +1,6 @@
 //! Parties, tokens, choice ids, payees and bounds.
 ghost use Rattle.std.specs.Prelude.{◌≡◌, ◌++◌, OnOk};
-ghost use Rattle.contract_bytes.specs.Names.{party_bytes, token_bytes, choice_id_bytes, payee_bytes, bound_bytes};
+ghost use Rattle.contract_bytes.specs.Names.{party_bytes, token_bytes, choice_id_bytes, payee_bytes, bound_bytes, PartyFits, TokenFits, ChoiceIdFits, PayeeFits, BoundFits};
 
 use crate::number::{put_byte, put_bytes, put_number, put_text};
 use collections::Memory;
@@ -8,7 +8,8 @@ use names::{Bound, ChoiceId, Party, Payee, Token};
 
 /// Appends a party: a tag, then its text.
 pub fn put_party(out: &mut Vec<u8>, party: &Party) -> Result<(), Memory>
-    ensures { OnOk result (out.new.items ≡ out.old.items ++ party_bytes party.now) }
+    ensures spelling { OnOk result (out.new.items ≡ out.old.items ++ party_bytes party.now) }
+    ensures fits { OnOk result (PartyFits party.now) }
 {
     match party {
         Party::Address(text) => {
@@ -24,7 +25,8 @@ pub fn put_party(out: &mut Vec<u8>, party: &Party) -> Result<(), Memory>
 
 /// Appends a token: its currency symbol, then its name.
 pub fn put_token(out: &mut Vec<u8>, token: &Token) -> Result<(), Memory>
-    ensures { OnOk result (out.new.items ≡ out.old.items ++ token_bytes token.now) }
+    ensures spelling { OnOk result (out.new.items ≡ out.old.items ++ token_bytes token.now) }
+    ensures fits { OnOk result (TokenFits token.now) }
 {
     put_bytes(out, &token.symbol)?;
     put_text(out, &token.name)
@@ -32,7 +34,8 @@ pub fn put_token(out: &mut Vec<u8>, token: &Token) -> Result<(), Memory>
 
 /// Appends a choice id: its name, then its owner.
 pub fn put_choice_id(out: &mut Vec<u8>, id: &ChoiceId) -> Result<(), Memory>
-    ensures { OnOk result (out.new.items ≡ out.old.items ++ choice_id_bytes id.now) }
+    ensures spelling { OnOk result (out.new.items ≡ out.old.items ++ choice_id_bytes id.now) }
+    ensures fits { OnOk result (ChoiceIdFits id.now) }
 {
     put_text(out, &id.name)?;
     put_party(out, &id.owner)
@@ -40,7 +43,8 @@ pub fn put_choice_id(out: &mut Vec<u8>, id: &ChoiceId) -> Result<(), Memory>
 
 /// Appends a payee: a tag, then its party.
 pub fn put_payee(out: &mut Vec<u8>, payee: &Payee) -> Result<(), Memory>
-    ensures { OnOk result (out.new.items ≡ out.old.items ++ payee_bytes payee.now) }
+    ensures spelling { OnOk result (out.new.items ≡ out.old.items ++ payee_bytes payee.now) }
+    ensures fits { OnOk result (PayeeFits payee.now) }
 {
     match payee {
         Payee::Account(owner) => {
@@ -56,7 +60,8 @@ pub fn put_payee(out: &mut Vec<u8>, payee: &Payee) -> Result<(), Memory>
 
 /// Appends a bound: its lower end, then its upper one.
 pub fn put_bound(out: &mut Vec<u8>, bound: &Bound) -> Result<(), Memory>
-    ensures { OnOk result (out.new.items ≡ out.old.items ++ bound_bytes bound.now) }
+    ensures spelling { OnOk result (out.new.items ≡ out.old.items ++ bound_bytes bound.now) }
+    ensures fits { OnOk result (BoundFits bound.now) }
 {
     put_number(out, bound.from)?;
     put_number(out, bound.to)

@@ -1,6 +1,6 @@
 //! Bytes, lengths, numbers, times and texts.
 ghost use Rattle.std.specs.Prelude.{◌≡◌, [], ◌∷◌, ◌++◌, OnOk};
-ghost use Rattle.contract_bytes.specs.Numbers.{length_bytes, number_bytes, time_bytes, text_bytes};
+ghost use Rattle.contract_bytes.specs.Numbers.{length_bytes, number_bytes, time_bytes, text_bytes, NumberFits, TimeFits, TextFits};
 
 use collections::{Bytes, Memory, Text};
 
@@ -31,7 +31,8 @@ fn bytes_of_number(number: i128) -> [u8; 16]
 
 /// Appends a number: 16 bytes of two's complement, the highest first.
 pub fn put_number(out: &mut Vec<u8>, number: i128) -> Result<(), Memory>
-    ensures { OnOk result (out.new.items ≡ out.old.items ++ number_bytes number) }
+    ensures spelling { OnOk result (out.new.items ≡ out.old.items ++ number_bytes number) }
+    ensures fits { NumberFits number }
 {
     let bytes = bytes_of_number(number);
     out.extend_from_slice(bytes.as_slice())?;
@@ -41,7 +42,8 @@ pub fn put_number(out: &mut Vec<u8>, number: i128) -> Result<(), Memory>
 /// Appends a time, in POSIX milliseconds: 8 bytes of two's complement, the highest first.
 #[tactic(auto, unfolding(crate::specs::Numbers::time_bytes))]
 pub fn put_time(out: &mut Vec<u8>, time: i64) -> Result<(), Memory>
-    ensures { OnOk result (out.new.items ≡ out.old.items ++ time_bytes time) }
+    ensures spelling { OnOk result (out.new.items ≡ out.old.items ++ time_bytes time) }
+    ensures fits { TimeFits time }
 {
     let bytes = time.to_be_bytes();
     out.extend_from_slice(bytes.as_slice())?;
@@ -49,7 +51,8 @@ pub fn put_time(out: &mut Vec<u8>, time: i64) -> Result<(), Memory>
 }
 
 fn put_counted(out: &mut Vec<u8>, bytes: &[u8]) -> Result<(), Memory>
-    ensures { OnOk result (out.new.items ≡ out.old.items ++ text_bytes bytes.now) }
+    ensures spelling { OnOk result (out.new.items ≡ out.old.items ++ text_bytes bytes.now) }
+    ensures fits { TextFits bytes.now }
 {
     put_length(out, bytes.len())?;
     out.extend_from_slice(bytes)?;
@@ -58,14 +61,16 @@ fn put_counted(out: &mut Vec<u8>, bytes: &[u8]) -> Result<(), Memory>
 
 /// Appends a text: its length, then its bytes.
 pub fn put_text(out: &mut Vec<u8>, text: &Text) -> Result<(), Memory>
-    ensures { OnOk result (out.new.items ≡ out.old.items ++ text_bytes text.now) }
+    ensures spelling { OnOk result (out.new.items ≡ out.old.items ++ text_bytes text.now) }
+    ensures fits { TextFits text.now }
 {
     put_counted(out, text.as_str().as_bytes())
 }
 
 /// Appends a string of bytes: its length, then the bytes.
 pub fn put_bytes(out: &mut Vec<u8>, bytes: &Bytes) -> Result<(), Memory>
-    ensures { OnOk result (out.new.items ≡ out.old.items ++ text_bytes bytes.now) }
+    ensures spelling { OnOk result (out.new.items ≡ out.old.items ++ text_bytes bytes.now) }
+    ensures fits { TextFits bytes.now }
 {
     put_counted(out, bytes.as_slice())
 }

@@ -1,10 +1,10 @@
 //! Lists of what has a spelling.
 ghost use Rattle.std.specs.Prelude.{◌≡◌, ℕ, List, ◌++◌, OnOk};
-ghost use Rattle.std.specs.List.{flat_map};
-ghost use Rattle.contract_bytes.specs.Numbers.{list_bytes, text_bytes};
-ghost use Rattle.contract_bytes.specs.Names.{bound_bytes, holding_bytes};
-ghost use Rattle.contract_bytes.specs.Inputs.{input_bytes};
-ghost use Rattle.contract_bytes.specs.States.{money_bytes, chosen_bytes, bound_value_bytes, state_bytes};
+ghost use Rattle.std.specs.List.{All, flat_map};
+ghost use Rattle.contract_bytes.specs.Numbers.{list_bytes, text_bytes, TextFits, ListFits};
+ghost use Rattle.contract_bytes.specs.Names.{bound_bytes, holding_bytes, BoundFits, HoldingFits};
+ghost use Rattle.contract_bytes.specs.Inputs.{input_bytes, InputFits};
+ghost use Rattle.contract_bytes.specs.States.{money_bytes, chosen_bytes, bound_value_bytes, state_bytes, MoneyFits, ChosenFits, BoundValueFits, StateFits};
 
 use crate::input::put_input;
 use crate::names_of::{put_bound, put_choice_id, put_party, put_token};
@@ -19,13 +19,19 @@ pub trait Spell {
     /// Its bytes.
     ghost spelling: { Self → List ℕ };
 
+    /// Whether its numbers, times and lengths fit their places, as those of all values in memory do.
+    ghost Fits: { Self → Type 0 };
+
     /// Appends its bytes.
     fn put(&self, out: &mut Vec<u8>) -> Result<(), Memory>
-        ensures { OnOk result (out.new.items ≡ out.old.items ++ spelling self.now) };
+        ensures spelling { OnOk result (out.new.items ≡ out.old.items ++ spelling self.now) }
+        ensures fits { OnOk result (Fits self.now) };
 }
 
 impl Spell for Text {
     ghost spelling = { text_bytes };
+
+    ghost Fits = { TextFits };
 
     fn put(&self, out: &mut Vec<u8>) -> Result<(), Memory> {
         put_text(out, self)
@@ -35,6 +41,8 @@ impl Spell for Text {
 impl Spell for Bytes {
     ghost spelling = { text_bytes };
 
+    ghost Fits = { TextFits };
+
     fn put(&self, out: &mut Vec<u8>) -> Result<(), Memory> {
         put_bytes(out, self)
     }
@@ -42,6 +50,8 @@ impl Spell for Bytes {
 
 impl Spell for Input {
     ghost spelling = { input_bytes };
+
+    ghost Fits = { InputFits };
 
     fn put(&self, out: &mut Vec<u8>) -> Result<(), Memory> {
         put_input(out, self)
@@ -51,6 +61,8 @@ impl Spell for Input {
 impl Spell for State {
     ghost spelling = { state_bytes };
 
+    ghost Fits = { StateFits };
+
     fn put(&self, out: &mut Vec<u8>) -> Result<(), Memory> {
         put_state(out, self)
     }
@@ -58,6 +70,8 @@ impl Spell for State {
 
 impl Spell for (Token, i128) {
     ghost spelling = { holding_bytes };
+
+    ghost Fits = { HoldingFits };
 
     fn put(&self, out: &mut Vec<u8>) -> Result<(), Memory> {
         put_token(out, &self.0)?;
@@ -68,6 +82,8 @@ impl Spell for (Token, i128) {
 impl Spell for Bound {
     ghost spelling = { bound_bytes };
 
+    ghost Fits = { BoundFits };
+
     fn put(&self, out: &mut Vec<u8>) -> Result<(), Memory> {
         put_bound(out, self)
     }
@@ -75,6 +91,8 @@ impl Spell for Bound {
 
 impl Spell for (Account, i128) {
     ghost spelling = { money_bytes };
+
+    ghost Fits = { MoneyFits };
 
     fn put(&self, out: &mut Vec<u8>) -> Result<(), Memory> {
         put_party(out, &self.0.owner)?;
@@ -86,6 +104,8 @@ impl Spell for (Account, i128) {
 impl Spell for (ChoiceId, i128) {
     ghost spelling = { chosen_bytes };
 
+    ghost Fits = { ChosenFits };
+
     fn put(&self, out: &mut Vec<u8>) -> Result<(), Memory> {
         put_choice_id(out, &self.0)?;
         put_number(out, self.1)
@@ -95,6 +115,8 @@ impl Spell for (ChoiceId, i128) {
 impl Spell for (Text, i128) {
     ghost spelling = { bound_value_bytes };
 
+    ghost Fits = { BoundValueFits };
+
     fn put(&self, out: &mut Vec<u8>) -> Result<(), Memory> {
         put_text(out, &self.0)?;
         put_number(out, self.1)
@@ -103,14 +125,16 @@ impl Spell for (Text, i128) {
 
 /// Appends a list: its length, then its items.
 pub fn put_list<T: Spell>(out: &mut Vec<u8>, items: &[T]) -> Result<(), Memory>
-    ensures { OnOk result (out.new.items ≡ out.old.items ++ list_bytes T.spelling items.now) }
+    ensures spelling { OnOk result (out.new.items ≡ out.old.items ++ list_bytes T.spelling items.now) }
+    ensures fits { OnOk result (ListFits T.Fits items.now) }
 {
     put_length(out, items.len())?;
     put_items(out, items)
 }
 
 fn put_items<T: Spell>(out: &mut Vec<u8>, items: &[T]) -> Result<(), Memory>
-    ensures { OnOk result (out.new.items ≡ out.old.items ++ flat_map T.spelling items.now) }
+    ensures spelling { OnOk result (out.new.items ≡ out.old.items ++ flat_map T.spelling items.now) }
+    ensures fits { OnOk result (All T.Fits items.now) }
 {
     for item in items {
         item.put(out)?;

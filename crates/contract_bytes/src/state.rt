@@ -1,6 +1,6 @@
 //! States.
 ghost use Rattle.std.specs.Prelude.{◌≡◌, ◌++◌, OnOk};
-ghost use Rattle.contract_bytes.specs.States.{state_bytes};
+ghost use Rattle.contract_bytes.specs.States.{state_bytes, StateFits};
 
 use crate::number::put_time;
 use crate::spell::put_list;
@@ -10,7 +10,8 @@ use contract::State;
 /// Appends a state: its accounts, its choices and its bound values, each in order, then its minimum time.
 #[tactic(auto, using(std::proofs::Common::append_assoc))]
 pub fn put_state(out: &mut Vec<u8>, state: &State) -> Result<(), Memory>
-    ensures { OnOk result (out.new.items ≡ out.old.items ++ state_bytes state.now) }
+    ensures spelling { OnOk result (out.new.items ≡ out.old.items ++ state_bytes state.now) }
+    ensures fits { OnOk result (StateFits state.now) }
 {
     put_list(out, state.accounts())?;
     put_list(out, state.choices())?;

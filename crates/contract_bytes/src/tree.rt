@@ -1,11 +1,11 @@
 //! Actions, cases and contracts.
 ghost use Rattle.std.specs.Prelude.{◌≡◌, ◌∷◌, ◌++◌, OnOk, length};
-ghost use Rattle.std.specs.List.{flat_map};
+ghost use Rattle.std.specs.List.{All, flat_map};
 ghost use Rattle.contract.specs.Tree.{value_tree, observation_tree, action_tree, contract_tree};
-ghost use Rattle.contract_bytes.specs.Numbers.{length_bytes, time_bytes, text_bytes};
-ghost use Rattle.contract_bytes.specs.Names.{party_bytes, token_bytes, payee_bytes};
-ghost use Rattle.contract_bytes.specs.Values.{value_bytes, observation_bytes};
-ghost use Rattle.contract_bytes.specs.Trees.{action_bytes, contract_bytes};
+ghost use Rattle.contract_bytes.specs.Numbers.{length_bytes, time_bytes, text_bytes, TextFits};
+ghost use Rattle.contract_bytes.specs.Names.{party_bytes, token_bytes, payee_bytes, PartyFits, TokenFits, PayeeFits};
+ghost use Rattle.contract_bytes.specs.Values.{value_bytes, observation_bytes, ValueFits, ObservationFits};
+ghost use Rattle.contract_bytes.specs.Trees.{action_bytes, contract_bytes, ActionFits, ContractFits};
 
 use crate::names_of::{put_choice_id, put_party, put_payee, put_token};
 use crate::number::{put_byte, put_length, put_text, put_time};
@@ -17,7 +17,8 @@ use names::{Party, Payee, Token};
 
 #[tactic(auto, using(crate::proofs::Forms::action_forms))]
 fn put_action(out: &mut Vec<u8>, action: &Action) -> Result<(), Memory>
-    ensures { OnOk result (out.new.items ≡ out.old.items ++ action_bytes (action_tree action.now)) }
+    ensures spelling { OnOk result (out.new.items ≡ out.old.items ++ action_bytes (action_tree action.now)) }
+    ensures fits { OnOk result (ActionFits (action_tree action.now)) }
 {
     match action {
         Action::Deposit(account, party, token, value) => {
@@ -51,7 +52,8 @@ fn put_pay(
     token: &Token,
     value: &Value,
 ) -> Result<(), Memory>
-    ensures { OnOk result (out.new.items ≡ out.old.items ++ 0x01 ∷ party_bytes account.now ++ payee_bytes payee.now ++ token_bytes token.now ++ value_bytes (value_tree value.now)) }
+    ensures spelling { OnOk result (out.new.items ≡ out.old.items ++ 0x01 ∷ party_bytes account.now ++ payee_bytes payee.now ++ token_bytes token.now ++ value_bytes (value_tree value.now)) }
+    ensures fits { OnOk result (PartyFits account.now × PayeeFits payee.now × TokenFits token.now × ValueFits (value_tree value.now)) }
 {
     put_byte(out, 0x01)?;
     put_party(out, account)?;
@@ -61,14 +63,16 @@ fn put_pay(
 }
 
 fn put_test(out: &mut Vec<u8>, tag: u8, observation: &Observation) -> Result<(), Memory>
-    ensures { OnOk result (out.new.items ≡ out.old.items ++ tag ∷ observation_bytes (observation_tree observation.now)) }
+    ensures spelling { OnOk result (out.new.items ≡ out.old.items ++ tag ∷ observation_bytes (observation_tree observation.now)) }
+    ensures fits { OnOk result (ObservationFits (observation_tree observation.now)) }
 {
     put_byte(out, tag)?;
     put_observation(out, observation)
 }
 
 fn put_let(out: &mut Vec<u8>, name: &Text, value: &Value) -> Result<(), Memory>
-    ensures { OnOk result (out.new.items ≡ out.old.items ++ 0x04 ∷ text_bytes name.now ++ value_bytes (value_tree value.now)) }
+    ensures spelling { OnOk result (out.new.items ≡ out.old.items ++ 0x04 ∷ text_bytes name.now ++ value_bytes (value_tree value.now)) }
+    ensures fits { OnOk result (TextFits name.now × ValueFits (value_tree value.now)) }
 {
     put_byte(out, 0x04)?;
     put_text(out, name)?;
@@ -77,14 +81,16 @@ fn put_let(out: &mut Vec<u8>, name: &Text, value: &Value) -> Result<(), Memory>
 
 #[cycle(put_contract)]
 fn put_then(out: &mut Vec<u8>, contract: &Boxed<Contract>) -> Result<(), Memory>
-    ensures { OnOk result (out.new.items ≡ out.old.items ++ contract_bytes (contract_tree contract.now)) }
+    ensures spelling { OnOk result (out.new.items ≡ out.old.items ++ contract_bytes (contract_tree contract.now)) }
+    ensures fits { OnOk result (ContractFits (contract_tree contract.now)) }
 {
     put_contract(out, contract.get())
 }
 
 #[cycle(put_contract)]
 fn put_case(out: &mut Vec<u8>, case: &Case) -> Result<(), Memory>
-    ensures { OnOk result (out.new.items ≡ out.old.items ++ action_bytes (action_tree case.now.action) ++ contract_bytes (contract_tree case.now.then)) }
+    ensures spelling { OnOk result (out.new.items ≡ out.old.items ++ action_bytes (action_tree case.now.action) ++ contract_bytes (contract_tree case.now.then)) }
+    ensures fits { OnOk result (ActionFits (action_tree case.now.action) × ContractFits (contract_tree case.now.then)) }
 {
     put_action(out, &case.action)?;
     put_contract(out, &case.then)
@@ -92,7 +98,8 @@ fn put_case(out: &mut Vec<u8>, case: &Case) -> Result<(), Memory>
 
 #[cycle(put_contract)]
 fn put_cases(out: &mut Vec<u8>, cases: &Items<Case>) -> Result<(), Memory>
-    ensures { OnOk result (out.new.items ≡ out.old.items ++ flat_map (λ k. action_bytes (action_tree k.action) ++ contract_bytes (contract_tree k.then)) cases.now) }
+    ensures spelling { OnOk result (out.new.items ≡ out.old.items ++ flat_map (λ k. action_bytes (action_tree k.action) ++ contract_bytes (contract_tree k.then)) cases.now) }
+    ensures fits { OnOk result (All (λ k. ActionFits (action_tree k.action) × ContractFits (contract_tree k.then)) cases.now) }
 {
     for case in cases.as_slice() {
         put_case(out, case)?;
@@ -101,9 +108,10 @@ fn put_cases(out: &mut Vec<u8>, cases: &Items<Case>) -> Result<(), Memory>
 }
 
 #[cycle(put_contract)]
-#[tactic(auto, using(crate::proofs::Forms::contract_forms))]
+#[tactic(auto, using(crate::proofs::Forms::contract_forms, crate::proofs::FitsForms::contract_fits_forms))]
 pub(crate) fn put_contract(out: &mut Vec<u8>, contract: &Contract) -> Result<(), Memory>
-    ensures { OnOk result (out.new.items ≡ out.old.items ++ contract_bytes (contract_tree contract.now)) }
+    ensures spelling { OnOk result (out.new.items ≡ out.old.items ++ contract_bytes (contract_tree contract.now)) }
+    ensures fits { OnOk result (ContractFits (contract_tree contract.now)) }
 {
     match contract {
         Contract::Close => put_byte(out, 0x00),

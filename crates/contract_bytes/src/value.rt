@@ -1,7 +1,7 @@
 //! Values and observations.
 ghost use Rattle.std.specs.Prelude.{◌≡◌, ◌++◌, OnOk};
 ghost use Rattle.contract.specs.Tree.{value_tree, observation_tree};
-ghost use Rattle.contract_bytes.specs.Values.{value_bytes, observation_bytes};
+ghost use Rattle.contract_bytes.specs.Values.{value_bytes, observation_bytes, ValueFits, ObservationFits};
 
 use crate::names_of::{put_choice_id, put_party, put_token};
 use crate::number::{put_byte, put_number, put_text};
@@ -10,22 +10,25 @@ use contract::{Observation, Value};
 
 #[cycle(put_value)]
 fn put_operand(out: &mut Vec<u8>, value: &Boxed<Value>) -> Result<(), Memory>
-    ensures { OnOk result (out.new.items ≡ out.old.items ++ value_bytes (value_tree value.now)) }
+    ensures spelling { OnOk result (out.new.items ≡ out.old.items ++ value_bytes (value_tree value.now)) }
+    ensures fits { OnOk result (ValueFits (value_tree value.now)) }
 {
     put_value(out, value.get())
 }
 
 #[cycle(put_value)]
 fn put_condition(out: &mut Vec<u8>, observation: &Boxed<Observation>) -> Result<(), Memory>
-    ensures { OnOk result (out.new.items ≡ out.old.items ++ observation_bytes (observation_tree observation.now)) }
+    ensures spelling { OnOk result (out.new.items ≡ out.old.items ++ observation_bytes (observation_tree observation.now)) }
+    ensures fits { OnOk result (ObservationFits (observation_tree observation.now)) }
 {
     put_observation(out, observation.get())
 }
 
 #[cycle(put_value)]
-#[tactic(auto, using(crate::proofs::Forms::value_forms))]
+#[tactic(auto, using(crate::proofs::Forms::value_forms, crate::proofs::FitsForms::value_fits_forms))]
 pub(crate) fn put_value(out: &mut Vec<u8>, value: &Value) -> Result<(), Memory>
-    ensures { OnOk result (out.new.items ≡ out.old.items ++ value_bytes (value_tree value.now)) }
+    ensures spelling { OnOk result (out.new.items ≡ out.old.items ++ value_bytes (value_tree value.now)) }
+    ensures fits { OnOk result (ValueFits (value_tree value.now)) }
 {
     match value {
         Value::AvailableMoney(party, token) => {
@@ -91,9 +94,10 @@ pub(crate) fn put_value(out: &mut Vec<u8>, value: &Value) -> Result<(), Memory>
 }
 
 #[cycle(put_value)]
-#[tactic(auto, using(crate::proofs::Forms::observation_forms))]
+#[tactic(auto, using(crate::proofs::Forms::observation_forms, crate::proofs::FitsForms::observation_fits_forms))]
 pub(crate) fn put_observation(out: &mut Vec<u8>, observation: &Observation) -> Result<(), Memory>
-    ensures { OnOk result (out.new.items ≡ out.old.items ++ observation_bytes (observation_tree observation.now)) }
+    ensures spelling { OnOk result (out.new.items ≡ out.old.items ++ observation_bytes (observation_tree observation.now)) }
+    ensures fits { OnOk result (ObservationFits (observation_tree observation.now)) }
 {
     match observation {
         Observation::AndObs(a, b) => {

@@ -5,7 +5,8 @@ use Rattle.hex.proofs.HexLemmas.{decode_of-encode_lower}
 use Rattle.hex.specs.Hex.{IsBytes}
 use Rattle.names.specs.declared.token.Token.{Token}
 use Rattle.json_writers.specs.Written.{token_json}
-use Rattle.json_names.specs.Parts.{◌>>=◌, decoded}
+use Rattle.collections.specs.Answers.{◌>>=◌}
+use Rattle.json_names.specs.Parts.{decoded}
 use Rattle.json_names.specs.ReadsNames.{token}
 
 -- a token that was written is read as it was

@@ -7,6 +7,7 @@ pub mod ReturnsContract
 pub mod ReturnsInput
 pub mod ReturnsState
 pub mod Returned
+pub mod InRange
 pub mod Ranges
 pub mod ReadValuesFit
 pub mod ReadContractsFit

@@ -12,7 +12,8 @@ use Rattle.json.specs.Json as json
 use Rattle.serde_json.specs.Data.{Num, unsigned, negative, float, Data, null, boolean, number, string, array, object, Items, no_items, item, Members, no_members, member, put}
 use Rattle.serde_json.specs.Find.{get_member}
 use Rattle.serde_json.specs.Read.{read, max_depth, is_integer, float_of, number_from, number_of, of_json, of_items, of_members}
-use Rattle.json_names.specs.Parts.{Reading, ◌>>=◌, found, whole, time, member_at, reading_at}
+use Rattle.collections.specs.Answers.{◌>>=◌}
+use Rattle.json_names.specs.Parts.{Reading, found, whole, time, member_at, reading_at}
 use Rattle.json_names.specs.declared.fault.JsonFault.TheVariants.{OutOfRange}
 use Rattle.json_writers.specs.Written.{number_fits, time_fits}
 

@@ -12,9 +12,10 @@ use Rattle.contract.specs.declared.tree.Action.{Action}
 use Rattle.contract.specs.declared.tree.Case.{Case}
 use Rattle.contract.specs.declared.tree.Contract.{Contract}
 use Rattle.contract.specs.Tree.{action_tree, case_trees, case_tree, contract_tree}
-use Rattle.contract.specs.TreeLaws as laws
+use Rattle.contract.proofs.TreeLaws as laws
 use Rattle.json_names.specs.Forms.{has_two, contract_form, case_form, action_form}
-use Rattle.json_names.specs.Parts.{◌>>=◌, ByKey, reading_at, both_readings, nowhere, text, whole, time, all_items, list}
+use Rattle.collections.specs.Answers.{◌>>=◌}
+use Rattle.json_names.specs.Parts.{ByKey, reading_at, both_readings, nowhere, text, whole, time, all_items, list}
 use Rattle.json_names.specs.ReadsNames.{party, payee, token, choice_id, bound}
 use Rattle.json_names.specs.ReadsText.{json_of, json_or_not, of_text}
 use Rattle.json_names.specs.declared.fault.JsonFault.TheVariants.{NoForm, NotJson, TooLong}

@@ -7,7 +7,7 @@ use Rattle.serde_json.specs.Data.{Data, null, boolean, number, string, array, ob
 use Rattle.contract.specs.declared.value.Value.{Value}
 use Rattle.contract.specs.declared.value.Observation.{Observation}
 use Rattle.contract.specs.Tree.{value_tree, observation_tree}
-use Rattle.contract.specs.TreeLaws as laws
+use Rattle.contract.proofs.TreeLaws as laws
 use Rattle.json_names.specs.Forms.{value_form, observation_form}
 use Rattle.json_names.specs.Parts.{Reading, ByKey, reading_at, both_readings, nowhere, text, whole}
 use Rattle.json_names.specs.ReadsNames.{party, token, choice_id}

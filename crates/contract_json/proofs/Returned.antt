@@ -14,9 +14,11 @@ use Rattle.contract.specs.declared.tree.Action.{Action}
 use Rattle.contract.specs.declared.tree.Case.{Case}
 use Rattle.contract.specs.declared.tree.Contract.{Contract}
 use Rattle.contract.specs.declared.input.Input.{Input}
-use Rattle.contract.specs.Tree.{value_tree, observation_tree, action_tree, case_tree, contract_tree, action_of, contract_of}
-use Rattle.contract.specs.TreeLaws.{value_of-value_tree, observation_of-observation_tree, action_of-action_tree, case_tree-parts, contract_of-contract_tree}
-use Rattle.json_names.specs.Parts.{Reading, ◌>>=◌}
+use Rattle.collections.specs.Answers.{◌>>=◌}
+use Rattle.contract.specs.Tree.{value_tree, observation_tree, action_tree, case_tree, contract_tree}
+use Rattle.contract.specs.TreeInverse.{action_of, contract_of}
+use Rattle.contract.proofs.TreeLaws.{value_of-value_tree, observation_of-observation_tree, action_of-action_tree, case_tree-parts, contract_of-contract_tree}
+use Rattle.json_names.specs.Parts.{Reading}
 use Rattle.json_names.specs.ReadsNames.{party, choice_id, payee, bound}
 use Rattle.json_names.specs.ReadsText.{of_text}
 use Rattle.json_names.proofs.TextLaws.{json_of-read}

@@ -16,7 +16,8 @@ use Rattle.contract.specs.declared.tree.Action.TheVariants as actions
 use Rattle.contract.specs.declared.tree.Case.{Case}
 use Rattle.contract.specs.declared.tree.Contract.{Contract}
 use Rattle.contract.specs.declared.tree.Contract as made
-use Rattle.contract.specs.Tree.{ActionTree, deposit, choice, notify, ContractTree, close, pay, if_obs, when, let_be, assert, CaseTrees, no_cases, case_then, value_of, observation_of, action_of, contract_of, cases_of}
+use Rattle.contract.specs.Tree.{ActionTree, deposit, choice, notify, ContractTree, close, pay, if_obs, when, let_be, assert, CaseTrees, no_cases, case_then}
+use Rattle.contract.specs.TreeInverse.{value_of, observation_of, action_of, contract_of, cases_of}
 use Rattle.json_names.specs.Forms.{contract_form, case_form, action_form}
 use Rattle.json_names.specs.Parts.{time}
 use Rattle.json_names.specs.ReadsNames.{party, payee, token, choice_id}

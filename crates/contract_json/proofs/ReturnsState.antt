@@ -13,13 +13,14 @@ use Rattle.std.specs.FinMap.{FinMap, IsAntisymmetric, empty, entries, entries_so
 use Rattle.names.specs.declared.account.Account.{Account}
 use Rattle.names.specs.Orders.{bytes_cmp, account_cmp, choice_id_cmp}
 use Rattle.names.specs.Totals.{bytes_total, account_total, choice_id_total}
-use Rattle.names.specs.Exact.{bytes_exact, account_exact, choice_id_exact}
+use Rattle.names.proofs.Exact.{bytes_exact, account_exact, choice_id_exact}
 use Rattle.states.specs.States.{StateMaps, AllPositive}
 use Rattle.collections.specs.Repeats.{has_key, has_repeat}
 use Rattle.std.specs.Fmt.{signed_decimal}
 use Rattle.serde_json.specs.Data.{Data, string, Items, no_items, item}
 use Rattle.serde_json.specs.Find.{as_array}
-use Rattle.json_names.specs.Parts.{Reading, ◌>>=◌, found, all_items, list, time}
+use Rattle.collections.specs.Answers.{◌>>=◌}
+use Rattle.json_names.specs.Parts.{Reading, found, all_items, list, time}
 use Rattle.json_states.specs.ReadsState.{account_row, choice_row, bound_row, rows_into, rows, state}
 use Rattle.json_states.specs.Rows.{and_then, until_fault}
 use Rattle.names.specs.declared.choice_id.ChoiceId.{ChoiceId}

@@ -1,12 +1,13 @@
 //! What is written as JSON, and how it becomes a text or a `serde_json` value.
 ghost use Rattle.std.specs.Prelude.{◌≡◌, ◌≤◌, Bool, true, length, Some, IfOk, OnOk, IsUtf8};
+ghost use Rattle.collections.specs.Answers.{AsideBy};
 ghost use Rattle.serde_json.specs.Data.{Data, depth};
 ghost use Rattle.serde_json.specs.Read.{read, max_depth};
 ghost use Rattle.serde_json.specs.View.{view};
 ghost use Rattle.serde_json.specs.Written.{compact_text};
 ghost use Rattle.json_tree.specs.View.{read_within};
 ghost use Rattle.json_writers.specs.Tokens.{PutsFitting};
-ghost use Rattle.json_writers.specs.Written.{Written};
+ghost use Rattle.json_writers.specs.Written.{in_range};
 ghost use Rattle.contract_json.specs.Readable.{Readable};
 
 use collections::Memory;
@@ -36,8 +37,10 @@ pub(crate) trait PutJson {
 }
 
 // The compact text of the value.
+#[tactic(auto, using(crate::proofs::InRange::fault_of))]
 pub(crate) fn text_of<T: PutJson>(alloc: Global, item: &T) -> Result<Vec<u8>, WriteFault>
-    ensures written { Written (λ text. text.items) result (T.fits item.now) (compact_text (T.json item.now)) }
+    ensures written { AsideBy WriteFault.Memory (λ text. text.items) result (in_range (T.fits item.now) (compact_text (T.json item.now))) }
+    ensures fits { OnOk result (T.fits item.now ≡ true) }
     ensures known { OnOk result (T.known item.now) }
     ensures utf8 { IfOk result (λ text. IsUtf8 text.items) }
     ensures reads { IfOk result (λ text. depth (T.json item.now) ≤ max_depth → read text.items ≡ Some (T.json item.now)) }
@@ -49,8 +52,11 @@ pub(crate) fn text_of<T: PutJson>(alloc: Global, item: &T) -> Result<Vec<u8>, Wr
 }
 
 // The value itself.
+#[tactic(auto, using(crate::proofs::InRange::fitting, crate::proofs::InRange::same_fault))]
 pub(crate) fn value_of<T: PutJson>(alloc: Global, item: &T) -> Result<Value, WriteFault>
-    ensures written { Written view result (T.fits item.now) (T.json item.now) }
+    ensures written { AsideBy WriteFault.Memory view result (in_range (T.fits item.now) (T.json item.now)) }
+    ensures fits { OnOk result (T.fits item.now ≡ true) }
+    ensures json { IfOk result (λ v. view v ≡ T.json item.now) }
     ensures known { OnOk result (T.known item.now) }
 {
     let text = text_of(alloc, item)?;

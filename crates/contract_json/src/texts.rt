@@ -1,16 +1,16 @@
 //! From a text to its reading, and from a value to its text.
 ghost use Rattle.std.specs.Prelude.{◌≡◌, ◌≤◌, length, IfOk, Ok};
+ghost use Rattle.collections.specs.Answers.{Aside, AsideBy};
 ghost use Rattle.serde_json.specs.Data.{depth};
 ghost use Rattle.serde_json.specs.Read.{max_depth};
 ghost use Rattle.serde_json.specs.Written.{compact_text};
 ghost use Rattle.contract.specs.Tree.{contract_tree};
-ghost use Rattle.contract_json.specs.Parts.{Gives};
 ghost use Rattle.contract_json.specs.ReadsContract as contract_reads;
 ghost use Rattle.contract_json.specs.ReadsInput as input_reads;
 ghost use Rattle.contract_json.specs.ReadsState as state_reads;
 ghost use Rattle.contract_json.specs.ReadsText.{of_text};
 ghost use Rattle.contract_json.specs.Written as written;
-ghost use Rattle.contract_json.specs.Written.{Written, contract_fits};
+ghost use Rattle.contract_json.specs.Written.{in_range, contract_fits};
 
 use crate::put_json::text_of;
 use contract::{Contract, Input, Outcome, State};
@@ -23,7 +23,7 @@ use std::alloc::Global;
 
 /// Reads the text of a contract.
 pub fn read_contract(alloc: Global, text: &[u8]) -> Result<Contract, JsonFault>
-    ensures reading { Gives result (of_text contract_reads.contract text.now) }
+    ensures reading { Aside JsonFault.Memory result (of_text contract_reads.contract text.now) }
 {
     let mut scratch = Scratch::new(alloc);
     let json = json_of(alloc, text, &mut scratch)?;
@@ -32,7 +32,7 @@ pub fn read_contract(alloc: Global, text: &[u8]) -> Result<Contract, JsonFault>
 
 /// Reads the text of an input.
 pub fn read_input(alloc: Global, text: &[u8]) -> Result<Input, JsonFault>
-    ensures reading { Gives result (of_text input_reads.input text.now) }
+    ensures reading { Aside JsonFault.Memory result (of_text input_reads.input text.now) }
 {
     let mut scratch = Scratch::new(alloc);
     let json = json_of(alloc, text, &mut scratch)?;
@@ -41,7 +41,7 @@ pub fn read_input(alloc: Global, text: &[u8]) -> Result<Input, JsonFault>
 
 /// Reads the text of a transaction.
 pub fn read_transaction(alloc: Global, text: &[u8]) -> Result<Transaction, JsonFault>
-    ensures reading { Gives result (of_text input_reads.transaction text.now) }
+    ensures reading { Aside JsonFault.Memory result (of_text input_reads.transaction text.now) }
 {
     let mut scratch = Scratch::new(alloc);
     let json = json_of(alloc, text, &mut scratch)?;
@@ -50,7 +50,7 @@ pub fn read_transaction(alloc: Global, text: &[u8]) -> Result<Transaction, JsonF
 
 /// Reads the text of a state.
 pub fn read_state(alloc: Global, text: &[u8]) -> Result<State, JsonFault>
-    ensures reading { Gives result (of_text state_reads.state text.now) }
+    ensures reading { Aside JsonFault.Memory result (of_text state_reads.state text.now) }
 {
     let mut scratch = Scratch::new(alloc);
     let json = json_of(alloc, text, &mut scratch)?;
@@ -59,7 +59,8 @@ pub fn read_state(alloc: Global, text: &[u8]) -> Result<State, JsonFault>
 
 /// The text of a contract: compact, with each object's keys in the order of their bytes.
 pub fn write_contract(alloc: Global, contract: &Contract) -> Result<Vec<u8>, WriteFault>
-    ensures written { Written (λ text. text.items) result (contract_fits (contract_tree contract.now)) (compact_text (written.contract_json (contract_tree contract.now))) }
+    ensures written { AsideBy WriteFault.Memory (λ text. text.items) result
+        (in_range (contract_fits (contract_tree contract.now)) (compact_text (written.contract_json (contract_tree contract.now)))) }
     ensures reads_back { IfOk result (λ text. length text.items ≤ 1048576 → depth (written.contract_json (contract_tree contract.now)) ≤ max_depth
         → of_text contract_reads.contract text.items ≡ Ok contract.now) }
 {
@@ -70,8 +71,8 @@ pub fn write_contract(alloc: Global, contract: &Contract) -> Result<Vec<u8>, Wri
 /// The text of an outcome: compact, with each object's keys in the order of their bytes. A number of
 /// the payments, the warnings and the state that JSON doesn't have is a text of its decimal digits.
 pub fn write_outcome(alloc: Global, outcome: &Outcome<&Contract>) -> Result<Vec<u8>, WriteFault>
-    ensures written { Written (λ text. text.items) result (contract_fits (contract_tree outcome.now.place.now))
-        (compact_text (written.outcome_json outcome.now.warnings outcome.now.payments outcome.now.state (contract_tree outcome.now.place.now))) }
+    ensures written { AsideBy WriteFault.Memory (λ text. text.items) result (in_range (contract_fits (contract_tree outcome.now.place.now))
+        (compact_text (written.outcome_json outcome.now.warnings outcome.now.payments outcome.now.state (contract_tree outcome.now.place.now)))) }
 {
     let text = text_of(alloc, outcome)?;
     Ok(text)

@@ -1,5 +1,6 @@
 //! Values of `serde_json`, from what they stand for.
 ghost use Rattle.std.specs.Prelude.{◌≡◌, true, Ok, IfOk};
+ghost use Rattle.collections.specs.Answers.{AsideBy};
 ghost use Rattle.serde_json.specs.View.{view};
 ghost use Rattle.contract.specs.Tree.{value_tree, observation_tree, action_tree, case_tree, contract_tree};
 ghost use Rattle.contract_json.specs.ReadsContract as contract_reads;
@@ -8,7 +9,7 @@ ghost use Rattle.contract_json.specs.ReadsNames as reads;
 ghost use Rattle.contract_json.specs.ReadsState as state_reads;
 ghost use Rattle.contract_json.specs.ReadsValue as value_reads;
 ghost use Rattle.contract_json.specs.Written as written;
-ghost use Rattle.contract_json.specs.Written.{Written, bound_fits, value_fits, observation_fits, action_fits, case_fits, contract_fits, input_fits, transaction_fits, state_fits};
+ghost use Rattle.contract_json.specs.Written.{in_range, bound_fits, value_fits, observation_fits, action_fits, case_fits, contract_fits, input_fits, transaction_fits, state_fits};
 
 use crate::put_json::{sure_value_of, value_of};
 use collections::Memory;
@@ -64,7 +65,7 @@ pub fn payee_to_json(alloc: Global, payee: &Payee) -> Result<Json, Memory>
 /// A bound as a JSON value. An end that doesn't lie from -2^63 to 2^64 - 1 is out of range.
 #[tactic(auto, using(crate::proofs::Returned::names_returned))]
 pub fn bound_to_json(alloc: Global, bound: &Bound) -> Result<Json, WriteFault>
-    ensures written { Written view result (bound_fits bound.now) (written.bound_json bound.now) }
+    ensures written { AsideBy WriteFault.Memory view result (in_range (bound_fits bound.now) (written.bound_json bound.now)) }
     ensures reads_back { IfOk result (λ v. reads.bound (view v) ≡ Ok bound.now) }
 {
     let json = value_of(alloc, bound)?;
@@ -76,7 +77,7 @@ pub fn bound_to_json(alloc: Global, bound: &Bound) -> Result<Json, WriteFault>
 /// to 2^64 - 1 is out of range.
 #[tactic(auto, using(crate::proofs::Returned::values_returned))]
 pub fn value_to_json(alloc: Global, value: &Value) -> Result<Json, WriteFault>
-    ensures written { Written view result (value_fits (value_tree value.now)) (written.value_json (value_tree value.now)) }
+    ensures written { AsideBy WriteFault.Memory view result (in_range (value_fits (value_tree value.now)) (written.value_json (value_tree value.now))) }
     ensures reads_back { IfOk result (λ v. value_reads.value (view v) ≡ Ok value.now) }
 {
     let json = value_of(alloc, value)?;
@@ -87,7 +88,7 @@ pub fn value_to_json(alloc: Global, value: &Value) -> Result<Json, WriteFault>
 /// `false`, or an object. A constant in it that doesn't lie from -2^63 to 2^64 - 1 is out of range.
 #[tactic(auto, using(crate::proofs::Returned::values_returned))]
 pub fn observation_to_json(alloc: Global, observation: &Observation) -> Result<Json, WriteFault>
-    ensures written { Written view result (observation_fits (observation_tree observation.now)) (written.observation_json (observation_tree observation.now)) }
+    ensures written { AsideBy WriteFault.Memory view result (in_range (observation_fits (observation_tree observation.now)) (written.observation_json (observation_tree observation.now))) }
     ensures reads_back { IfOk result (λ v. value_reads.observation (view v) ≡ Ok observation.now) }
 {
     let json = value_of(alloc, observation)?;
@@ -98,7 +99,7 @@ pub fn observation_to_json(alloc: Global, observation: &Observation) -> Result<J
 /// doesn't lie from -2^63 to 2^64 - 1 is out of range.
 #[tactic(auto, using(crate::proofs::Returned::contracts_returned))]
 pub fn action_to_json(alloc: Global, action: &Action) -> Result<Json, WriteFault>
-    ensures written { Written view result (action_fits (action_tree action.now)) (written.action_json (action_tree action.now)) }
+    ensures written { AsideBy WriteFault.Memory view result (in_range (action_fits (action_tree action.now)) (written.action_json (action_tree action.now))) }
     ensures reads_back { IfOk result (λ v. contract_reads.action (view v) ≡ Ok action.now) }
 {
     let json = value_of(alloc, action)?;
@@ -109,7 +110,7 @@ pub fn action_to_json(alloc: Global, action: &Action) -> Result<Json, WriteFault
 /// lie from -2^63 to 2^64 - 1 is out of range.
 #[tactic(auto, using(crate::proofs::Returned::contracts_returned))]
 pub fn contract_to_json(alloc: Global, contract: &Contract) -> Result<Json, WriteFault>
-    ensures written { Written view result (contract_fits (contract_tree contract.now)) (written.contract_json (contract_tree contract.now)) }
+    ensures written { AsideBy WriteFault.Memory view result (in_range (contract_fits (contract_tree contract.now)) (written.contract_json (contract_tree contract.now))) }
     ensures reads_back { IfOk result (λ v. contract_reads.contract (view v) ≡ Ok contract.now) }
 {
     let json = value_of(alloc, contract)?;
@@ -120,7 +121,7 @@ pub fn contract_to_json(alloc: Global, contract: &Contract) -> Result<Json, Writ
 /// doesn't lie from -2^63 to 2^64 - 1 is out of range.
 #[tactic(auto, using(crate::proofs::Returned::contracts_returned))]
 pub fn case_to_json(alloc: Global, case: &Case) -> Result<Json, WriteFault>
-    ensures written { Written view result (case_fits (case_tree case.now)) (written.case_json (case_tree case.now)) }
+    ensures written { AsideBy WriteFault.Memory view result (in_range (case_fits (case_tree case.now)) (written.case_json (case_tree case.now))) }
     ensures reads_back { IfOk result (λ v. contract_reads.case (view v) ≡ Ok case.now) }
 {
     let json = value_of(alloc, case)?;
@@ -131,7 +132,7 @@ pub fn case_to_json(alloc: Global, case: &Case) -> Result<Json, WriteFault>
 /// that doesn't lie from -2^63 to 2^64 - 1 is out of range.
 #[tactic(auto, using(crate::proofs::Returned::inputs_returned))]
 pub fn input_to_json(alloc: Global, input: &Input) -> Result<Json, WriteFault>
-    ensures written { Written view result (input_fits input.now) (written.input_json input.now) }
+    ensures written { AsideBy WriteFault.Memory view result (in_range (input_fits input.now) (written.input_json input.now)) }
     ensures reads_back { IfOk result (λ v. input_reads.input (view v) ≡ Ok input.now) }
 {
     let json = value_of(alloc, input)?;
@@ -142,7 +143,7 @@ pub fn input_to_json(alloc: Global, input: &Input) -> Result<Json, WriteFault>
 /// lie from -2^63 to 2^64 - 1 is out of range.
 #[tactic(auto, using(crate::proofs::Returned::inputs_returned))]
 pub fn transaction_to_json(alloc: Global, transaction: &Transaction) -> Result<Json, WriteFault>
-    ensures written { Written view result (transaction_fits transaction.now) (written.transaction_json transaction.now) }
+    ensures written { AsideBy WriteFault.Memory view result (in_range (transaction_fits transaction.now) (written.transaction_json transaction.now)) }
     ensures reads_back { IfOk result (λ v. input_reads.transaction (view v) ≡ Ok transaction.now) }
 {
     let json = value_of(alloc, transaction)?;
@@ -181,7 +182,7 @@ pub fn state_to_json(alloc: Global, state: &State) -> Result<Json, Memory>
 /// An outcome as a JSON value: the contract that remains, the payments and the warnings in order, and
 /// the state.
 pub fn outcome_to_json(alloc: Global, outcome: &Outcome<&Contract>) -> Result<Json, WriteFault>
-    ensures written { Written view result (contract_fits (contract_tree outcome.now.place.now)) (written.outcome_json outcome.now.warnings outcome.now.payments outcome.now.state (contract_tree outcome.now.place.now)) }
+    ensures written { AsideBy WriteFault.Memory view result (in_range (contract_fits (contract_tree outcome.now.place.now)) (written.outcome_json outcome.now.warnings outcome.now.payments outcome.now.state (contract_tree outcome.now.place.now))) }
 {
     let json = value_of(alloc, outcome)?;
     Ok(json)

@@ -1,103 +1,140 @@
--- What the code's parts answer is the judgement.
-use Rattle.std.proofs.Common.{◌≡◌, ◌↔◌, IsTrue, Bool, true, false, List, [], ◌∷◌, ◌++◌, refl, sym, ◌∙◌, ap, subst, Option, Some, None, Result, Ok, Err, inl, inr}
-use Rattle.std.specs.Prelude.{IfOk}
-use Rattle.contract.specs.declared.fault.SemFault.{SemFault}
-use Rattle.contract.specs.declared.input.Input.{Input}
-use Rattle.contract.specs.declared.outcome.Outcome.{Outcome}
-use Rattle.contract.specs.declared.payment.Payment.{Payment}
-use Rattle.contract.specs.Tree.{ContractTree, close}
-use Rattle.semantics.specs.Walk.{Turn, At, at, Walk, answer_of, Aside}
-use Rattle.eutxo.specs.declared.fault.TxFault.{TxFault}
-use Rattle.eutxo.specs.declared.output.Output.{Output}
-use Rattle.eutxo.specs.declared.output_ref.OutputRef.{OutputRef}
-use Rattle.eutxo.specs.declared.datum.Datum.{Datum}
-use Rattle.eutxo.specs.declared.spend.Spend.{Spend}
-use Rattle.eutxo.specs.declared.tx.Tx.{Tx}
-use Rattle.eutxo.specs.History.{datum_of}
-use Rattle.eutxo.specs.Rules.{Script, stepped, or_later, inputs_of, walk_of, stepping, is_close, not_preserved}
-use Rattle.eutxo.specs.Judgement.{first_of, of_step, LeadsFrom, Answers}
-use Rattle.eutxo.specs.Parts.{outcome_rules, StepAnswers}
+-- What is found, what equals it, and what a check of it decides.
+use Rattle.std.proofs.Common.{◌≡◌, ◌≢◌, ℕ, Bool, true, false, cond, ◌&&◌, List, [], ◌∷◌, Option, Some, None, refl, sym, ◌∙◌, ap, subst}
+use Rattle.std.specs.Cmp.{Equal-is, tied_itself}
+use Rattle.std.specs.Cmp.Lexicographic.{pointwise, bytes_decides}
+use Rattle.std.specs.List.{AllByRecursion}
+use Rattle.std.specs.Ordering.{eq_by_cmp, is_eq}
+use Rattle.std.specs.FinMap.{FinMap, entries, get, get-insert, get-empty, get-entries}
+use Rattle.std.specs.FinMap.Entries.{find}
+use Rattle.names.specs.Orders.{bytes_cmp}
+use Rattle.names.specs.Totals.{bytes_total}
+use Rattle.names.proofs.Exact.{bytes_exact}
+use Rattle.bundle.specs.Bundles.{Amounts}
+use Rattle.machine.specs.declared.datum.Datum.{Datum}
+use Rattle.eutxo_types.specs.declared.fault.TxFault.{TxFault}
+use Rattle.eutxo.specs.Asked.{Judges, Stepping}
+use Rattle.eutxo.specs.Checks.{CheckOf}
+use Rattle.eutxo.specs.Found.{script_at, with_outputs, if_known, same_scripts}
+use Rattle.eutxo.specs.Judgement.{not_unspent, id_in_use, outside_interval, unknown_script, with_script, scripts_found, names_of, outputs_found, found}
+use Rattle.eutxo.specs.Laws.{AnswerAlike, EqualResolutionsAgree, EqualResolutionsDecideAlike, of_ledger, verdict_after, ChecksDecide, FoundIsEnough}
+use Rattle.eutxo.specs.Local.{of_tx, of_whole, local, verdict_of}
+use Rattle.eutxo.specs.Parts.{same_bytes}
+use Rattle.eutxo.specs.Places.{first_of, or_else}
+use Rattle.eutxo.proofs.Resolving.{alike_decide, agreeing_decide}
 
--- ---- the first of two lists
+all_of : {A : Type 0} (P : A → Type 0) → ((x : A) → P x) → (xs : List A) → AllByRecursion P xs
+all_of P h [] = tt
+all_of P h (x ∷ xs) = (h x, all_of P h xs)
 
-pub first_front : {A : Type 0} (xs ys : List (Option A)) (x : A) → first_of xs ≡ Some x → first_of (xs ++ ys) ≡ Some x
-first_front [] ys x h = cc
-first_front (None ∷ xs) ys x h = first_front xs ys x h
-first_front (Some y ∷ xs) ys x h = h
+mapped : {A : Type 0} (P Q : A → Type 0) → ((x : A) → P x → Q x) → (xs : List A) → AllByRecursion P xs → AllByRecursion Q xs
+mapped P Q f [] h = tt
+mapped P Q f (x ∷ xs) h = (f x h.0, mapped P Q f xs h.1)
 
-pub first_back : {A : Type 0} (xs ys : List (Option A)) → first_of xs ≡ None → first_of (xs ++ ys) ≡ first_of ys
-first_back [] ys h = refl
-first_back (None ∷ xs) ys h = first_back xs ys h
-first_back (Some y ∷ xs) ys h = cc
+-- ---- equal scripts
 
-pub first_one : {A : Type 0} (x : Option A) → first_of (x ∷ []) ≡ x
-first_one None = refl
-first_one (Some x) = refl
+both : (a b : Bool) → (a && b) ≡ true → (a ≡ true) × (b ≡ true)
+both true b h = (refl, h)
+both false b h = cc
 
--- what isn't there changes nothing at the end
-one_more : {A : Type 0} (xs : List (Option A)) → first_of xs ≡ first_of (xs ++ None ∷ [])
-one_more [] = refl
-one_more (None ∷ xs) = one_more xs
-one_more (Some x ∷ xs) = refl
+module _ {V : Type 0} (j : Judges V) (eq : V → V → Bool) (alike : (x y : V) → eq x y ≡ true → ((s : Stepping) → j.step x s ≡ j.step y s) × ((d : Datum) (held : Amounts) → j.starts x d held ≡ j.starts y d held)) where
+  found_alike : (es fs : List (List ℕ × V)) → pointwise (λ x y. same_bytes x.0 y.0 && eq x.1 y.1) es fs ≡ true → (id : List ℕ) → AnswerAlike j (find bytes_cmp id es) (find bytes_cmp id fs)
+  found_alike [] [] h id = tt
+  found_alike [] (f ∷ fs) h id = cc
+  found_alike (e ∷ es) [] h id = cc
+  found_alike (e ∷ es) (f ∷ fs) h id =
+      let parts = both (same_bytes e.0 f.0 && eq e.1 f.1) (pointwise (λ x y. same_bytes x.0 y.0 && eq x.1 y.1) es fs) h in
+      let here = both (same_bytes e.0 f.0) (eq e.1 f.1) parts.0 in
+      subst (λ k. AnswerAlike j (find bytes_cmp id (e ∷ es)) (cond (eq_by_cmp bytes_cmp id k) (Some f.1) (find bytes_cmp id fs))) ((bytes_decides e.0 f.0).0 here.0)
+      (elim (eq_by_cmp bytes_cmp id e.0) as (λ b. AnswerAlike j (cond b (Some e.1) (find bytes_cmp id es)) (cond b (Some f.1) (find bytes_cmp id fs))) [
+        | true ↦ alike e.1 f.1 here.1
+        | false ↦ found_alike es fs parts.1 id
+      ])
 
--- ---- the step
+  equal_alike : (a b : FinMap bytes_cmp V) → same_scripts eq a b ≡ true → (id : List ℕ) → AnswerAlike j (script_at a id) (script_at b id)
+  equal_alike a b h id = subst (λ x. AnswerAlike j x (script_at b id)) (sym (get-entries a id)) (subst (AnswerAlike j (find bytes_cmp id (entries a))) (sym (get-entries b id)) (found_alike (entries a) (entries b) h id))
 
--- what holds of the answer holds of what is answered
-pub ok_as : {A E : Type 0} (r : Result A E) (F : A → Type 0) (a : A) → IfOk r (λ b. b ≡ a) → F a → IfOk r F
-ok_as (Ok b) F a h x = subst F (sym h) x
-ok_as (Err e) F a h x = tt
+  pub equal_resolutions_agree : EqualResolutionsAgree j eq
+  equal_resolutions_agree tx a b h =
+      record { outputs = h.0; scripts = all_of (λ id. AnswerAlike j (script_at a.scripts id) (script_at b.scripts id)) (equal_alike a.scripts b.scripts h.1) (names_of tx a.outputs) }
 
-pub closed_is : (b : Bool) (t : ContractTree) → (IsTrue b ↔ (t ≡ close)) → b ≡ is_close t
-closed_is true close h = refl
-closed_is true c h = let e : c ≡ close = h.0 (search) in cc
-closed_is false close h = let e : IsTrue false = h.1 refl in cc
-closed_is false c h = refl
+  pub equal_resolutions_decide_alike : EqualResolutionsDecideAlike j eq
+  equal_resolutions_decide_alike tx a b h = agreeing_decide j tx a b (equal_resolutions_agree tx a b h)
 
-answered : {A : Type 0} (a : A) (r : Result A SemFault) → Aside (Ok a) r → r ≡ Ok a
-answered a r (inl e) = sym e
-answered a r (inr e) = cc
+-- ---- what is published of what is named
 
-pub run_answers : {P : Type 0} (leads : P → List Turn → P → Type 0) (m : Script P) (tx : Tx P) (d : Datum P) (xs : List Input) (o : Outcome P) (closed : Bool) →
-    (let w = walk_of m tx.interval (d, xs) in
-    Aside (Ok (at o.state (m.tree o.place))) (answer_of w) → o.payments ≡ w.payments → leads d.place w.turns o.place → closed ≡ is_close (m.tree o.place) →
-    StepAnswers leads m tx (Some (d, xs)) (first_of (outcome_rules m.same tx xs closed o.place o.state o.payments)))
-run_answers {P} leads m tx d xs o closed answer paid led c =
-    let w : Walk = walk_of m tx.interval (d, xs) in
-    let a : At = at o.state (m.tree o.place) in
-    let e : answer_of w ≡ Ok a = answered a (answer_of w) answer in (
-      o.place,
-      subst (λ (r : Result At SemFault). LeadsFrom leads m d.place w r o.place) (sym e) (led, refl),
-      ap (λ (b : Bool). first_of (outcome_rules m.same tx xs b o.place o.state o.payments)) c
-          ∙ ap (λ (ps : List Payment). first_of (outcome_rules m.same tx xs (is_close (m.tree o.place)) o.place o.state ps)) paid
-          ∙ one_more (outcome_rules m.same tx xs (is_close (m.tree o.place)) o.place o.state w.payments)
-          ∙ ap (λ (r : Result At SemFault). first_of (of_step m o.place tx (Some (xs, w, r)))) (sym e),
-    )
+module _ {V : Type 0} (named : List ℕ → Option V) where
+  -- one more script
+  kept : (rest : FinMap bytes_cmp V) (id : List ℕ) (v : Option V) → v ≡ named id → (q : List ℕ) → get rest q ≡ named q → get (with_script id v rest) q ≡ named q
+  kept rest id None e q h = h
+  kept rest id (Some v) e q h =
+      get-insert bytes_total rest id v q
+      ∙ elim (eq_by_cmp bytes_cmp q id) as (λ b. eq_by_cmp bytes_cmp q id ≡ b → cond b (Some v) (get rest q) ≡ named q) [
+        | true ↦ λ t. e ∙ ap named (sym (bytes_exact q id ((Equal-is _).0 t)))
+        | false ↦ λ t. h
+      ] refl
 
--- what is stepped was found
-stepped_if : {P : Type 0} (find : OutputRef → Option (Output P)) (r : OutputRef) (o : Option (Datum P)) (i : List Input) (later : Option (Datum P × List Input)) (d : Datum P) (x : List Input) →
-    datum_of (find r) ≡ o → or_later o i later ≡ Some (d, x) →
-    (later ≡ Some (d, x) → (q : OutputRef) × (datum_of (find q) ≡ Some d)) → (q : OutputRef) × (datum_of (find q) ≡ Some d)
-stepped_if find r None i later d x e h go = go h
-stepped_if find r (Some c) i later d x e h go =
-    let both : (let a : Datum _ × List Input = (c, i) in a) ≡ (d, x) = cc in
-    let f : c ≡ d = ap (λ (z : Datum _ × List Input). z.0) both in
-    (r, e ∙ ap (λ (z : Datum _). Some z) f)
+  -- what is found is what is published, or nothing
+  abbrev IsRight : FinMap bytes_cmp V → Type 0
+  IsRight m = (q : List ℕ) → (get m q ≢ None) → get m q ≡ named q
 
-pub stepped_found : {P : Type 0} (find : OutputRef → Option (Output P)) (xs : List Spend) (d : Datum P) (x : List Input) → stepped find xs ≡ Some (d, x) → (q : OutputRef) × (datum_of (find q) ≡ Some d)
-stepped_found find [] d x h = cc
-stepped_found find (y ∷ ys) d x h = stepped_if find y.reference (datum_of (find y.reference)) (inputs_of y.redeemer) (stepped find ys) d x refl h (λ e. stepped_found find ys d x e)
+  right : (ids : List (List ℕ)) → IsRight (scripts_found named ids)
+  right [] q h = absurd (h (get-empty bytes_cmp q))
+  right (id ∷ ids) q h = by (named id) refl h (right ids q)
+    where
+      by : (v : Option V) → v ≡ named id → (get (with_script id v (scripts_found named ids)) q ≢ None) → ((get (scripts_found named ids) q ≢ None) → get (scripts_found named ids) q ≡ named q) → get (with_script id v (scripts_found named ids)) q ≡ named q
+      by None e k rest = rest k
+      by (Some v) e k rest =
+          get-insert bytes_total (scripts_found named ids) id v q
+          ∙ elim (eq_by_cmp bytes_cmp q id) as (λ b. eq_by_cmp bytes_cmp q id ≡ b → cond b (Some v) (get (scripts_found named ids) q) ≡ named q) [
+            | true ↦ λ t. e ∙ ap named (sym (bytes_exact q id ((Equal-is _).0 t)))
+            | false ↦ λ t. rest (λ n. k (get-insert bytes_total (scripts_found named ids) id v q ∙ ap (λ b. cond b (Some v) (get (scripts_found named ids) q)) t ∙ n))
+          ] refl
 
--- ---- the judgement
+  -- the first of the ids
+  first : (ids : List (List ℕ)) (id : List ℕ) → get (scripts_found named (id ∷ ids)) id ≡ named id
+  first ids id = by (named id) refl
+    where
+      by : (v : Option V) → v ≡ named id → get (with_script id v (scripts_found named ids)) id ≡ named id
+      by (Some v) e = get-insert bytes_total (scripts_found named ids) id v id ∙ ap (λ r. cond (is_eq r) (Some v) (get (scripts_found named ids) id)) (tied_itself bytes_total id) ∙ e
+      by None e = none (get (scripts_found named ids) id) refl
+        where
+          none : (o : Option V) → get (scripts_found named ids) id ≡ o → get (scripts_found named ids) id ≡ named id
+          none None p = p ∙ e
+          none (Some v) p = right ids id (λ q. let r : Some v ≡ None = sym p ∙ q in cc)
 
-pub by_step : {P : Type 0} (leads : P → List Turn → P → Type 0) (m : Script P) (find : OutputRef → Option (Output P)) (tx : Tx P) (f : TxFault) →
-    StepAnswers leads m tx (stepped find tx.inputs) (Some f) → Answers leads m find tx None (Some f)
-by_step leads m find tx f s =
-    (s.0, s.1, sym (first_front (of_step m s.0 tx (stepping m tx (stepped find tx.inputs))) (not_preserved find tx ∷ []) f (sym s.2)))
+  all_found : (ids : List (List ℕ)) → AllByRecursion (λ id. get (scripts_found named ids) id ≡ named id) ids
+  all_found [] = tt
+  all_found (id ∷ ids) =
+      (first ids id, mapped (λ q. get (scripts_found named ids) q ≡ named q) (λ q. get (scripts_found named (id ∷ ids)) q ≡ named q) (kept (scripts_found named ids) id (named id) refl) ids (all_found ids))
 
-pub by_sum : {P : Type 0} (leads : P → List Turn → P → Type 0) (m : Script P) (find : OutputRef → Option (Output P)) (tx : Tx P) →
-    StepAnswers leads m tx (stepped find tx.inputs) None → Answers leads m find tx None (not_preserved find tx)
-by_sum leads m find tx s = (
-  s.0,
-  s.1,
-  sym (first_back (of_step m s.0 tx (stepping m tx (stepped find tx.inputs))) (not_preserved find tx ∷ []) (sym s.2) ∙ first_one (not_preserved find tx)),
-)
+module _ {V : Type 0} (j : Judges V) where
+  itself : (x : Option V) → AnswerAlike j x x
+  itself None = tt
+  itself (Some v) = (λ s. refl, λ d held. refl)
+
+  in_a_row : (a b : Option TxFault) → or_else a b ≡ first_of (a ∷ b ∷ [])
+  in_a_row (Some x) b = refl
+  in_a_row None (Some y) = refl
+  in_a_row None None = refl
+
+  pub found_is_enough : FoundIsEnough j
+  found_is_enough m tx =
+      let ids = names_of tx (outputs_found m tx) in
+      let there = mapped (λ id. get (scripts_found m.published ids) id ≡ m.published id) (λ id. AnswerAlike j (script_at (found m tx).scripts id) (m.published id)) (λ id e. subst (AnswerAlike j (get (scripts_found m.published ids) id)) e (itself (get (scripts_found m.published ids) id))) ids (all_found m.published ids) in
+      ap (or_else (of_tx tx)) (alike_decide j (script_at (found m tx).scripts) m.published tx (outputs_found m tx) there)
+      ∙ in_a_row (of_tx tx) (of_whole j m.published tx (if_known m.published tx.outputs (with_outputs tx.inputs (outputs_found m tx))))
+
+  last : (a b c d e f : Option TxFault) → verdict_of (first_of (a ∷ b ∷ c ∷ d ∷ e ∷ f ∷ [])) ≡ verdict_after (first_of (a ∷ b ∷ c ∷ d ∷ e ∷ [])) (verdict_of f)
+  last (Some x) b c d e f = refl
+  last None (Some x) c d e f = refl
+  last None None (Some x) d e f = refl
+  last None None None (Some x) e f = refl
+  last None None None None (Some x) f = refl
+  last None None None None None (Some x) = refl
+  last None None None None None None = refl
+
+  pub checks_decide : ChecksDecide j
+  checks_decide m c is h =
+      last (of_tx c.tx) (not_unspent m c.tx) (id_in_use m c.tx) (outside_interval m c.tx) (unknown_script m c.tx) (local j c.tx (found m c.tx))
+      ∙ ap (λ f. verdict_after (of_ledger m c.tx) (verdict_of f)) (agreeing_decide j c.tx (found m c.tx) c.found h)
+      ∙ ap (verdict_after (of_ledger m c.tx)) (sym (ap (λ (x : CheckOf V). x.verdict) is))

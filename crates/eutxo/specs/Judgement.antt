@@ -1,97 +1,91 @@
--- What the ledger answers: the fault of the first rule that refuses.
-use Rattle.std.specs.Prelude.{◌≡◌, ℤ, Bool, List, [], ◌∷◌, ◌++◌, Option, Some, None, Result, Ok, Err}
-use Rattle.contract.specs.declared.fault.SemFault.{SemFault}
-use Rattle.contract.specs.declared.input.Input.{Input}
-use Rattle.contract.specs.Tree.{ContractTree}
-use Rattle.semantics.specs.Walk.{Turn, At, Walk, answer_of}
-use Rattle.eutxo.specs.declared.fault.TxFault.{TxFault}
-use Rattle.eutxo.specs.declared.verdict.Verdict.{Verdict}
-use Rattle.eutxo.specs.declared.verdict.Verdict.TheVariants.{Accepted, Refused}
-use Rattle.eutxo.specs.declared.output.Output.{Output}
-use Rattle.eutxo.specs.declared.output_ref.OutputRef.{OutputRef}
-use Rattle.eutxo.specs.declared.datum.Datum.{Datum}
-use Rattle.eutxo.specs.declared.tx.Tx.{Tx}
-use Rattle.eutxo.specs.History.{Past, unspent_at}
-use Rattle.eutxo.specs.Rules.{Script, Step, stepped, walk_of, step_of, no_inputs, too_many, repeated_input, not_unspent, outside_interval, unknown_script, not_signed, two_contracts, wrong_redeemer, refused, not_authorised, wrong_continuation, wrong_payment, stray_contract, wrong_start, not_preserved}
+-- The judgement of a transaction at a moment: the rules that read the ledger, and the local verdict on what is found there.
+use Rattle.std.specs.Prelude.{ℕ, ℤ, int_le, Bool, not, ◌&&◌, List, [], ◌∷◌, ◌++◌, map, Option, Some, None, is_none}
+use Rattle.std.specs.FinMap as maps
+use Rattle.std.specs.FinMap.{FinMap}
+use Rattle.names.specs.Orders.{bytes_cmp}
+use Rattle.machine.specs.declared.datum.Datum.{Datum}
+use Rattle.eutxo_types.specs.declared.fault.TxFault.{TxFault}
+use Rattle.eutxo_types.specs.declared.fault.TxFault.TheVariants.{NotUnspent, IdInUse, OutsideInterval, UnknownScript}
+use Rattle.eutxo_types.specs.declared.output.Output.{Output}
+use Rattle.eutxo_types.specs.declared.output_ref.OutputRef.{OutputRef}
+use Rattle.eutxo_types.specs.declared.tx.Tx.{Tx}
+use Rattle.eutxo_types.specs.Ids.{id_of}
+use Rattle.eutxo.specs.declared.resolved.Resolved.{Resolved}
+use Rattle.eutxo.specs.Asked.{Judges}
+use Rattle.eutxo.specs.Found.{is_known}
+use Rattle.eutxo.specs.Local.{of_tx, local}
+use Rattle.eutxo.specs.Parts.{contract_in}
+use Rattle.eutxo.specs.Places.{fault_if, fault_at, first_of}
 
--- the first that is there
-abbrev pub first_of : {A : Type 0} → List (Option A) → Option A
-first_of [] = None
-first_of (None ∷ xs) = first_of xs
-first_of (Some x ∷ xs) = Some x
+-- what the rules read of a ledger at a moment: the unspent output that a reference names, what is published under an id, whether
+-- an accepted transaction has an id, and the tick
+pub record Moment (V : Type 0) : Type 0 where
+  pub unspent : OutputRef → Option Output
+  pub published : List ℕ → Option V
+  pub is_used : List ℕ → Bool
+  pub tick : ℤ
 
--- The rules in their order: those that are asked before the contract is run, ..
-abbrev pub before_step : {P : Type 0} → (OutputRef → Option (Output P)) → ℤ → Tx P → List (Option TxFault)
-before_step find tick tx =
-    no_inputs tx
-    ∷ too_many tx
-    ∷ repeated_input tx
-    ∷ not_unspent find tx
-    ∷ outside_interval tick tx
-    ∷ unknown_script tx
-    ∷ not_signed find tx
-    ∷ two_contracts find tx
-    ∷ wrong_redeemer find tx
-    ∷ []
+-- ---- the rules that read it
 
--- .. those that ask what comes of the step, where `there` is the place to which it leads, ..
-abbrev pub of_step : {P : Type 0} → Script P → P → Tx P → Step → List (Option TxFault)
-of_step m there tx step =
-    refused step
-    ∷ not_authorised tx step
-    ∷ wrong_continuation m there tx step
-    ∷ wrong_payment tx step
-    ∷ stray_contract tx step
-    ∷ wrong_start m tx step
-    ∷ []
+-- 4: the input at this place names no unspent output
+abbrev pub not_unspent : {V : Type 0} → Moment V → Tx → Option TxFault
+not_unspent m tx = fault_at NotUnspent (λ x. is_none (m.unspent x.reference)) tx.inputs
 
--- .. and the one on sums
-abbrev pub after_step : {P : Type 0} → Script P → P → (OutputRef → Option (Output P)) → Tx P → Step → List (Option TxFault)
-after_step m there find tx step = of_step m there tx step ++ not_preserved find tx ∷ []
+-- 5: an accepted transaction has this id
+abbrev pub id_in_use : {V : Type 0} → Moment V → Tx → Option TxFault
+id_in_use m tx = fault_if IdInUse (m.is_used (id_of tx))
 
--- where a step leads, if it succeeds: to the place where its turns lead, which stands for the remaining contract
-abbrev pub LeadsFrom : {P : Type 0} → (P → List Turn → P → Type 0) → Script P → P → Walk → Result At SemFault → P → Type 0
-LeadsFrom leads m p w (Ok a) there = leads p w.turns there × (m.tree there ≡ a.contract)
-LeadsFrom leads m p w (Err f) there = Unit {0}
+-- 6: the tick doesn't lie from the interval's start to its end
+abbrev pub outside_interval : {V : Type 0} → Moment V → Tx → Option TxFault
+outside_interval m tx = fault_if OutsideInterval (not (int_le tx.interval.from m.tick && int_le m.tick tx.interval.to))
 
-abbrev pub StepLeads : {P : Type 0} → (P → List Turn → P → Type 0) → Script P → Tx P → Option (Datum P × List Input) → P → Type 0
-StepLeads leads m tx None there = Unit {0}
-StepLeads leads m tx (Some s) there = LeadsFrom leads m s.0.place (walk_of m tx.interval s) (answer_of (walk_of m tx.interval s)) there
+abbrev pub is_unknown : {V : Type 0} → (List ℕ → Option V) → Output → Bool
+is_unknown named o = not (is_known named o.lock)
 
--- a fault of the first rules answers; else the contract is run, and the others answer
-abbrev pub Answers : {P : Type 0} → (P → List Turn → P → Type 0) → Script P → (OutputRef → Option (Output P)) → Tx P → Option TxFault → Option TxFault → Type 0
-Answers leads m find tx (Some f) answer = answer ≡ Some f
-Answers {P} leads m find tx None answer =
-    (there : P) × StepLeads leads m tx (stepped find tx.inputs) there × (answer ≡ first_of (after_step m there find tx (step_of m find tx)))
+-- 7: the output at this place has a contract lock whose script isn't published
+abbrev pub unknown_script : {V : Type 0} → Moment V → Tx → Option TxFault
+unknown_script m tx = fault_at UnknownScript (is_unknown m.published) tx.outputs
 
--- The judgement of a transaction after a past: no fault, or the fault of the first rule that refuses. It reads the past at
--- one moment
-abbrev pub Judge : {P : Type 0} → (P → List Turn → P → Type 0) → Script P → Past P → Tx P → Option TxFault → Type 0
-Judge leads m past tx = Answers leads m (unspent_at past) tx (first_of (before_step (unspent_at past) past.tick tx))
+-- ---- what is found
 
-abbrev pub verdict_of : Option TxFault → Verdict
-verdict_of None = Accepted
-verdict_of (Some f) = Refused f
+abbrev pub name_in : Option (List ℕ × Datum) → List (List ℕ)
+name_in None = []
+name_in (Some c) = c.0 ∷ []
 
--- the verdict is the judgement's
-abbrev pub IsVerdict : {P : Type 0} → (P → List Turn → P → Type 0) → Script P → Past P → Tx P → Verdict → Type 0
-IsVerdict leads m past tx verdict = (f : Option TxFault) × Judge leads m past tx f × (verdict ≡ verdict_of f)
+-- the scripts that the locks of these outputs name
+abbrev pub made_names : List Output → List (List ℕ)
+made_names [] = []
+made_names (o ∷ os) = name_in (contract_in o.lock) ++ made_names os
 
--- the past after a verdict: what is accepted is kept, and a refusal changes nothing
-abbrev pub after : {P : Type 0} → Past P → Tx P → Verdict → Past P
-after past tx Accepted = record past { accepted = past.accepted ++ tx ∷ [] }
-after past tx (Refused f) = past
+-- and those of the outputs that are there
+abbrev pub found_names : List (Option Output) → List (List ℕ)
+found_names [] = []
+found_names (None ∷ os) = found_names os
+found_names (Some o ∷ os) = name_in (contract_in o.lock) ++ found_names os
 
--- submits in a row, with their verdicts, lead from one past to another
-abbrev pub Submits : {P : Type 0} → (P → List Turn → P → Type 0) → Script P → Past P → List (Tx P × Verdict) → Past P → Type 0
-Submits leads m past [] later = later ≡ past
-Submits leads m past (s ∷ ss) later = IsVerdict leads m past s.0 s.1 × Submits leads m (after past s.0 s.1) ss later
+-- the scripts that the outputs of a transaction name, and those that these outputs of its inputs do
+abbrev pub names_of : Tx → List (Option Output) → List (List ℕ)
+names_of tx os = made_names tx.outputs ++ found_names os
 
--- what is seen of a `Steps`
-abbrev pub script_of : {S P : Type 0} → (P → P → Bool) → (S → P → ContractTree) → S → P → Script P
-script_of same tree s root = record { same = same; tree = tree s; root = root }
+abbrev pub with_script : {V : Type 0} → List ℕ → Option V → FinMap bytes_cmp V → FinMap bytes_cmp V
+with_script id None scripts = scripts
+with_script id (Some v) scripts = maps.insert scripts id v
 
--- a transaction has one judgement
-abbrev pub JudgesInOneWay : {P : Type 0} → (P → List Turn → P → Type 0) → Script P → Past P → Type 0
-JudgesInOneWay {P} leads m past =
-    (tx : Tx P) (f g : Option TxFault) → Judge leads m past tx f → Judge leads m past tx g → f ≡ g
+-- what is published of these, under their ids
+abbrev pub scripts_found : {V : Type 0} → (List ℕ → Option V) → List (List ℕ) → FinMap bytes_cmp V
+scripts_found named [] = maps.empty
+scripts_found named (id ∷ ids) = with_script id (named id) (scripts_found named ids)
+
+abbrev pub outputs_found : {V : Type 0} → Moment V → Tx → List (Option Output)
+outputs_found m tx = map (λ x. m.unspent x.reference) tx.inputs
+
+-- what is found of what a transaction names: for each input the unspent output, and what is published of the scripts that the
+-- transaction's outputs and those unspent outputs name
+abbrev pub found : {V : Type 0} → Moment V → Tx → Resolved V
+found m tx = record { outputs = outputs_found m tx; scripts = scripts_found m.published (names_of tx (outputs_found m tx)) }
+
+-- ---- all rules
+
+-- THE JUDGEMENT: no fault, or that of the first rule that refuses: 1 to 3, then 4 to 7, then the others on what is found
+abbrev pub judge : {V : Type 0} → Judges V → Moment V → Tx → Option TxFault
+judge j m tx = first_of (of_tx tx ∷ not_unspent m tx ∷ id_in_use m tx ∷ outside_interval m tx ∷ unknown_script m tx ∷ local j tx (found m tx) ∷ [])

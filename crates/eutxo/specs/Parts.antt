@@ -1,31 +1,56 @@
--- What parts of the judgement answer.
-use Rattle.std.specs.Prelude.{◌≡◌, Bool, not, ◌||◌, List, [], ◌∷◌, Option}
+-- What is read of the parts of a transaction, each in one place.
+use Rattle.std.specs.Prelude.{ℕ, Bool, true, false, ◌==◌, ◌&&◌, if◌then◌else◌, List, [], ◌∷◌, drop, slice_get, Option, Some, None}
+pub use Rattle.names.specs.Equal.{same_bytes}
 use Rattle.contract.specs.declared.input.Input.{Input}
-use Rattle.contract.specs.declared.payment.Payment.{Payment}
-use Rattle.states.specs.States.{StateMaps}
-use Rattle.semantics.specs.Walk.{Turn}
-use Rattle.eutxo.specs.declared.fault.TxFault.{TxFault}
-use Rattle.eutxo.specs.declared.fault.TxFault.TheVariants.{WrongContinuation}
-use Rattle.eutxo.specs.declared.output.Output.{Output}
-use Rattle.eutxo.specs.declared.datum.Datum.{Datum}
-use Rattle.eutxo.specs.declared.tx.Tx.{Tx}
-use Rattle.eutxo.specs.Rules.{Script, lacks_party, fault_if, continues, unpaid_after, continuing, stray_after, stepping}
-use Rattle.eutxo.specs.Judgement.{first_of, of_step, StepLeads}
+use Rattle.machine.specs.declared.datum.Datum.{Datum}
+use Rattle.eutxo_types.specs.declared.lock.Lock.{Lock}
+use Rattle.eutxo_types.specs.declared.lock.Lock.TheVariants.{Key, Payout, Contract}
+use Rattle.eutxo_types.specs.declared.output.Output.{Output}
+use Rattle.eutxo_types.specs.declared.output_ref.OutputRef.{OutputRef}
+use Rattle.eutxo_types.specs.declared.output_ref.OutputRef.TheVariants.{Genesis, Made}
+use Rattle.eutxo_types.specs.declared.redeemer.Redeemer.{Redeemer}
+use Rattle.eutxo_types.specs.declared.redeemer.Redeemer.TheVariants as with
+use Rattle.eutxo_types.specs.declared.spend.Spend.{Spend}
+use Rattle.eutxo_types.specs.declared.tx.Tx.{Tx}
 
--- the rules of the outputs of a step that succeeds
-abbrev pub outputs_rules : {P : Type 0} → (P → P → Bool) → Bool → P → StateMaps → List Payment → List (Output P) → List (Option TxFault)
-outputs_rules same closed there s ps os =
-    fault_if WrongContinuation (not (closed || continues same there s os))
-    ∷ unpaid_after (continuing closed) ps os
-    ∷ stray_after (continuing closed) os
-    ∷ []
+-- whether two references name one output
+abbrev pub same_ref : OutputRef → OutputRef → Bool
+same_ref (Genesis i) (Genesis j) = i == j
+same_ref (Made n i) (Made m j) = same_bytes n m && (i == j)
+same_ref (Genesis i) (Made m j) = false
+same_ref (Made n i) (Genesis j) = false
 
--- all rules of a step that succeeds with these inputs
-abbrev pub outcome_rules : {P : Type 0} → (P → P → Bool) → Tx P → List Input → Bool → P → StateMaps → List Payment → List (Option TxFault)
-outcome_rules same tx xs closed there s ps =
-    lacks_party tx.signers xs ∷ outputs_rules same closed there s ps tx.outputs
+-- whether a lock is a contract's
+abbrev pub is_contract : Lock → Bool
+is_contract (Key a) = false
+is_contract (Payout currency role) = false
+is_contract (Contract script d) = true
 
--- a step leads to a place, and its rules answer so
-abbrev pub StepAnswers : {P : Type 0} → (P → List Turn → P → Type 0) → Script P → Tx P → Option (Datum P × List Input) → Option TxFault → Type 0
-StepAnswers {P} leads m tx s answer =
-    (there : P) × StepLeads leads m tx s there × (answer ≡ first_of (of_step m there tx (stepping m tx s)))
+-- the inputs that a redeemer gives to a contract
+abbrev pub inputs_of : Redeemer → List Input
+inputs_of with.None = []
+inputs_of with.Claim = []
+inputs_of (with.Step xs) = xs
+
+-- the script and the datum of a contract lock
+abbrev pub contract_in : Lock → Option (List ℕ × Datum)
+contract_in (Key a) = None
+contract_in (Payout currency role) = None
+contract_in (Contract script d) = Some (script, d)
+
+abbrev pub contract_of : Option Output → Option (List ℕ × Datum)
+contract_of None = None
+contract_of (Some o) = contract_in o.lock
+
+-- the script and the datum of a contract output that a transaction made, as it brought them, by the output's place
+abbrev pub contract_at : Tx → ℕ → Option (List ℕ × Datum)
+contract_at tx i = contract_of (slice_get tx.outputs i)
+
+-- the inputs given to the output that a reference names: those of the redeemer of the first input that names it
+abbrev pub given_to : OutputRef → List Spend → Option (List Input)
+given_to r [] = None
+given_to r (x ∷ xs) = if same_ref x.reference r then Some (inputs_of x.redeemer) else given_to r xs
+
+-- the outputs from a place on
+abbrev pub outputs_from : ℕ → List Output → List Output
+outputs_from i os = drop i os

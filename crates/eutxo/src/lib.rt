@@ -1,31 +1,38 @@
-//! Transactions on a ledger of unspent outputs, some of which hold contracts, and a ledger of one
-//! script.
+//! The rules of a ledger of outputs that carry data (The Extended UTXO Model, "Extended UTXO model: EUTXO"), over
+//! any kind of script.
+//!
+//! A script is a `Validator`: it judges steps of its contracts, tells their starts and grants payouts. A
+//! transaction with its resolution, which is what is found of the outputs that it spends and of the scripts
+//! that it names, decides all rules but four: no inputs, too many, an output named twice; and then those on
+//! signatures, redeemers, payouts, the step or the starts, and sums. `check` judges by these and keeps
+//! transaction, id, resolution and verdict as a `Checked`. The other four rules, on what is unspent,
+//! accepted and published and on the tick, read the ledger at a moment; that judgement and what is found
+//! at a moment are defined here (`specs/Judgement.antt`), and the law is that a `Checked` decides it.
 #![tactic(auto)]
 
-mod authorise;
-mod datum;
-mod fault;
-mod first;
-mod inputs;
-mod judge;
-mod ledger;
-mod lock;
-mod output;
-mod output_ref;
-mod outputs;
-mod redeemer;
-mod spend;
-mod sum;
-mod tx;
-mod verdict;
+mod changes;
+mod checked;
+mod laws;
+mod local;
+mod of_spent;
+mod of_step;
+mod of_tx;
+mod preserved;
+mod resolved;
+mod scripts;
+mod shared;
+mod spent;
+mod validator;
 
-pub use datum::Datum;
-pub use fault::TxFault;
-pub use first::{First, are_keys};
-pub use lock::Lock;
-pub use output::Output;
-pub use output_ref::OutputRef;
-pub use redeemer::Redeemer;
-pub use spend::Spend;
-pub use tx::Tx;
-pub use verdict::Verdict;
+pub use checked::{Checked, check};
+pub use laws::{
+    checks_decide, equal_resolutions_decide_alike, found_is_enough, sums_are_preserved,
+    worked_judgements,
+};
+pub use local::local as local_fault;
+pub use of_tx::{has_signed, of_tx as tx_fault};
+pub use resolved::Resolved;
+pub use scripts::Scripts;
+pub use shared::Shared;
+pub use spent::Spent;
+pub use validator::{StepAnswer, Validator};

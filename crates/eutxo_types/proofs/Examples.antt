@@ -5,7 +5,7 @@ use Rattle.contract_bytes.specs.Names.{holding_bytes}
 use Rattle.contract_bytes.specs.States.{money_bytes, chosen_bytes, bound_value_bytes}
 use Rattle.std.specs.Prelude.{pos, replicate}
 use Rattle.eutxo_types.specs.Spelling.{cont_bytes}
-use Rattle.eutxo_types.specs.Worked.{BeginsTheLedger, IsMade, Gives, Claims, Steps, KeyOfX, PayoutOfB, StartOfCloses, NothingHeld, FiveAda, Moves}
+use Rattle.eutxo_types.specs.Worked.{BeginsTheLedger, IsMade, NoneIsZero, ClaimIsOne, StepIsTwo, KeyOfX, PayoutOfB, StartOfCloses, NothingHeld, FiveAda, OneTransaction}
 
 pub begins_the_ledger : BeginsTheLedger
 unfolding length_bytes
@@ -15,13 +15,13 @@ pub is_made : IsMade
 unfolding length_bytes
 is_made = refl
 
-pub gives : Gives
+pub gives : NoneIsZero
 gives = refl
 
-pub claims : Claims
+pub claims : ClaimIsOne
 claims = refl
 
-pub steps : Steps
+pub steps : StepIsTwo
 unfolding length_bytes
 steps = refl
 
@@ -45,6 +45,6 @@ pub five_ada : FiveAda
 unfolding length_bytes number_bytes
 five_ada m e = ap (list_bytes holding_bytes) e
 
-pub moves : Moves
+pub moves : OneTransaction
 unfolding length_bytes number_bytes time_bytes
 moves m e = λ i. (length_bytes 1 ++ replicate 10 0) ++ (length_bytes 1 ++ (((0x00 ∷ text_bytes (0x78 ∷ [])) ++ list_bytes holding_bytes (e i)) ++ [])) ++ time_bytes (pos 0) ++ time_bytes (pos 10) ++ list_bytes text_bytes ((0x78 ∷ []) ∷ [])

@@ -3,6 +3,7 @@ use Rattle.std.specs.Prelude.{◌≡◌, pos, [], ◌∷◌, ◌++◌, replicate
 use Rattle.std.specs.FinMap.{entries}
 use Rattle.bundle.specs.Bundles.{Amounts}
 use Rattle.contract.specs.declared.input.Input.TheVariants as inputs
+use Rattle.names.specs.Equal.{ada}
 use Rattle.states.specs.States.{StateMaps}
 use Rattle.eutxo_types.specs.declared.output_ref.OutputRef.TheVariants as references
 use Rattle.eutxo_types.specs.declared.redeemer.Redeemer.TheVariants as redeemers
@@ -17,15 +18,15 @@ BeginsTheLedger = reference_bytes (references.Genesis 1) ≡ 0x00 ∷ 0 ∷ 0 �
 abbrev pub IsMade : Type 0
 IsMade = reference_bytes (references.Made (replicate 32 0xff) 0) ≡ 0x01 ∷ replicate 32 0xff ++ replicate 8 0
 
-abbrev pub Gives : Type 0
-Gives = redeemer_bytes redeemers.None ≡ 0x00 ∷ []
+abbrev pub NoneIsZero : Type 0
+NoneIsZero = redeemer_bytes redeemers.None ≡ 0x00 ∷ []
 
-abbrev pub Claims : Type 0
-Claims = redeemer_bytes redeemers.Claim ≡ 0x01 ∷ []
+abbrev pub ClaimIsOne : Type 0
+ClaimIsOne = redeemer_bytes redeemers.Claim ≡ 0x01 ∷ []
 
 -- a step of one notification
-abbrev pub Steps : Type 0
-Steps = redeemer_bytes (redeemers.Step (inputs.Notify ∷ [])) ≡ 0x02 ∷ 0 ∷ 0 ∷ 0 ∷ 0 ∷ 0 ∷ 0 ∷ 0 ∷ 1 ∷ 0x02 ∷ []
+abbrev pub StepIsTwo : Type 0
+StepIsTwo = redeemer_bytes (redeemers.Step (inputs.Notify ∷ [])) ≡ 0x02 ∷ 0 ∷ 0 ∷ 0 ∷ 0 ∷ 0 ∷ 0 ∷ 0 ∷ 1 ∷ 0x02 ∷ []
 
 -- the address x
 abbrev pub KeyOfX : Type 0
@@ -45,11 +46,11 @@ NothingHeld = (m : Amounts) → entries m ≡ [] → amount_bytes m ≡ replicat
 
 -- 5 lovelace
 abbrev pub FiveAda : Type 0
-FiveAda = (m : Amounts) → entries m ≡ (record { symbol = []; name = [] }, pos 5) ∷ [] → amount_bytes m ≡ 0 ∷ 0 ∷ 0 ∷ 0 ∷ 0 ∷ 0 ∷ 0 ∷ 1 ∷ replicate 31 0 ++ 5 ∷ []
+FiveAda = (m : Amounts) → entries m ≡ (ada, pos 5) ∷ [] → amount_bytes m ≡ 0 ∷ 0 ∷ 0 ∷ 0 ∷ 0 ∷ 0 ∷ 0 ∷ 1 ∷ replicate 31 0 ++ 5 ∷ []
 
 -- the first output that the ledger began with goes to the address x with 5 lovelace, from 0 to 10, signed by x
-abbrev pub Moves : Type 0
-Moves = (m : Amounts) → entries m ≡ (record { symbol = []; name = [] }, pos 5) ∷ []
+abbrev pub OneTransaction : Type 0
+OneTransaction = (m : Amounts) → entries m ≡ (ada, pos 5) ∷ []
     → tx_bytes (record {
       inputs = record { reference = references.Genesis 0; redeemer = redeemers.None } ∷ [];
       outputs = record { lock = locks.Key (0x78 ∷ []); amount = m } ∷ [];

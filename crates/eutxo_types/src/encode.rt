@@ -1,5 +1,6 @@
 //! The spelling of transactions.
-ghost use Rattle.std.specs.Prelude.{◌≡◌, ◌++◌, IfOk, OnOk};
+ghost use Rattle.std.specs.Prelude.{◌≡◌, ◌<◌, ◌^◌, ◌++◌, IfOk, OnOk};
+ghost use Rattle.eutxo_types.specs.Fitting.{PlaceFits, IdFits, ReferenceFits, RedeemerFits, SpendFits, LockFits, AmountFits, OutputFits, TxFits};
 ghost use Rattle.eutxo_types.specs.Spelling.{place_bytes, cont_bytes, reference_bytes, redeemer_bytes, spend_bytes, lock_bytes, amount_bytes, output_bytes, tx_bytes};
 
 use crate::lock::Lock;
@@ -14,21 +15,24 @@ use contract_bytes::{Spell, put_byte, put_length, put_list, put_time};
 use std::alloc::Global;
 
 fn put_id(out: &mut Vec<u8>, id: &[u8; 32]) -> Result<(), Memory>
-    ensures { OnOk result (out.new.items ≡ out.old.items ++ id.now) }
+    ensures spelling { OnOk result (out.new.items ≡ out.old.items ++ id.now) }
+    ensures fits { IdFits id.now }
 {
     out.extend_from_slice(id.as_slice())?;
     Ok(())
 }
 
 fn put_place(out: &mut Vec<u8>, place: u64) -> Result<(), Memory>
-    ensures { OnOk result (out.new.items ≡ out.old.items ++ place_bytes place) }
+    ensures spelling { OnOk result (out.new.items ≡ out.old.items ++ place_bytes place) }
+    ensures fits { PlaceFits place }
 {
     put_length(out, place as usize)
 }
 
 #[tactic(auto, unfolding(crate::specs::Spelling::cont_bytes))]
 fn put_cont(out: &mut Vec<u8>, number: u32) -> Result<(), Memory>
-    ensures { OnOk result (out.new.items ≡ out.old.items ++ cont_bytes number) }
+    ensures spelling { OnOk result (out.new.items ≡ out.old.items ++ cont_bytes number) }
+    ensures fits { number < 2 ^ 32 }
 {
     let bytes = number.to_be_bytes();
     out.extend_from_slice(bytes.as_slice())?;
@@ -36,7 +40,8 @@ fn put_cont(out: &mut Vec<u8>, number: u32) -> Result<(), Memory>
 }
 
 fn put_reference(out: &mut Vec<u8>, reference: &OutputRef) -> Result<(), Memory>
-    ensures { OnOk result (out.new.items ≡ out.old.items ++ reference_bytes reference.now) }
+    ensures spelling { OnOk result (out.new.items ≡ out.old.items ++ reference_bytes reference.now) }
+    ensures fits { OnOk result (ReferenceFits reference.now) }
 {
     match reference {
         OutputRef::Genesis { index } => {
@@ -52,7 +57,8 @@ fn put_reference(out: &mut Vec<u8>, reference: &OutputRef) -> Result<(), Memory>
 }
 
 fn put_redeemer(out: &mut Vec<u8>, redeemer: &Redeemer) -> Result<(), Memory>
-    ensures { OnOk result (out.new.items ≡ out.old.items ++ redeemer_bytes redeemer.now) }
+    ensures spelling { OnOk result (out.new.items ≡ out.old.items ++ redeemer_bytes redeemer.now) }
+    ensures fits { OnOk result (RedeemerFits redeemer.now) }
 {
     match redeemer {
         Redeemer::None => put_byte(out, 0x00),
@@ -65,7 +71,8 @@ fn put_redeemer(out: &mut Vec<u8>, redeemer: &Redeemer) -> Result<(), Memory>
 }
 
 fn put_lock(out: &mut Vec<u8>, lock: &Lock) -> Result<(), Memory>
-    ensures { OnOk result (out.new.items ≡ out.old.items ++ lock_bytes lock.now) }
+    ensures spelling { OnOk result (out.new.items ≡ out.old.items ++ lock_bytes lock.now) }
+    ensures fits { OnOk result (LockFits lock.now) }
 {
     match lock {
         Lock::Key(address) => {
@@ -87,13 +94,16 @@ fn put_lock(out: &mut Vec<u8>, lock: &Lock) -> Result<(), Memory>
 }
 
 fn put_amount(out: &mut Vec<u8>, amount: &Bundle) -> Result<(), Memory>
-    ensures { OnOk result (out.new.items ≡ out.old.items ++ amount_bytes amount.now) }
+    ensures spelling { OnOk result (out.new.items ≡ out.old.items ++ amount_bytes amount.now) }
+    ensures fits { OnOk result (AmountFits amount.now) }
 {
     put_list(out, amount.entries())
 }
 
 impl Spell for Spend {
     ghost spelling = { spend_bytes };
+
+    ghost Fits = { SpendFits };
 
     fn put(&self, out: &mut Vec<u8>) -> Result<(), Memory> {
         put_reference(out, &self.reference)?;
@@ -104,6 +114,8 @@ impl Spell for Spend {
 impl Spell for Output {
     ghost spelling = { output_bytes };
 
+    ghost Fits = { OutputFits };
+
     fn put(&self, out: &mut Vec<u8>) -> Result<(), Memory> {
         put_lock(out, &self.lock)?;
         put_amount(out, &self.amount)
@@ -112,7 +124,8 @@ impl Spell for Output {
 
 #[tactic(auto, using(std::proofs::Common::append_assoc))]
 fn put_tx(out: &mut Vec<u8>, tx: &Tx) -> Result<(), Memory>
-    ensures { OnOk result (out.new.items ≡ out.old.items ++ tx_bytes tx.now) }
+    ensures spelling { OnOk result (out.new.items ≡ out.old.items ++ tx_bytes tx.now) }
+    ensures fits { OnOk result (TxFits tx.now) }
 {
     put_list(out, tx.inputs.as_slice())?;
     put_list(out, tx.outputs.as_slice())?;
@@ -124,7 +137,8 @@ fn put_tx(out: &mut Vec<u8>, tx: &Tx) -> Result<(), Memory>
 /// The spelling of a transaction: its inputs, its outputs, the ends of its interval and its signers. Answers
 /// `Memory` only where the growth of the spelling is refused.
 pub fn encode_tx(alloc: Global, tx: &Tx) -> Result<Vec<u8>, Memory>
-    ensures { IfOk result (λ bytes. bytes.items ≡ tx_bytes tx.now) }
+    ensures spelling { IfOk result (λ bytes. bytes.items ≡ tx_bytes tx.now) }
+    ensures fits { IfOk result (λ bytes. TxFits tx.now) }
 {
     let mut out = Vec::new(alloc);
     put_tx(&mut out, tx)?;

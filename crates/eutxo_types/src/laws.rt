@@ -2,7 +2,7 @@
 ghost use Rattle.contract_bytes.specs.Unambiguous.{ReadsOneWay, BeginsNoOther};
 ghost use Rattle.eutxo_types.specs.Spelling.{output_bytes, spend_bytes, tx_bytes};
 ghost use Rattle.eutxo_types.specs.Fitting.{OutputFits, SpendFits, TxFits};
-ghost use Rattle.eutxo_types.specs.Worked.{BeginsTheLedger, IsMade, Gives, Claims, Steps, KeyOfX, PayoutOfB, StartOfCloses, NothingHeld, FiveAda, Moves};
+ghost use Rattle.eutxo_types.specs.Worked.{BeginsTheLedger, IsMade, NoneIsZero, ClaimIsOne, StepIsTwo, KeyOfX, PayoutOfB, StartOfCloses, NothingHeld, FiveAda, OneTransaction};
 
 /// Among transactions whose times fit 8 bytes, whose numbers fit 16, whose lengths and places are below 2^64 and
 /// whose ids are of 32 bytes, what begins with a spelling begins with that of one transaction alone, and what
@@ -20,13 +20,13 @@ pub fn no_transaction_begins_another()
 pub fn worked_transactions()
     ensures genesis { BeginsTheLedger }
     ensures made { IsMade }
-    ensures none { Gives }
-    ensures claim { Claims }
-    ensures step { Steps }
+    ensures none { NoneIsZero }
+    ensures claim { ClaimIsOne }
+    ensures step { StepIsTwo }
     ensures key { KeyOfX }
     ensures payout { PayoutOfB }
     ensures start { StartOfCloses }
     ensures nothing { NothingHeld }
     ensures five_ada { FiveAda }
-    ensures moves { Moves }
+    ensures moves { OneTransaction }
 {}

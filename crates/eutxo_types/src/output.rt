@@ -1,6 +1,6 @@
 //! Outputs.
 use crate::lock::Lock;
-use bundle::Bundle;
+use bundle::{Bundle, Holds};
 use collections::{Memory, Same, TryClone};
 
 /// An output (The Extended UTXO Model, "Extended UTXO model: EUTXO"): what guards its spending, and how much it
@@ -9,6 +9,14 @@ use collections::{Memory, Same, TryClone};
 pub struct Output {
     pub lock: Lock,
     pub amount: Bundle,
+}
+
+impl Holds for Output {
+    ghost held = { λ output. output.amount };
+
+    fn amounts(&self) -> &Bundle {
+        &self.amount
+    }
 }
 
 impl TryClone for Output {

@@ -1,5 +1,5 @@
 -- Evaluation that stops at the first number outside 128 bits answers where all visited numbers fit.
-use Rattle.std.proofs.Common.{◌≡◌, ℤ, ◌+ℤ◌, ◌-ℤ◌, ◌*ℤ◌, neg_ℤ, int_le, int_lt, Bool, true, false, cond, not, ◌&&◌, ◌||◌, List, [], ◌∷◌, ◌++◌, refl, Result, Ok, Err}
+use Rattle.std.proofs.Common.{◌≡◌, ℤ, ◌+ℤ◌, ◌-ℤ◌, ◌*ℤ◌, neg_ℤ, int_le, int_lt, Bool, true, false, cond, not, ◌&&◌, ◌||◌, List, [], ◌∷◌, ◌++◌, refl, ◌∙◌, Result, Ok, Err}
 use Rattle.std.specs.Ordering.{int_eq}
 use Rattle.contract.specs.declared.fault.SemFault.{SemFault}
 use Rattle.contract.specs.declared.fault.SemFault.TheVariants.{Leaves128}
@@ -9,7 +9,8 @@ use Rattle.contract.specs.Tree.{ValueTree, available_money, constant, neg_value,
 use Rattle.contract.specs.Tree.{ObservationTree, and_obs, or_obs, not_obs, chose_something, value_ge, value_gt, value_lt, value_le, value_eq, true_obs, false_obs}
 use Rattle.evaluation.specs.Numbers.{fits, all_fit, within}
 use Rattle.evaluation.specs.Evaluation.{quotient, chosen, bound_to, eval, holds, visited, looked}
-use Rattle.evaluation.specs.Checked.{◌>>=◌, checked, eval128, holds128}
+use Rattle.collections.specs.Answers.{◌>>=◌}
+use Rattle.evaluation.specs.Checked.{checked, both, eval128, holds128}
 use Rattle.evaluation.proofs.Numbers.{all_fit_append}
 
 and_true : (b : Bool) → b && true ≡ b
@@ -37,15 +38,21 @@ checked_within n = rw (and_true (fits n))
 map_within : {A B : Type 0} (xs : List ℤ) (x : A) (r : Result A SemFault) (f : A → B) → r ≡ within xs x → (r >>= (λ t. Ok (f t))) ≡ within xs (f x)
 map_within xs x r f e = rw e (map_cond (all_fit xs) x f)
 
+-- two operands one after another
+both_then : {A B C : Type 0} (r : Result A SemFault) (q : Result B SemFault) (k : A × B → Result C SemFault) → (both r q >>= k) ≡ (r >>= (λ a. q >>= (λ b. k (a, b))))
+both_then (Ok x) (Ok y) k = refl
+both_then (Ok x) (Err e) k = refl
+both_then (Err e) q k = refl
+
 -- two operands, and a number made of them
 both_within : (xs ys : List ℤ) (x y : ℤ) (r q : Result ℤ SemFault) (f : ℤ → ℤ → ℤ) → r ≡ within xs x → q ≡ within ys y →
-    (r >>= (λ a. q >>= (λ b. checked (f a b)))) ≡ within (xs ++ (ys ++ f x y ∷ [])) (f x y)
-both_within xs ys x y r q f h k = then_within xs _ x _ r _ h (then_within ys _ y _ q _ k (checked_within (f x y)))
+    (both r q >>= (λ p. checked (f p.0 p.1))) ≡ within (xs ++ (ys ++ f x y ∷ [])) (f x y)
+both_within xs ys x y r q f h k = both_then r q (λ p. checked (f p.0 p.1)) ∙ then_within xs _ x _ r _ h (then_within ys _ y _ q _ k (checked_within (f x y)))
 
 -- two operands, and a test of them
 test_within : (xs ys : List ℤ) (x y : ℤ) (r q : Result ℤ SemFault) (f : ℤ → ℤ → Bool) → r ≡ within xs x → q ≡ within ys y →
-    (r >>= (λ a. q >>= (λ b. Ok (f a b)))) ≡ within (xs ++ ys) (f x y)
-test_within xs ys x y r q f h k = then_within xs ys x _ r _ h (map_within ys y q (f x) k)
+    (both r q >>= (λ p. Ok (f p.0 p.1))) ≡ within (xs ++ ys) (f x y)
+test_within xs ys x y r q f h k = both_then r q (λ p. Ok (f p.0 p.1)) ∙ then_within xs ys x _ r _ h (map_within ys y q (f x) k)
 
 -- the taken branch alone
 branch_within : {A : Type 0} (t : Bool) (xs ys : List ℤ) (x y : A) (r q : Result A SemFault) → r ≡ within xs x → q ≡ within ys y → cond t r q ≡ within (cond t xs ys) (cond t x y)

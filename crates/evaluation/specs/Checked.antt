@@ -1,8 +1,9 @@
--- No reader needs this file: it serves the proofs of this crate and those above it.
+-- No reader needs this file but for `checked`, which the calls of the arithmetic name: it serves proofs of this crate and above.
 -- Evaluation that stops at the first number that leaves 128 bits.
 use Rattle.std.specs.Prelude.{ℤ, ◌+ℤ◌, ◌-ℤ◌, ◌*ℤ◌, neg_ℤ, int_le, int_lt, Bool, true, false, not, if◌then◌else◌, is_some, Result, Ok, Err}
 use Rattle.std.specs.Ordering.{int_eq}
 use Rattle.std.specs.FinMap.{get}
+use Rattle.collections.specs.Answers.{◌>>=◌}
 use Rattle.contract.specs.declared.fault.SemFault.{SemFault}
 use Rattle.contract.specs.declared.fault.SemFault.TheVariants.{Leaves128}
 use Rattle.contract.specs.declared.interval.Interval.{Interval}
@@ -12,14 +13,16 @@ use Rattle.contract.specs.Tree.{ObservationTree, and_obs, or_obs, not_obs, chose
 use Rattle.evaluation.specs.Numbers.{fits}
 use Rattle.evaluation.specs.Evaluation.{quotient, chosen, bound_to}
 
-infixl 10 ◌>>=◌
-abbrev pub ◌>>=◌ : {A B : Type 0} → Result A SemFault → (A → Result B SemFault) → Result B SemFault
-(Ok x) >>= f = f x
-(Err e) >>= f = Err e
-
 -- a number, where it lies within 128 bits
 unfoldable pub checked : ℤ → Result ℤ SemFault
 checked n = if fits n then Ok n else Err Leaves128
+
+-- both answers, or the fault of the first that has one
+abbrev pub both : {A B : Type 0} → Result A SemFault → Result B SemFault → Result (A × B) SemFault
+both r q = do
+  x ← r
+  y ← q
+  Ok (x, y)
 
 abbrev mutual
   pub eval128 : Interval → StateMaps → ValueTree → Result ℤ SemFault
@@ -29,21 +32,17 @@ abbrev mutual
     x ← eval128 i s v
     checked (neg_ℤ x)
   eval128 i s (add_value v w) = do
-    x ← eval128 i s v
-    y ← eval128 i s w
-    checked (x +ℤ y)
+    p ← both (eval128 i s v) (eval128 i s w)
+    checked (p.0 +ℤ p.1)
   eval128 i s (sub_value v w) = do
-    x ← eval128 i s v
-    y ← eval128 i s w
-    checked (x -ℤ y)
+    p ← both (eval128 i s v) (eval128 i s w)
+    checked (p.0 -ℤ p.1)
   eval128 i s (mul_value v w) = do
-    x ← eval128 i s v
-    y ← eval128 i s w
-    checked (x *ℤ y)
+    p ← both (eval128 i s v) (eval128 i s w)
+    checked (p.0 *ℤ p.1)
   eval128 i s (div_value v w) = do
-    x ← eval128 i s v
-    y ← eval128 i s w
-    checked (quotient x y)
+    p ← both (eval128 i s v) (eval128 i s w)
+    checked (quotient p.0 p.1)
   eval128 i s (choice_value id) = checked (chosen s id)
   eval128 i s time_interval_start = checked i.from
   eval128 i s time_interval_end = checked i.to
@@ -64,24 +63,19 @@ abbrev mutual
     Ok (not t)
   holds128 i s (chose_something id) = Ok (is_some (get s.choices id))
   holds128 i s (value_ge v w) = do
-    x ← eval128 i s v
-    y ← eval128 i s w
-    Ok (int_le y x)
+    p ← both (eval128 i s v) (eval128 i s w)
+    Ok (int_le p.1 p.0)
   holds128 i s (value_gt v w) = do
-    x ← eval128 i s v
-    y ← eval128 i s w
-    Ok (int_lt y x)
+    p ← both (eval128 i s v) (eval128 i s w)
+    Ok (int_lt p.1 p.0)
   holds128 i s (value_lt v w) = do
-    x ← eval128 i s v
-    y ← eval128 i s w
-    Ok (int_lt x y)
+    p ← both (eval128 i s v) (eval128 i s w)
+    Ok (int_lt p.0 p.1)
   holds128 i s (value_le v w) = do
-    x ← eval128 i s v
-    y ← eval128 i s w
-    Ok (int_le x y)
+    p ← both (eval128 i s v) (eval128 i s w)
+    Ok (int_le p.0 p.1)
   holds128 i s (value_eq v w) = do
-    x ← eval128 i s v
-    y ← eval128 i s w
-    Ok (int_eq x y)
+    p ← both (eval128 i s v) (eval128 i s w)
+    Ok (int_eq p.0 p.1)
   holds128 i s true_obs = Ok true
   holds128 i s false_obs = Ok false

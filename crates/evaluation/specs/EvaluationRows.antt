@@ -26,11 +26,11 @@ SignsMoveOut = (a b : ℤ) → (quotient (neg_ℤ a) b ≡ neg_ℤ (quotient a b
 -- ---- values and observations
 
 -- in every interval and state a value has this number, or is refused; an observation likewise
-abbrev pub Gives : ValueTree → Result ℤ SemFault → Type 0
-Gives v answer = (i : Interval) (s : StateMaps) → within (visited i s v) (eval i s v) ≡ answer
+abbrev pub HasNumber : ValueTree → Result ℤ SemFault → Type 0
+HasNumber v answer = (i : Interval) (s : StateMaps) → within (visited i s v) (eval i s v) ≡ answer
 
-abbrev pub Tells : ObservationTree → Result Bool SemFault → Type 0
-Tells o answer = (i : Interval) (s : StateMaps) → within (looked i s o) (holds i s o) ≡ answer
+abbrev pub HasTruth : ObservationTree → Result Bool SemFault → Type 0
+HasTruth o answer = (i : Interval) (s : StateMaps) → within (looked i s o) (holds i s o) ≡ answer
 
 -- -2^63 times a number, twice: 2^127, one above the greatest number of 128 bits, and -2^127, the least
 abbrev pub large : ℤ → ValueTree
@@ -43,31 +43,31 @@ abbrev pub least : ValueTree
 least = large (pos (2 ^ 63))
 
 abbrev pub MinusSevenByTwo : Type 0
-MinusSevenByTwo = Gives (div_value (constant (neg_ℤ (pos 7))) (constant (pos 2))) (Ok (neg_ℤ (pos 3)))
+MinusSevenByTwo = HasNumber (div_value (constant (neg_ℤ (pos 7))) (constant (pos 2))) (Ok (neg_ℤ (pos 3)))
 
 abbrev pub SevenByZero : Type 0
-SevenByZero = Gives (div_value (constant (pos 7)) (constant (pos 0))) (Ok (pos 0))
+SevenByZero = HasNumber (div_value (constant (pos 7)) (constant (pos 0))) (Ok (pos 0))
 
 abbrev pub LeastFits : Type 0
-LeastFits = Gives least (Ok (neg_ℤ (pos (2 ^ 127))))
+LeastFits = HasNumber least (Ok (neg_ℤ (pos (2 ^ 127))))
 
 abbrev pub LeastByMinusOneLeaves : Type 0
-LeastByMinusOneLeaves = Gives (div_value least (constant (neg_ℤ (pos 1)))) (Err Leaves128)
+LeastByMinusOneLeaves = HasNumber (div_value least (constant (neg_ℤ (pos 1)))) (Err Leaves128)
 
 -- a number on the way leaves 128 bits, though the result would fit
 abbrev pub OnTheWayLeaves : Type 0
-OnTheWayLeaves = Gives (add_value too_large least) (Err Leaves128)
+OnTheWayLeaves = HasNumber (add_value too_large least) (Err Leaves128)
 
 -- the branch that isn't taken is left out
 abbrev pub CondLeavesOut : Type 0
-CondLeavesOut = Gives (cond_value true_obs (constant (pos 1)) too_large) (Ok (pos 1)) × Gives (cond_value false_obs (constant (pos 1)) too_large) (Err Leaves128)
+CondLeavesOut = HasNumber (cond_value true_obs (constant (pos 1)) too_large) (Ok (pos 1)) × HasNumber (cond_value false_obs (constant (pos 1)) too_large) (Err Leaves128)
 
 -- the right side is left out where the left one decides
 abbrev pub AndLeavesOut : Type 0
-AndLeavesOut = Tells (and_obs false_obs (value_ge too_large (constant (pos 0)))) (Ok false) × Tells (and_obs true_obs (value_ge too_large (constant (pos 0)))) (Err Leaves128)
+AndLeavesOut = HasTruth (and_obs false_obs (value_ge too_large (constant (pos 0)))) (Ok false) × HasTruth (and_obs true_obs (value_ge too_large (constant (pos 0)))) (Err Leaves128)
 
 abbrev pub OrLeavesOut : Type 0
-OrLeavesOut = Tells (or_obs true_obs (value_ge too_large (constant (pos 0)))) (Ok true) × Tells (or_obs false_obs (value_ge too_large (constant (pos 0)))) (Err Leaves128)
+OrLeavesOut = HasTruth (or_obs true_obs (value_ge too_large (constant (pos 0)))) (Ok true) × HasTruth (or_obs false_obs (value_ge too_large (constant (pos 0)))) (Err Leaves128)
 
 -- operands from the left, then the result
 abbrev pub OperandsComeFirst : Type 0

@@ -3,7 +3,7 @@ use contract::{Bound, ChoiceId, Party, Payee, Text, Token};
 
 /// The form of a contract, over handles of its parts: places of contracts, values and observations (Marlowe
 /// specification version 3, "Contracts"). The cases of a When are asked for one by one.
-#[derive(Clone, Copy)]
+#[derive(Drop)]
 pub enum Form<'a, P, V, O> {
     /// Every account is paid out to its owner, and nothing is left.
     Close,
@@ -21,7 +21,7 @@ pub enum Form<'a, P, V, O> {
 
 /// What a case waits for, over handles of values and observations (Marlowe specification version 3, "Actions
 /// and inputs").
-#[derive(Clone, Copy)]
+#[derive(Drop)]
 pub enum Wait<'a, V, O> {
     /// A deposit into the account of the first party, by the second, of the token, of the amount that the
     /// value gives.
@@ -33,7 +33,7 @@ pub enum Wait<'a, V, O> {
 }
 
 /// A case, over handles of its parts: what it waits for, and the place that follows.
-#[derive(Clone, Copy)]
+#[derive(Drop)]
 pub struct Waiting<'a, P, V, O> {
     pub action: Wait<'a, V, O>,
     pub then: P,

@@ -6,7 +6,8 @@ use Rattle.std.specs.Cmp.Lexicographic.{slice_cmp}
 use Rattle.serde_json.specs.Data.{Data, null, boolean, number, string, array, object, Items, no_items, item, Members, no_members, member}
 use Rattle.serde_json.specs.Find.{get_member}
 use Rattle.json_names.specs.Forms.{contract_form, case_form}
-use Rattle.json_names.specs.Parts.{Reading, ◌>>=◌, ByKey, both_readings, found, reading_at, time, list, all_items}
+use Rattle.collections.specs.Answers.{◌>>=◌}
+use Rattle.json_names.specs.Parts.{Reading, ByKey, both_readings, found, reading_at, time, list, all_items}
 use Rattle.json_names.specs.ReadsNames.{party, payee, token}
 use Rattle.json_values.specs.ReadsValue.{value}
 use Rattle.json_contracts.specs.ReadsContract.{contract_by, case_by, contract, contract_in, case, cases, all_cases, cases_in}

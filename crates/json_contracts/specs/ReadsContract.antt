@@ -7,7 +7,8 @@ use Rattle.contract.specs.declared.tree.Case.{Case}
 use Rattle.contract.specs.declared.tree.Contract.{Contract}
 use Rattle.contract.specs.declared.tree.Contract as contracts
 use Rattle.json_names.specs.Forms.{contract_form, case_form}
-use Rattle.json_names.specs.Parts.{Reading, ◌>>=◌, ByKey, reading_at, both_readings, nowhere, text, time}
+use Rattle.collections.specs.Answers.{◌>>=◌}
+use Rattle.json_names.specs.Parts.{Reading, ByKey, reading_at, both_readings, nowhere, text, time}
 use Rattle.json_names.specs.ReadsNames.{party, token, payee}
 use Rattle.json_values.specs.ReadsValue.{value, observation}
 use Rattle.json_values.specs.ReadsAction.{action}

@@ -1,6 +1,7 @@
 //! Cases and contracts as JSON values.
 ghost use Rattle.std.specs.Prelude.{codes};
-ghost use Rattle.json_names.specs.Parts.{Gives, both_readings, list, nowhere, reading_at, time};
+ghost use Rattle.collections.specs.Answers.{Aside};
+ghost use Rattle.json_names.specs.Parts.{both_readings, list, nowhere, reading_at, time};
 ghost use Rattle.json_names.specs.ReadsNames.{party, payee, token};
 ghost use Rattle.json_names.specs.declared.forms.ContractForm.TheVariants.{Pay, When};
 ghost use Rattle.json_values.specs.ReadsValue.{value};
@@ -20,7 +21,7 @@ use std::alloc::Global;
 #[cycle(contract_from_json)]
 #[tactic(auto, using(crate::proofs::ContractSteps::contract_steps), unfolding(crate::specs::ReadsContract::contract_by))]
 pub fn contract_from_json<J: JsonValue>(alloc: Global, json: &J) -> Result<Contract, JsonFault>
-    ensures reading { Gives result (reads.contract (J.json json.now)) }
+    ensures reading { Aside JsonFault.Memory result (reads.contract (J.json json.now)) }
 {
     match contract_form(json) {
         ContractForm::Close => Ok(Contract::Close),
@@ -50,7 +51,7 @@ pub fn contract_from_json<J: JsonValue>(alloc: Global, json: &J) -> Result<Contr
 #[cycle(contract_from_json)]
 #[tactic(auto, using(crate::proofs::ContractSteps::pay_steps))]
 fn pay_from_json<J: JsonValue>(alloc: Global, json: &J) -> Result<Contract, JsonFault>
-    ensures { Gives result (reads.contract_by Pay (J.json json.now) (reading_at reads.contract (J.json json.now)) nowhere) }
+    ensures { Aside JsonFault.Memory result (reads.contract_by Pay (J.json json.now) (reading_at reads.contract (J.json json.now)) nowhere) }
 {
     let paid = what_is_paid(alloc, json)?;
     let (paid, then) = beside(paid, contract_at(alloc, json, "then"))?;
@@ -63,7 +64,7 @@ fn what_is_paid<J: JsonValue>(
     alloc: Global,
     json: &J,
 ) -> Result<((Value, Token), (Party, Payee)), JsonFault>
-    ensures { Gives result (both_readings (both_readings (reading_at value (J.json json.now) (codes "pay")) (reading_at token (J.json json.now) (codes "token")))
+    ensures { Aside JsonFault.Memory result (both_readings (both_readings (reading_at value (J.json json.now) (codes "pay")) (reading_at token (J.json json.now) (codes "token")))
         (both_readings (reading_at party (J.json json.now) (codes "from_account")) (reading_at payee (J.json json.now) (codes "to")))) }
 {
     let amount = amount_and_token(alloc, json)?;
@@ -72,21 +73,21 @@ fn what_is_paid<J: JsonValue>(
 
 // What a Pay takes.
 fn amount_and_token<J: JsonValue>(alloc: Global, json: &J) -> Result<(Value, Token), JsonFault>
-    ensures { Gives result (both_readings (reading_at value (J.json json.now) (codes "pay")) (reading_at token (J.json json.now) (codes "token"))) }
+    ensures { Aside JsonFault.Memory result (both_readings (reading_at value (J.json json.now) (codes "pay")) (reading_at token (J.json json.now) (codes "token"))) }
 {
     let amount = value_from_json(alloc, member(json, "pay")?)?;
     beside(amount, token_at(alloc, json, "token"))
 }
 
 fn token_at<J: JsonValue>(alloc: Global, json: &J, key: &str) -> Result<Token, JsonFault>
-    ensures { Gives result (reading_at token (J.json json.now) key.now) }
+    ensures { Aside JsonFault.Memory result (reading_at token (J.json json.now) key.now) }
 {
     token_from_json(alloc, member(json, key)?)
 }
 
 // Where a Pay takes it from, and whom it gives it to.
 fn account_and_payee<J: JsonValue>(alloc: Global, json: &J) -> Result<(Party, Payee), JsonFault>
-    ensures { Gives result (both_readings (reading_at party (J.json json.now) (codes "from_account")) (reading_at payee (J.json json.now) (codes "to"))) }
+    ensures { Aside JsonFault.Memory result (both_readings (reading_at party (J.json json.now) (codes "from_account")) (reading_at payee (J.json json.now) (codes "to"))) }
 {
     let account = party_from_json(alloc, member(json, "from_account")?)?;
     let payee = payee_from_json(alloc, member(json, "to")?)?;
@@ -96,7 +97,7 @@ fn account_and_payee<J: JsonValue>(alloc: Global, json: &J) -> Result<(Party, Pa
 #[cycle(contract_from_json)]
 #[tactic(auto, using(crate::proofs::ContractSteps::when_steps))]
 fn when_from_json<J: JsonValue>(alloc: Global, json: &J) -> Result<Contract, JsonFault>
-    ensures { Gives result (reads.contract_by When (J.json json.now) (reading_at reads.contract (J.json json.now)) (reading_at (list reads.case) (J.json json.now))) }
+    ensures { Aside JsonFault.Memory result (reads.contract_by When (J.json json.now) (reading_at reads.contract (J.json json.now)) (reading_at (list reads.case) (J.json json.now))) }
 {
     let cases = cases_from_json(alloc, member(json, "when")?)?;
     let (cases, rest) = beside(cases, timeout_and_then(alloc, json))?;
@@ -110,7 +111,7 @@ fn timeout_and_then<J: JsonValue>(
     alloc: Global,
     json: &J,
 ) -> Result<(i64, Boxed<Contract>), JsonFault>
-    ensures { Gives result (both_readings (reading_at time (J.json json.now) (codes "timeout")) (reading_at reads.contract (J.json json.now) (codes "timeout_continuation"))) }
+    ensures { Aside JsonFault.Memory result (both_readings (reading_at time (J.json json.now) (codes "timeout")) (reading_at reads.contract (J.json json.now) (codes "timeout_continuation"))) }
 {
     let timeout = read_time(member(json, "timeout")?)?;
     let then = contract_at(alloc, json, "timeout_continuation")?;
@@ -125,7 +126,7 @@ fn contracts_at<J: JsonValue>(
     a: &str,
     b: &str,
 ) -> Result<(Boxed<Contract>, Boxed<Contract>), JsonFault>
-    ensures { Gives result (both_readings (reading_at reads.contract (J.json json.now) a.now) (reading_at reads.contract (J.json json.now) b.now)) }
+    ensures { Aside JsonFault.Memory result (both_readings (reading_at reads.contract (J.json json.now) a.now) (reading_at reads.contract (J.json json.now) b.now)) }
 {
     let first = contract_at(alloc, json, a)?;
     beside(first, contract_at(alloc, json, b))
@@ -138,7 +139,7 @@ fn contract_at<J: JsonValue>(
     json: &J,
     key: &str,
 ) -> Result<Boxed<Contract>, JsonFault>
-    ensures { Gives result (reading_at reads.contract (J.json json.now) key.now) }
+    ensures { Aside JsonFault.Memory result (reading_at reads.contract (J.json json.now) key.now) }
 {
     let contract = contract_from_json(alloc, member(json, key)?)?;
     Ok(Boxed::new(alloc, contract)?)
@@ -148,7 +149,7 @@ fn contract_at<J: JsonValue>(
 #[cycle(contract_from_json)]
 #[tactic(auto, using(crate::proofs::ContractSteps::contract_steps), unfolding(crate::specs::ReadsContract::case_by))]
 pub fn case_from_json<J: JsonValue>(alloc: Global, json: &J) -> Result<Case, JsonFault>
-    ensures reading { Gives result (reads.case (J.json json.now)) }
+    ensures reading { Aside JsonFault.Memory result (reads.case (J.json json.now)) }
 {
     match case_form(json) {
         CaseForm::Plain => {
@@ -164,7 +165,7 @@ pub fn case_from_json<J: JsonValue>(alloc: Global, json: &J) -> Result<Case, Jso
 // The contract that a case is gone on with.
 #[cycle(contract_from_json)]
 fn then_of_case<J: JsonValue>(alloc: Global, json: &J) -> Result<Contract, JsonFault>
-    ensures { Gives result (reading_at reads.contract (J.json json.now) (codes "then")) }
+    ensures { Aside JsonFault.Memory result (reading_at reads.contract (J.json json.now) (codes "then")) }
 {
     contract_from_json(alloc, member(json, "then")?)
 }
@@ -172,7 +173,7 @@ fn then_of_case<J: JsonValue>(alloc: Global, json: &J) -> Result<Contract, JsonF
 #[cycle(contract_from_json)]
 #[tactic(auto, using(json_names::proofs::DepthLaws::item_deeper))]
 fn cases_from_json<J: JsonValue>(alloc: Global, json: &J) -> Result<Items<Case>, JsonFault>
-    ensures { Gives result (list reads.case (J.json json.now)) }
+    ensures { Aside JsonFault.Memory result (list reads.case (J.json json.now)) }
 {
     let items = json.items().ok_or(JsonFault::NoForm)?;
     let mut cases = Items::new(alloc);

@@ -4,7 +4,8 @@ use Rattle.std.proofs.lemmas.List.{at_drop_more}
 use Rattle.std.specs.Ordering.{match_ordering}
 use Rattle.serde_json.specs.Data.{Data}
 use Rattle.serde_json.specs.View.{items_of}
-use Rattle.json_names.specs.Parts.{Reading, ◌>>=◌, both_readings, found, all_items}
+use Rattle.collections.specs.Answers.{◌>>=◌}
+use Rattle.json_names.specs.Parts.{Reading, both_readings, found, all_items}
 
 -- the reading of the rest, behind what was read before
 abbrev pub with_front : {X : Type 0} → List X → Reading (List X) → Reading (List X)

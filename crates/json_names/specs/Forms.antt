@@ -1,6 +1,6 @@
 -- Which form a JSON value has: for each sort the first form whose keys are all there.
 use Rattle.std.specs.Prelude.{ℕ, List, Bool, true, false, ◌&&◌, Option, Some, None, codes, is_some, if◌then◌else◌}
-use Rattle.std.specs.Str.{bytes_eq}
+use Rattle.names.specs.Equal.{same_text}
 use Rattle.serde_json.specs.Data.{Data}
 use Rattle.serde_json.specs.Find.{get, as_bool, as_number, as_str}
 use Rattle.json_names.specs.declared.forms.ValueForm.{ValueForm}
@@ -26,13 +26,13 @@ has_two a b d = has a d && has b d
 abbrev pub has_three : List ℕ → List ℕ → List ℕ → Data → Bool
 has_three a b c d = has a d && has_two b c d
 
-abbrev same_text : List ℕ → Option (List ℕ) → Bool
-same_text word None = false
-same_text word (Some text) = bytes_eq text word
+abbrev is_that : List ℕ → Option (List ℕ) → Bool
+is_that word None = false
+is_that word (Some text) = same_text text word
 
 -- the value is this text
 abbrev pub is_word : List ℕ → Data → Bool
-is_word word d = same_text word (as_str d)
+is_word word d = is_that word (as_str d)
 
 abbrev pub is_number : Data → Bool
 is_number d = is_some (as_number d)

@@ -1,36 +1,17 @@
 -- What a reading is, and the readings of the parts that all forms share: members, texts, bytes, whole
 -- numbers, times and lists.
-use Rattle.std.specs.Prelude.{◌≡◌, ℕ, ℤ, pos, List, [], ◌∷◌, ◌^◌, nat_lt, Option, Some, None, Result, Ok, Err, if◌then◌else◌, ⊤}
+use Rattle.std.specs.Prelude.{ℕ, ℤ, pos, List, [], ◌∷◌, ◌^◌, nat_lt, Option, Some, None, Result, Ok, Err, if◌then◌else◌}
 use Rattle.serde_json.specs.Data.{Num, unsigned, negative, float, Data, Items, no_items, item}
 use Rattle.serde_json.specs.Find.{get, as_str, as_array, as_number, as_integer}
 use Rattle.hex.specs.Hex.{decode_of}
 use Rattle.hex.specs.declared.error.FromHexError.{FromHexError}
+use Rattle.collections.specs.Answers.{◌>>=◌}
 use Rattle.json_names.specs.declared.fault.JsonFault.{JsonFault}
 use Rattle.json_names.specs.declared.fault.JsonFault.TheVariants as faults
 
 -- what a value stands for, or the fault for which it stands for nothing
 abbrev pub Reading : Type 0 → Type 0
 Reading X = Result X JsonFault
-
--- the next step of a reading, unless there was a fault
-infixl 10 ◌>>=◌
-abbrev pub ◌>>=◌ : {A B : Type 0} → Reading A → (A → Reading B) → Reading B
-(Ok x) >>= f = f x
-(Err fault) >>= f = Err fault
-
-abbrev pub Fails : {X : Type 0} → JsonFault → Reading X → Type 0
-Fails faults.Memory reading = ⊤
-Fails fault reading = reading ≡ Err fault
-
--- A call answered what the reading is, or was refused for memory.
-abbrev pub Gives : {X : Type 0} → Result X JsonFault → Reading X → Type 0
-Gives (Ok x) reading = reading ≡ Ok x
-Gives (Err fault) reading = Fails fault reading
-
--- the same, where the reading is of what f sees in the answer
-abbrev pub GivesBy : {X Y : Type 0} → (X → Y) → Result X JsonFault → Reading Y → Type 0
-GivesBy f (Ok x) reading = reading ≡ Ok (f x)
-GivesBy f (Err fault) reading = Fails fault reading
 
 abbrev pub found : {X : Type 0} → Option X → Reading X
 found None = Err faults.NoForm

@@ -9,7 +9,8 @@ use Rattle.names.specs.declared.payee.Payee.{Payee}
 use Rattle.names.specs.declared.payee.Payee.TheVariants as payees
 use Rattle.names.specs.declared.bound.Bound.{Bound}
 use Rattle.json_names.specs.Forms.{has, has_two}
-use Rattle.json_names.specs.Parts.{Reading, ◌>>=◌, of_one, reading_at, text, bytes, whole}
+use Rattle.collections.specs.Answers.{◌>>=◌}
+use Rattle.json_names.specs.Parts.{Reading, of_one, reading_at, text, bytes, whole}
 use Rattle.json_names.specs.declared.fault.JsonFault.TheVariants.{NoForm}
 
 abbrev pub party : Data → Reading Party

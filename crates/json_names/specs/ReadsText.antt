@@ -3,7 +3,8 @@ use Rattle.std.specs.Prelude.{ℕ, List, length, nat_lt, Option, Some, None, Ok,
 use Rattle.std.specs.Str.{is_utf8}
 use Rattle.serde_json.specs.Data.{Data}
 use Rattle.serde_json.specs.Read.{read}
-use Rattle.json_names.specs.Parts.{Reading, ◌>>=◌}
+use Rattle.collections.specs.Answers.{◌>>=◌}
+use Rattle.json_names.specs.Parts.{Reading}
 use Rattle.json_names.specs.declared.fault.JsonFault.TheVariants.{NotJson, TooLong}
 
 abbrev pub json_or_not : Option Data → Reading Data

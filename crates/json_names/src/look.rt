@@ -1,8 +1,9 @@
 //! Looking into JSON values.
 ghost use Rattle.std.specs.Prelude.{◌≡◌, ◌<◌, Ok, IfOk};
+ghost use Rattle.collections.specs.Answers.{Aside, AsideBy};
 ghost use Rattle.serde_json.specs.Data.{depth};
 ghost use Rattle.json_names.specs.Forms.{has, has_two, has_three, is_number, is_word};
-ghost use Rattle.json_names.specs.Parts.{Gives, GivesBy, both_readings, member_at, pair, text, bytes};
+ghost use Rattle.json_names.specs.Parts.{both_readings, member_at, pair, text, bytes};
 
 use crate::fault::JsonFault;
 use collections::{Bytes, Text};
@@ -50,7 +51,7 @@ pub fn is_word<J: JsonValue>(json: &J, word: &str) -> bool
 /// The member at a key. Where there is none, the value has no form.
 #[tactic(auto, using(crate::proofs::DepthLaws::deeper))]
 pub fn member<'j, J: JsonValue>(json: &'j J, key: &str) -> Result<&'j J, JsonFault>
-    ensures found { GivesBy (λ v. J.json v.now) result (member_at key.now (J.json json.now)) }
+    ensures found { AsideBy JsonFault.Memory (λ v. J.json v.now) result (member_at key.now (J.json json.now)) }
     ensures deeper { IfOk result (λ v. depth (J.json v.now) < depth (J.json json.now)) }
 {
     match json.member(key) {
@@ -61,7 +62,7 @@ pub fn member<'j, J: JsonValue>(json: &'j J, key: &str) -> Result<&'j J, JsonFau
 
 /// The two items of a list of just two.
 pub fn pair<J: JsonValue>(json: &J) -> Result<(&J, &J), JsonFault>
-    ensures { GivesBy (λ p. (J.json p.0.now, J.json p.1.now)) result (pair (J.json json.now)) }
+    ensures { AsideBy JsonFault.Memory (λ p. (J.json p.0.now, J.json p.1.now)) result (pair (J.json json.now)) }
 {
     match json.items() {
         Some(items) => match items {
@@ -74,7 +75,7 @@ pub fn pair<J: JsonValue>(json: &J) -> Result<(&J, &J), JsonFault>
 
 /// The text that a JSON value is.
 pub fn read_text<J: JsonValue>(alloc: Global, json: &J) -> Result<Text, JsonFault>
-    ensures { Gives result (text (J.json json.now)) }
+    ensures { Aside JsonFault.Memory result (text (J.json json.now)) }
 {
     let text = json.text().ok_or(JsonFault::NoForm)?;
     Ok(Text::from_string(String::from_str(alloc, text)?))
@@ -82,7 +83,7 @@ pub fn read_text<J: JsonValue>(alloc: Global, json: &J) -> Result<Text, JsonFaul
 
 /// The bytes that a text of hexadecimal digits of either case stands for.
 pub fn read_bytes<J: JsonValue>(alloc: Global, json: &J) -> Result<Bytes, JsonFault>
-    ensures { Gives result (bytes (J.json json.now)) }
+    ensures { Aside JsonFault.Memory result (bytes (J.json json.now)) }
 {
     let text = json.text().ok_or(JsonFault::NoForm)?;
     match hex::decode(alloc, text) {

@@ -1,5 +1,5 @@
 //! Parties, tokens, choice ids, payees and bounds as JSON values.
-ghost use Rattle.json_names.specs.Parts.{Gives};
+ghost use Rattle.collections.specs.Answers.{Aside};
 ghost use Rattle.json_names.specs.ReadsNames as reads;
 
 use crate::fault::JsonFault;
@@ -11,7 +11,7 @@ use std::alloc::Global;
 
 /// The party that a JSON value stands for.
 pub fn party_from_json<J: JsonValue>(alloc: Global, json: &J) -> Result<Party, JsonFault>
-    ensures reading { Gives result (reads.party (J.json json.now)) }
+    ensures reading { Aside JsonFault.Memory result (reads.party (J.json json.now)) }
 {
     if has(json, "address") {
         Ok(Party::Address(read_text(alloc, member(json, "address")?)?))
@@ -22,7 +22,7 @@ pub fn party_from_json<J: JsonValue>(alloc: Global, json: &J) -> Result<Party, J
 
 /// The token that a JSON value stands for.
 pub fn token_from_json<J: JsonValue>(alloc: Global, json: &J) -> Result<Token, JsonFault>
-    ensures reading { Gives result (reads.token (J.json json.now)) }
+    ensures reading { Aside JsonFault.Memory result (reads.token (J.json json.now)) }
 {
     if !has_two(json, "currency_symbol", "token_name") {
         return Err(JsonFault::NoForm);
@@ -34,7 +34,7 @@ pub fn token_from_json<J: JsonValue>(alloc: Global, json: &J) -> Result<Token, J
 
 /// The choice id that a JSON value stands for.
 pub fn choice_id_from_json<J: JsonValue>(alloc: Global, json: &J) -> Result<ChoiceId, JsonFault>
-    ensures reading { Gives result (reads.choice_id (J.json json.now)) }
+    ensures reading { Aside JsonFault.Memory result (reads.choice_id (J.json json.now)) }
 {
     if !has_two(json, "choice_name", "choice_owner") {
         return Err(JsonFault::NoForm);
@@ -46,7 +46,7 @@ pub fn choice_id_from_json<J: JsonValue>(alloc: Global, json: &J) -> Result<Choi
 
 /// The payee that a JSON value stands for.
 pub fn payee_from_json<J: JsonValue>(alloc: Global, json: &J) -> Result<Payee, JsonFault>
-    ensures reading { Gives result (reads.payee (J.json json.now)) }
+    ensures reading { Aside JsonFault.Memory result (reads.payee (J.json json.now)) }
 {
     if has(json, "account") {
         Ok(Payee::Account(party_from_json(alloc, member(json, "account")?)?))
@@ -57,7 +57,7 @@ pub fn payee_from_json<J: JsonValue>(alloc: Global, json: &J) -> Result<Payee, J
 
 /// The bound that a JSON value stands for: two whole numbers from -2^63 to 2^64 - 1.
 pub fn bound_from_json<J: JsonValue>(json: &J) -> Result<Bound, JsonFault>
-    ensures reading { Gives result (reads.bound (J.json json.now)) }
+    ensures reading { Aside JsonFault.Memory result (reads.bound (J.json json.now)) }
 {
     if !has_two(json, "from", "to") {
         return Err(JsonFault::NoForm);

@@ -1,12 +1,13 @@
 //! Whole numbers and times as JSON values.
-ghost use Rattle.json_names.specs.Parts.{Gives, whole, time};
+ghost use Rattle.collections.specs.Answers.{Aside};
+ghost use Rattle.json_names.specs.Parts.{whole, time};
 
 use crate::fault::JsonFault;
 use json_tree::JsonValue;
 
 /// The whole number from -2^63 to 2^64 - 1 that a JSON value is. Another number isn't whole here.
 pub fn read_whole<J: JsonValue>(json: &J) -> Result<i128, JsonFault>
-    ensures { Gives result (whole (J.json json.now)) }
+    ensures { Aside JsonFault.Memory result (whole (J.json json.now)) }
 {
     if let Some(n) = json.natural() {
         Ok(i128::from(n))
@@ -22,7 +23,7 @@ pub fn read_whole<J: JsonValue>(json: &J) -> Result<i128, JsonFault>
 /// The time that a JSON value is, in POSIX milliseconds: a whole number from -2^63 to 2^63 - 1. One from 2^63 to
 /// 2^64 - 1 is out of range, and another number isn't whole.
 pub fn read_time<J: JsonValue>(json: &J) -> Result<i64, JsonFault>
-    ensures { Gives result (time (J.json json.now)) }
+    ensures { Aside JsonFault.Memory result (time (J.json json.now)) }
 {
     if let Some(n) = json.integer() {
         Ok(n)

@@ -1,7 +1,7 @@
 //! From a text to its JSON value.
 ghost use Rattle.std.specs.Prelude.{Ok};
+ghost use Rattle.collections.specs.Answers.{AsideBy};
 ghost use Rattle.json_tree.specs.View.{view};
-ghost use Rattle.json_names.specs.Parts.{GivesBy};
 ghost use Rattle.json_names.specs.ReadsText.{json_of};
 
 use crate::fault::JsonFault;
@@ -20,7 +20,7 @@ pub fn json_of<'a>(
     text: &'a [u8],
     scratch: &'a mut Scratch,
 ) -> Result<Json<'a>, JsonFault>
-    ensures { GivesBy view result (json_of text.now) }
+    ensures { AsideBy JsonFault.Memory view result (json_of text.now) }
 {
     if text.len() > MAX_LEN {
         return Err(JsonFault::TooLong);

@@ -17,7 +17,8 @@ use Rattle.collections.specs.Repeats.{has_key, has_repeat}
 use Rattle.serde_json.specs.Data.{Data, Items, no_items, item}
 use Rattle.serde_json.specs.Find.{as_array}
 use Rattle.serde_json.specs.View.{items_of}
-use Rattle.json_names.specs.Parts.{Reading, ◌>>=◌, found, pair, whole, Fails}
+use Rattle.collections.specs.Answers.{◌>>=◌}
+use Rattle.json_names.specs.Parts.{Reading, found, pair, whole}
 use Rattle.json_states.specs.ReadsState.{account, account_row, rows_into, rows}
 use Rattle.json_states.specs.Rows.{and_then, until_fault}
 use Rattle.json_names.specs.declared.fault.JsonFault.{JsonFault}
@@ -42,18 +43,6 @@ is_none (Some x) h = cc
 pub is_repeated : (b : Bool) → (b ≡ false → false ≡ true) → b ≡ true
 is_repeated true h = refl
 is_repeated false h = h refl
-
--- any fault is one that a call may answer
-pub Fails-of : {X : Type 0} (fault : JsonFault) (reading : Reading X) → reading ≡ Err fault → Fails fault reading
-Fails-of faults.NotJson reading h = h
-Fails-of faults.TooLong reading h = h
-Fails-of faults.NoForm reading h = h
-Fails-of faults.NotWhole reading h = h
-Fails-of faults.OutOfRange reading h = h
-Fails-of faults.BadHex reading h = h
-Fails-of faults.Merkleized reading h = h
-Fails-of faults.BadState reading h = h
-Fails-of faults.Memory reading h = tt
 
 -- what the rows are in the end
 abbrev pub ending : {A : Type 0} → Option JsonFault → A → Reading A

@@ -6,7 +6,8 @@ use Rattle.contract.specs.declared.input.Input.TheVariants as inputs
 use Rattle.contract.specs.declared.interval.Interval.{Interval}
 use Rattle.json_states.specs.declared.transaction.Transaction.{Transaction}
 use Rattle.json_names.specs.Forms.{has_two, input_form}
-use Rattle.json_names.specs.Parts.{Reading, ◌>>=◌, reading_at, whole, time, list}
+use Rattle.collections.specs.Answers.{◌>>=◌}
+use Rattle.json_names.specs.Parts.{Reading, reading_at, whole, time, list}
 use Rattle.json_names.specs.ReadsNames.{party, token, choice_id}
 use Rattle.json_names.specs.declared.fault.JsonFault.TheVariants.{NoForm}
 use Rattle.json_names.specs.declared.forms.InputForm.{InputForm}

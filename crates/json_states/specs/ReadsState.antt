@@ -9,7 +9,8 @@ use Rattle.names.specs.declared.choice_id.ChoiceId.{ChoiceId}
 use Rattle.names.specs.Orders.{bytes_cmp, account_cmp, choice_id_cmp}
 use Rattle.states.specs.States.{StateMaps}
 use Rattle.json_names.specs.Forms.{has_two}
-use Rattle.json_names.specs.Parts.{Reading, ◌>>=◌, found, reading_at, text, whole, time, pair}
+use Rattle.collections.specs.Answers.{◌>>=◌}
+use Rattle.json_names.specs.Parts.{Reading, found, reading_at, text, whole, time, pair}
 use Rattle.json_names.specs.ReadsNames.{party, token, choice_id}
 use Rattle.json_names.specs.declared.fault.JsonFault.TheVariants.{NoForm, BadState}
 

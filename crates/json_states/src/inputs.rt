@@ -1,5 +1,6 @@
 //! Inputs and transactions as JSON values.
-ghost use Rattle.json_names.specs.Parts.{Gives, list};
+ghost use Rattle.collections.specs.Answers.{Aside};
+ghost use Rattle.json_names.specs.Parts.{list};
 ghost use Rattle.json_states.specs.ReadsInput as reads;
 
 use crate::transaction::Transaction;
@@ -15,7 +16,7 @@ use std::alloc::Global;
 /// amount and the number of a choice are whole numbers from -2^63 to 2^64 - 1.
 #[tactic(auto, unfolding(crate::specs::ReadsInput::input_by))]
 pub fn input_from_json<J: JsonValue>(alloc: Global, json: &J) -> Result<Input, JsonFault>
-    ensures reading { Gives result (reads.input (J.json json.now)) }
+    ensures reading { Aside JsonFault.Memory result (reads.input (J.json json.now)) }
 {
     match input_form(json) {
         InputForm::Notify => Ok(Input::Notify),
@@ -36,7 +37,7 @@ pub fn input_from_json<J: JsonValue>(alloc: Global, json: &J) -> Result<Input, J
 }
 
 fn interval_from_json<J: JsonValue>(json: &J) -> Result<Interval, JsonFault>
-    ensures { Gives result (reads.interval (J.json json.now)) }
+    ensures { Aside JsonFault.Memory result (reads.interval (J.json json.now)) }
 {
     if !has_two(json, "from", "to") {
         return Err(JsonFault::NoForm);
@@ -47,7 +48,7 @@ fn interval_from_json<J: JsonValue>(json: &J) -> Result<Interval, JsonFault>
 }
 
 fn inputs_from_json<J: JsonValue>(alloc: Global, json: &J) -> Result<Items<Input>, JsonFault>
-    ensures { Gives result (list reads.input (J.json json.now)) }
+    ensures { Aside JsonFault.Memory result (list reads.input (J.json json.now)) }
 {
     let items = json.items().ok_or(JsonFault::NoForm)?;
     let mut inputs = Items::new(alloc);
@@ -62,7 +63,7 @@ pub fn transaction_from_json<J: JsonValue>(
     alloc: Global,
     json: &J,
 ) -> Result<Transaction, JsonFault>
-    ensures reading { Gives result (reads.transaction (J.json json.now)) }
+    ensures reading { Aside JsonFault.Memory result (reads.transaction (J.json json.now)) }
 {
     if !has_two(json, "tx_interval", "tx_inputs") {
         return Err(JsonFault::NoForm);

@@ -2,10 +2,11 @@
 ghost use Rattle.std.specs.Prelude.{◌≡◌, ℤ, [], map, IfOk, IfErr};
 ghost use Rattle.std.proofs.Math.Dec.{T};
 ghost use Rattle.std.specs.FinMap.{IsAntisymmetric, from_sorted, is_sorted};
-ghost use Rattle.names.specs.Exact.{bytes_exact, account_exact, choice_id_exact};
+ghost use Rattle.collections.specs.Answers.{Aside, AsideBy};
+ghost use Rattle.names.proofs.Exact.{bytes_exact, account_exact, choice_id_exact};
 ghost use Rattle.serde_json.specs.Data.{Data};
 ghost use Rattle.serde_json.specs.View.{items_of};
-ghost use Rattle.json_names.specs.Parts.{Reading, Gives, GivesBy};
+ghost use Rattle.json_names.specs.Parts.{Reading};
 ghost use Rattle.json_names.specs.declared.fault.JsonFault.TheVariants as faults;
 ghost use Rattle.json_states.specs.ReadsState as reads;
 ghost use Rattle.json_states.specs.Rows.{until_fault};
@@ -23,14 +24,14 @@ pub(crate) trait RowKey: Ord {
     ghost reading: { Data → Reading (Self × ℤ) };
 
     fn row_from_json<J: JsonValue>(alloc: Global, json: &J) -> Result<(Self, i128), JsonFault>
-        ensures { Gives result (reading (J.json json.now)) };
+        ensures { Aside JsonFault.Memory result (reading (J.json json.now)) };
 
     // Only equal keys tie.
     ghost exact: { IsAntisymmetric Self.cmp };
 }
 
 fn account_from_json<J: JsonValue>(alloc: Global, json: &J) -> Result<Account, JsonFault>
-    ensures { Gives result (reads.account (J.json json.now)) }
+    ensures { Aside JsonFault.Memory result (reads.account (J.json json.now)) }
 {
     let (owner, token) = pair(json)?;
     let owner = party_from_json(alloc, owner)?;
@@ -108,7 +109,7 @@ pub(crate) fn entries_from_json<J: JsonValue, K: RowKey + Drop>(
     alloc: Global,
     json: &J,
 ) -> Result<Entries<K, i128>, JsonFault>
-    ensures reading { GivesBy from_sorted result (reads.rows K.cmp K.reading (J.json json.now)) }
+    ensures reading { AsideBy JsonFault.Memory from_sorted result (reads.rows K.cmp K.reading (J.json json.now)) }
     ensures sorted { IfOk result (λ entries. T (is_sorted K.cmp entries)) }
 {
     let items = json.items().ok_or(JsonFault::NoForm)?;

@@ -1,5 +1,5 @@
 //! States as JSON values.
-ghost use Rattle.json_names.specs.Parts.{Gives};
+ghost use Rattle.collections.specs.Answers.{Aside};
 ghost use Rattle.json_states.specs.ReadsState as reads;
 
 use crate::rows::entries_from_json;
@@ -10,7 +10,7 @@ use std::alloc::Global;
 
 /// The state that a JSON value stands for.
 pub fn state_from_json<J: JsonValue>(alloc: Global, json: &J) -> Result<State, JsonFault>
-    ensures reading { Gives result (reads.state (J.json json.now)) }
+    ensures reading { Aside JsonFault.Memory result (reads.state (J.json json.now)) }
 {
     if !(has_two(json, "accounts", "choices") && has_two(json, "boundValues", "minTime")) {
         return Err(JsonFault::NoForm);

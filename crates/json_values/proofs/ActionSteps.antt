@@ -4,7 +4,8 @@ use Rattle.std.specs.Prelude.{codes}
 use Rattle.serde_json.specs.Data.{Data}
 use Rattle.contract.specs.declared.tree.Action.TheVariants as actions
 use Rattle.json_names.proofs.ListLaws.{then_two}
-use Rattle.json_names.specs.Parts.{◌>>=◌, both_readings, reading_at}
+use Rattle.collections.specs.Answers.{◌>>=◌}
+use Rattle.json_names.specs.Parts.{both_readings, reading_at}
 use Rattle.json_names.specs.ReadsNames.{party, token}
 use Rattle.json_names.specs.declared.forms.ActionForm.TheVariants.{Deposit}
 use Rattle.json_values.specs.ReadsAction.{action_by}

@@ -9,7 +9,8 @@ use Rattle.contract.specs.declared.value.Value as values
 use Rattle.contract.specs.declared.value.Observation.{Observation}
 use Rattle.contract.specs.declared.value.Observation as observations
 use Rattle.json_names.specs.Forms.{value_form, observation_form}
-use Rattle.json_names.specs.Parts.{Reading, ◌>>=◌, ByKey, reading_at, both_readings, of_one, of_two, nowhere, text, whole}
+use Rattle.collections.specs.Answers.{◌>>=◌}
+use Rattle.json_names.specs.Parts.{Reading, ByKey, reading_at, both_readings, of_one, of_two, nowhere, text, whole}
 use Rattle.json_names.specs.ReadsNames.{party, token, choice_id}
 use Rattle.json_names.specs.declared.fault.JsonFault.TheVariants.{NoForm}
 use Rattle.json_names.specs.declared.forms.ValueForm.{ValueForm}

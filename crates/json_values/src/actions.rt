@@ -1,6 +1,7 @@
 //! Actions as JSON values.
 ghost use Rattle.std.specs.Prelude.{codes};
-ghost use Rattle.json_names.specs.Parts.{Gives, both_readings, list, reading_at};
+ghost use Rattle.collections.specs.Answers.{Aside};
+ghost use Rattle.json_names.specs.Parts.{both_readings, list, reading_at};
 ghost use Rattle.json_names.specs.ReadsNames.{bound, party, token};
 ghost use Rattle.json_names.specs.declared.forms.ActionForm.TheVariants.{Deposit};
 ghost use Rattle.json_values.specs.ReadsAction as reads;
@@ -18,7 +19,7 @@ use std::alloc::Global;
 /// The action that a JSON value stands for (Marlowe specification version 3, "Actions and inputs").
 #[tactic(auto, unfolding(crate::specs::ReadsAction::action_by))]
 pub fn action_from_json<J: JsonValue>(alloc: Global, json: &J) -> Result<Action, JsonFault>
-    ensures reading { Gives result (reads.action (J.json json.now)) }
+    ensures reading { Aside JsonFault.Memory result (reads.action (J.json json.now)) }
 {
     match action_form(json) {
         ActionForm::Deposit => deposit_from_json(alloc, json),
@@ -37,7 +38,7 @@ pub fn action_from_json<J: JsonValue>(alloc: Global, json: &J) -> Result<Action,
 
 #[tactic(auto, using(crate::proofs::ActionSteps::deposit_steps))]
 fn deposit_from_json<J: JsonValue>(alloc: Global, json: &J) -> Result<Action, JsonFault>
-    ensures { Gives result (reads.action_by Deposit (J.json json.now)) }
+    ensures { Aside JsonFault.Memory result (reads.action_by Deposit (J.json json.now)) }
 {
     let first = party_and_value(alloc, json)?;
     let (first, second) = beside(first, token_and_account(alloc, json))?;
@@ -48,7 +49,7 @@ fn deposit_from_json<J: JsonValue>(alloc: Global, json: &J) -> Result<Action, Js
 
 // Who deposits, and how much.
 fn party_and_value<J: JsonValue>(alloc: Global, json: &J) -> Result<(Party, Value), JsonFault>
-    ensures { Gives result (both_readings (reading_at party (J.json json.now) (codes "party")) (reading_at value (J.json json.now) (codes "deposits"))) }
+    ensures { Aside JsonFault.Memory result (both_readings (reading_at party (J.json json.now) (codes "party")) (reading_at value (J.json json.now) (codes "deposits"))) }
 {
     let depositor = party_from_json(alloc, member(json, "party")?)?;
     let amount = value_from_json(alloc, member(json, "deposits")?)?;
@@ -57,7 +58,7 @@ fn party_and_value<J: JsonValue>(alloc: Global, json: &J) -> Result<(Party, Valu
 
 // Of what token, and into whose account.
 fn token_and_account<J: JsonValue>(alloc: Global, json: &J) -> Result<(Token, Party), JsonFault>
-    ensures { Gives result (both_readings (reading_at token (J.json json.now) (codes "of_token")) (reading_at party (J.json json.now) (codes "into_account"))) }
+    ensures { Aside JsonFault.Memory result (both_readings (reading_at token (J.json json.now) (codes "of_token")) (reading_at party (J.json json.now) (codes "into_account"))) }
 {
     let token = token_from_json(alloc, member(json, "of_token")?)?;
     let account = party_from_json(alloc, member(json, "into_account")?)?;
@@ -65,7 +66,7 @@ fn token_and_account<J: JsonValue>(alloc: Global, json: &J) -> Result<(Token, Pa
 }
 
 fn bounds_from_json<J: JsonValue>(alloc: Global, json: &J) -> Result<Items<Bound>, JsonFault>
-    ensures { Gives result (list bound (J.json json.now)) }
+    ensures { Aside JsonFault.Memory result (list bound (J.json json.now)) }
 {
     let items = json.items().ok_or(JsonFault::NoForm)?;
     let mut bounds = Items::new(alloc);

@@ -1,5 +1,6 @@
 //! Values and observations as JSON values.
-ghost use Rattle.json_names.specs.Parts.{Gives, both_readings, reading_at};
+ghost use Rattle.collections.specs.Answers.{Aside};
+ghost use Rattle.json_names.specs.Parts.{both_readings, reading_at};
 ghost use Rattle.json_values.specs.ReadsValue as reads;
 
 use contract::{Boxed, Observation, Value};
@@ -15,7 +16,7 @@ use std::alloc::Global;
 #[cycle(value_from_json)]
 #[tactic(auto, using(crate::proofs::ValueSteps::value_steps), unfolding(crate::specs::ReadsValue::value_by))]
 pub fn value_from_json<J: JsonValue>(alloc: Global, json: &J) -> Result<Value, JsonFault>
-    ensures reading { Gives result (reads.value (J.json json.now)) }
+    ensures reading { Aside JsonFault.Memory result (reads.value (J.json json.now)) }
 {
     match value_form(json) {
         ValueForm::Constant => Ok(Value::Constant(read_whole(json)?)),
@@ -66,7 +67,7 @@ pub fn observation_from_json<J: JsonValue>(
     alloc: Global,
     json: &J,
 ) -> Result<Observation, JsonFault>
-    ensures reading { Gives result (reads.observation (J.json json.now)) }
+    ensures reading { Aside JsonFault.Memory result (reads.observation (J.json json.now)) }
 {
     match observation_form(json) {
         ObservationForm::TrueObs => Ok(Observation::TrueObs),
@@ -111,7 +112,7 @@ pub fn observation_from_json<J: JsonValue>(
 // The value that the member at a key stands for.
 #[cycle(value_from_json)]
 fn value_at<J: JsonValue>(alloc: Global, json: &J, key: &str) -> Result<Boxed<Value>, JsonFault>
-    ensures { Gives result (reading_at reads.value (J.json json.now) key.now) }
+    ensures { Aside JsonFault.Memory result (reading_at reads.value (J.json json.now) key.now) }
 {
     let value = value_from_json(alloc, member(json, key)?)?;
     Ok(Boxed::new(alloc, value)?)
@@ -124,7 +125,7 @@ fn observation_at<J: JsonValue>(
     json: &J,
     key: &str,
 ) -> Result<Boxed<Observation>, JsonFault>
-    ensures { Gives result (reading_at reads.observation (J.json json.now) key.now) }
+    ensures { Aside JsonFault.Memory result (reading_at reads.observation (J.json json.now) key.now) }
 {
     let observation = observation_from_json(alloc, member(json, key)?)?;
     Ok(Boxed::new(alloc, observation)?)
@@ -138,7 +139,7 @@ fn values_at<J: JsonValue>(
     a: &str,
     b: &str,
 ) -> Result<(Boxed<Value>, Boxed<Value>), JsonFault>
-    ensures { Gives result (both_readings (reading_at reads.value (J.json json.now) a.now) (reading_at reads.value (J.json json.now) b.now)) }
+    ensures { Aside JsonFault.Memory result (both_readings (reading_at reads.value (J.json json.now) a.now) (reading_at reads.value (J.json json.now) b.now)) }
 {
     let first = value_at(alloc, json, a)?;
     beside(first, value_at(alloc, json, b))
@@ -152,7 +153,7 @@ fn observations_at<J: JsonValue>(
     a: &str,
     b: &str,
 ) -> Result<(Boxed<Observation>, Boxed<Observation>), JsonFault>
-    ensures { Gives result (both_readings (reading_at reads.observation (J.json json.now) a.now) (reading_at reads.observation (J.json json.now) b.now)) }
+    ensures { Aside JsonFault.Memory result (both_readings (reading_at reads.observation (J.json json.now) a.now) (reading_at reads.observation (J.json json.now) b.now)) }
 {
     let first = observation_at(alloc, json, a)?;
     beside(first, observation_at(alloc, json, b))

@@ -10,7 +10,7 @@ use Rattle.contract.specs.declared.value.Value as values
 use Rattle.contract.specs.declared.value.Observation.{Observation}
 use Rattle.contract.specs.declared.value.Observation as observations
 use Rattle.contract.specs.Tree.{value_tree, observation_tree}
-use Rattle.contract.specs.TreeLaws as laws
+use Rattle.contract.proofs.TreeLaws as laws
 use Rattle.json_writers.specs.Written.{one, two, three, number_json, number_fits, party_json, token_json, choice_id_json, value_json, observation_json, value_fits, observation_fits}
 
 and-swap : (a b : Bool) → (a && b) ≡ (b && a)

@@ -13,7 +13,7 @@ use Rattle.contract.specs.declared.tree.Case.{Case}
 use Rattle.contract.specs.declared.tree.Contract.{Contract}
 use Rattle.contract.specs.declared.tree.Contract as made
 use Rattle.contract.specs.Tree.{ActionTree, ContractTree, value_tree, observation_tree, action_tree, case_trees, case_tree, contract_tree}
-use Rattle.contract.specs.TreeLaws as laws
+use Rattle.contract.proofs.TreeLaws as laws
 use Rattle.json_writers.proofs.ListedLaws.{map-push, take-more}
 use Rattle.json_writers.specs.Symbols.{ValueSymbols, ObservationSymbols, ActionSymbols, ContractSymbols, CasesSymbols, CaseSymbols, ListSymbols}
 

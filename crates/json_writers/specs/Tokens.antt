@@ -1,5 +1,5 @@
 -- What a writer puts: the tokens of a JSON value, behind those that it wrote before.
-use Rattle.std.specs.Prelude.{◌≡◌, List, ◌++◌, Bool, true, false, Result, Ok, Err, ⊤}
+use Rattle.std.specs.Prelude.{◌≡◌, ◌≢◌, List, ◌++◌, Bool, true, false, Result, MatchResult}
 use Rattle.json.specs.Token.{Token}
 use Rattle.json.specs.Tree.{json_tokens}
 use Rattle.json.specs.Written as json
@@ -22,6 +22,4 @@ Puts old new d = Adds old new (data_tokens d)
 
 -- The value was written, and JSON has all its numbers; or one it doesn't have; or the call was refused for memory.
 abbrev pub PutsFitting : Result (Unit {0}) WriteFault → json.Written → json.Written → Bool → Data → Type 0
-PutsFitting (Ok done) old new fits d = (fits ≡ true) × Puts old new d
-PutsFitting (Err faults.OutOfRange) old new fits d = fits ≡ false
-PutsFitting (Err faults.Memory) old new fits d = ⊤
+PutsFitting result old new fits d = MatchResult result (λ done. (fits ≡ true) × Puts old new d) (λ fault. fault ≢ faults.Memory → fits ≡ false)

@@ -7,7 +7,8 @@ use Rattle.nodes.specs.declared.cont.Cont.{Cont}
 use Rattle.semantics.specs.Answer.{tree_of_next}
 use Rattle.table.specs.declared.leaves.Leaves128.{Leaves128}
 use Rattle.table.specs.Flat.{Flat, cont_tree}
-use Rattle.table.specs.Leaves.{fitting, fitting_ok, fitting_err}
+use Rattle.table.specs.Leaves.{fitting}
+use Rattle.table.proofs.LeavesLaws.{fitting_ok, fitting_err}
 use Rattle.machine.specs.Matched.{contract_found}
 
 pub found_ok : (f : Flat) (found : Option Cont) (ns : List ℤ) (x : Option ContractTree) → tree_of_next (λ k. cont_tree f k.0) (Ok found) ≡ within ns x → contract_found f (Ok found) ≡ fitting ns x

@@ -1,2 +1,1 @@
 pub mod Matched
-pub mod Hashing

@@ -1,12 +1,12 @@
 //! Where a contract of a table stands.
 use collections::{Memory, Same, TryClone};
 use contract::State;
-use std::hash::{Hash, Hasher};
+use std::hash::Hash;
 use table::Cont;
 
 /// What is kept of a running contract between its transactions: the continuation of its table that is gone on
 /// with, and its state.
-#[derive(Drop)]
+#[derive(Drop, Hash)]
 pub struct Datum {
     pub cont: Cont,
     pub state: State,
@@ -29,7 +29,8 @@ impl Same for Datum {
 }
 
 impl PartialEq for Datum {
-    ghost use Rattle.collections.specs.Same.{same_by, same_by-partial};
+    ghost use Rattle.collections.specs.Same.{same_by};
+    ghost use Rattle.collections.proofs.SameLaws.{same_by-partial};
     ghost use Rattle.machine.specs.contracts.datum.Datum as it;
 
     ghost eq = { same_by it.the_row.coded };
@@ -42,27 +43,17 @@ impl PartialEq for Datum {
 }
 
 impl Eq for Datum {
-    ghost use Rattle.collections.specs.Same.{same_by-equiv};
+    ghost use Rattle.collections.proofs.SameLaws.{same_by-equiv};
     ghost use Rattle.machine.specs.contracts.datum.Datum as it;
 
     ghost laws = { same_by-equiv it.the_row.coded };
 }
 
+#[derived]
 impl Hash for Datum {
     ghost use Rattle.std.specs.Hash.{same_Alike};
-    ghost use Rattle.collections.specs.Same.{same_by_decides};
+    ghost use Rattle.collections.proofs.SameLaws.{same_by_decides};
     ghost use Rattle.machine.specs.contracts.datum.Datum as it;
-    ghost use Rattle.machine.specs.Hashing.{datum_writes};
 
-    ghost hash_input = { datum_writes };
-
-    ghost respects_eq = { (same_Alike datum_writes (same_by_decides it.the_row.coded)).fed };
-
-    fn hash<H: Hasher>(&self, hasher: &mut H) {
-        self.cont.hash(hasher);
-        self.state.accounts().hash(hasher);
-        self.state.choices().hash(hasher);
-        self.state.bound_values().hash(hasher);
-        self.state.min_time().hash(hasher);
-    }
+    ghost respects_eq = { (same_Alike _ (same_by_decides it.the_row.coded)).fed };
 }

@@ -3,11 +3,11 @@ ghost use Rattle.std.specs.Prelude.{◌≡◌, [], ◌∷◌, IfOk, Some};
 ghost use Rattle.std.specs.Option.{IfSome};
 ghost use Rattle.evaluation.specs.Path.{in_case, waits_for};
 ghost use Rattle.table.specs.Flat.{Has, a_cont, cont_tree};
-ghost use Rattle.table.specs.At.{at};
+ghost use Rattle.table.specs.Along.{cont_along};
 ghost use Rattle.table.specs.Leaves.{fitting};
-ghost use Rattle.semantics.specs.Walk.{Aside, answer_of};
-ghost use Rattle.semantics.specs.Computed.{computed, first_match, first_place, tried_to_match};
-ghost use Rattle.semantics.specs.Answer.{answered};
+ghost use Rattle.collections.specs.Answers.{AsideBy};
+ghost use Rattle.semantics.specs.Walk.{standing, answer_of};
+ghost use Rattle.semantics.specs.Computed.{computed, first_match, first_match_index, tried_to_match};
 ghost use Rattle.machine.specs.Matched.{contract_found};
 
 use crate::datum::Datum;
@@ -28,13 +28,13 @@ pub fn compute(
     inputs: &[Input],
 ) -> Result<Outcome<Cont>, SemFault>
     requires { Has table.now (a_cont datum.now.cont.0) }
-    ensures answer { Aside (answered (λ k. cont_tree table.now k.0) result)
+    ensures answer { AsideBy SemFault.Memory (λ outcome. standing outcome.state (cont_tree table.now outcome.place.0)) result
         (answer_of (computed interval datum.now.state (cont_tree table.now datum.now.cont.0) inputs.now)) }
     ensures warnings { IfOk result (λ outcome. outcome.warnings
         ≡ (computed interval datum.now.state (cont_tree table.now datum.now.cont.0) inputs.now).warnings) }
     ensures payments { IfOk result (λ outcome. outcome.payments
         ≡ (computed interval datum.now.state (cont_tree table.now datum.now.cont.0) inputs.now).payments) }
-    ensures place { IfOk result (λ outcome. at table.now datum.now.cont
+    ensures place { IfOk result (λ outcome. cont_along table.now datum.now.cont
         (computed interval datum.now.state (cont_tree table.now datum.now.cont.0) inputs.now).turns ≡ Some outcome.place) }
 {
     table.compute(alloc, &datum.cont, &datum.state, interval, inputs)
@@ -54,8 +54,8 @@ pub fn matching_case(
     ensures case { contract_found table.now result
         ≡ fitting (tried_to_match interval datum.now.state input.now (waits_for (cont_tree table.now datum.now.cont.0)))
         (first_match interval datum.now.state input.now (waits_for (cont_tree table.now datum.now.cont.0))) }
-    ensures place { IfOk result (λ found. IfSome found (λ there. at table.now datum.now.cont
-        (in_case (first_place interval datum.now.state input.now (waits_for (cont_tree table.now datum.now.cont.0))) ∷ []) ≡ Some there)) }
+    ensures place { IfOk result (λ found. IfSome found (λ there. cont_along table.now datum.now.cont
+        (in_case (first_match_index interval datum.now.state input.now (waits_for (cont_tree table.now datum.now.cont.0))) ∷ []) ≡ Some there)) }
 {
     match semantics::matching_case(table, input, datum.cont, &datum.state, interval) {
         Ok(found) => Ok(found),

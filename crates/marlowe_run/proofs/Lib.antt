@@ -1,2 +1,1 @@
 mod PartsFit
-mod Told

@@ -2,6 +2,7 @@
 //! contract, from text to text; and the line that tells why there is none.
 #![tactic(auto)]
 
+mod dropped;
 mod fault;
 mod fault_names;
 mod laws;

@@ -1,0 +1,2 @@
+pub mod EqualLaws
+pub mod Exact

@@ -1,3 +1,4 @@
+pub mod Equal
+pub mod Laws
 pub mod Orders
 pub mod Totals
-pub mod Exact

@@ -1,4 +1,4 @@
--- The orders of parties, tokens, accounts and choices.
+-- The orders of parties, tokens, accounts and choices, which `cmp` answers (the law `names_stand_in_order`).
 use Rattle.std.specs.Prelude.{ℕ, List, Bool, false, true}
 use Rattle.std.specs.declared.cmp.Ordering.{Ordering}
 use Rattle.std.specs.Ordering.{nat_cmp, bool_cmp, ordering_then, then_cmp, on}

@@ -1,4 +1,5 @@
--- The orders of parties, tokens, accounts and choices are total.
+-- The orders of bytes, parties, tokens, accounts and choices are total. No reader needs this file: it is the proof that
+-- `impl Ord` for a party has to give, and what proofs above cite.
 use Rattle.std.specs.Cmp.{IsTotalOrder, on_total, then_total, bool_cmp_total}
 use Rattle.std.specs.Cmp.Lexicographic.{nat_list_cmp_total}
 use Rattle.names.specs.declared.token.Token.{Token}

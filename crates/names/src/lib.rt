@@ -6,13 +6,15 @@ mod account;
 mod bound;
 mod choice_id;
 mod equal;
+mod laws;
 mod party;
 mod payee;
 mod token;
 
-pub use account::{Account, compare_accounts};
+pub use account::Account;
 pub use bound::Bound;
-pub use choice_id::{ChoiceId, compare_choice_ids};
+pub use choice_id::ChoiceId;
+pub use laws::{names_are_told_apart, names_stand_in_order};
 pub use party::Party;
 pub use payee::Payee;
 pub use token::{Token, compare_tokens};

@@ -17,7 +17,7 @@ use Rattle.contract.specs.Tree.{ContractTree, close, pay, if_obs, when, let_be, 
 use Rattle.evaluation.specs.Evaluation.{eval, visited, holds}
 use Rattle.evaluation.specs.Numbers.{all_fit}
 use Rattle.evaluation.specs.Timeouts.{later, last, last_in}
-use Rattle.semantics.specs.Walk.{At, at, Walk, refund, then_from, then_walk, answer_of}
+use Rattle.semantics.specs.Walk.{Standing, standing, Walk, refund, then_from, then_walk, answer_of}
 use Rattle.semantics.specs.Reduction.{binding}
 use Rattle.semantics.specs.Transaction.{trimmed, begun, finished}
 use Rattle.semantics.specs.Computed.{pay_step, settled, all_inputs, from_start, computed}
@@ -55,7 +55,7 @@ none_left s = ap entries (sym (no_entries account_cmp)) ∙ entries-from_sorted 
 
 -- a part ends at Close without accounts
 abbrev Closes : Walk → Type 0
-Closes w = (u : StateMaps) × (w.end ≡ Ok (at u close)) × (entries u.accounts ≡ [])
+Closes w = (u : StateMaps) × (w.end ≡ Ok (standing u close)) × (entries u.accounts ≡ [])
 
 -- and it does nothing only where there is nothing to do
 abbrev IdleIsSpent : StateMaps → ContractTree → Walk → Type 0
@@ -108,9 +108,9 @@ reached_later : (o : Option ℤ) (t u : ℤ) → t ≤ℤ u → HasReached o t �
 reached_later None t u h k = tt
 reached_later (Some x) t u h k = reaches x t u k h
 
-started : (i : Interval) (s : StateMaps) (c : ContractTree) (a : At) → (settled i s c).end ≡ Ok a →
+started : (i : Interval) (s : StateMaps) (c : ContractTree) (a : Standing) → (settled i s c).end ≡ Ok a →
     finished (then_walk (settled i s c) (all_inputs i [])) ≡ finished (record (settled i s c) { numbers = (settled i s c).numbers ++ []; warnings = (settled i s c).warnings ++ []; payments = (settled i s c).payments ++ []; turns = (settled i s c).turns ++ []; end = Ok a })
-started i s c a e = ap (λ (r : Result At SemFault). finished (then_from (settled i s c) r (all_inputs i []))) e
+started i s c a e = ap (λ (r : Result Standing SemFault). finished (then_from (settled i s c) r (all_inputs i []))) e
 
 computed_begins : (i : Interval) (s : StateMaps) (c : ContractTree) → i.from ≤ℤ i.to → s.min_time ≤ℤ i.to →
     computed i s c [] ≡ finished (then_walk (settled (trimmed i s) (begun i s) c) (all_inputs (trimmed i s) []))
@@ -120,12 +120,12 @@ computed_begins i s c g m = computed_well i s c [] g m
 nothing_else : (s t p : ℤ) → s +ℤ pos 0 ≡ t +ℤ p → t ≡ pos 0 → p ≡ s
 nothing_else s t p h k = omega (arith, ints)
 
-pays_all : (i : Interval) (s : StateMaps) (c : ContractTree) (a : At) → (computed i s c []).end ≡ Ok a → entries a.state.accounts ≡ [] →
+pays_all : (i : Interval) (s : StateMaps) (c : ContractTree) (a : Standing) → (computed i s c []).end ≡ Ok a → entries a.state.accounts ≡ [] →
     (token : Token) → paid_out token (computed i s c []).payments ≡ total_of token s
 pays_all i s c a e n token =
     nothing_else (total_of token s) (total_of token a.state) (paid_out token (computed i s c []).payments) (money_is_kept token i s c [] a e) (ap (total (in_token token)) n)
 
-closes_by : (i : Interval) (s : StateMaps) (c : ContractTree) (a : At) (b d : Bool) → IsSpent a.state a.contract → (d ≡ true → IsSpent s c) →
+closes_by : (i : Interval) (s : StateMaps) (c : ContractTree) (a : Standing) (b d : Bool) → IsSpent a.state a.contract → (d ≡ true → IsSpent s c) →
     (computed i s c []).end ≡ cond d (Err Useless) (Ok a) → ClosesSo i s c (cond b (cond d (Err Useless) (Ok a)) (Err Leaves128))
 closes_by i s c a true true n k e = inr (refl, k refl)
 closes_by i s c a true false n k e = (n, pays_all i s c a e n.1)
@@ -137,7 +137,7 @@ closes_after_last i s c h g m =
     let u : StateMaps = begun i s in
     let k : Both u c (settled j u c) =
     settled_closes j u c (at_most i.from s.min_time i.to (int_lt s.min_time i.from) g m) (reached_later (last c) i.from j.from (at_least i.from s.min_time i.to (int_lt s.min_time i.from) refl) h) in
-    let a : At = at k.0.0 close in
+    let a : Standing = standing k.0.0 close in
     let is = computed_begins i s c g m ∙ started j u c a k.0.1 in
     subst (ClosesSo i s c) (sym (ap answer_of is))
     (closes_by i s c a (all_fit ((settled j u c).numbers ++ [])) (is_none (slice_get ((settled j u c).turns ++ []) 0)) (refl, k.0.2) (λ e. k.1 (subst (λ ts. is_none (slice_get ts 0) ≡ true) (append-nil (settled j u c).turns) e))
@@ -147,7 +147,7 @@ spent_close : (i : Interval) (s : StateMaps) → entries s.accounts ≡ [] → i
 spent_close i s n g m =
     let j = trimmed i s in
     let u : StateMaps = begun i s in
-    let a : At = at (record u { accounts = empty }) close in
+    let a : Standing = standing (record u { accounts = empty }) close in
     ap answer_of (computed_begins i s close g m ∙ started j u close a refl)
     ∙ ap (λ (es : List (Account × ℤ)). cond (is_none (slice_get (map (λ _. refund) es ++ []) 0)) (Err Useless) (Ok a)) n
 

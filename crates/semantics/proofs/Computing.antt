@@ -1,5 +1,5 @@
 -- The parts of a transaction.
-use Rattle.std.proofs.Common.{◌≡◌, ℕ, ◌+◌, ◌<◌, ◌≤◌, ◌==◌, ℤ, ◌≤ℤ◌, ◌<ℤ◌, Bool, true, false, cond, ◌&&◌, List, [], ◌∷◌, ◌++◌, length, get_or, drop, map, int_lt, int_le, refl, sym, ap, ◌∙◌, Result, Ok, Err, is_ok, Option, Some, None, inl, subst, arith}
+use Rattle.std.proofs.Common.{◌≡◌, ℕ, ◌+◌, ◌<◌, ◌≤◌, ◌==◌, ℤ, ◌≤ℤ◌, ◌<ℤ◌, Bool, true, false, cond, ◌&&◌, List, [], ◌∷◌, ◌++◌, length, get_or, drop, map, int_lt, int_le, refl, sym, ap, ◌∙◌, Result, Ok, Err, is_ok, Option, Some, None, subst, arith}
 use Rattle.std.specs.Prelude.{slice_get}
 use Rattle.std.specs.Option.{is_none}
 use Rattle.std.proofs.lemmas.List.{at_drop_more, drop_all}
@@ -7,18 +7,19 @@ use Rattle.std.proofs.lemmas.Bool.Decides.{nat_tests}
 use Rattle.std.specs.FinMap.{entries, empty}
 use Rattle.names.specs.declared.account.Account.{Account}
 use Rattle.contract.specs.declared.fault.SemFault.{SemFault}
-use Rattle.contract.specs.declared.fault.SemFault.TheVariants.{InvalidInterval, IntervalInPast, Useless, Ambiguous}
+use Rattle.contract.specs.declared.fault.SemFault.TheVariants.{InvalidInterval, IntervalInPast, Useless, Ambiguous, Memory}
 use Rattle.contract.specs.declared.input.Input.{Input}
 use Rattle.contract.specs.declared.interval.Interval.{Interval}
 use Rattle.states.specs.States.{StateMaps}
 use Rattle.contract.specs.Tree.{ContractTree, close, pay, if_obs, when, let_be, assert}
-use Rattle.semantics.specs.Walk.{Turn, refund, At, at, Walk, ended, joined, then_from, then_walk, answer_of, Aside}
+use Rattle.semantics.specs.Walk.{Turn, refund, Standing, standing, Walk, ended, joined, then_from, then_walk, answer_of}
+use Rattle.collections.specs.Answers.{Aside}
 use Rattle.evaluation.specs.Evaluation.{eval, visited, holds, looked}
 use Rattle.evaluation.specs.Path.{waits_for}
 use Rattle.semantics.specs.Reduction.{Reduction, refund_of, choosing, timing_out, binding, asserting}
-use Rattle.semantics.specs.Settling.{after}
+use Rattle.semantics.specs.Settling.{reduction_then}
 use Rattle.semantics.specs.Transaction.{trimmed, finished}
-use Rattle.semantics.specs.Computed.{pay_step, settled, first_match, first_place, tried_to_match, take_match, applied, one_input, all_inputs, from_start, computed}
+use Rattle.semantics.specs.Computed.{pay_step, settled, first_match, first_match_index, tried_to_match, take_match, applied, one_input, all_inputs, from_start, computed}
 use Rattle.semantics.specs.Reduced.{fixed, is_quiet, is_none_left}
 use Rattle.semantics.proofs.Integers.{lt_true, lt_false}
 use Rattle.semantics.proofs.Walks.{Follows, follows, fails_first, finished_fails, finished_busy, Busy, busy_then, and_false}
@@ -29,21 +30,21 @@ busy_match : (s : StateMaps) (x : Input) (ns : List ℤ) (n : ℕ) (o : Option C
 busy_match s x ns n None = refl
 busy_match s x ns n (Some c) = refl
 
-busy_input : (i : Interval) (x : Input) (a : At) → Busy (one_input i x a)
+busy_input : (i : Interval) (x : Input) (a : Standing) → Busy (one_input i x a)
 unfolding one_input applied
 busy_input i x a =
     let ks = waits_for a.contract in
-    busy_then (applied i x a) (λ b. settled i b.state b.contract) (busy_match a.state x (tried_to_match i a.state x ks) (first_place i a.state x ks) (first_match i a.state x ks))
+    busy_then (applied i x a) (λ b. settled i b.state b.contract) (busy_match a.state x (tried_to_match i a.state x ks) (first_match_index i a.state x ks) (first_match i a.state x ks))
 
 -- a contract that isn't quiet takes a turn, or ends with a fault
 busy_refunds : (s : StateMaps) (es : List (Account × ℤ)) → is_none_left es ≡ false → true && is_none (slice_get (map (λ _. refund) es) 0) ≡ false
 busy_refunds s [] h = absurd (cc)
 busy_refunds s (e ∷ es) h = refl
 
-busy_after : (r : Reduction) (w : Walk) → Busy (after r w)
+busy_after : (r : Reduction) (w : Walk) → Busy (reduction_then r w)
 busy_after r w = and_false (is_ok w.end) false refl
 
-busy_when : (b d : Bool) (a : At) (r : Reduction) (w : Walk) → b ≡ false → Busy (cond b (ended (Ok a)) (cond d (after r w) (ended (Err Ambiguous))))
+busy_when : (b d : Bool) (a : Standing) (r : Reduction) (w : Walk) → b ≡ false → Busy (cond b (ended (Ok a)) (cond d (reduction_then r w) (ended (Err Ambiguous))))
 busy_when true d a r w h = absurd (cc)
 busy_when false true a r w h = busy_after r w
 busy_when false false a r w h = refl
@@ -54,14 +55,14 @@ busy_settled i s (pay p y t v c) h = let r = pay_step s p y t (eval i s v) (visi
 busy_settled i s (if_obs o c d) h = busy_after (choosing s (holds i s o) (looked i s o) c d) (cond (holds i s o) (settled i s c) (settled i s d))
 busy_settled i s (let_be x v c) h = let r = binding s x (eval i s v) (visited i s v) c in busy_after r (settled i r.state c)
 busy_settled i s (assert o c) h = busy_after (asserting s (holds i s o) (looked i s o) c) (settled i s c)
-busy_settled i s (when ks t c) h = busy_when (int_lt i.to t) (int_le t i.from) (at s (when ks t c)) (timing_out s c) (settled i s c) h
+busy_settled i s (when ks t c) h = busy_when (int_lt i.to t) (int_le t i.from) (standing s (when ks t c)) (timing_out s c) (settled i s c) h
 
 turns_after : (b : Bool) (ts us : List Turn) → b && is_none (slice_get us 0) ≡ false → b && is_none (slice_get (ts ++ us) 0) ≡ false
 turns_after b [] us h = h
 turns_after b (t ∷ ts) us h = and_false b false refl
 
 -- what is done later counts, too
-busy_later : (w : Walk) (end : Result At SemFault) (f : At → Walk) → w.end ≡ end → ((a : At) → Busy (f a)) → Busy (then_from w end f)
+busy_later : (w : Walk) (end : Result Standing SemFault) (f : Standing → Walk) → w.end ≡ end → ((a : Standing) → Busy (f a)) → Busy (then_from w end f)
 busy_later w (Ok a) f q h = turns_after (is_ok (f a).end) w.turns (f a).turns (h a)
 busy_later w (Err e) f q h = rw q refl
 
@@ -73,22 +74,22 @@ busy_by i s c (x ∷ xs) true q h =
     busy_later (settled i s c) (settled i s c).end (all_inputs i (x ∷ xs)) refl (λ a. busy_then (one_input i x a) (all_inputs i xs) (busy_input i x a))
 
 -- where nothing is done, the transaction is useless
-useless_refunds : (es : List (Account × ℤ)) (a : At) → is_none_left es ≡ true →
+useless_refunds : (es : List (Account × ℤ)) (a : Standing) → is_none_left es ≡ true →
     answer_of (finished (joined (record { numbers = []; warnings = []; payments = map refund_of es; turns = map (λ _. refund) es; end = Ok a }) (ended (Ok a)))) ≡ Err Useless
 useless_refunds [] a h = refl
 useless_refunds (e ∷ es) a h = absurd (cc)
 
-useless_when : (i : Interval) (b d : Bool) (a : At) (w : Walk) → b ≡ true → answer_of (finished (then_walk (cond b (ended (Ok a)) (cond d w (ended (Err Ambiguous)))) (all_inputs i []))) ≡ Err Useless
+useless_when : (i : Interval) (b d : Bool) (a : Standing) (w : Walk) → b ≡ true → answer_of (finished (then_walk (cond b (ended (Ok a)) (cond d w (ended (Err Ambiguous)))) (all_inputs i []))) ≡ Err Useless
 useless_when i true d a w h = refl
 useless_when i false d a w h = absurd (cc)
 
 useless : (i : Interval) (s : StateMaps) (c : ContractTree) → is_quiet i s c ≡ true → answer_of (finished (then_walk (settled i s c) (all_inputs i []))) ≡ Err Useless
-useless i s close h = useless_refunds (entries s.accounts) (at (record s { accounts = empty }) close) h
+useless i s close h = useless_refunds (entries s.accounts) (standing (record s { accounts = empty }) close) h
 useless i s (pay p y t v c) h = absurd (cc)
 useless i s (if_obs o c d) h = absurd (cc)
 useless i s (let_be x v c) h = absurd (cc)
 useless i s (assert o c) h = absurd (cc)
-useless i s (when ks t c) h = useless_when i (int_lt i.to t) (int_le t i.from) (at s (when ks t c)) (after (timing_out s c) (settled i s c)) h
+useless i s (when ks t c) h = useless_when i (int_lt i.to t) (int_le t i.from) (standing s (when ks t c)) (reduction_then (timing_out s c) (settled i s c)) h
 
 none_brought : (xs : List Input) → true ≡ (length xs == 0) → xs ≡ []
 none_brought [] h = refl
@@ -139,8 +140,8 @@ computed_is : (i : Interval) (s : StateMaps) (c : ContractTree) (xs : List Input
 unfolding computed
 computed_is i s c xs = tests_fix i s c xs (int_lt i.to i.from) (int_lt i.to s.min_time)
 
-pub computed_refused : (i : Interval) (s : StateMaps) (c : ContractTree) (xs : List Input) (f : SemFault) → Err f ≡ fixed i s → Aside {A = At} (Err f) (answer_of (computed i s c xs))
-computed_refused i s c xs f h = inl (ap (λ r. answer_of (from_fixed r s c xs)) h ∙ sym (ap answer_of (computed_is i s c xs)))
+pub computed_refused : (i : Interval) (s : StateMaps) (c : ContractTree) (xs : List Input) (f : SemFault) → Err f ≡ fixed i s → Aside Memory (Err f) (answer_of (computed i s c xs))
+computed_refused i s c xs f h = λ _. ap answer_of (computed_is i s c xs) ∙ sym (ap (λ r. answer_of (from_fixed r s c xs)) h)
 
 pub computed_fixed : (i : Interval) (s : StateMaps) (j : Interval) (t : StateMaps) (c : ContractTree) (xs : List Input) → Ok j ≡ fixed i s → t ≡ record s { min_time = j.from } →
     computed i s c xs ≡ finished (then_walk (settled j t c) (all_inputs j xs))
@@ -148,18 +149,18 @@ unfolding from_start
 computed_fixed i s j t c xs h k = computed_is i s c xs ∙ ap (λ r. from_fixed r s c xs) (sym h) ∙ ap (λ u. finished (then_walk (settled j u c) (all_inputs j xs))) (sym k)
 
 pub computed_useless : (i : Interval) (s : StateMaps) (j : Interval) (t : StateMaps) (c : ContractTree) (xs : List Input) → Ok j ≡ fixed i s → t ≡ record s { min_time = j.from } →
-    true ≡ (length xs == 0) → true ≡ is_quiet j t c → Aside {A = At} (Err Useless) (answer_of (computed i s c xs))
+    true ≡ (length xs == 0) → true ≡ is_quiet j t c → Aside Memory (Err Useless) (answer_of (computed i s c xs))
 computed_useless i s j t c xs h k p q =
-    inl (sym (ap answer_of (computed_fixed i s j t c xs h k) ∙ (ap (λ ys. answer_of (finished (then_walk (settled j t c) (all_inputs j ys)))) (none_brought xs p) ∙ useless j t c (sym q))))
+    λ _. ap answer_of (computed_fixed i s j t c xs h k) ∙ (ap (λ ys. answer_of (finished (then_walk (settled j t c) (all_inputs j ys)))) (none_brought xs p) ∙ useless j t c (sym q))
 
 pub computed_fails : (i : Interval) (s : StateMaps) (j : Interval) (t : StateMaps) (c : ContractTree) (xs : List Input) (f : SemFault) → Ok j ≡ fixed i s → t ≡ record s { min_time = j.from } →
-    Aside {A = At} (Err f) (answer_of (settled j t c)) → Aside {A = At} (Err f) (answer_of (computed i s c xs))
+    Aside Memory (Err f) (answer_of (settled j t c)) → Aside Memory (Err f) (answer_of (computed i s c xs))
 computed_fails i s j t c xs f h k q =
     rw (computed_fixed i s j t c xs h k) (finished_fails (then_walk (settled j t c) (all_inputs j xs)) f (fails_first (settled j t c) (all_inputs j xs) f q))
 
 -- something is done
-pub computed_busy : (i : Interval) (s : StateMaps) (j : Interval) (t : StateMaps) (c : ContractTree) (xs : List Input) (a : At) → Ok j ≡ fixed i s → t ≡ record s { min_time = j.from } →
-    (length xs == 0) && is_quiet j t c ≡ false → Aside (Ok a) (answer_of (settled j t c)) →
+pub computed_busy : (i : Interval) (s : StateMaps) (j : Interval) (t : StateMaps) (c : ContractTree) (xs : List Input) (a : Standing) → Ok j ≡ fixed i s → t ≡ record s { min_time = j.from } →
+    (length xs == 0) && is_quiet j t c ≡ false → answer_of (settled j t c) ≡ Ok a →
     Follows (computed i s c xs) (all_inputs j xs a) (settled j t c).warnings (settled j t c).payments (settled j t c).turns
 computed_busy i s j t c xs a h k q r =
     let b = finished_busy (then_walk (settled j t c) (all_inputs j xs)) (busy_by j t c xs (is_quiet j t c) refl q) in
@@ -176,9 +177,9 @@ not_right false b h = refl
 
 -- ---- one input after another
 
-pub inputs_here : (i : Interval) (xs : List Input) (n : ℕ) (x : Input) (a : At) → n < length xs → x ≡ get_or xs n x → all_inputs i (drop n xs) a ≡ then_walk (one_input i x a) (all_inputs i (drop (n + 1) xs))
+pub inputs_here : (i : Interval) (xs : List Input) (n : ℕ) (x : Input) (a : Standing) → n < length xs → x ≡ get_or xs n x → all_inputs i (drop n xs) a ≡ then_walk (one_input i x a) (all_inputs i (drop (n + 1) xs))
 inputs_here i xs n x a h e =
     at_drop_more (λ ys. all_inputs i ys a) xs n x h ∙ ap (λ y. then_walk (one_input i y a) (all_inputs i (drop (n + 1) xs))) (sym e)
 
-pub inputs_done : (i : Interval) (xs : List Input) (n : ℕ) (a : At) → length xs ≤ n → all_inputs i (drop n xs) a ≡ ended (Ok a)
+pub inputs_done : (i : Interval) (xs : List Input) (n : ℕ) (a : Standing) → length xs ≤ n → all_inputs i (drop n xs) a ≡ ended (Ok a)
 inputs_done i xs n a h = ap (λ ys. all_inputs i ys a) (drop_all n xs h)

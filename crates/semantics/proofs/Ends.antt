@@ -15,43 +15,43 @@ use Rattle.contract.specs.declared.input.Input.TheVariants.{Deposit, Choice, Not
 use Rattle.contract.specs.declared.interval.Interval.{Interval}
 use Rattle.states.specs.States.{StateMaps, with_money}
 use Rattle.contract.specs.Tree.{ContractTree, CaseTrees, close, pay, if_obs, when, let_be, assert}
-use Rattle.semantics.specs.Walk.{At, at, Walk, ended, then_from, then_walk}
+use Rattle.semantics.specs.Walk.{Standing, standing, Walk, ended, then_from, then_walk}
 use Rattle.evaluation.specs.Path.{waits_for}
 use Rattle.semantics.specs.Reduction.{Reduction, Reduces, Quiet, account_of, balance, debited, credited}
 use Rattle.evaluation.specs.Evaluation.{eval}
 use Rattle.semantics.specs.Settling.{Runs, Ends}
 use Rattle.semantics.specs.Applying.{taken}
 use Rattle.semantics.specs.Transaction.{trimmed, finished}
-use Rattle.semantics.specs.Computed.{settled, first_match, first_place, tried_to_match, take_match, applied, one_input, all_inputs, from_start, computed}
+use Rattle.semantics.specs.Computed.{settled, first_match, first_match_index, tried_to_match, take_match, applied, one_input, all_inputs, from_start, computed}
 use Rattle.semantics.proofs.Integers.{true_lt}
 use Rattle.semantics.proofs.Relations.{settles_so}
 use Rattle.semantics.proofs.Computing.{computed_by}
 
-ok_same : (a b : At) → ◌≡◌ {A = Result At SemFault} (Ok a) (Ok b) → a ≡ b
+ok_same : (a b : Standing) → ◌≡◌ {A = Result Standing SemFault} (Ok a) (Ok b) → a ≡ b
 ok_same a b e = cc
 
 -- what holds wherever a walk ends well
-abbrev AtEnd : (At → Type 0) → Walk → Type 0
-AtEnd P w = (a : At) → w.end ≡ Ok a → P a
+abbrev AtEnd : (Standing → Type 0) → Walk → Type 0
+AtEnd P w = (a : Standing) → w.end ≡ Ok a → P a
 
-at_ended : (P : At → Type 0) (a : At) → P a → AtEnd P (ended (Ok a))
+at_ended : (P : Standing → Type 0) (a : Standing) → P a → AtEnd P (ended (Ok a))
 at_ended P a h b e = subst P (ok_same a b e) h
 
-at_fault : (P : At → Type 0) (w : Walk) (f : SemFault) → w.end ≡ Err f → AtEnd P w
-at_fault P w f q a e = absurd (let k : ◌≡◌ {A = Result At SemFault} (Err f) (Ok a) = sym q ∙ e in cc)
+at_fault : (P : Standing → Type 0) (w : Walk) (f : SemFault) → w.end ≡ Err f → AtEnd P w
+at_fault P w f q a e = absurd (let k : ◌≡◌ {A = Result Standing SemFault} (Err f) (Ok a) = sym q ∙ e in cc)
 
-at_then_from : (P Q : At → Type 0) (w : Walk) (end : Result At SemFault) (f : At → Walk) → w.end ≡ end → AtEnd P w → ((a : At) → P a → AtEnd Q (f a)) → AtEnd Q (then_from w end f)
+at_then_from : (P Q : Standing → Type 0) (w : Walk) (end : Result Standing SemFault) (f : Standing → Walk) → w.end ≡ end → AtEnd P w → ((a : Standing) → P a → AtEnd Q (f a)) → AtEnd Q (then_from w end f)
 at_then_from P Q w (Ok a) f q h k = k a (h a q)
 at_then_from P Q w (Err e) f q h k = at_fault Q w e q
 
-at_then : (P Q : At → Type 0) (w : Walk) (f : At → Walk) → AtEnd P w → ((a : At) → P a → AtEnd Q (f a)) → AtEnd Q (then_walk w f)
+at_then : (P Q : Standing → Type 0) (w : Walk) (f : Standing → Walk) → AtEnd P w → ((a : Standing) → P a → AtEnd Q (f a)) → AtEnd Q (then_walk w f)
 at_then P Q w f h k = at_then_from P Q w w.end f refl h k
 
-at_match : (P : At → Type 0) (s : StateMaps) (x : Input) (ns : List ℤ) (n : ℕ) (o : Option ContractTree) → ((c : ContractTree) → P (at (taken s x) c)) → AtEnd P (take_match s x ns n o)
+at_match : (P : Standing → Type 0) (s : StateMaps) (x : Input) (ns : List ℤ) (n : ℕ) (o : Option ContractTree) → ((c : ContractTree) → P (standing (taken s x) c)) → AtEnd P (take_match s x ns n o)
 at_match P s x ns n None h a e = absurd (cc)
-at_match P s x ns n (Some c) h a e = subst P (ok_same (at (taken s x) c) a e) (h c)
+at_match P s x ns n (Some c) h a e = subst P (ok_same (standing (taken s x) c) a e) (h c)
 
-at_finished : (P : At → Type 0) (w : Walk) → AtEnd P w → AtEnd P (finished w)
+at_finished : (P : Standing → Type 0) (w : Walk) → AtEnd P w → AtEnd P (finished w)
 at_finished P w h = by_turns (is_ok w.end && is_none (slice_get w.turns 0))
   where
     by_turns : (b : Bool) → AtEnd P (record w { end = cond b (Err Useless) w.end })
@@ -59,23 +59,23 @@ at_finished P w h = by_turns (is_ok w.end && is_none (slice_get w.turns 0))
     by_turns false = h
 
 -- a property that a settling has, that inputs keep, holds at the end
-module _ (i : Interval) (P : At → Type 0) (settles : (a : At) → P a → AtEnd P (settled i a.state a.contract)) (takes : (x : Input) (a : At) (c : ContractTree) → P a → P (at (taken a.state x) c)) where
-  at_input : (x : Input) (a : At) → P a → AtEnd P (one_input i x a)
+module _ (i : Interval) (P : Standing → Type 0) (settles : (a : Standing) → P a → AtEnd P (settled i a.state a.contract)) (takes : (x : Input) (a : Standing) (c : ContractTree) → P a → P (standing (taken a.state x) c)) where
+  at_input : (x : Input) (a : Standing) → P a → AtEnd P (one_input i x a)
   unfolding one_input applied
   at_input x a h =
       let ks = waits_for a.contract in
       at_then P P (applied i x a) (λ b. settled i b.state b.contract)
-      (at_match P a.state x (tried_to_match i a.state x ks) (first_place i a.state x ks) (first_match i a.state x ks) (λ c. takes x a c h)) settles
+      (at_match P a.state x (tried_to_match i a.state x ks) (first_match_index i a.state x ks) (first_match i a.state x ks) (λ c. takes x a c h)) settles
 
-  at_inputs : (xs : List Input) (a : At) → P a → AtEnd P (all_inputs i xs a)
+  at_inputs : (xs : List Input) (a : Standing) → P a → AtEnd P (all_inputs i xs a)
   at_inputs [] a h = at_ended P a h
   at_inputs (x ∷ xs) a h = at_then P P (one_input i x a) (all_inputs i xs) (at_input x a h) (λ b. at_inputs xs b)
 
-  at_start : (s : StateMaps) (c : ContractTree) (xs : List Input) → P (at (record s { min_time = i.from }) c) → AtEnd P (from_start i s c xs)
+  at_start : (s : StateMaps) (c : ContractTree) (xs : List Input) → P (standing (record s { min_time = i.from }) c) → AtEnd P (from_start i s c xs)
   unfolding from_start
   at_start s c xs h =
       let t : StateMaps = record s { min_time = i.from } in
-      at_finished P (then_walk (settled i t c) (all_inputs i xs)) (at_then P P (settled i t c) (all_inputs i xs) (settles (at t c) h) (λ b. at_inputs xs b))
+      at_finished P (then_walk (settled i t c) (all_inputs i xs)) (at_then P P (settled i t c) (all_inputs i xs) (settles (standing t c) h) (λ b. at_inputs xs b))
 
 -- ---- the minimum time
 
@@ -104,19 +104,19 @@ taken_time s (Deposit a p t n) = kept (int_lt (pos 0) n)
 taken_time s (Choice id n) = refl
 taken_time s Notify = refl
 
-runs_time : (i : Interval) (a : At) (rs : List Reduction) (b : At) → Runs i a rs b → b.state.min_time ≡ a.state.min_time
-runs_time i a [] b h = ap (λ (x : At). x.state.min_time) h
-runs_time i a (r ∷ rs) b h = runs_time i (at r.state r.contract) rs b h.1 ∙ reduces_time i a.state a.contract r h.0
+runs_time : (i : Interval) (a : Standing) (rs : List Reduction) (b : Standing) → Runs i a rs b → b.state.min_time ≡ a.state.min_time
+runs_time i a [] b h = ap (λ (x : Standing). x.state.min_time) h
+runs_time i a (r ∷ rs) b h = runs_time i (standing r.state r.contract) rs b h.1 ∙ reduces_time i a.state a.contract r h.0
 
 -- where a settling ends
-ends_at : (i : Interval) (b a : At) (end : Result At SemFault) → Ends i b end → end ≡ Ok a → (b ≡ a) × Quiet i a.state a.contract
-ends_at i b a end (inl h) e = let q = ok_same b a (sym h.1 ∙ e) in (q, subst (λ (x : At). Quiet i x.state x.contract) q h.0)
-ends_at i b a end (inr h) e = absurd (let k : ◌≡◌ {A = Result At SemFault} (Err Ambiguous) (Ok a) = sym h.1 ∙ e in cc)
+ends_at : (i : Interval) (b a : Standing) (end : Result Standing SemFault) → Ends i b end → end ≡ Ok a → (b ≡ a) × Quiet i a.state a.contract
+ends_at i b a end (inl h) e = let q = ok_same b a (sym h.1 ∙ e) in (q, subst (λ (x : Standing). Quiet i x.state x.contract) q h.0)
+ends_at i b a end (inr h) e = absurd (let k : ◌≡◌ {A = Result Standing SemFault} (Err Ambiguous) (Ok a) = sym h.1 ∙ e in cc)
 
-settled_time : (i : Interval) (t : ℤ) (b : At) → b.state.min_time ≡ t → AtEnd (λ a. a.state.min_time ≡ t) (settled i b.state b.contract)
+settled_time : (i : Interval) (t : ℤ) (b : Standing) → b.state.min_time ≡ t → AtEnd (λ a. a.state.min_time ≡ t) (settled i b.state b.contract)
 settled_time i t b h a e =
     let g = settles_so i b.state b.contract in
-    ap (λ (x : At). x.state.min_time) (sym (ends_at i g.last a _ g.ends e).0) ∙ (runs_time i b g.reductions g.last g.runs ∙ h)
+    ap (λ (x : Standing). x.state.min_time) (sym (ends_at i g.last a _ g.ends e).0) ∙ (runs_time i b g.reductions g.last g.runs ∙ h)
 
 greater : (a b : ℤ) → b ≤ℤ int_max a b
 greater a b = by_test (int_lt b a) refl
@@ -128,32 +128,32 @@ greater a b = by_test (int_lt b a) refl
     by_test : (t : Bool) → int_lt b a ≡ t → b ≤ℤ cond (int_lt b a) a b
     by_test t h = at_least (int_lt b a) refl
 
-at_computed : (P : At → Type 0) (i : Interval) (s : StateMaps) (c : ContractTree) (xs : List Input) → AtEnd P (from_start (trimmed i s) s c xs) → AtEnd P (computed i s c xs)
+at_computed : (P : Standing → Type 0) (i : Interval) (s : StateMaps) (c : ContractTree) (xs : List Input) → AtEnd P (from_start (trimmed i s) s c xs) → AtEnd P (computed i s c xs)
 at_computed P i s c xs h = computed_by (AtEnd P) i s c xs (at_fault P (ended (Err InvalidInterval)) InvalidInterval refl) (at_fault P (ended (Err IntervalInPast)) IntervalInPast refl) h
 
 time_computed : (i : Interval) (s : StateMaps) (c : ContractTree) (xs : List Input) → AtEnd (λ a. a.state.min_time ≡ int_max i.from s.min_time) (computed i s c xs)
 time_computed i s c xs =
-    let P : At → Type 0 = λ a. a.state.min_time ≡ int_max i.from s.min_time in
+    let P : Standing → Type 0 = λ a. a.state.min_time ≡ int_max i.from s.min_time in
     at_computed P i s c xs (at_start (trimmed i s) P (λ a. settled_time (trimmed i s) (int_max i.from s.min_time) a) (λ x a k h. taken_time a.state x ∙ h) s c xs refl)
 
-pub time_goes_on : (i : Interval) (s : StateMaps) (c : ContractTree) (xs : List Input) (a : At) → (computed i s c xs).end ≡ Ok a → (a.state.min_time ≡ int_max i.from s.min_time) × (s.min_time ≤ℤ a.state.min_time)
+pub time_goes_on : (i : Interval) (s : StateMaps) (c : ContractTree) (xs : List Input) (a : Standing) → (computed i s c xs).end ≡ Ok a → (a.state.min_time ≡ int_max i.from s.min_time) × (s.min_time ≤ℤ a.state.min_time)
 time_goes_on i s c xs a e =
     let h = time_computed i s c xs a e in
     (h, subst (λ t. s.min_time ≤ℤ t) (sym h) (greater i.from s.min_time))
 
 -- ---- at rest
 
-abbrev QuietAt : Interval → At → Type 0
+abbrev QuietAt : Interval → Standing → Type 0
 QuietAt i a = Quiet i a.state a.contract
 
-settled_quiet : (i : Interval) (b : At) → AtEnd (QuietAt i) (settled i b.state b.contract)
+settled_quiet : (i : Interval) (b : Standing) → AtEnd (QuietAt i) (settled i b.state b.contract)
 settled_quiet i b a e = let g = settles_so i b.state b.contract in (ends_at i g.last a _ g.ends e).1
 
-quiet_input : (i : Interval) (x : Input) (a : At) → AtEnd (QuietAt i) (one_input i x a)
+quiet_input : (i : Interval) (x : Input) (a : Standing) → AtEnd (QuietAt i) (one_input i x a)
 unfolding one_input
 quiet_input i x a = at_then (λ _. Unit {0}) (QuietAt i) (applied i x a) (λ b. settled i b.state b.contract) (λ _ _. tt) (λ b _. settled_quiet i b)
 
-quiet_inputs : (i : Interval) (xs : List Input) (a : At) → QuietAt i a → AtEnd (QuietAt i) (all_inputs i xs a)
+quiet_inputs : (i : Interval) (xs : List Input) (a : Standing) → QuietAt i a → AtEnd (QuietAt i) (all_inputs i xs a)
 quiet_inputs i [] a h = at_ended (QuietAt i) a h
 quiet_inputs i (x ∷ xs) a h = at_then (QuietAt i) (QuietAt i) (one_input i x a) (all_inputs i xs) (quiet_input i x a) (λ b. quiet_inputs i xs b)
 
@@ -161,7 +161,7 @@ quiet_start : (i : Interval) (s : StateMaps) (c : ContractTree) (xs : List Input
 unfolding from_start
 quiet_start i s c xs =
     let t : StateMaps = record s { min_time = i.from } in
-    at_finished (QuietAt i) (then_walk (settled i t c) (all_inputs i xs)) (at_then (QuietAt i) (QuietAt i) (settled i t c) (all_inputs i xs) (settled_quiet i (at t c)) (λ b. quiet_inputs i xs b))
+    at_finished (QuietAt i) (then_walk (settled i t c) (all_inputs i xs)) (at_then (QuietAt i) (QuietAt i) (settled i t c) (all_inputs i xs) (settled_quiet i (standing t c)) (λ b. quiet_inputs i xs b))
 
 quiet_forms : (i : Interval) (s : StateMaps) (c : ContractTree) → Quiet i s c →
     ((c ≡ close) × (entries s.accounts ≡ [])) ⊎ ((ks : CaseTrees) × (timeout : ℤ) × (then : ContractTree) × (c ≡ when ks timeout then) × (i.to <ℤ timeout))
@@ -172,6 +172,6 @@ quiet_forms i s (let_be x v c) h = absurd h
 quiet_forms i s (assert o c) h = absurd h
 quiet_forms i s (when ks t c) h = inr (ks, t, c, refl, h)
 
-pub ends_quiet : (i : Interval) (s : StateMaps) (c : ContractTree) (xs : List Input) (a : At) → (computed i s c xs).end ≡ Ok a →
+pub ends_quiet : (i : Interval) (s : StateMaps) (c : ContractTree) (xs : List Input) (a : Standing) → (computed i s c xs).end ≡ Ok a →
     ((a.contract ≡ close) × (entries a.state.accounts ≡ [])) ⊎ ((ks : CaseTrees) × (timeout : ℤ) × (then : ContractTree) × (a.contract ≡ when ks timeout then) × (i.to <ℤ timeout))
 ends_quiet i s c xs a e = quiet_forms (trimmed i s) a.state a.contract (at_computed (QuietAt (trimmed i s)) i s c xs (quiet_start (trimmed i s) s c xs) a e)

@@ -9,7 +9,7 @@ use Rattle.states.specs.States.{StateMaps}
 use Rattle.contract.specs.Tree.{ActionTree, ContractTree}
 use Rattle.evaluation.specs.Numbers.{all_fit, within}
 use Rattle.semantics.specs.Applying.{matches, tried}
-use Rattle.semantics.specs.Computed.{first_match, first_place, tried_to_match}
+use Rattle.semantics.specs.Computed.{first_match, first_match_index, tried_to_match}
 use Rattle.evaluation.proofs.Numbers.{all_fit_append, within_ok}
 
 abbrev Pair : Type 0
@@ -64,15 +64,15 @@ module _ (i : Interval) (s : StateMaps) (x : Input) (ks : List Pair) (n : ℕ) (
       bad false d b f y m q r = let g : f ≡ Leaves128 = cc in rw (r, g)
 
   -- the place of the first match, past this case
-  pub place_past : Ok false ≡ within (tried i s x k.0) (matches i s x k.0) → first_place i s x ks ≡ n + first_place i s x (drop n ks) → first_place i s x ks ≡ (n + 1) + first_place i s x (drop (n + 1) ks)
+  pub place_past : Ok false ≡ within (tried i s x k.0) (matches i s x k.0) → first_match_index i s x ks ≡ n + first_match_index i s x (drop n ks) → first_match_index i s x ks ≡ (n + 1) + first_match_index i s x (drop (n + 1) ks)
   place_past q g =
       let w = within_ok _ _ _ q in
-      let p : first_place i s x (drop n ks) ≡ suc (first_place i s x (drop (n + 1) ks)) = here (first_place i s x) ∙ ap (λ b. cond b 0 (suc (first_place i s x (drop (n + 1) ks)))) (sym w.1) in
+      let p : first_match_index i s x (drop n ks) ≡ suc (first_match_index i s x (drop (n + 1) ks)) = here (first_match_index i s x) ∙ ap (λ b. cond b 0 (suc (first_match_index i s x (drop (n + 1) ks)))) (sym w.1) in
       omega (arith, g, p)
 
   -- it is here
-  pub place_here : Ok true ≡ within (tried i s x k.0) (matches i s x k.0) → first_place i s x ks ≡ n + first_place i s x (drop n ks) → first_place i s x ks ≡ n
+  pub place_here : Ok true ≡ within (tried i s x k.0) (matches i s x k.0) → first_match_index i s x ks ≡ n + first_match_index i s x (drop n ks) → first_match_index i s x ks ≡ n
   place_here q g =
       let w = within_ok _ _ _ q in
-      let p : first_place i s x (drop n ks) ≡ 0 = here (first_place i s x) ∙ ap (λ b. cond b 0 (suc (first_place i s x (drop (n + 1) ks)))) (sym w.1) in
+      let p : first_match_index i s x (drop n ks) ≡ 0 = here (first_match_index i s x) ∙ ap (λ b. cond b 0 (suc (first_match_index i s x (drop (n + 1) ks)))) (sym w.1) in
       omega (arith, g, p)

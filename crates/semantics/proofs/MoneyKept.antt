@@ -17,33 +17,34 @@ use Rattle.contract.specs.declared.interval.Interval.{Interval}
 use Rattle.states.specs.States.{StateMaps, with_money, total_of}
 use Rattle.contract.specs.Tree.{ContractTree, close, pay, if_obs, when, let_be, assert}
 use Rattle.evaluation.specs.Evaluation.{eval, visited, holds, looked}
-use Rattle.semantics.specs.Walk.{then_branch, else_branch, At, at, Walk, ended, then_from, then_walk}
+use Rattle.semantics.specs.Walk.{then_branch, else_branch, Standing, standing, Walk, ended, then_from, then_walk}
 use Rattle.evaluation.specs.Path.{waits_for}
 use Rattle.semantics.specs.Reduction.{Reduction, going, account_of, balance, debited, credited, paying, not_paying, timing_out, binding, asserting}
-use Rattle.semantics.specs.Settling.{after}
-use Rattle.semantics.specs.Applying.{taken, refused}
+use Rattle.semantics.specs.Settling.{reduction_then}
+use Rattle.semantics.specs.Applying.{taken, unmatched}
 use Rattle.semantics.specs.Transaction.{trimmed}
-use Rattle.semantics.specs.Computed.{pay_step, refunds, settled, first_match, first_place, tried_to_match, take_match, applied, one_input, all_inputs, from_start}
-use Rattle.semantics.specs.Money.{counted, brought, deposited, paid_out, MoneyIsKept}
+use Rattle.semantics.specs.Computed.{pay_step, refunds, settled, first_match, first_match_index, tried_to_match, take_match, applied, one_input, all_inputs, from_start}
+use Rattle.states.specs.States.{counted}
+use Rattle.semantics.specs.Money.{brought, deposited, paid_out, MoneyIsKept}
 use Rattle.semantics.proofs.Computing.{computed_by}
 use Rattle.semantics.proofs.MoneySums.{no_more, no_first, grows, shrinks, paid_out_append, refunds_pay_all, nothing_left}
 
 -- where a part ends well: what the accounts had at its start and what was deposited is what they have and
 -- what was paid out
 abbrev Keeps : Token → ℤ → StateMaps → Walk → Type 0
-Keeps token deposits s w = (a : At) → w.end ≡ Ok a → total_of token s +ℤ deposits ≡ total_of token a.state +ℤ paid_out token w.payments
+Keeps token deposits s w = (a : Standing) → w.end ≡ Ok a → total_of token s +ℤ deposits ≡ total_of token a.state +ℤ paid_out token w.payments
 
-ok_same : (a b : At) → ◌≡◌ {A = Result At SemFault} (Ok a) (Ok b) → a ≡ b
+ok_same : (a b : Standing) → ◌≡◌ {A = Result Standing SemFault} (Ok a) (Ok b) → a ≡ b
 ok_same a b e = cc
 
 keeps_fault : (token : Token) (n : ℤ) (s : StateMaps) (w : Walk) (f : SemFault) → w.end ≡ Err f → Keeps token n s w
-keeps_fault token n s w f q a e = absurd (let k : ◌≡◌ {A = Result At SemFault} (Err f) (Ok a) = sym q ∙ e in cc)
+keeps_fault token n s w f q a e = absurd (let k : ◌≡◌ {A = Result Standing SemFault} (Err f) (Ok a) = sym q ∙ e in cc)
 
 -- where a part ends at a known place
-keeps_at : (token : Token) (n : ℤ) (s : StateMaps) (w : Walk) (a : At) → w.end ≡ Ok a → total_of token s +ℤ n ≡ total_of token a.state +ℤ paid_out token w.payments → Keeps token n s w
-keeps_at token n s w a q h b e = h ∙ ap (λ (x : At). total_of token x.state +ℤ paid_out token w.payments) (ok_same a b (sym q ∙ e))
+keeps_at : (token : Token) (n : ℤ) (s : StateMaps) (w : Walk) (a : Standing) → w.end ≡ Ok a → total_of token s +ℤ n ≡ total_of token a.state +ℤ paid_out token w.payments → Keeps token n s w
+keeps_at token n s w a q h b e = h ∙ ap (λ (x : Standing). total_of token x.state +ℤ paid_out token w.payments) (ok_same a b (sym q ∙ e))
 
-keeps_ended : (token : Token) (a : At) → Keeps token (pos 0) a.state (ended (Ok a))
+keeps_ended : (token : Token) (a : Standing) → Keeps token (pos 0) a.state (ended (Ok a))
 keeps_ended token a = keeps_at token (pos 0) a.state (ended (Ok a)) a refl refl
 
 -- ---- one part after another
@@ -51,13 +52,13 @@ keeps_ended token a = keeps_at token (pos 0) a.state (ended (Ok a)) a refl refl
 chained : (s n m t u p q pq : ℤ) → s +ℤ n ≡ t +ℤ p → t +ℤ m ≡ u +ℤ q → pq ≡ p +ℤ q → s +ℤ (n +ℤ m) ≡ u +ℤ pq
 chained s n m t u p q pq h k e = omega (arith, ints)
 
-keeps_from : (token : Token) (n m : ℤ) (s : StateMaps) (w : Walk) (end : Result At SemFault) (f : At → Walk) → w.end ≡ end →
-    Keeps token n s w → ((a : At) → Keeps token m a.state (f a)) → Keeps token (n +ℤ m) s (then_from w end f)
+keeps_from : (token : Token) (n m : ℤ) (s : StateMaps) (w : Walk) (end : Result Standing SemFault) (f : Standing → Walk) → w.end ≡ end →
+    Keeps token n s w → ((a : Standing) → Keeps token m a.state (f a)) → Keeps token (n +ℤ m) s (then_from w end f)
 keeps_from token n m s w (Ok a) f q h k = λ b e. chained _ _ _ _ _ _ _ _ (h a q) (k a b e) (paid_out_append token w.payments (f a).payments)
 keeps_from token n m s w (Err d) f q h k = keeps_fault token (n +ℤ m) s w d q
 
-keeps_then : (token : Token) (n m : ℤ) (s : StateMaps) (w : Walk) (f : At → Walk) →
-    Keeps token n s w → ((a : At) → Keeps token m a.state (f a)) → Keeps token (n +ℤ m) s (then_walk w f)
+keeps_then : (token : Token) (n m : ℤ) (s : StateMaps) (w : Walk) (f : Standing → Walk) →
+    Keeps token n s w → ((a : Standing) → Keeps token m a.state (f a)) → Keeps token (n +ℤ m) s (then_walk w f)
 keeps_then token n m s w f h k = keeps_from token n m s w w.end f refl h k
 
 -- ---- a reduction
@@ -69,7 +70,7 @@ ReducesMoney token s r = total_of token s ≡ total_of token r.state +ℤ paid_o
 after_one : (s t u p q pq : ℤ) → s ≡ t +ℤ p → t +ℤ pos 0 ≡ u +ℤ q → pq ≡ p +ℤ q → s +ℤ pos 0 ≡ u +ℤ pq
 after_one s t u p q pq h k e = omega (arith, ints)
 
-keeps_after : (token : Token) (s : StateMaps) (r : Reduction) (w : Walk) → ReducesMoney token s r → Keeps token (pos 0) r.state w → Keeps token (pos 0) s (after r w)
+keeps_after : (token : Token) (s : StateMaps) (r : Reduction) (w : Walk) → ReducesMoney token s r → Keeps token (pos 0) r.state w → Keeps token (pos 0) s (reduction_then r w)
 keeps_after token s r w h k a e = after_one _ _ _ _ _ _ h (k a e) (paid_out_append token r.payments w.payments)
 
 -- a reduction that pays nothing and leaves the accounts
@@ -99,10 +100,10 @@ all_out s e p h k = omega (arith, ints)
 
 refunds_keep : (token : Token) (s : StateMaps) → Keeps token (pos 0) s (refunds s)
 refunds_keep token s =
-    keeps_at token (pos 0) s (refunds s) (at (record s { accounts = empty }) close) refl (all_out _ _ _ (nothing_left token s) (refunds_pay_all token (entries s.accounts)))
+    keeps_at token (pos 0) s (refunds s) (standing (record s { accounts = empty }) close) refl (all_out _ _ _ (nothing_left token s) (refunds_pay_all token (entries s.accounts)))
 
-when_keeps : (token : Token) (s : StateMaps) (w : Walk) (b d : Bool) (here : At) (c : ContractTree) → here.state ≡ s → Keeps token (pos 0) s w →
-    Keeps token (pos 0) s (cond b (ended (Ok here)) (cond d (after (timing_out s c) w) (ended (Err Ambiguous))))
+when_keeps : (token : Token) (s : StateMaps) (w : Walk) (b d : Bool) (here : Standing) (c : ContractTree) → here.state ≡ s → Keeps token (pos 0) s w →
+    Keeps token (pos 0) s (cond b (ended (Ok here)) (cond d (reduction_then (timing_out s c) w) (ended (Err Ambiguous))))
 when_keeps token s w true d here c e h = subst (λ u. Keeps token (pos 0) u (ended (Ok here))) e (keeps_ended token here)
 when_keeps token s w false true here c e h = keeps_after token s (timing_out s c) w (unmoved token s s refl) h
 when_keeps token s w false false here c e h = keeps_fault token (pos 0) s (ended (Err Ambiguous)) Ambiguous refl
@@ -121,7 +122,7 @@ settled_keeps token i s (if_obs o c d) =
     (keeps_after token s (going (looked i s o) [] then_branch s c) (settled i s c) (unmoved token s s refl) (settled_keeps token i s c))
     (keeps_after token s (going (looked i s o) [] else_branch s d) (settled i s d) (unmoved token s s refl) (settled_keeps token i s d))
 settled_keeps token i s (when ks t c) =
-    when_keeps token s (settled i s c) (int_lt i.to t) (int_le t i.from) (at s (when ks t c)) c refl (settled_keeps token i s c)
+    when_keeps token s (settled i s c) (int_lt i.to t) (int_le t i.from) (standing s (when ks t c)) c refl (settled_keeps token i s c)
 settled_keeps token i s (let_be x v c) =
     let r = binding s x (eval i s v) (visited i s v) c in
     keeps_after token s r (settled i r.state c) (unmoved token s r.state refl) (settled_keeps token i r.state c)
@@ -144,18 +145,18 @@ taken_keeps token s (Choice id n) = refl
 taken_keeps token s Notify = refl
 
 match_keeps : (token : Token) (s : StateMaps) (x : Input) (ns : List ℤ) (n : ℕ) (o : Option ContractTree) → Keeps token (brought token x) s (take_match s x ns n o)
-match_keeps token s x ns n None = keeps_fault token (brought token x) s (refused ns) NoMatch refl
-match_keeps token s x ns n (Some c) = keeps_at token (brought token x) s (take_match s x ns n (Some c)) (at (taken s x) c) refl (taken_keeps token s x)
+match_keeps token s x ns n None = keeps_fault token (brought token x) s (unmatched ns) NoMatch refl
+match_keeps token s x ns n (Some c) = keeps_at token (brought token x) s (take_match s x ns n (Some c)) (standing (taken s x) c) refl (taken_keeps token s x)
 
-input_keeps : (token : Token) (i : Interval) (x : Input) (a : At) → Keeps token (brought token x +ℤ pos 0) a.state (one_input i x a)
+input_keeps : (token : Token) (i : Interval) (x : Input) (a : Standing) → Keeps token (brought token x +ℤ pos 0) a.state (one_input i x a)
 unfolding one_input applied
 input_keeps token i x a =
     let ks = waits_for a.contract in
     keeps_then token (brought token x) (pos 0) a.state (applied i x a) (λ b. settled i b.state b.contract)
-    (match_keeps token a.state x (tried_to_match i a.state x ks) (first_place i a.state x ks) (first_match i a.state x ks))
+    (match_keeps token a.state x (tried_to_match i a.state x ks) (first_match_index i a.state x ks) (first_match i a.state x ks))
     (λ b. settled_keeps token i b.state b.contract)
 
-inputs_keep : (token : Token) (i : Interval) (xs : List Input) (a : At) → Keeps token (deposited token xs) a.state (all_inputs i xs a)
+inputs_keep : (token : Token) (i : Interval) (xs : List Input) (a : Standing) → Keeps token (deposited token xs) a.state (all_inputs i xs a)
 inputs_keep token i [] a = keeps_ended token a
 inputs_keep token i (x ∷ xs) a =
     subst (λ n. Keeps token (n +ℤ deposited token xs) a.state (all_inputs i (x ∷ xs) a)) (no_more (brought token x))

@@ -16,7 +16,7 @@ use Rattle.names.specs.declared.payee.Payee.{Payee}
 use Rattle.names.specs.declared.payee.Payee.TheVariants.{Account as ToAccount, Party as ToParty}
 use Rattle.names.specs.Orders.{account_cmp}
 use Rattle.names.specs.Totals.{account_total}
-use Rattle.names.specs.Exact.{account_exact}
+use Rattle.names.proofs.Exact.{account_exact}
 use Rattle.contract.specs.declared.fault.SemFault.{SemFault}
 use Rattle.contract.specs.declared.fault.SemFault.TheVariants.{InvalidInterval, IntervalInPast, Useless, Ambiguous, NoMatch}
 use Rattle.contract.specs.declared.input.Input.{Input}
@@ -25,15 +25,15 @@ use Rattle.contract.specs.declared.interval.Interval.{Interval}
 use Rattle.contract.specs.declared.payment.Payment.{Payment}
 use Rattle.states.specs.States.{StateMaps, AllPositive, with_money, money_of}
 use Rattle.contract.specs.Tree.{ContractTree, close, pay, if_obs, when, let_be, assert}
-use Rattle.states.proofs.Positive.{AllPositive-put, AllPositive-where_key, AllPositive-find}
+use Rattle.collections.proofs.Positive.{AllPositive-put, AllPositive-where_key, AllPositive-find}
 use Rattle.evaluation.specs.Evaluation.{eval, visited, holds, looked}
-use Rattle.semantics.specs.Walk.{At, at, Walk, ended, then_from, then_walk}
+use Rattle.semantics.specs.Walk.{Standing, standing, Walk, ended, then_from, then_walk}
 use Rattle.evaluation.specs.Path.{waits_for}
 use Rattle.semantics.specs.Reduction.{Reduction, account_of, balance, debited, credited, refund_of, paying, not_paying, choosing, timing_out, binding}
-use Rattle.semantics.specs.Settling.{after}
-use Rattle.semantics.specs.Applying.{taken, refused}
+use Rattle.semantics.specs.Settling.{reduction_then}
+use Rattle.semantics.specs.Applying.{taken, unmatched}
 use Rattle.semantics.specs.Transaction.{trimmed}
-use Rattle.semantics.specs.Computed.{pay_step, refunds, settled, first_match, first_place, tried_to_match, take_match, applied, one_input, all_inputs, from_start, computed}
+use Rattle.semantics.specs.Computed.{pay_step, refunds, settled, first_match, first_match_index, tried_to_match, take_match, applied, one_input, all_inputs, from_start, computed}
 use Rattle.semantics.proofs.Integers.{true_lt}
 use Rattle.semantics.proofs.Computing.{computed_by}
 use Rattle.semantics.specs.Naturals.{AreNatural, PaymentsAreNatural, AccountsStayPositive}
@@ -48,45 +48,45 @@ above n h k = omega (arith, ints, k)
 
 set_by : (b : Bool) (s : StateMaps) (a : Account) (v : ℤ) → int_eq v (pos 0) ≡ b → Positive s → pos 0 ≤ℤ v → Positive (with_money s a v)
 set_by true s a v e h k =
-    rw e (subst AllPositive (sym (entries-remove account_cmp account_total account_exact s.accounts a)) (AllPositive-where_key _ (entries s.accounts) h))
+    rw e (subst AllPositive (sym (entries-remove account_cmp account_total account_exact s.accounts a)) (AllPositive-where_key account_cmp _ (entries s.accounts) h))
 set_by false s a v e h k =
-    rw e (subst AllPositive (sym (entries-insert account_total s.accounts a v)) (AllPositive-put a v (entries s.accounts) (above v k (λ z. absurd (let n : int_eq v (pos 0) ≡ true = (Decides-int_eq v (pos 0)).1 z in cc))) h))
+    rw e (subst AllPositive (sym (entries-insert account_total s.accounts a v)) (AllPositive-put account_cmp a v (entries s.accounts) (above v k (λ z. absurd (let n : int_eq v (pos 0) ≡ true = (Decides-int_eq v (pos 0)).1 z in cc))) h))
 
 set_positive : (s : StateMaps) (a : Account) (v : ℤ) → Positive s → pos 0 ≤ℤ v → Positive (with_money s a v)
 set_positive s a v h k = set_by (int_eq v (pos 0)) s a v refl h k
 
 held_natural : (s : StateMaps) (a : Account) → Positive s → pos 0 ≤ℤ money_of s a
-held_natural s a h = subst (λ o. pos 0 ≤ℤ unwrap_or o (pos 0)) (sym (get-entries s.accounts a)) (AllPositive-find a (entries s.accounts) h)
+held_natural s a h = subst (λ o. pos 0 ≤ℤ unwrap_or o (pos 0)) (sym (get-entries s.accounts a)) (AllPositive-find account_cmp a (entries s.accounts) h)
 
 -- ---- parts
 
 -- a part pays nothing below 0, and where it ends well its accounts are above 0
 abbrev IsSound : Walk → Type 0
-IsSound w = AreNatural w.payments × ((a : At) → w.end ≡ Ok a → Positive a.state)
+IsSound w = AreNatural w.payments × ((a : Standing) → w.end ≡ Ok a → Positive a.state)
 
-ok_same : (a b : At) → ◌≡◌ {A = Result At SemFault} (Ok a) (Ok b) → a ≡ b
+ok_same : (a b : Standing) → ◌≡◌ {A = Result Standing SemFault} (Ok a) (Ok b) → a ≡ b
 ok_same a b e = cc
 
-sound_at : (w : Walk) (a : At) → w.end ≡ Ok a → AreNatural w.payments → Positive a.state → IsSound w
-sound_at w a q h k = (h, λ b e. subst (λ (x : At). Positive x.state) (ok_same a b (sym q ∙ e)) k)
+sound_at : (w : Walk) (a : Standing) → w.end ≡ Ok a → AreNatural w.payments → Positive a.state → IsSound w
+sound_at w a q h k = (h, λ b e. subst (λ (x : Standing). Positive x.state) (ok_same a b (sym q ∙ e)) k)
 
 sound_fault : (w : Walk) (f : SemFault) → w.end ≡ Err f → AreNatural w.payments → IsSound w
-sound_fault w f q h = (h, λ a e. absurd (let k : ◌≡◌ {A = Result At SemFault} (Err f) (Ok a) = sym q ∙ e in cc))
+sound_fault w f q h = (h, λ a e. absurd (let k : ◌≡◌ {A = Result Standing SemFault} (Err f) (Ok a) = sym q ∙ e in cc))
 
 natural_append : (ps qs : List Payment) → AreNatural ps → AreNatural qs → AreNatural (ps ++ qs)
 natural_append [] qs h k = k
 natural_append (p ∷ ps) qs h k = (h.0, natural_append ps qs h.1 k)
 
-sound_from : (w : Walk) (end : Result At SemFault) (f : At → Walk) → w.end ≡ end → IsSound w → ((a : At) → Positive a.state → IsSound (f a)) → IsSound (then_from w end f)
+sound_from : (w : Walk) (end : Result Standing SemFault) (f : Standing → Walk) → w.end ≡ end → IsSound w → ((a : Standing) → Positive a.state → IsSound (f a)) → IsSound (then_from w end f)
 sound_from w (Ok a) f q h k = let n = k a (h.1 a q) in (natural_append w.payments (f a).payments h.0 n.0, n.1)
 sound_from w (Err d) f q h k = h
 
-sound_then : (w : Walk) (f : At → Walk) → IsSound w → ((a : At) → Positive a.state → IsSound (f a)) → IsSound (then_walk w f)
+sound_then : (w : Walk) (f : Standing → Walk) → IsSound w → ((a : Standing) → Positive a.state → IsSound (f a)) → IsSound (then_walk w f)
 sound_then w f h k = sound_from w w.end f refl h k
 
 -- ---- a settling
 
-sound_after : (r : Reduction) (w : Walk) → AreNatural r.payments → IsSound w → IsSound (after r w)
+sound_after : (r : Reduction) (w : Walk) → AreNatural r.payments → IsSound w → IsSound (reduction_then r w)
 sound_after r w h k = (natural_append r.payments w.payments h k.0, k.1)
 
 least : (b d : ℤ) (t : Bool) → int_lt d b ≡ t → pos 0 ≤ℤ b → pos 0 <ℤ d → (pos 0 ≤ℤ cond t d b) × (cond t d b ≤ℤ b)
@@ -124,8 +124,8 @@ pays_sound s p y t due ns c true e h =
     ((k.0, tt), paid_positive s p y t (int_min (balance s p t) due) h k.0 k.1)
 pays_sound s p y t due ns c false e h = (tt, h)
 
-when_sound : (w : Walk) (b d : Bool) (here : At) (c : ContractTree) → Positive here.state → IsSound w →
-    IsSound (cond b (ended (Ok here)) (cond d (after (timing_out here.state c) w) (ended (Err Ambiguous))))
+when_sound : (w : Walk) (b d : Bool) (here : Standing) (c : ContractTree) → Positive here.state → IsSound w →
+    IsSound (cond b (ended (Ok here)) (cond d (reduction_then (timing_out here.state c) w) (ended (Err Ambiguous))))
 when_sound w true d here c h k = sound_at (ended (Ok here)) here refl tt h
 when_sound w false true here c h k = sound_after (timing_out here.state c) w tt k
 when_sound w false false here c h k = sound_fault (ended (Err Ambiguous)) Ambiguous refl tt
@@ -135,14 +135,14 @@ either_sound true w v h k = h
 either_sound false w v h k = k
 
 settled_sound : (i : Interval) (s : StateMaps) (c : ContractTree) → Positive s → IsSound (settled i s c)
-settled_sound i s close h = sound_at (refunds s) (at (record s { accounts = empty }) close) refl (refunds_natural (entries s.accounts) h) (none_positive s)
+settled_sound i s close h = sound_at (refunds s) (standing (record s { accounts = empty }) close) refl (refunds_natural (entries s.accounts) h) (none_positive s)
 settled_sound i s (pay p y t v c) h =
     let r = pay_step s p y t (eval i s v) (visited i s v) c in
     let k = pays_sound s p y t (eval i s v) (visited i s v) c (int_lt (pos 0) (eval i s v)) refl h in
     sound_after r (settled i r.state c) k.0 (settled_sound i r.state c k.1)
 settled_sound i s (if_obs o c d) h =
     sound_after (choosing s (holds i s o) (looked i s o) c d) (cond (holds i s o) (settled i s c) (settled i s d)) tt (either_sound (holds i s o) (settled i s c) (settled i s d) (settled_sound i s c h) (settled_sound i s d h))
-settled_sound i s (when ks t c) h = when_sound (settled i s c) (int_lt i.to t) (int_le t i.from) (at s (when ks t c)) c h (settled_sound i s c h)
+settled_sound i s (when ks t c) h = when_sound (settled i s c) (int_lt i.to t) (int_le t i.from) (standing s (when ks t c)) c h (settled_sound i s c h)
 settled_sound i s (let_be x v c) h = settled_sound i (binding s x (eval i s v) (visited i s v) c).state c h
 settled_sound i s (assert o c) h = settled_sound i s c h
 
@@ -161,17 +161,17 @@ taken_positive s (Choice id n) h = h
 taken_positive s Notify h = h
 
 match_sound : (s : StateMaps) (x : Input) (ns : List ℤ) (n : ℕ) (o : Option ContractTree) → Positive s → IsSound (take_match s x ns n o)
-match_sound s x ns n None h = sound_fault (refused ns) NoMatch refl tt
-match_sound s x ns n (Some c) h = sound_at (take_match s x ns n (Some c)) (at (taken s x) c) refl tt (taken_positive s x h)
+match_sound s x ns n None h = sound_fault (unmatched ns) NoMatch refl tt
+match_sound s x ns n (Some c) h = sound_at (take_match s x ns n (Some c)) (standing (taken s x) c) refl tt (taken_positive s x h)
 
-input_sound : (i : Interval) (x : Input) (a : At) → Positive a.state → IsSound (one_input i x a)
+input_sound : (i : Interval) (x : Input) (a : Standing) → Positive a.state → IsSound (one_input i x a)
 unfolding one_input applied
 input_sound i x a h =
     let ks = waits_for a.contract in
     sound_then (applied i x a) (λ b. settled i b.state b.contract)
-    (match_sound a.state x (tried_to_match i a.state x ks) (first_place i a.state x ks) (first_match i a.state x ks) h) (λ b k. settled_sound i b.state b.contract k)
+    (match_sound a.state x (tried_to_match i a.state x ks) (first_match_index i a.state x ks) (first_match i a.state x ks) h) (λ b k. settled_sound i b.state b.contract k)
 
-inputs_sound : (i : Interval) (xs : List Input) (a : At) → Positive a.state → IsSound (all_inputs i xs a)
+inputs_sound : (i : Interval) (xs : List Input) (a : Standing) → Positive a.state → IsSound (all_inputs i xs a)
 inputs_sound i [] a h = sound_at (ended (Ok a)) a refl tt h
 inputs_sound i (x ∷ xs) a h = sound_then (one_input i x a) (all_inputs i xs) (input_sound i x a h) (λ b k. inputs_sound i xs b k)
 

@@ -13,26 +13,26 @@ use Rattle.contract.specs.declared.input.Input.{Input}
 use Rattle.contract.specs.declared.interval.Interval.{Interval}
 use Rattle.states.specs.States.{StateMaps}
 use Rattle.contract.specs.Tree.{ValueTree, ObservationTree, ActionTree, ContractTree, CaseTrees, close, pay, if_obs, when, let_be, assert}
-use Rattle.semantics.specs.Walk.{Turn, refund, in_case, At, at, Walk, ended, then_from, then_walk}
-use Rattle.semantics.specs.Settling.{after}
+use Rattle.semantics.specs.Walk.{Turn, refund, in_case, Standing, standing, Walk, ended, then_from, then_walk}
+use Rattle.semantics.specs.Settling.{reduction_then}
 use Rattle.evaluation.specs.Path.{case_list, waits_for, part, along}
 use Rattle.semantics.specs.Reduction.{balance, paying, not_paying, choosing, timing_out, with_bound}
 use Rattle.evaluation.specs.Evaluation.{eval, visited, holds, looked}
 use Rattle.semantics.specs.Applying.{matches, taken}
 use Rattle.semantics.specs.Transaction.{trimmed}
-use Rattle.semantics.specs.Computed.{settled, first_match, first_place, tried_to_match, take_match, applied, one_input, all_inputs, from_start, computed}
+use Rattle.semantics.specs.Computed.{settled, first_match, first_match_index, tried_to_match, take_match, applied, one_input, all_inputs, from_start, computed}
 use Rattle.semantics.specs.Laws.{EndsWhereTurnsLead as Leads}
 use Rattle.semantics.proofs.Walks.{went}
 use Rattle.semantics.proofs.Computing.{computed_by}
 
-ok_same : (a b : At) → ◌≡◌ {A = Result At SemFault} (Ok a) (Ok b) → a ≡ b
+ok_same : (a b : Standing) → ◌≡◌ {A = Result Standing SemFault} (Ok a) (Ok b) → a ≡ b
 ok_same a b e = cc
 
-leads_ended : (a : At) → Leads a.contract (ended (Ok a))
+leads_ended : (a : Standing) → Leads a.contract (ended (Ok a))
 leads_ended a b h = ap (λ x. Some x.contract) (ok_same a b h)
 
 leads_fault : (c : ContractTree) (w : Walk) (e : SemFault) → w.end ≡ Err e → Leads c w
-leads_fault c w e q b h = absurd (let k : ◌≡◌ {A = Result At SemFault} (Err e) (Ok b) = sym q ∙ h in cc)
+leads_fault c w e q b h = absurd (let k : ◌≡◌ {A = Result Standing SemFault} (Err e) (Ok b) = sym q ∙ h in cc)
 
 -- ---- a settling
 
@@ -41,8 +41,8 @@ refunds_stay [] = refl
 refunds_stay (e ∷ es) = refunds_stay es
 
 leads_when : (w : Walk) (b d : Bool) (ks : CaseTrees) (t : ℤ) (c : ContractTree) (s : StateMaps) → Leads c w →
-    Leads (when ks t c) (cond b (ended (Ok (at s (when ks t c)))) (cond d (after (timing_out s c) w) (ended (Err Ambiguous))))
-leads_when w true d ks t c s h = leads_ended (at s (when ks t c))
+    Leads (when ks t c) (cond b (ended (Ok (standing s (when ks t c)))) (cond d (reduction_then (timing_out s c) w) (ended (Err Ambiguous))))
+leads_when w true d ks t c s h = leads_ended (standing s (when ks t c))
 leads_when w false true ks t c s h = h
 leads_when w false false ks t c s h = leads_fault (when ks t c) (ended (Err Ambiguous)) Ambiguous refl
 
@@ -51,12 +51,12 @@ leads_pay : (go : StateMaps → Walk) (b : Bool) (s : StateMaps) (p : Party) (y 
 leads_pay go true s p y t v due paid ns c h = h (paying s p y t due paid ns c).state
 leads_pay go false s p y t v due paid ns c h = h s
 
-leads_if : (b : Bool) (s : StateMaps) (o : ObservationTree) (ns : List ℤ) (c d : ContractTree) (w u : Walk) → Leads c w → Leads d u → Leads (if_obs o c d) (after (choosing s b ns c d) (cond b w u))
+leads_if : (b : Bool) (s : StateMaps) (o : ObservationTree) (ns : List ℤ) (c d : ContractTree) (w u : Walk) → Leads c w → Leads d u → Leads (if_obs o c d) (reduction_then (choosing s b ns c d) (cond b w u))
 leads_if true s o ns c d w u h k = h
 leads_if false s o ns c d w u h k = k
 
 leads_settled : (i : Interval) (s : StateMaps) (c : ContractTree) → Leads c (settled i s c)
-leads_settled i s close = λ a h. refunds_stay (entries s.accounts) ∙ ap (λ x. Some x.contract) (ok_same (at (record s { accounts = empty }) close) a h)
+leads_settled i s close = λ a h. refunds_stay (entries s.accounts) ∙ ap (λ x. Some x.contract) (ok_same (standing (record s { accounts = empty }) close) a h)
 leads_settled i s (pay p y t v c) =
     leads_pay (λ u. settled i u c) (int_lt (pos 0) (eval i s v)) s p y t v (eval i s v) (int_min (balance s p t) (eval i s v)) (visited i s v) c (λ u. leads_settled i u c)
 leads_settled i s (if_obs o c d) = leads_if (holds i s o) s o (looked i s o) c d (settled i s c) (settled i s d) (leads_settled i s c) (leads_settled i s d)
@@ -78,11 +78,11 @@ along_more (t ∷ ts) us c = by_part (part c t) (along_more ts us)
     by_part None h = refl
     by_part (Some d) h = h d
 
-leads_from : (w : Walk) (end : Result At SemFault) (f : At → Walk) (c : ContractTree) → w.end ≡ end → Leads c w → ((a : At) → Leads a.contract (f a)) → Leads c (then_from w end f)
+leads_from : (w : Walk) (end : Result Standing SemFault) (f : Standing → Walk) (c : ContractTree) → w.end ≡ end → Leads c w → ((a : Standing) → Leads a.contract (f a)) → Leads c (then_from w end f)
 leads_from w (Ok a) f c p h k = λ b e. along_more w.turns (f a).turns c ∙ (along_some (along c w.turns) a.contract (f a).turns (h a p) ∙ k a b e)
 leads_from w (Err d) f c p h k = h
 
-pub leads_then : (w : Walk) (f : At → Walk) (c : ContractTree) → Leads c w → ((a : At) → Leads a.contract (f a)) → Leads c (then_walk w f)
+pub leads_then : (w : Walk) (f : Standing → Walk) (c : ContractTree) → Leads c w → ((a : Standing) → Leads a.contract (f a)) → Leads c (then_walk w f)
 leads_then w f c h k = leads_from w w.end f c refl h k
 
 -- ---- an input
@@ -95,11 +95,11 @@ at_case : (b : Bool) (k : ActionTree × ContractTree) (ks : List (ActionTree × 
 at_case true k ks o n c h e = e
 at_case false k ks o n c h e = h e
 
-found : (i : Interval) (s : StateMaps) (x : Input) (ks : List (ActionTree × ContractTree)) (c : ContractTree) → first_match i s x ks ≡ Some c → second (slice_get ks (first_place i s x ks)) ≡ Some c
+found : (i : Interval) (s : StateMaps) (x : Input) (ks : List (ActionTree × ContractTree)) (c : ContractTree) → first_match i s x ks ≡ Some c → second (slice_get ks (first_match_index i s x ks)) ≡ Some c
 found i s x [] c e = absurd (cc)
-found i s x (k ∷ ks) c e = at_case (matches i s x k.0) k ks (first_match i s x ks) (first_place i s x ks) c (found i s x ks c) e
+found i s x (k ∷ ks) c e = at_case (matches i s x k.0) k ks (first_match i s x ks) (first_match_index i s x ks) c (found i s x ks c) e
 
-in_when : (i : Interval) (s : StateMaps) (x : Input) (c d : ContractTree) → first_match i s x (waits_for c) ≡ Some d → along c (in_case (first_place i s x (waits_for c)) ∷ []) ≡ Some d
+in_when : (i : Interval) (s : StateMaps) (x : Input) (c d : ContractTree) → first_match i s x (waits_for c) ≡ Some d → along c (in_case (first_match_index i s x (waits_for c)) ∷ []) ≡ Some d
 in_when i s x close d e = absurd (cc)
 in_when i s x (pay p y t v c) d e = absurd (cc)
 in_when i s x (if_obs o b c) d e = absurd (cc)
@@ -109,19 +109,19 @@ in_when i s x (when ks t c) d e = ap (option_and_then (λ y. along y [])) (found
 
 leads_match : (s : StateMaps) (x : Input) (ns : List ℤ) (n : ℕ) (o : Option ContractTree) (c : ContractTree) → ((d : ContractTree) → o ≡ Some d → along c (in_case n ∷ []) ≡ Some d) → Leads c (take_match s x ns n o)
 leads_match s x ns n None c h a e = absurd (cc)
-leads_match s x ns n (Some d) c h a e = h d refl ∙ ap (λ b. Some b.contract) (ok_same (at (taken s x) d) a e)
+leads_match s x ns n (Some d) c h a e = h d refl ∙ ap (λ b. Some b.contract) (ok_same (standing (taken s x) d) a e)
 
-leads_applied : (i : Interval) (x : Input) (a : At) → Leads a.contract (applied i x a)
+leads_applied : (i : Interval) (x : Input) (a : Standing) → Leads a.contract (applied i x a)
 unfolding applied
 leads_applied i x a =
     let ks = waits_for a.contract in
-    leads_match a.state x (tried_to_match i a.state x ks) (first_place i a.state x ks) (first_match i a.state x ks) a.contract (in_when i a.state x a.contract)
+    leads_match a.state x (tried_to_match i a.state x ks) (first_match_index i a.state x ks) (first_match i a.state x ks) a.contract (in_when i a.state x a.contract)
 
-leads_input : (i : Interval) (x : Input) (a : At) → Leads a.contract (one_input i x a)
+leads_input : (i : Interval) (x : Input) (a : Standing) → Leads a.contract (one_input i x a)
 unfolding one_input
 leads_input i x a = leads_then (applied i x a) (λ b. settled i b.state b.contract) a.contract (leads_applied i x a) (λ b. leads_settled i b.state b.contract)
 
-leads_inputs : (i : Interval) (xs : List Input) (a : At) → Leads a.contract (all_inputs i xs a)
+leads_inputs : (i : Interval) (xs : List Input) (a : Standing) → Leads a.contract (all_inputs i xs a)
 leads_inputs i [] a = leads_ended a
 leads_inputs i (x ∷ xs) a = leads_then (one_input i x a) (all_inputs i xs) a.contract (leads_input i x a) (leads_inputs i xs)
 

@@ -12,10 +12,10 @@ use Rattle.contract.specs.declared.fault.SemFault.TheVariants.{Ambiguous}
 use Rattle.contract.specs.declared.interval.Interval.{Interval}
 use Rattle.states.specs.States.{StateMaps, with_money}
 use Rattle.contract.specs.Tree.{ValueTree, ContractTree, CaseTrees, close, pay, if_obs, when, let_be, assert}
-use Rattle.semantics.specs.Walk.{refund, At, at, Walk, ended}
+use Rattle.semantics.specs.Walk.{refund, Standing, standing, Walk, ended}
 use Rattle.semantics.specs.Reduction.{Reduction, Reduces, Quiet, IsAmbiguous, balance, refund_of, refunded, paying, not_paying, choosing, timing_out, binding, asserting}
 use Rattle.evaluation.specs.Evaluation.{eval, visited, holds, looked}
-use Rattle.semantics.specs.Settling.{Runs, Ends, after, walk_of, Settles}
+use Rattle.semantics.specs.Settling.{Runs, Ends, reduction_then, walk_through, Settles}
 use Rattle.semantics.specs.Computed.{pay_step, settled, refunds}
 use Rattle.semantics.specs.Reduced.{goes}
 use Rattle.semantics.proofs.Walks.{went}
@@ -87,24 +87,24 @@ no_account : (s : StateMaps) → entries s.accounts ≡ [] → record s { accoun
 no_account s h = ap (λ m. record s { accounts = m }) (sym (empty_of_len s.accounts (len-entries s.accounts ∙ ap length h)))
 
 refunds_of : StateMaps → List (Account × ℤ) → StateMaps → Walk
-refunds_of s es t = record { numbers = []; warnings = []; payments = map refund_of es; turns = map (λ _. refund) es; end = Ok (at t close) }
+refunds_of s es t = record { numbers = []; warnings = []; payments = map refund_of es; turns = map (λ _. refund) es; end = Ok (standing t close) }
 
-quiet_close : (s : StateMaps) → entries s.accounts ≡ [] → refunds s ≡ ended (Ok (at s close))
+quiet_close : (s : StateMaps) → entries s.accounts ≡ [] → refunds s ≡ ended (Ok (standing s close))
 unfolding refunds_of
 quiet_close s h = ap (λ es. refunds_of s es (record s { accounts = empty })) h ∙ ap (λ t. refunds_of s [] t) (no_account s h)
 
-first_refund : (s : StateMaps) (e : Account × ℤ) (es : List (Account × ℤ)) → entries s.accounts ≡ es → slice_get es 0 ≡ Some e → refunds s ≡ after (refunded s e) (refunds (with_money s e.0 (pos 0)))
+first_refund : (s : StateMaps) (e : Account × ℤ) (es : List (Account × ℤ)) → entries s.accounts ≡ es → slice_get es 0 ≡ Some e → refunds s ≡ reduction_then (refunded s e) (refunds (with_money s e.0 (pos 0)))
 unfolding refunds_of
 first_refund s e [] h k = absurd (cc)
 first_refund s e (d ∷ es) h k =
     let f : d ≡ e = cc in
     let rest = entries-refund s d es h in
     ap (λ xs. refunds_of s xs (record s { accounts = empty })) (h ∙ ap (λ x. d ∷ x) (sym rest))
-    ∙ ap (λ x. after (refunded s x) (refunds (with_money s x.0 (pos 0)))) f
+    ∙ ap (λ x. reduction_then (refunded s x) (refunds (with_money s x.0 (pos 0)))) f
 
-pub goes_by_reduction : (i : Interval) (s : StateMaps) (c : ContractTree) (r : Reduction) → i.from ≤ℤ i.to → Reduces i s c r → settled i s c ≡ after r (settled i r.state r.contract)
+pub goes_by_reduction : (i : Interval) (s : StateMaps) (c : ContractTree) (r : Reduction) → i.from ≤ℤ i.to → Reduces i s c r → settled i s c ≡ reduction_then r (settled i r.state r.contract)
 goes_by_reduction i s close r v h =
-    first_refund s (h.0) (entries s.accounts) refl h.1 ∙ ap (λ (q : Reduction). after q (settled i q.state q.contract)) (sym h.2)
+    first_refund s (h.0) (entries s.accounts) refl h.1 ∙ ap (λ (q : Reduction). reduction_then q (settled i q.state q.contract)) (sym h.2)
 goes_by_reduction i s (pay p y t u c) r v (inl h) =
     settled_goes i s (pay p y t u c) r
     (ap (λ b. goes (cond b (paying s p y t (eval i s u) (int_min (balance s p t) (eval i s u)) (visited i s u) c) (not_paying s p y t (eval i s u) (visited i s u) c))) (lt_false (pos 0) (eval i s u) h.0) ∙ ap goes (sym h.1))
@@ -117,7 +117,7 @@ goes_by_reduction i s (assert o c) r v h = settled_goes i s (assert o c) r (ap g
 goes_by_reduction i s (when ks t c) r v h =
     rw (lt_false i.to t (reaches _ _ _ h.0 v), le_true t i.from h.0, h.1) refl
 
-pub rests_when_quiet : (i : Interval) (s : StateMaps) (c : ContractTree) → Quiet i s c → settled i s c ≡ ended (Ok (at s c))
+pub rests_when_quiet : (i : Interval) (s : StateMaps) (c : ContractTree) → Quiet i s c → settled i s c ≡ ended (Ok (standing s c))
 rests_when_quiet i s close h = quiet_close s h
 rests_when_quiet i s (pay p y t v c) h = absurd h
 rests_when_quiet i s (if_obs o c d) h = absurd h
@@ -137,28 +137,28 @@ fails_when_ambiguous i s (when ks t c) h =
 
 -- ---- each settling is this one
 
-ends_so : (i : Interval) (a : At) (end : Result At SemFault) → Ends i a end → settled i a.state a.contract ≡ ended end
+ends_so : (i : Interval) (a : Standing) (end : Result Standing SemFault) → Ends i a end → settled i a.state a.contract ≡ ended end
 ends_so i a end (inl h) = rests_when_quiet i a.state a.contract h.0 ∙ ap ended (sym h.1)
 ends_so i a end (inr h) = fails_when_ambiguous i a.state a.contract h.0 ∙ ap ended (sym h.1)
 
-runs_so : (i : Interval) (a : At) (rs : List Reduction) (b : At) (end : Result At SemFault) → i.from ≤ℤ i.to → Runs i a rs b → Ends i b end → settled i a.state a.contract ≡ walk_of rs end
+runs_so : (i : Interval) (a : Standing) (rs : List Reduction) (b : Standing) (end : Result Standing SemFault) → i.from ≤ℤ i.to → Runs i a rs b → Ends i b end → settled i a.state a.contract ≡ walk_through rs end
 runs_so i a [] b end v h k = ends_so i a end (subst (λ x. Ends i x end) h k)
 runs_so i a (r ∷ rs) b end v h k =
-    goes_by_reduction i a.state a.contract r v h.0 ∙ ap (after r) (runs_so i (at r.state r.contract) rs b end v h.1 k)
+    goes_by_reduction i a.state a.contract r v h.0 ∙ ap (reduction_then r) (runs_so i (standing r.state r.contract) rs b end v h.1 k)
 
 pub settles_only : (i : Interval) (s : StateMaps) (c : ContractTree) (w : Walk) → i.from ≤ℤ i.to → Settles i s c w → w ≡ settled i s c
-settles_only i s c w v h = h.walk ∙ sym (runs_so i (at s c) h.reductions h.last w.end v h.runs h.ends)
+settles_only i s c w v h = h.walk ∙ sym (runs_so i (standing s c) h.reductions h.last w.end v h.runs h.ends)
 
 -- ---- and this one is a settling
 
-stays : (i : Interval) (a : At) (end : Result At SemFault) → Ends i a end → Settles i a.state a.contract (ended end)
+stays : (i : Interval) (a : Standing) (end : Result Standing SemFault) → Ends i a end → Settles i a.state a.contract (ended end)
 stays i a end h = record { reductions = []; last = a; runs = refl; ends = h; walk = refl }
 
-goes_first : (i : Interval) (s : StateMaps) (c : ContractTree) (r : Reduction) (w : Walk) → Reduces i s c r → Settles i r.state r.contract w → Settles i s c (after r w)
-goes_first i s c r w h k = record { reductions = r ∷ k.reductions; last = k.last; runs = (h, k.runs); ends = k.ends; walk = ap (after r) k.walk }
+goes_first : (i : Interval) (s : StateMaps) (c : ContractTree) (r : Reduction) (w : Walk) → Reduces i s c r → Settles i r.state r.contract w → Settles i s c (reduction_then r w)
+goes_first i s c r w h k = record { reductions = r ∷ k.reductions; last = k.last; runs = (h, k.runs); ends = k.ends; walk = ap (reduction_then r) k.walk }
 
 close_settles : (i : Interval) (s : StateMaps) (es : List (Account × ℤ)) → entries s.accounts ≡ es → Settles i s close (refunds s)
-close_settles i s [] h = subst (λ w. Settles i s close w) (sym (quiet_close s h)) (stays i (at s close) (Ok (at s close)) (inl (h, refl)))
+close_settles i s [] h = subst (λ w. Settles i s close w) (sym (quiet_close s h)) (stays i (standing s close) (Ok (standing s close)) (inl (h, refl)))
 close_settles i s (e ∷ es) h =
     let first : slice_get (entries s.accounts) 0 ≡ Some e = ap (λ xs. slice_get xs 0) h in
     subst (λ w. Settles i s close w) (sym (first_refund s e (entries s.accounts) refl first))
@@ -166,10 +166,10 @@ close_settles i s (e ∷ es) h =
     (close_settles i (with_money s e.0 (pos 0)) es (entries-refund s e es h)))
 
 when_settles : (i : Interval) (s : StateMaps) (ks : CaseTrees) (t : ℤ) (c : ContractTree) (w : Walk) (b d : Bool) → int_lt i.to t ≡ b → int_le t i.from ≡ d → Settles i s c w →
-    Settles i s (when ks t c) (cond b (ended (Ok (at s (when ks t c)))) (cond d (after (timing_out s c) w) (ended (Err Ambiguous))))
-when_settles i s ks t c w true d h k g = stays i (at s (when ks t c)) (Ok (at s (when ks t c))) (inl (true_lt _ _ h, refl))
+    Settles i s (when ks t c) (cond b (ended (Ok (standing s (when ks t c)))) (cond d (reduction_then (timing_out s c) w) (ended (Err Ambiguous))))
+when_settles i s ks t c w true d h k g = stays i (standing s (when ks t c)) (Ok (standing s (when ks t c))) (inl (true_lt _ _ h, refl))
 when_settles i s ks t c w false true h k g = goes_first i s (when ks t c) (timing_out s c) w (true_le _ _ k, refl) g
-when_settles i s ks t c w false false h k g = stays i (at s (when ks t c)) (Err Ambiguous) (inr ((false_le _ _ k, false_lt _ _ h), refl))
+when_settles i s ks t c w false false h k g = stays i (standing s (when ks t c)) (Err Ambiguous) (inr ((false_le _ _ k, false_lt _ _ h), refl))
 
 pay_settles : (i : Interval) (s : StateMaps) (p : Party) (y : Payee) (t : Token) (v : ValueTree) (c : ContractTree) (go : StateMaps → Walk) (b : Bool) → int_lt (pos 0) (eval i s v) ≡ b → ((u : StateMaps) → Settles i u c (go u)) →
     Settles i s (pay p y t v c) (went go (cond b (paying s p y t (eval i s v) (int_min (balance s p t) (eval i s v)) (visited i s v) c) (not_paying s p y t (eval i s v) (visited i s v) c)))

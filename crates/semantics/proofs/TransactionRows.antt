@@ -7,13 +7,14 @@ use Rattle.std.specs.FinMap.Entries.{put}
 use Rattle.names.specs.declared.account.Account.{Account}
 use Rattle.names.specs.Orders.{account_cmp, bytes_cmp}
 use Rattle.names.specs.Totals.{account_total, bytes_total}
-use Rattle.names.specs.Exact.{account_exact}
+use Rattle.names.proofs.Exact.{account_exact}
 use Rattle.states.specs.States.{with_money}
 use Rattle.evaluation.specs.Numbers.{fits}
 use Rattle.semantics.specs.Reduction.{account_of, balance}
 use Rattle.evaluation.specs.Evaluation.{quotient}
 use Rattle.semantics.specs.Computed.{applied, one_input, from_start, computed}
-use Rattle.semantics.specs.Rows.{party_a, party_b, party_x, ada, name_x, a_has_three, two_accounts, nothing}
+use Rattle.names.specs.Equal.{ada}
+use Rattle.semantics.specs.Rows.{party_a, party_b, party_x, name_x, a_has_three, two_accounts, nothing}
 use Rattle.semantics.specs.Rows.{PaysWhatThereIs, PaysNothing, PaysZero, PaysItself, EntersNothing, MinusSevenByTwoIsBound, SevenByZeroIsBound, LeastIsBound, LeastByMinusOneIsRefused, CondIsBound, CondIsRefused, LaterIsBound, IfChooses, FalseAndFails, TrueAndIsRefused, TrueOrIsSilent, FirstIsTaken, EndsAreChosen, OutsideIsNoMatch, ZeroIsDeposited, RefundsInOrder, CloseIsUseless}
 use Rattle.semantics.proofs.Refunds.{entries-refund}
 
@@ -54,15 +55,15 @@ bound_before = get-insert bytes_total empty name_x (pos 1) name_x
 
 pub pays_what_there_is : PaysWhatThereIs
 unfolding computed from_start fits
-pays_what_there_is = record { warns = rw has_three refl; pays = rw (has_three, none_left) refl; answers = refl }
+pays_what_there_is = record { warns = rw has_three refl; paid = rw (has_three, none_left) refl; answers = refl }
 
 pub pays_nothing : PaysNothing
 unfolding computed from_start fits
-pays_nothing = record { warns = rw has_nothing refl; pays = rw (has_nothing, nothing_removed (account_of party_a ada), no_entries) refl; answers = refl }
+pays_nothing = record { warns = rw has_nothing refl; paid = rw (has_nothing, nothing_removed (account_of party_a ada), no_entries) refl; answers = refl }
 
 pub pays_zero : PaysZero
 unfolding computed from_start fits
-pays_zero = record { warns = refl; pays = rw no_entries refl; answers = refl }
+pays_zero = record { warns = refl; paid = rw no_entries refl; answers = refl }
 
 has_one : balance (with_money a_has_three (account_of party_a ada) (pos 1)) party_a ada ≡ pos 1
 has_one = ap (λ o. unwrap_or o (pos 0)) (get-insert account_total a_has_three.accounts (account_of party_a ada) (pos 1) (account_of party_a ada))
@@ -77,7 +78,7 @@ three_again =
 
 pub pays_itself : PaysItself
 unfolding computed from_start fits
-pays_itself = record { warns = rw has_three refl; pays = rw (has_three, has_one, three_again) refl; answers = rw (has_three, has_one) refl }
+pays_itself = record { warns = rw has_three refl; paid = rw (has_three, has_one, three_again) refl; answers = rw (has_three, has_one) refl }
 
 b_has_nothing : balance nothing party_b ada ≡ pos 0
 b_has_nothing = ap (λ o. unwrap_or o (pos 0)) (get-empty account_cmp (account_of party_b ada))
@@ -86,7 +87,7 @@ pub enters_nothing : EntersNothing
 unfolding computed from_start fits
 enters_nothing = record {
   warns = rw has_nothing refl;
-  pays = rw (has_nothing, nothing_removed (account_of party_a ada), b_has_nothing, nothing_removed (account_of party_b ada), no_entries) refl;
+  paid = rw (has_nothing, nothing_removed (account_of party_a ada), b_has_nothing, nothing_removed (account_of party_b ada), no_entries) refl;
   answers = rw (has_nothing, nothing_removed (account_of party_a ada), b_has_nothing) refl;
 }
 
@@ -94,15 +95,15 @@ enters_nothing = record {
 
 pub minus_seven_by_two_is_bound : MinusSevenByTwoIsBound
 unfolding computed from_start quotient fits
-minus_seven_by_two_is_bound = record { warns = rw not_bound refl; pays = rw no_entries refl; answers = refl }
+minus_seven_by_two_is_bound = record { warns = rw not_bound refl; paid = rw no_entries refl; answers = refl }
 
 pub seven_by_zero_is_bound : SevenByZeroIsBound
 unfolding computed from_start quotient fits
-seven_by_zero_is_bound = record { warns = rw not_bound refl; pays = rw no_entries refl; answers = refl }
+seven_by_zero_is_bound = record { warns = rw not_bound refl; paid = rw no_entries refl; answers = refl }
 
 pub least_is_bound : LeastIsBound
 unfolding computed from_start quotient fits
-least_is_bound = record { warns = rw not_bound refl; pays = rw no_entries refl; answers = refl }
+least_is_bound = record { warns = rw not_bound refl; paid = rw no_entries refl; answers = refl }
 
 pub least_by_minus_one_is_refused : LeastByMinusOneIsRefused
 unfolding computed from_start quotient fits
@@ -110,7 +111,7 @@ least_by_minus_one_is_refused = refl
 
 pub cond_is_bound : CondIsBound
 unfolding computed from_start fits
-cond_is_bound = record { warns = rw not_bound refl; pays = rw no_entries refl; answers = refl }
+cond_is_bound = record { warns = rw not_bound refl; paid = rw no_entries refl; answers = refl }
 
 pub cond_is_refused : CondIsRefused
 unfolding computed from_start fits
@@ -118,18 +119,18 @@ cond_is_refused = refl
 
 pub later_is_bound : LaterIsBound
 unfolding computed from_start fits
-later_is_bound = record { warns = rw (not_bound, bound_before) refl; pays = rw no_entries refl; answers = refl }
+later_is_bound = record { warns = rw (not_bound, bound_before) refl; paid = rw no_entries refl; answers = refl }
 
 pub if_chooses : IfChooses
 unfolding computed from_start fits
 if_chooses = (
-  record { warns = rw not_bound refl; pays = rw no_entries refl; answers = refl },
-  record { warns = refl; pays = rw no_entries refl; answers = refl },
+  record { warns = rw not_bound refl; paid = rw no_entries refl; answers = refl },
+  record { warns = refl; paid = rw no_entries refl; answers = refl },
 )
 
 pub false_and_fails : FalseAndFails
 unfolding computed from_start fits
-false_and_fails = record { warns = refl; pays = rw no_entries refl; answers = refl }
+false_and_fails = record { warns = refl; paid = rw no_entries refl; answers = refl }
 
 pub true_and_is_refused : TrueAndIsRefused
 unfolding computed from_start fits
@@ -137,19 +138,19 @@ true_and_is_refused = refl
 
 pub true_or_is_silent : TrueOrIsSilent
 unfolding computed from_start fits
-true_or_is_silent = record { warns = refl; pays = rw no_entries refl; answers = refl }
+true_or_is_silent = record { warns = refl; paid = rw no_entries refl; answers = refl }
 
 -- ---- inputs
 
 pub first_is_taken : FirstIsTaken
 unfolding computed from_start one_input applied fits
-first_is_taken = record { warns = rw not_bound refl; pays = rw no_entries refl; answers = refl }
+first_is_taken = record { warns = rw not_bound refl; paid = rw no_entries refl; answers = refl }
 
 pub ends_are_chosen : EndsAreChosen
 unfolding computed from_start one_input applied fits
 ends_are_chosen = (
-  record { warns = refl; pays = rw no_entries refl; answers = refl },
-  record { warns = refl; pays = rw no_entries refl; answers = refl },
+  record { warns = refl; paid = rw no_entries refl; answers = refl },
+  record { warns = refl; paid = rw no_entries refl; answers = refl },
 )
 
 pub outside_is_no_match : OutsideIsNoMatch
@@ -158,7 +159,7 @@ outside_is_no_match = refl
 
 pub zero_is_deposited : ZeroIsDeposited
 unfolding computed from_start one_input applied fits
-zero_is_deposited = record { warns = refl; pays = rw no_entries refl; answers = refl }
+zero_is_deposited = record { warns = refl; paid = rw no_entries refl; answers = refl }
 
 -- ---- Close
 
@@ -169,7 +170,7 @@ two_entries =
 
 pub refunds_in_order : RefundsInOrder
 unfolding computed from_start fits
-refunds_in_order = record { warns = refl; pays = rw two_entries refl; answers = rw two_entries refl }
+refunds_in_order = record { warns = refl; paid = rw two_entries refl; answers = rw two_entries refl }
 
 pub close_is_useless : CloseIsUseless
 unfolding computed from_start

@@ -1,9 +1,9 @@
 -- One input (Marlowe specification version 3, "Apply input" and "Apply cases").
 use Rattle.std.specs.Prelude.{◌≡◌, ℕ, suc, ◌<◌, ℤ, pos, ◌+ℤ◌, int_le, int_lt, Bool, true, false, ◌&&◌, List, [], ◌∷◌, ◌++◌, take, slice_get, if◌then◌else◌, ◌⊎◌, Some, Ok, Err}
 use Rattle.std.specs.List.{list_any}
-use Rattle.std.specs.Ordering.{int_eq, eq_by_cmp}
+use Rattle.std.specs.Ordering.{int_eq}
 use Rattle.std.specs.FinMap.{insert}
-use Rattle.names.specs.Orders.{party_cmp, token_cmp, choice_id_cmp}
+use Rattle.names.specs.Equal.{same_party, same_token, same_choice_id}
 use Rattle.names.specs.declared.party.Party.{Party}
 use Rattle.names.specs.declared.token.Token.{Token}
 use Rattle.names.specs.declared.bound.Bound.{Bound}
@@ -17,12 +17,12 @@ use Rattle.states.specs.States.{StateMaps, with_money}
 use Rattle.contract.specs.Tree.{ActionTree, deposit, choice, notify, ContractTree}
 use Rattle.evaluation.specs.Evaluation.{eval, visited, holds, looked}
 use Rattle.semantics.specs.Reduction.{account_of, balance}
-use Rattle.semantics.specs.Walk.{in_case, At, at, Walk}
+use Rattle.semantics.specs.Walk.{in_case, Standing, standing, Walk}
 use Rattle.evaluation.specs.Path.{waits_for}
 
 -- account, party and token of a deposit are those of a case
 abbrev pub agrees : Party → Party → Token → Party → Party → Token → Bool
-agrees a p t b q u = eq_by_cmp party_cmp a b && (eq_by_cmp party_cmp p q && eq_by_cmp token_cmp t u)
+agrees a p t b q u = same_party a b && (same_party p q && same_token t u)
 
 -- a number lies in a bound, ends included
 abbrev pub in_bound : ℤ → Bound → Bool
@@ -31,7 +31,7 @@ in_bound n b = int_le b.from n && int_le n b.to
 -- an input matches an action
 abbrev pub matches : Interval → StateMaps → Input → ActionTree → Bool
 matches i s (Deposit a p t n) (deposit b q u v) = agrees a p t b q u && int_eq n (eval i s v)
-matches i s (Choice id n) (choice jd bounds) = eq_by_cmp choice_id_cmp id jd && list_any (in_bound n) bounds
+matches i s (Choice id n) (choice jd bounds) = same_choice_id id jd && list_any (in_bound n) bounds
 matches i s Notify (notify o) = holds i s o
 matches i s _ _ = false
 
@@ -73,15 +73,15 @@ taken_warnings _ = []
 
 -- the case at a place is taken
 abbrev pub taking : StateMaps → Input → List ℤ → ℕ → ContractTree → Walk
-taking s x ns n c = record { numbers = ns ++ taken_numbers s x; warnings = taken_warnings x; payments = []; turns = in_case n ∷ []; end = Ok (at (taken s x) c) }
+taking s x ns n c = record { numbers = ns ++ taken_numbers s x; warnings = taken_warnings x; payments = []; turns = in_case n ∷ []; end = Ok (standing (taken s x) c) }
 
 -- no case is taken
-abbrev pub refused : List ℤ → Walk
-refused ns = record { numbers = ns; warnings = []; payments = []; turns = []; end = Err NoMatch }
+abbrev pub unmatched : List ℤ → Walk
+unmatched ns = record { numbers = ns; warnings = []; payments = []; turns = []; end = Err NoMatch }
 
 -- an input applies so: the first case that matches is taken, where there is one
-abbrev pub Applies : Interval → Input → At → Walk → Type 0
+abbrev pub Applies : Interval → Input → Standing → Walk → Type 0
 Applies i x a w =
     ((n : ℕ) × (k : ActionTree × ContractTree) × IsFirstMatch i a.state x (waits_for a.contract) n k
     × (w ≡ taking a.state x (all_tried i a.state x (take (suc n) (waits_for a.contract))) n k.1))
-    ⊎ (NoneMatches i a.state x (waits_for a.contract) × (w ≡ refused (all_tried i a.state x (waits_for a.contract))))
+    ⊎ (NoneMatches i a.state x (waits_for a.contract) × (w ≡ unmatched (all_tried i a.state x (waits_for a.contract))))

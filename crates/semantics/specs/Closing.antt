@@ -8,7 +8,7 @@ use Rattle.contract.specs.declared.interval.Interval.{Interval}
 use Rattle.states.specs.States.{StateMaps, total_of}
 use Rattle.contract.specs.Tree.{ContractTree, close}
 use Rattle.evaluation.specs.Timeouts.{last}
-use Rattle.semantics.specs.Walk.{At, answer_of}
+use Rattle.semantics.specs.Walk.{Standing, answer_of}
 use Rattle.semantics.specs.Computed.{computed}
 use Rattle.semantics.specs.Money.{paid_out}
 
@@ -22,7 +22,7 @@ IsSpent s c = (c ≡ close) × (entries s.accounts ≡ [])
 
 -- what may come of it: Close without accounts, where the parties were paid all that the accounts held; or a number left
 -- 128 bits; or there was nothing to do
-abbrev pub ClosesSo : Interval → StateMaps → ContractTree → Result At SemFault → Type 0
+abbrev pub ClosesSo : Interval → StateMaps → ContractTree → Result Standing SemFault → Type 0
 ClosesSo i s c (Ok a) = IsSpent a.state a.contract × ((token : Token) → paid_out token (computed i s c []).payments ≡ total_of token s)
 ClosesSo i s c (Err f) = (f ≡ Leaves128) ⊎ ((f ≡ Useless) × IsSpent s c)
 

@@ -11,16 +11,16 @@ use Rattle.contract.specs.declared.interval.Interval.{Interval}
 use Rattle.states.specs.States.{StateMaps}
 use Rattle.contract.specs.Tree.{ActionTree, ContractTree, close, pay, if_obs, when, let_be, assert}
 use Rattle.evaluation.specs.Evaluation.{eval, visited, holds, looked}
-use Rattle.semantics.specs.Walk.{refund, At, at, Walk, ended, then_walk}
+use Rattle.semantics.specs.Walk.{refund, Standing, standing, Walk, ended, then_walk}
 use Rattle.evaluation.specs.Path.{waits_for}
 use Rattle.semantics.specs.Reduction.{Reduction, refund_of, balance, paying, not_paying, choosing, timing_out, binding, asserting}
-use Rattle.semantics.specs.Settling.{after}
-use Rattle.semantics.specs.Applying.{matches, tried, taking, refused}
+use Rattle.semantics.specs.Settling.{reduction_then}
+use Rattle.semantics.specs.Applying.{matches, tried, taking, unmatched}
 use Rattle.semantics.specs.Transaction.{trimmed, finished}
 
 -- all refunds of a Close, in order
 abbrev pub refunds : StateMaps → Walk
-refunds s = record { numbers = []; warnings = []; payments = map refund_of (entries s.accounts); turns = map (λ _. refund) (entries s.accounts); end = Ok (at (record s { accounts = empty }) close) }
+refunds s = record { numbers = []; warnings = []; payments = map refund_of (entries s.accounts); turns = map (λ _. refund) (entries s.accounts); end = Ok (standing (record s { accounts = empty }) close) }
 
 -- what a Pay does, where an amount is due
 abbrev pub pay_step : StateMaps → Party → Payee → Token → ℤ → List ℤ → ContractTree → Reduction
@@ -29,11 +29,11 @@ pay_step s p y t due ns c = if int_lt (pos 0) due then paying s p y t due (int_m
 -- how a contract settles. A When waits, goes on with its timeout continuation, or its interval is ambiguous
 abbrev pub settled : Interval → StateMaps → ContractTree → Walk
 settled i s close = refunds s
-settled i s (pay p y t v c) = let r = pay_step s p y t (eval i s v) (visited i s v) c in after r (settled i r.state c)
-settled i s (if_obs o c d) = after (choosing s (holds i s o) (looked i s o) c d) (if holds i s o then settled i s c else settled i s d)
-settled i s (when ks timeout c) = if int_lt i.to timeout then ended (Ok (at s (when ks timeout c))) else (if int_le timeout i.from then after (timing_out s c) (settled i s c) else ended (Err Ambiguous))
-settled i s (let_be x v c) = let r = binding s x (eval i s v) (visited i s v) c in after r (settled i r.state c)
-settled i s (assert o c) = after (asserting s (holds i s o) (looked i s o) c) (settled i s c)
+settled i s (pay p y t v c) = let r = pay_step s p y t (eval i s v) (visited i s v) c in reduction_then r (settled i r.state c)
+settled i s (if_obs o c d) = reduction_then (choosing s (holds i s o) (looked i s o) c d) (if holds i s o then settled i s c else settled i s d)
+settled i s (when ks timeout c) = if int_lt i.to timeout then ended (Ok (standing s (when ks timeout c))) else (if int_le timeout i.from then reduction_then (timing_out s c) (settled i s c) else ended (Err Ambiguous))
+settled i s (let_be x v c) = let r = binding s x (eval i s v) (visited i s v) c in reduction_then r (settled i r.state c)
+settled i s (assert o c) = reduction_then (asserting s (holds i s o) (looked i s o) c) (settled i s c)
 
 -- where the first case that matches goes on
 abbrev pub first_match : Interval → StateMaps → Input → List (ActionTree × ContractTree) → Option ContractTree
@@ -41,9 +41,9 @@ first_match i s x [] = None
 first_match i s x (k ∷ ks) = if matches i s x k.0 then Some k.1 else first_match i s x ks
 
 -- how many cases stand before it
-abbrev pub first_place : Interval → StateMaps → Input → List (ActionTree × ContractTree) → ℕ
-first_place i s x [] = 0
-first_place i s x (k ∷ ks) = if matches i s x k.0 then 0 else suc (first_place i s x ks)
+abbrev pub first_match_index : Interval → StateMaps → Input → List (ActionTree × ContractTree) → ℕ
+first_match_index i s x [] = 0
+first_match_index i s x (k ∷ ks) = if matches i s x k.0 then 0 else suc (first_match_index i s x ks)
 
 -- the numbers that are visited up to it
 abbrev pub tried_to_match : Interval → StateMaps → Input → List (ActionTree × ContractTree) → List ℤ
@@ -51,20 +51,20 @@ tried_to_match i s x [] = []
 tried_to_match i s x (k ∷ ks) = tried i s x k.0 ++ (if matches i s x k.0 then [] else tried_to_match i s x ks)
 
 abbrev pub take_match : StateMaps → Input → List ℤ → ℕ → Option ContractTree → Walk
-take_match s x ns n None = refused ns
+take_match s x ns n None = unmatched ns
 take_match s x ns n (Some c) = taking s x ns n c
 
 -- how an input applies
-unfoldable pub applied : Interval → Input → At → Walk
+unfoldable pub applied : Interval → Input → Standing → Walk
 applied i x a =
-    take_match a.state x (tried_to_match i a.state x (waits_for a.contract)) (first_place i a.state x (waits_for a.contract)) (first_match i a.state x (waits_for a.contract))
+    take_match a.state x (tried_to_match i a.state x (waits_for a.contract)) (first_match_index i a.state x (waits_for a.contract)) (first_match i a.state x (waits_for a.contract))
 
 -- an input, and the contract settles again
-unfoldable pub one_input : Interval → Input → At → Walk
+unfoldable pub one_input : Interval → Input → Standing → Walk
 one_input i x a = then_walk (applied i x a) (λ b. settled i b.state b.contract)
 
 -- each input in turn
-abbrev pub all_inputs : Interval → List Input → At → Walk
+abbrev pub all_inputs : Interval → List Input → Standing → Walk
 all_inputs i [] a = ended (Ok a)
 all_inputs i (x ∷ xs) a = then_walk (one_input i x a) (all_inputs i xs)
 

@@ -6,7 +6,7 @@ use Rattle.contract.specs.declared.interval.Interval.{Interval}
 use Rattle.contract.specs.declared.payment.Payment.{Payment}
 use Rattle.states.specs.States.{StateMaps, AllPositive}
 use Rattle.contract.specs.Tree.{ContractTree}
-use Rattle.semantics.specs.Walk.{At}
+use Rattle.semantics.specs.Walk.{Standing}
 use Rattle.semantics.specs.Computed.{computed}
 
 -- no payment is below 0
@@ -20,5 +20,5 @@ PaymentsAreNatural = (i : Interval) (s : StateMaps) (c : ContractTree) (xs : Lis
 
 -- and where it succeeds, its accounts are above 0
 abbrev pub AccountsStayPositive : Type 0
-AccountsStayPositive = (i : Interval) (s : StateMaps) (c : ContractTree) (xs : List Input) (a : At) → AllPositive (entries s.accounts) → (computed i s c xs).end ≡ Ok a
+AccountsStayPositive = (i : Interval) (s : StateMaps) (c : ContractTree) (xs : List Input) (a : Standing) → AllPositive (entries s.accounts) → (computed i s c xs).end ≡ Ok a
     → AllPositive (entries a.state.accounts)

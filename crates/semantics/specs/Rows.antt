@@ -3,7 +3,7 @@ use Rattle.std.specs.Prelude.{◌≡◌, ℕ, ◌^◌, ℤ, pos, neg_ℤ, List, 
 use Rattle.std.specs.FinMap.{empty, from_sorted, insert}
 use Rattle.names.specs.declared.party.Party.{Party}
 use Rattle.names.specs.declared.party.Party.TheVariants.{Address, Role}
-use Rattle.names.specs.declared.token.Token.{Token}
+use Rattle.names.specs.Equal.{ada}
 use Rattle.names.specs.declared.account.Account.{Account}
 use Rattle.names.specs.declared.payee.Payee.TheVariants.{Account as ToAccount, Party as ToParty}
 use Rattle.names.specs.declared.choice_id.ChoiceId.{ChoiceId}
@@ -19,13 +19,13 @@ use Rattle.states.specs.States.{StateMaps}
 use Rattle.contract.specs.Tree.{ValueTree, constant, div_value, cond_value, ObservationTree, and_obs, or_obs, value_ge, true_obs, false_obs}
 use Rattle.contract.specs.Tree.{deposit, choice, notify, ContractTree, close, pay, if_obs, when, let_be, assert, no_cases, case_then}
 use Rattle.evaluation.specs.EvaluationRows.{too_large, least}
-use Rattle.semantics.specs.Walk.{Turn, refund, timed_out, in_case, at, Walk, answer_of}
+use Rattle.semantics.specs.Walk.{Turn, refund, timed_out, in_case, standing, Walk, answer_of}
 use Rattle.semantics.specs.Reduction.{refund_of}
 use Rattle.semantics.specs.Computed.{computed}
 
 -- the role a has 1 lovelace
 abbrev pub role_a : Account × ℤ
-role_a = (record { owner = Role (97 ∷ []); token = record { symbol = []; name = [] } }, pos 1)
+role_a = (record { owner = Role (97 ∷ []); token = ada }, pos 1)
 
 -- a state with that account alone, and a minimum time
 abbrev pub one_account : ℤ → StateMaps
@@ -44,7 +44,7 @@ waits_for_time = when no_cases (pos 100) close
 
 -- the account is paid back by these turns, and the contract is over
 abbrev pub paid_back : List Turn → ℤ → Walk
-paid_back turns t = record { numbers = []; warnings = []; payments = refund_of role_a ∷ []; turns = turns; end = Ok (at (record (one_account t) { accounts = empty }) close) }
+paid_back turns t = record { numbers = []; warnings = []; payments = refund_of role_a ∷ []; turns = turns; end = Ok (standing (record (one_account t) { accounts = empty }) close) }
 
 -- what a transaction is refused with
 abbrev pub IsRefused : Interval → StateMaps → ContractTree → List Input → SemFault → Type 0
@@ -94,9 +94,6 @@ party_a = Role (97 ∷ [])
 abbrev pub party_b : Party
 party_b = Role (98 ∷ [])
 
-abbrev pub ada : Token
-ada = record { symbol = []; name = [] }
-
 -- a state without entries, and one where the role a has 3 lovelace
 abbrev pub nothing : StateMaps
 nothing = record { accounts = empty; choices = empty; bound_values = empty; min_time = pos 0 }
@@ -107,8 +104,8 @@ a_has_three = record nothing { accounts = from_sorted ((record { owner = party_a
 -- within the interval from 0 to 10 a transaction warns so, pays so, and leaves this state and Close
 pub record Does (s : StateMaps) (c : ContractTree) (xs : List Input) (warnings : List Warning) (payments : List Payment) (end : StateMaps) : Type 0 where
   pub warns : (computed (interval (pos 0) (pos 10)) s c xs).warnings ≡ warnings
-  pub pays : (computed (interval (pos 0) (pos 10)) s c xs).payments ≡ payments
-  pub answers : answer_of (computed (interval (pos 0) (pos 10)) s c xs) ≡ Ok (at end close)
+  pub paid : (computed (interval (pos 0) (pos 10)) s c xs).payments ≡ payments
+  pub answers : answer_of (computed (interval (pos 0) (pos 10)) s c xs) ≡ Ok (standing end close)
 
 -- a payment of the role a to the role b, in lovelace
 abbrev pub to_b : ℤ → Payment

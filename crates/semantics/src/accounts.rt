@@ -3,7 +3,7 @@ ghost use Rattle.std.specs.Prelude.{◌≡◌, [], ◌∷◌, OnOk, pos, ◌+ℤ
 ghost use Rattle.std.specs.Int.{int_min};
 ghost use Rattle.states.specs.States.{with_money};
 ghost use Rattle.evaluation.specs.Numbers.{within};
-ghost use Rattle.semantics.specs.Walk.{Aside};
+ghost use Rattle.collections.specs.Answers.{Aside};
 ghost use Rattle.semantics.specs.Reduction.{account_of, balance, debited, account_sums, credited};
 
 use collections::Memory;
@@ -33,7 +33,7 @@ pub fn debit(owner: &Party, token: &Token, paid: i128, state: &mut State) -> Res
 /// The account of a payee that is one grows by what is paid to it.
 pub fn credit(to: &Payee, token: &Token, paid: i128, state: &mut State) -> Result<(), SemFault>
     requires { pos 0 ≤ℤ paid }
-    ensures reply { Aside result (within (account_sums state.old to.now token.now paid) tt) }
+    ensures reply { Aside SemFault.Memory result (within (account_sums state.old to.now token.now paid) tt) }
     ensures state { OnOk result (state.new ≡ credited state.old to.now token.now paid) }
 {
     match to {
@@ -51,7 +51,7 @@ pub fn deposit(
     state: &mut State,
 ) -> Result<(), SemFault>
     requires { pos 0 ≤ℤ amount }
-    ensures reply { Aside result (within ((balance state.old owner.now token.now +ℤ amount) ∷ []) tt) }
+    ensures reply { Aside SemFault.Memory result (within ((balance state.old owner.now token.now +ℤ amount) ∷ []) tt) }
     ensures state { OnOk result (state.new
         ≡ with_money state.old (account_of owner.now token.now) (balance state.old owner.now token.now +ℤ amount)) }
 {

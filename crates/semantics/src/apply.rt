@@ -2,16 +2,15 @@
 ghost use Rattle.std.specs.Prelude.{◌≡◌, ◌++◌, OnOk, IfOk};
 ghost use Rattle.std.specs.List.{list_any};
 ghost use Rattle.std.specs.Option.{IfSome};
-ghost use Rattle.std.specs.Ordering.{eq_by_cmp};
-ghost use Rattle.names.specs.Orders.{party_cmp, token_cmp, choice_id_cmp};
+ghost use Rattle.names.specs.Equal.{same_party, same_token, same_choice_id};
 ghost use Rattle.evaluation.specs.Numbers.{within};
-ghost use Rattle.semantics.specs.Walk.{at, Aside, answer_of};
+ghost use Rattle.collections.specs.Answers.{Aside, AsideBy};
+ghost use Rattle.semantics.specs.Walk.{standing, answer_of};
 ghost use Rattle.evaluation.specs.Path.{waits_for};
 ghost use Rattle.semantics.specs.Applying.{agrees, in_bound, matches, tried, taken, taken_numbers, taken_warnings};
-ghost use Rattle.semantics.specs.Computed.{first_match, first_place, tried_to_match, applied};
+ghost use Rattle.semantics.specs.Computed.{first_match, first_match_index, tried_to_match, applied};
 ghost use Rattle.evaluation.specs.Parts.{Leads, IsEntered, StandsWait, wait_tree};
 ghost use Rattle.semantics.specs.Answer.{tree_of_next};
-ghost use Rattle.semantics.specs.Reduced.{seen};
 
 use crate::accounts::deposit;
 use crate::log::Log;
@@ -30,14 +29,14 @@ pub fn apply<S: Parts>(
     log: &mut Log,
 ) -> Result<S::Place, SemFault>
     requires { S.contains parts.now place }
-    ensures reply { Aside (seen (S.tree parts.now) result state.new)
-        (answer_of (applied interval input.now (at state.old (S.tree parts.now place)))) }
+    ensures reply { AsideBy SemFault.Memory (λ there. standing state.new (S.tree parts.now there)) result
+        (answer_of (applied interval input.now (standing state.old (S.tree parts.now place)))) }
     ensures warnings { OnOk result (log.new.warnings
-        ≡ log.old.warnings ++ (applied interval input.now (at state.old (S.tree parts.now place))).warnings) }
+        ≡ log.old.warnings ++ (applied interval input.now (standing state.old (S.tree parts.now place))).warnings) }
     ensures payments { OnOk result (log.new.payments
-        ≡ log.old.payments ++ (applied interval input.now (at state.old (S.tree parts.now place))).payments) }
+        ≡ log.old.payments ++ (applied interval input.now (standing state.old (S.tree parts.now place))).payments) }
     ensures stands { IfOk result (λ there. S.contains parts.now there) }
-    ensures leads { IfOk result (λ there. Leads (S.enters parts.now) place (applied interval input.now (at state.old (S.tree parts.now place))).turns there) }
+    ensures leads { IfOk result (λ there. Leads (S.enters parts.now) place (applied interval input.now (standing state.old (S.tree parts.now place))).turns there) }
 {
     let Some(then) = matching_case(parts, input, place, state, interval)? else {
         return Err(SemFault::NoMatch);
@@ -60,7 +59,7 @@ pub fn matching_case<S: Parts>(
     ensures reply { tree_of_next (S.tree parts.now) result
         ≡ within (tried_to_match interval state.now input.now (waits_for (S.tree parts.now place))) (first_match interval state.now input.now (waits_for (S.tree parts.now place))) }
     ensures place { IfOk result (λ found. IfSome found (IsEntered (S.contains parts.now) (S.enters parts.now) place
-        (first_place interval state.now input.now (waits_for (S.tree parts.now place))))) }
+        (first_match_index interval state.now input.now (waits_for (S.tree parts.now place))))) }
 {
     for index in 0..parts.count_cases(place) {
         let case = parts.case(place, index);
@@ -115,19 +114,19 @@ fn agrees(
 }
 
 fn same_party(party: &Party, of: &Party) -> bool
-    ensures { result ≡ eq_by_cmp party_cmp party.now of.now }
+    ensures { result ≡ same_party party.now of.now }
 {
     party.same(of)
 }
 
 fn same_token(token: &Token, of: &Token) -> bool
-    ensures { result ≡ eq_by_cmp token_cmp token.now of.now }
+    ensures { result ≡ same_token token.now of.now }
 {
     token.same(of)
 }
 
 fn same_choice(id: &ChoiceId, of: &ChoiceId) -> bool
-    ensures { result ≡ eq_by_cmp choice_id_cmp id.now of.now }
+    ensures { result ≡ same_choice_id id.now of.now }
 {
     id.same(of)
 }
@@ -143,7 +142,7 @@ fn in_bounds(number: i128, bounds: &[Bound]) -> bool
 
 // What an input does to the state.
 fn take(input: &Input, state: &mut State, log: &mut Log) -> Result<(), SemFault>
-    ensures reply { Aside result (within (taken_numbers state.old input.now) tt) }
+    ensures reply { Aside SemFault.Memory result (within (taken_numbers state.old input.now) tt) }
     ensures state { OnOk result (state.new ≡ taken state.old input.now) }
     ensures warnings { OnOk result (log.new.warnings
         ≡ log.old.warnings ++ taken_warnings input.now) }

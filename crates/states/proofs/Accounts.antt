@@ -7,10 +7,11 @@ use Rattle.std.specs.Ordering.{int_eq, eq_by_cmp}
 use Rattle.std.specs.FinMap.{entries, get, insert, remove, get-insert, get-remove}
 use Rattle.names.specs.declared.token.Token.{Token}
 use Rattle.names.specs.declared.account.Account.{Account}
-use Rattle.names.specs.Orders.{token_cmp, account_cmp}
+use Rattle.names.specs.Equal.{same_token}
+use Rattle.names.specs.Orders.{account_cmp}
 use Rattle.names.specs.Totals.{account_total}
-use Rattle.states.specs.States.{StateMaps, money_of, with_money, in_token, total_of}
-use Rattle.names.specs.Exact.{account_exact}
+use Rattle.states.specs.States.{StateMaps, money_of, with_money, counted, total_of}
+use Rattle.names.proofs.Exact.{account_exact}
 use Rattle.collections.proofs.Total.{total-insert, total-remove, entries-remove_first}
 
 -- a change of one account: what stands after it depends on whether the amount is 0
@@ -35,18 +36,22 @@ money_of-with_money s a v b = by_zero s a v (λ t. money_of t b ≡ cond (eq_by_
     (λ e. ap (λ o. unwrap_or o (pos 0)) (get-remove account_total s.accounts a b) ∙ held_without (eq_by_cmp account_cmp b a) v (get s.accounts b) e)
     (ap (λ o. unwrap_or o (pos 0)) (get-insert account_total s.accounts a v b) ∙ held_after (eq_by_cmp account_cmp b a) v (get s.accounts b))
 
-nothing : (t : Token) (a : Account) → in_token t a (pos 0) ≡ pos 0
-nothing t a = elim (eq_by_cmp token_cmp t a.token) as (λ b. cond b (pos 0) (pos 0) ≡ pos 0) [ true ↦ refl | false ↦ refl ]
+-- what an account counts of a token
+abbrev counts : Token → Account → ℤ → ℤ
+counts t a v = counted t a.token v
+
+nothing : (t : Token) (a : Account) → counted t a.token (pos 0) ≡ pos 0
+nothing t a = elim (same_token t a.token) as (λ b. cond b (pos 0) (pos 0) ≡ pos 0) [ true ↦ refl | false ↦ refl ]
 
 none_more : (x y z w : ℤ) → x +ℤ y ≡ z → w ≡ pos 0 → x +ℤ y ≡ z +ℤ w
 none_more x y z w e h = omega (arith, ints)
 
 -- a token's total changes by what the account has more
-pub total_of-with_money : (t : Token) (s : StateMaps) (a : Account) (v : ℤ) → total_of t (with_money s a v) +ℤ in_token t a (money_of s a) ≡ total_of t s +ℤ in_token t a v
-total_of-with_money t s a v = by_zero s a v (λ u. total_of t u +ℤ in_token t a (money_of s a) ≡ total_of t s +ℤ in_token t a v)
-    (λ e. none_more (total_of t (record s { accounts = remove s.accounts a })) (in_token t a (money_of s a)) (total_of t s) (in_token t a v)
-    (total-remove account_cmp account_total account_exact (in_token t) (nothing t) s.accounts a) (ap (in_token t a) e ∙ nothing t a))
-    (total-insert account_cmp account_total account_exact (in_token t) (nothing t) s.accounts a v)
+pub total_of-with_money : (t : Token) (s : StateMaps) (a : Account) (v : ℤ) → total_of t (with_money s a v) +ℤ counted t a.token (money_of s a) ≡ total_of t s +ℤ counted t a.token v
+total_of-with_money t s a v = by_zero s a v (λ u. total_of t u +ℤ counted t a.token (money_of s a) ≡ total_of t s +ℤ counted t a.token v)
+    (λ e. none_more (total_of t (record s { accounts = remove s.accounts a })) (counted t a.token (money_of s a)) (total_of t s) (counted t a.token v)
+    (total-remove account_cmp account_total account_exact (counts t) (nothing t) s.accounts a) (ap (counted t a.token) e ∙ nothing t a))
+    (total-insert account_cmp account_total account_exact (counts t) (nothing t) s.accounts a v)
 
 -- to empty the first account leaves the others
 pub entries-refund : (s : StateMaps) (e : Account × ℤ) (es : List (Account × ℤ)) → entries s.accounts ≡ e ∷ es → entries (with_money s e.0 (pos 0)).accounts ≡ es

@@ -1,5 +1,5 @@
 pub mod Accounts
-pub mod Positive
+pub mod Fed
 pub mod SameStates
 pub mod Starting
 pub mod States

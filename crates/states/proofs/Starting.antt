@@ -12,7 +12,7 @@ use Rattle.std.proofs.lemmas.List.Sorted.{All-permutation}
 use Rattle.names.specs.declared.account.Account.{Account}
 use Rattle.names.specs.Orders.{account_cmp}
 use Rattle.names.specs.Totals.{account_total}
-use Rattle.names.specs.Exact.{account_exact}
+use Rattle.names.proofs.Exact.{account_exact}
 use Rattle.states.specs.Start.{is_positive}
 use Rattle.states.specs.States.{AllPositive}
 

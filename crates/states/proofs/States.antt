@@ -12,7 +12,7 @@ use Rattle.std.proofs.lemmas.Map.Lookups.{CmpEqualImpliesEq}
 use Rattle.collections.proofs.Places.{second, below_head, below_tail}
 use Rattle.names.specs.Orders.{account_cmp}
 use Rattle.names.specs.Totals.{account_total, choice_id_total, bytes_total}
-use Rattle.names.specs.Exact.{account_exact, choice_id_exact, bytes_exact}
+use Rattle.names.proofs.Exact.{account_exact, choice_id_exact, bytes_exact}
 use Rattle.states.specs.States.{money_of}
 use Rattle.states.specs.Laws.{MoneyIsFound, OtherMoneyStays, ChoiceIsFound, OtherChoicesStay, BoundValueIsFound, OtherBoundValuesStay, FirstAccountIsLeast, OthersAreLeft, TotalFollowsSet}
 use Rattle.states.proofs.Accounts.{money_of-with_money, total_of-with_money, entries-refund}

@@ -7,7 +7,7 @@ use Rattle.names.specs.declared.token.Token.{Token}
 use Rattle.names.specs.declared.account.Account.{Account}
 use Rattle.names.specs.declared.choice_id.ChoiceId.{ChoiceId}
 use Rattle.names.specs.Orders.{account_cmp}
-use Rattle.states.specs.States.{StateMaps, money_of, with_money, in_token, total_of}
+use Rattle.states.specs.States.{StateMaps, money_of, with_money, counted, total_of}
 
 -- an account holds what was set
 abbrev pub MoneyIsFound : Type 0
@@ -49,4 +49,4 @@ OthersAreLeft = (s : StateMaps) (first : Account × ℤ) (others : List (Account
 -- a set changes a token's total by what the account holds more of it
 abbrev pub TotalFollowsSet : Type 0
 TotalFollowsSet = (token : Token) (s : StateMaps) (account : Account) (amount : ℤ)
-    → total_of token (with_money s account amount) +ℤ in_token token account (money_of s account) ≡ total_of token s +ℤ in_token token account amount
+    → total_of token (with_money s account amount) +ℤ counted token account.token (money_of s account) ≡ total_of token s +ℤ counted token account.token amount

@@ -1,3 +1,5 @@
-pub mod States
-pub mod Start
+pub mod Hashing
 pub mod Laws
+pub mod Start
+pub mod StateCode
+pub mod States

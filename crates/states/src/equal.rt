@@ -1,8 +1,9 @@
-//! Equality of states: what `==` answers is whether the two are the same.
+//! Equality and hashes of states: what `==` answers is whether the two are the same.
 ghost use Rattle.std.specs.Prelude.{◌≡◌, ◌↔◌, IsTrue};
 
 use crate::state::State;
 use collections::{Same, same_entries};
+use std::hash::{Hash, Hasher};
 
 impl Same for State {
     #[tactic(auto, using(crate::proofs::SameStates::same_states))]
@@ -39,7 +40,8 @@ fn same_time(a: &State, b: &State) -> bool
 }
 
 impl PartialEq for State {
-    ghost use Rattle.collections.specs.Same.{same_by, same_by-partial};
+    ghost use Rattle.collections.specs.Same.{same_by};
+    ghost use Rattle.collections.proofs.SameLaws.{same_by-partial};
     ghost use Rattle.states.specs.contracts.state.State as it;
 
     ghost eq = { same_by it.the_row.coded };
@@ -52,8 +54,26 @@ impl PartialEq for State {
 }
 
 impl Eq for State {
-    ghost use Rattle.collections.specs.Same.{same_by-equiv};
+    ghost use Rattle.collections.proofs.SameLaws.{same_by-equiv};
     ghost use Rattle.states.specs.contracts.state.State as it;
 
     ghost laws = { same_by-equiv it.the_row.coded };
+}
+
+impl Hash for State {
+    ghost use Rattle.std.proofs.Common.{ap};
+    ghost use Rattle.collections.proofs.SameLaws.{same_by_decides};
+    ghost use Rattle.states.specs.Hashing.{state_fed};
+    ghost use Rattle.states.specs.contracts.state.State as it;
+
+    ghost hash_input = { state_fed };
+
+    ghost respects_eq = { λ x y h. ap state_fed ((same_by_decides it.the_row.coded x y).0 h) };
+
+    fn hash<H: Hasher>(&self, state: &mut H) {
+        self.accounts().hash(state);
+        self.choices().hash(state);
+        self.bound_values().hash(state);
+        self.min_time().hash(state);
+    }
 }

@@ -47,7 +47,8 @@ pub struct State {
 
 impl Model for State {
     ghost use Rattle.std.specs.FinMap.{from_sorted};
-    ghost use Rattle.states.specs.States.{StateMaps, maps_code, AllPositive};
+    ghost use Rattle.states.specs.States.{StateMaps, AllPositive};
+    ghost use Rattle.states.specs.StateCode.{maps_code};
 
     ghost Value = { StateMaps };
 

@@ -95,12 +95,12 @@ abbrev pub cont_entry : Flat → ℕ → Entry ContNode
 cont_entry f k = get_or f.conts k (record { node = Close; height = 0 })
 
 -- the numbers stand for trees of so many levels; 1,000 serve, for no node is higher than 999
-abbrev pub step : Flat → Trees → Trees
-step f t = record { value = λ k. value_of t (value_entry f k).node; observation = λ k. observation_of t (observation_entry f k).node; case = λ k. case_of t (case_entry f k).node; cont = λ k. cont_of t (cont_entry f k).node }
+abbrev pub next_level : Flat → Trees → Trees
+next_level f t = record { value = λ k. value_of t (value_entry f k).node; observation = λ k. observation_of t (observation_entry f k).node; case = λ k. case_of t (case_entry f k).node; cont = λ k. cont_of t (cont_entry f k).node }
 
 abbrev pub levels : ℕ → Flat → Trees
 levels zero f = record { value = λ _. constant (pos 0); observation = λ _. true_obs; case = λ _. (notify true_obs, close); cont = λ _. close }
-levels (suc n) f = step f (levels n f)
+levels (suc n) f = next_level f (levels n f)
 
 unfoldable pub deepest : ℕ
 deepest = 1000

@@ -1,3 +1,4 @@
+-- No reader needs this file: it serves the proofs of this crate and those above it.
 -- What a table feeds a hasher: its four lists, each node with its height.
 use Rattle.std.specs.Prelude.{◌++◌}
 use Rattle.std.specs.Hash as fed

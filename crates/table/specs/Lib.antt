@@ -1,8 +1,8 @@
 pub mod Heights
 pub mod Flat
-pub mod Laws
+pub mod LevelLaws
 pub mod Pushing
-pub mod At
-pub mod AtLaws
+pub mod Along
+pub mod AlongLaws
 pub mod Leaves
 pub mod Hashing

@@ -4,8 +4,8 @@ ghost use Rattle.table.specs.Flat.{Flat, Trees, trees, IsFlat, Has, AllStand, a_
 ghost use Rattle.evaluation.specs.Path.{in_case};
 ghost use Rattle.evaluation.specs.Path.{waits_for};
 ghost use Rattle.evaluation.specs.Parts.{case_tree_of, StandsWait};
-ghost use Rattle.table.specs.At.{part_at, at};
-ghost use Rattle.table.specs.AtLaws.{at_more, at_along, at_one, same_cont_tree, same_number, Numbered};
+ghost use Rattle.table.specs.Along.{next_cont, cont_along};
+ghost use Rattle.table.specs.AlongLaws.{along_more, along_tree, along_some, along_one, same_cont_tree, same_number, Numbered};
 
 use crate::table::Table;
 use contract::{Interval, SemFault, State};
@@ -31,19 +31,21 @@ impl Parts for Table {
 
     ghost observation_tree = { λ t o. observation_tree t o };
 
-    ghost enters = { λ t k turn l. part_at t k turn ≡ Some l };
+    ghost enters = { λ t k turn l. next_cont t k turn ≡ Some l };
 
-    ghost leads = { λ t k turns l. at t k turns ≡ Some l };
+    ghost leads = { λ t k turns l. cont_along t k turns ≡ Some l };
 
     ghost stays = { λ t k. refl };
 
-    ghost goes = { λ t k turn l turns m h j. at_more t k turn l turns m h j };
+    ghost goes = { λ t k turn l turns m h j. along_more t k turn l turns m h j };
 
     ghost same = { λ t k l e w. same_cont_tree t k l e w };
 
-    ghost led = { λ t k turns l w h. at_along t k turns l w h };
+    ghost led = { λ t k turns l w h. along_tree t k turns l w h };
 
-    ghost one = { λ t k turns l m h j. same_number l m (at_one t k turns l m h j) };
+    ghost some = { λ t k turns c w h. along_some t k turns c w h };
+
+    ghost one = { λ t k turns l m h j. same_number l m (along_one t k turns l m h j) };
 
     fn form(&self, place: Cont) -> Form<'_, Cont, u32, u32> {
         match &self.cont_node(place).node {
@@ -83,7 +85,7 @@ fn cases(table: &Table, place: Cont) -> &[u32]
     requires { Has table.now (a_cont place.0) }
     ensures named { map (trees table.now).case result.now ≡ waits_for (cont_tree table.now place.0) }
     ensures stand { AllStand table.now (map a_case result.now) }
-    ensures enter { (m : ℕ) → part_at table.now place (in_case m)
+    ensures enter { (m : ℕ) → next_cont table.now place (in_case m)
         ≡ option_map (λ j. follows (case_entry table.now j).node) (slice_get result.now m) }
 {
     match &table.cont_node(place).node {

@@ -7,8 +7,9 @@ mod push;
 mod same;
 mod timeout;
 
-ghost use Rattle.std.specs.Prelude.{◌≡◌, ◌↔◌, IsTrue};
+ghost use Rattle.std.specs.Prelude.{◌≡◌, ◌↔◌, true, IsTrue};
 ghost use Rattle.table.specs.Flat.{nothing, IsFlat, Has, a_value, an_observation, a_case, a_cont};
+ghost use Rattle.table.specs.Along.{has_cont, TurnsLead};
 
 use nodes::{CaseNode, Cont, ContNode, Entry, ObservationNode, ValueNode};
 use std::alloc::Global;
@@ -53,6 +54,16 @@ impl Table {
         ensures { IsFlat self.now }
     {
         let _values = self.values.len();
+    }
+
+    /// What holds of every table: the test of a continuation's number is exact, and turns that a continuation's
+    /// tree has lead to a continuation, which stands for the part of the tree that they lead to. It does nothing.
+    #[tactic(auto, using(crate::specs::AlongLaws::has_is, crate::specs::AlongLaws::turns_lead))]
+    pub fn turns_lead(&self)
+        ensures test { (k : Cont) → (has_cont self.now k ≡ true) ↔ Has self.now (a_cont k.0) }
+        ensures turns { TurnsLead self.now }
+    {
+        let _conts = self.conts.len();
     }
 
     /// Whether a continuation is one of the table; takes no memory.

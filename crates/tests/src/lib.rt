@@ -5,8 +5,6 @@
 #[cfg(test)]
 mod large;
 #[cfg(test)]
-mod ledger;
-#[cfg(test)]
 mod made;
 #[cfg(test)]
 mod names_of;

@@ -1,13 +1,16 @@
 //! What is printed for lines.
+use crate::checks::check_line;
 use crate::fault::RowFault;
-use crate::outputs::output_of;
-use crate::spends::spend_of;
+use crate::outputs::{found_of, output_of, put_found};
+use crate::publications::{Named, named_of};
+use crate::spends::{put_keys, spend_of};
 use crate::sums::{added, subtracted};
-use crate::words::{first, number, parts, put, text};
+use crate::words::{first, number, parts, put, put_in, text};
 use collections::Items;
 use contract::Interval;
-use eutxo_types::{Tx, encode_tx, tx_id};
+use eutxo_types::{Output, Tx, encode_tx, tx_id};
 use std::alloc::{AllocError, Global};
+use std::mem;
 
 /// What answers lines. The function that owns it is generic in it, so that no proof walks through its drop.
 pub trait Answers: Drop {
@@ -54,8 +57,25 @@ fn put_line(printed: &mut Vec<u8>, line: &[u8]) -> Result<(), AllocError> {
     Ok(())
 }
 
-/// A transaction of nothing, from 0 to 0. Takes no memory.
-pub fn nothing(alloc: Global) -> Tx {
+/// What is written so far: a transaction, what its inputs find, and what is published.
+#[derive(Drop)]
+pub struct Desk {
+    tx: Tx,
+    finds: Items<Option<Output>>,
+    names: Vec<Named>,
+}
+
+/// A desk with nothing on it. Takes no memory.
+pub fn empty_desk(alloc: Global) -> Desk {
+    Desk {
+        tx: nothing(alloc),
+        finds: Items::new(alloc),
+        names: Vec::new(alloc),
+    }
+}
+
+// A transaction of nothing, from 0 to 0. Takes no memory.
+fn nothing(alloc: Global) -> Tx {
     Tx {
         inputs: Items::new(alloc),
         outputs: Items::new(alloc),
@@ -64,16 +84,20 @@ pub fn nothing(alloc: Global) -> Tx {
     }
 }
 
-// The transaction that is being written.
-impl Answers for Tx {
+impl Answers for Desk {
     fn take(&mut self, alloc: Global, line: &str) -> Result<Option<String>, RowFault> {
         let (word, rest) = first(line);
         match word {
             "" => Ok(None),
             "#" => Ok(Some(String::from_str(alloc, line)?)),
-            "transaction" => Ok(Some(finished(alloc, self)?)),
+            "transaction" => Ok(Some(finished(alloc, &mut self.tx)?)),
+            "check" => Ok(Some(checked(alloc, self, rest)?)),
             "add" => Ok(Some(added(alloc, rest)?)),
             "subtract" => Ok(Some(subtracted(alloc, rest)?)),
+            "publish" => {
+                put_in(&mut self.names, named_of(alloc, rest))?;
+                Ok(None)
+            }
             _ => {
                 write(alloc, self, word, rest)?;
                 Ok(None)
@@ -89,6 +113,14 @@ fn finished(alloc: Global, tx: &mut Tx) -> Result<String, AllocError> {
     Ok(lines)
 }
 
+// The verdict on the transaction, after which the next one begins.
+fn checked(alloc: Global, desk: &mut Desk, word: &str) -> Result<String, RowFault> {
+    let finds = mem::replace(&mut desk.finds, Items::new(alloc));
+    let line = check_line(alloc, &desk.tx, finds, &desk.names, word);
+    clear(&mut desk.tx, nothing(alloc));
+    line
+}
+
 fn clear<T: Drop>(place: &mut T, empty: T) {
     *place = empty;
 }
@@ -102,17 +134,26 @@ fn spelled(alloc: Global, tx: &Tx) -> Result<String, AllocError> {
     format!(in alloc; "{bytes}\n{id}")
 }
 
-// Writes a line of the transaction.
-fn write(alloc: Global, tx: &mut Tx, word: &str, rest: &str) -> Result<(), RowFault> {
+// Writes a line of the transaction, or of what it finds.
+fn write(alloc: Global, desk: &mut Desk, word: &str, rest: &str) -> Result<(), RowFault> {
     match word {
-        "in" => put(&mut tx.inputs, spend_of(alloc, rest)),
-        "out" => put(&mut tx.outputs, output_of(alloc, rest)),
-        "from" => set_interval(tx, rest),
-        "signer" => put(&mut tx.signers, text(alloc, rest)),
+        "in" => put(&mut desk.tx.inputs, spend_of(alloc, rest)),
+        "finds" => put(&mut desk.finds, found_of(alloc, &desk.names, rest)),
+        "many" => many(alloc, desk, rest),
+        "out" => put(&mut desk.tx.outputs, output_of(alloc, &desk.names, rest)),
+        "from" => set_interval(&mut desk.tx, rest),
+        "signer" => put(&mut desk.tx.signers, text(alloc, rest)),
         _ => Err(RowFault::NoSuchRow),
     }
 }
 
+// So many inputs of keys, each finding one lovelace, from `COUNT ADDRESS`.
+fn many(alloc: Global, desk: &mut Desk, rest: &str) -> Result<(), RowFault> {
+    let (count, address) = parts(rest)?;
+    let count: u64 = number(count)?;
+    put_keys(&mut desk.tx.inputs, count)?;
+    put_found(alloc, &mut desk.finds, count, address)
+}
 // From `FROM to TO`.
 fn set_interval(tx: &mut Tx, rest: &str) -> Result<(), RowFault> {
     let (from, rest) = parts(rest)?;

@@ -1,4 +1,5 @@
 //! Lines that can't be answered.
+use compiler::CompileFault;
 use contract_json::JsonFault;
 use hex::FromHexError;
 use std::alloc::{AllocError, AllocFailed};
@@ -37,6 +38,15 @@ impl From<FromHexError> for RowFault {
     fn from(error: FromHexError) -> RowFault {
         match error {
             FromHexError::OutOfMemory => RowFault::Memory,
+            _ => RowFault::NoSuchRow,
+        }
+    }
+}
+
+impl From<CompileFault> for RowFault {
+    fn from(fault: CompileFault) -> RowFault {
+        match fault {
+            CompileFault::Memory => RowFault::Memory,
             _ => RowFault::NoSuchRow,
         }
     }

@@ -1,19 +1,47 @@
 //! Outputs of a transaction.
 use crate::amounts::bundle_of;
 use crate::fault::RowFault;
-use crate::words::{bytes, first, id, number, parts, text};
+use crate::publications::{Named, by_name};
+use crate::words::{bytes, first, id, number, parts, put, text};
+use collections::Items;
 use contract::State;
 use contract_json::read_state;
 use eutxo_types::{Cont, Datum, Lock, Output};
 use std::alloc::Global;
 
+/// What an input finds: an output, or `nothing`.
+pub fn found_of(alloc: Global, names: &[Named], rest: &str) -> Result<Option<Output>, RowFault> {
+    match rest {
+        "nothing" => Ok(None),
+        _ => Ok(Some(output_of(alloc, names, rest)?)),
+    }
+}
+
+/// Puts so many key outputs of an address with one lovelace each behind the others.
+pub fn put_found(
+    alloc: Global,
+    finds: &mut Items<Option<Output>>,
+    count: u64,
+    address: &str,
+) -> Result<(), RowFault> {
+    for _ in 0..count {
+        put(finds, one_lovelace(alloc, address))?;
+    }
+    Ok(())
+}
+
+fn one_lovelace(alloc: Global, address: &str) -> Result<Option<Output>, RowFault> {
+    let lock = Lock::Key(text(alloc, address)?);
+    Ok(Some(locked(alloc, lock, "ada 1")?))
+}
+
 /// An output, from `SORT` and what follows it.
-pub fn output_of(alloc: Global, rest: &str) -> Result<Output, RowFault> {
+pub fn output_of(alloc: Global, names: &[Named], rest: &str) -> Result<Output, RowFault> {
     let (sort, rest) = parts(rest)?;
     match sort {
         "key" => key(alloc, rest),
         "payout" => payout(alloc, rest),
-        "contract" => contract(alloc, rest),
+        "contract" => contract(alloc, names, rest),
         _ => Err(RowFault::NoSuchRow),
     }
 }
@@ -35,17 +63,31 @@ fn payout(alloc: Global, rest: &str) -> Result<Output, RowFault> {
 }
 
 // From `SCRIPT CONTINUATION STATE TOKEN AMOUNT ..`.
-fn contract(alloc: Global, rest: &str) -> Result<Output, RowFault> {
+fn contract(alloc: Global, names: &[Named], rest: &str) -> Result<Output, RowFault> {
     let (script, rest) = parts(rest)?;
     let (cont, rest) = parts(rest)?;
     let (state, amounts) = first(rest);
-    let script = id(script)?;
-    let datum = datum_of(alloc, cont, state)?;
+    let (script, root) = script_of(names, script)?;
+    let datum = datum_of(alloc, root, cont, state)?;
     locked(alloc, Lock::Contract { script, datum }, amounts)
 }
 
-fn datum_of(alloc: Global, cont: &str, state: &str) -> Result<Datum, RowFault> {
-    let cont = Cont(number(cont)?);
+// The id of a script and its root, from `@` and the name of what is published, or from an id.
+fn script_of(names: &[Named], word: &str) -> Result<([u8; 32], Cont), RowFault> {
+    match word.strip_prefix('@') {
+        Some(name) => {
+            let named = by_name(names, name)?;
+            Ok((named.id(), named.root()))
+        }
+        None => Ok((id(word)?, Cont(0))),
+    }
+}
+
+fn datum_of(alloc: Global, root: Cont, cont: &str, state: &str) -> Result<Datum, RowFault> {
+    let cont = match cont {
+        "root" => root,
+        _ => Cont(number(cont)?),
+    };
     let state = state_of(alloc, state)?;
     Ok(Datum { cont, state })
 }

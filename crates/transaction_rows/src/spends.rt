@@ -36,8 +36,28 @@ fn redeemer_of(alloc: Global, rest: &str) -> Result<Redeemer, RowFault> {
         "none" => Ok(Redeemer::None),
         "claim" => Ok(Redeemer::Claim),
         "step" => Ok(Redeemer::Step(inputs_of(alloc, inputs)?)),
+        "notifies" => Ok(Redeemer::Step(notifies(alloc, number(inputs)?)?)),
         _ => Err(RowFault::NoSuchRow),
     }
+}
+
+fn notifies(alloc: Global, count: u64) -> Result<Items<Input>, RowFault> {
+    let mut inputs = Items::new(alloc);
+    for _ in 0..count {
+        inputs.push(Input::Notify)?;
+    }
+    Ok(inputs)
+}
+
+/// Puts so many inputs behind the others, which give nothing: the first outputs that the ledger began with.
+pub fn put_keys(inputs: &mut Items<Spend>, count: u64) -> Result<(), RowFault> {
+    for index in 0..count {
+        inputs.push(Spend {
+            reference: OutputRef::Genesis { index },
+            redeemer: Redeemer::None,
+        })?;
+    }
+    Ok(())
 }
 
 fn inputs_of(alloc: Global, words: &str) -> Result<Items<Input>, RowFault> {

@@ -46,3 +46,9 @@ pub fn put<T: Drop>(items: &mut Items<T>, item: Result<T, RowFault>) -> Result<(
     items.push(item?)?;
     Ok(())
 }
+
+/// Puts what was read at the end. It is generic in it, so that no proof walks through its drop.
+pub fn put_in<T: Drop>(list: &mut Vec<T>, item: Result<T, RowFault>) -> Result<(), RowFault> {
+    list.push(item?)?;
+    Ok(())
+}

@@ -207,29 +207,23 @@ pub(super) fn value_at(table: &Table, alloc: Global, number: u32) -> Result<Valu
     ensures { IfOk result (λ value. trees.value_tree value ≡ flat.value_tree table.now number) }
 {
     match &table.value_node(number).node {
-        ValueNode::AvailableMoney(owner, token) => {
-            Ok(Value::AvailableMoney(owner.try_clone()?, token.try_clone()?))
-        }
+        ValueNode::AvailableMoney(owner, token) => available_money(owner, token),
         ValueNode::Constant(constant) => Ok(Value::Constant(*constant)),
         ValueNode::NegValue(a) => Ok(Value::NegValue(boxed_value_at(table, alloc, *a)?)),
         ValueNode::AddValue(a, b) => {
-            let x = boxed_value_at(table, alloc, *a)?;
-            let (x, y) = both(x, boxed_value_at(table, alloc, *b))?;
+            let (x, y) = two_values_at(table, alloc, *a, *b)?;
             Ok(Value::AddValue(x, y))
         }
         ValueNode::SubValue(a, b) => {
-            let x = boxed_value_at(table, alloc, *a)?;
-            let (x, y) = both(x, boxed_value_at(table, alloc, *b))?;
+            let (x, y) = two_values_at(table, alloc, *a, *b)?;
             Ok(Value::SubValue(x, y))
         }
         ValueNode::MulValue(a, b) => {
-            let x = boxed_value_at(table, alloc, *a)?;
-            let (x, y) = both(x, boxed_value_at(table, alloc, *b))?;
+            let (x, y) = two_values_at(table, alloc, *a, *b)?;
             Ok(Value::MulValue(x, y))
         }
         ValueNode::DivValue(a, b) => {
-            let x = boxed_value_at(table, alloc, *a)?;
-            let (x, y) = both(x, boxed_value_at(table, alloc, *b))?;
+            let (x, y) = two_values_at(table, alloc, *a, *b)?;
             Ok(Value::DivValue(x, y))
         }
         ValueNode::ChoiceValue(id) => Ok(Value::ChoiceValue(id.try_clone()?)),
@@ -238,11 +232,19 @@ pub(super) fn value_at(table: &Table, alloc: Global, number: u32) -> Result<Valu
         ValueNode::UseValue(name) => Ok(Value::UseValue(name.try_clone()?)),
         ValueNode::Cond(observation, a, b) => {
             let observation = boxed_observation_at(table, alloc, *observation)?;
-            let (observation, x) = both(observation, boxed_value_at(table, alloc, *a))?;
-            let ((observation, x), y) = both((observation, x), boxed_value_at(table, alloc, *b))?;
+            let (observation, branches) = both(observation, two_values_at(table, alloc, *a, *b))?;
+            let (x, y) = branches;
             Ok(Value::Cond(observation, x, y))
         }
     }
+}
+
+fn available_money(owner: &Party, token: &Token) -> Result<Value, Memory>
+    ensures { IfOk result (λ value. value ≡ Value.AvailableMoney owner.now token.now) }
+{
+    let owner = owner.try_clone()?;
+    let (token, owner) = beside(token, owner)?;
+    Ok(Value::AvailableMoney(owner, token))
 }
 
 #[cycle(value_at)]
@@ -254,6 +256,21 @@ fn boxed_value_at(table: &Table, alloc: Global, number: u32) -> Result<Boxed<Val
 }
 
 #[cycle(value_at)]
+fn two_values_at(
+    table: &Table,
+    alloc: Global,
+    a: u32,
+    b: u32,
+) -> Result<(Boxed<Value>, Boxed<Value>), Memory>
+    requires first { Stands table.now (a_value a) }
+    requires second { Stands table.now (a_value b) }
+    ensures { IfOk result (λ made. (trees.value_tree made.0 ≡ flat.value_tree table.now a) × (trees.value_tree made.1 ≡ flat.value_tree table.now b)) }
+{
+    let x = boxed_value_at(table, alloc, a)?;
+    both(x, boxed_value_at(table, alloc, b))
+}
+
+#[cycle(value_at)]
 #[tactic(auto, using(crate::proofs::Forms::observation_forms))]
 fn observation_at(table: &Table, alloc: Global, number: u32) -> Result<Observation, Memory>
     requires { Stands table.now (an_observation number) }
@@ -261,13 +278,11 @@ fn observation_at(table: &Table, alloc: Global, number: u32) -> Result<Observati
 {
     match &table.observation_node(number).node {
         ObservationNode::AndObs(a, b) => {
-            let x = boxed_observation_at(table, alloc, *a)?;
-            let (x, y) = both(x, boxed_observation_at(table, alloc, *b))?;
+            let (x, y) = two_observations_at(table, alloc, *a, *b)?;
             Ok(Observation::AndObs(x, y))
         }
         ObservationNode::OrObs(a, b) => {
-            let x = boxed_observation_at(table, alloc, *a)?;
-            let (x, y) = both(x, boxed_observation_at(table, alloc, *b))?;
+            let (x, y) = two_observations_at(table, alloc, *a, *b)?;
             Ok(Observation::OrObs(x, y))
         }
         ObservationNode::NotObs(a) => {
@@ -275,33 +290,43 @@ fn observation_at(table: &Table, alloc: Global, number: u32) -> Result<Observati
         }
         ObservationNode::ChoseSomething(id) => Ok(Observation::ChoseSomething(id.try_clone()?)),
         ObservationNode::ValueGE(a, b) => {
-            let x = boxed_value_at(table, alloc, *a)?;
-            let (x, y) = both(x, boxed_value_at(table, alloc, *b))?;
+            let (x, y) = two_values_at(table, alloc, *a, *b)?;
             Ok(Observation::ValueGE(x, y))
         }
         ObservationNode::ValueGT(a, b) => {
-            let x = boxed_value_at(table, alloc, *a)?;
-            let (x, y) = both(x, boxed_value_at(table, alloc, *b))?;
+            let (x, y) = two_values_at(table, alloc, *a, *b)?;
             Ok(Observation::ValueGT(x, y))
         }
         ObservationNode::ValueLT(a, b) => {
-            let x = boxed_value_at(table, alloc, *a)?;
-            let (x, y) = both(x, boxed_value_at(table, alloc, *b))?;
+            let (x, y) = two_values_at(table, alloc, *a, *b)?;
             Ok(Observation::ValueLT(x, y))
         }
         ObservationNode::ValueLE(a, b) => {
-            let x = boxed_value_at(table, alloc, *a)?;
-            let (x, y) = both(x, boxed_value_at(table, alloc, *b))?;
+            let (x, y) = two_values_at(table, alloc, *a, *b)?;
             Ok(Observation::ValueLE(x, y))
         }
         ObservationNode::ValueEQ(a, b) => {
-            let x = boxed_value_at(table, alloc, *a)?;
-            let (x, y) = both(x, boxed_value_at(table, alloc, *b))?;
+            let (x, y) = two_values_at(table, alloc, *a, *b)?;
             Ok(Observation::ValueEQ(x, y))
         }
         ObservationNode::TrueObs => Ok(Observation::TrueObs),
         ObservationNode::FalseObs => Ok(Observation::FalseObs),
     }
+}
+
+#[cycle(value_at)]
+fn two_observations_at(
+    table: &Table,
+    alloc: Global,
+    a: u32,
+    b: u32,
+) -> Result<(Boxed<Observation>, Boxed<Observation>), Memory>
+    requires first { Stands table.now (an_observation a) }
+    requires second { Stands table.now (an_observation b) }
+    ensures { IfOk result (λ made. (trees.observation_tree made.0 ≡ flat.observation_tree table.now a) × (trees.observation_tree made.1 ≡ flat.observation_tree table.now b)) }
+{
+    let x = boxed_observation_at(table, alloc, a)?;
+    both(x, boxed_observation_at(table, alloc, b))
 }
 
 #[cycle(value_at)]

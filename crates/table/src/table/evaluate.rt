@@ -2,7 +2,7 @@
 ghost use Rattle.std.specs.Prelude.{◌≡◌};
 ghost use Rattle.evaluation.specs.Numbers.{within};
 ghost use Rattle.evaluation.specs.Evaluation.{eval, holds, visited, looked};
-ghost use Rattle.evaluation.specs.Checked.{eval128, holds128};
+ghost use Rattle.evaluation.specs.Checked.{both, eval128, holds128};
 ghost use Rattle.table.specs.Leaves.{fitting};
 ghost use Rattle.table.specs.Flat.{value_tree, observation_tree, Stands, a_value, an_observation};
 
@@ -16,7 +16,6 @@ impl Table {
     /// The number of a value (Marlowe specification version 3, "Evaluate value"), or `Leaves128` where a number that
     /// is visited on the way leaves 128 bits; takes no memory. It goes down the unfolded tree: what is named twice
     /// is evaluated twice.
-    #[tactic(auto, using(crate::specs::Leaves::fitting_ok, crate::specs::Leaves::fitting_err))]
     pub fn value(&self, number: u32, state: &State, interval: Interval) -> Result<i128, Leaves128>
         requires { Stands self.now (a_value number) }
         ensures { result
@@ -30,7 +29,6 @@ impl Table {
 
     /// Whether an observation is true (Marlowe specification version 3, "Evaluate observation"), or `Leaves128` where
     /// a number that is visited on the way leaves 128 bits; takes no memory. It goes down the unfolded tree.
-    #[tactic(auto, using(crate::specs::Leaves::fitting_ok, crate::specs::Leaves::fitting_err))]
     pub fn holds(&self, number: u32, state: &State, interval: Interval) -> Result<bool, Leaves128>
         requires { Stands self.now (an_observation number) }
         ensures { result
@@ -89,23 +87,19 @@ impl Table {
                 negation(x)
             }
             ValueNode::AddValue(a, b) => {
-                let x = self.checked_value(*a, state, interval)?;
-                let y = self.checked_value(*b, state, interval)?;
+                let (x, y) = self.operands(*a, *b, state, interval)?;
                 sum(x, y)
             }
             ValueNode::SubValue(a, b) => {
-                let x = self.checked_value(*a, state, interval)?;
-                let y = self.checked_value(*b, state, interval)?;
+                let (x, y) = self.operands(*a, *b, state, interval)?;
                 difference(x, y)
             }
             ValueNode::MulValue(a, b) => {
-                let x = self.checked_value(*a, state, interval)?;
-                let y = self.checked_value(*b, state, interval)?;
+                let (x, y) = self.operands(*a, *b, state, interval)?;
                 product(x, y)
             }
             ValueNode::DivValue(a, b) => {
-                let x = self.checked_value(*a, state, interval)?;
-                let y = self.checked_value(*b, state, interval)?;
+                let (x, y) = self.operands(*a, *b, state, interval)?;
                 quotient(x, y)
             }
             ValueNode::ChoiceValue(id) => known(state.choice(id).unwrap_or(0)),
@@ -120,6 +114,25 @@ impl Table {
                 }
             }
         }
+    }
+
+    // The numbers of two values, or the fault at the first number that leaves 128 bits.
+    #[cycle(evaluate)]
+    fn operands(
+        &self,
+        a: u32,
+        b: u32,
+        state: &State,
+        interval: Interval,
+    ) -> Result<(i128, i128), SemFault>
+        requires first { Stands self.now (a_value a) }
+        requires second { Stands self.now (a_value b) }
+        ensures { result
+            ≡ both (eval128 interval state.now (value_tree self.now a)) (eval128 interval state.now (value_tree self.now b)) }
+    {
+        let x = self.checked_value(a, state, interval)?;
+        let y = self.checked_value(b, state, interval)?;
+        Ok((x, y))
     }
 
     // The truth of an observation, or the fault at the first number that leaves 128 bits.
@@ -154,28 +167,23 @@ impl Table {
             }
             ObservationNode::ChoseSomething(id) => Ok(state.choice(id).is_some()),
             ObservationNode::ValueGE(a, b) => {
-                let x = self.checked_value(*a, state, interval)?;
-                let y = self.checked_value(*b, state, interval)?;
+                let (x, y) = self.operands(*a, *b, state, interval)?;
                 Ok(x >= y)
             }
             ObservationNode::ValueGT(a, b) => {
-                let x = self.checked_value(*a, state, interval)?;
-                let y = self.checked_value(*b, state, interval)?;
+                let (x, y) = self.operands(*a, *b, state, interval)?;
                 Ok(x > y)
             }
             ObservationNode::ValueLT(a, b) => {
-                let x = self.checked_value(*a, state, interval)?;
-                let y = self.checked_value(*b, state, interval)?;
+                let (x, y) = self.operands(*a, *b, state, interval)?;
                 Ok(x < y)
             }
             ObservationNode::ValueLE(a, b) => {
-                let x = self.checked_value(*a, state, interval)?;
-                let y = self.checked_value(*b, state, interval)?;
+                let (x, y) = self.operands(*a, *b, state, interval)?;
                 Ok(x <= y)
             }
             ObservationNode::ValueEQ(a, b) => {
-                let x = self.checked_value(*a, state, interval)?;
-                let y = self.checked_value(*b, state, interval)?;
+                let (x, y) = self.operands(*a, *b, state, interval)?;
                 Ok(x == y)
             }
             ObservationNode::TrueObs => Ok(true),

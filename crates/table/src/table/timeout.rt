@@ -1,7 +1,8 @@
 //! The last timeout.
 ghost use Rattle.std.specs.Prelude.{◌≡◌, map};
-ghost use Rattle.evaluation.specs.Timeouts.{later, last};
-ghost use Rattle.table.specs.Flat.{cont_tree, Stands, a_cont, follows};
+ghost use Rattle.contract.specs.Tree.{case_trees};
+ghost use Rattle.evaluation.specs.Timeouts.{later, last, last_in};
+ghost use Rattle.table.specs.Flat.{trees, cont_tree, Stands, AllStand, a_case, a_cont, follows};
 
 use crate::table::Table;
 use nodes::{CaseNode, Cont, ContNode};
@@ -9,6 +10,7 @@ use nodes::{CaseNode, Cont, ContNode};
 impl Table {
     /// The greatest timeout of a When in a contract, in POSIX milliseconds; none where it has no When. Takes no
     /// memory, and goes down the unfolded tree.
+    #[cycle(last_timeout)]
     pub fn last_timeout(&self, cont: Cont) -> Option<i64>
         requires { Stands self.now (a_cont cont.0) }
         ensures { result ≡ last (cont_tree self.now cont.0) }
@@ -21,16 +23,26 @@ impl Table {
                 later(first, self.last_timeout(*otherwise))
             }
             ContNode::When(cases, timeout, then) => {
-                let mut most = later(Some(*timeout), self.last_timeout(*then));
-                for case in cases.as_slice() {
-                    let then = follows(&self.case_node(*case).node);
-                    most = later(most, self.last_timeout(then));
-                }
-                most
+                let own = later(Some(*timeout), self.last_timeout(*then));
+                later(own, self.last_in_cases(cases.as_slice()))
             }
             ContNode::Let(_, _, then) => self.last_timeout(*then),
             ContNode::Assert(_, then) => self.last_timeout(*then),
         }
+    }
+
+    // The greatest timeout of a When in what follows the cases.
+    #[cycle(last_timeout)]
+    fn last_in_cases(&self, cases: &[u32]) -> Option<i64>
+        requires { AllStand self.now (map a_case cases.now) }
+        ensures { result ≡ last_in (case_trees (map (trees self.now).case cases.now)) }
+    {
+        let mut most = None;
+        for case in cases {
+            let then = follows(&self.case_node(*case).node);
+            most = later(most, self.last_timeout(then));
+        }
+        most
     }
 }
 

@@ -1,4 +1,4 @@
--- How `Boxed` keeps its value, so that a type may hold a `Boxed` of itself.
+-- How `Boxed` keeps its value, so that a type may hold a `Boxed` of itself. No reader needs this file: the prover asks for it.
 use mathlib.Core.Path.{◌≡◌, refl, ap}
 use mathlib.Core.List.{List}
 use mathlib.Core.Former.{Former, this, const, pair, via}

@@ -1,4 +1,4 @@
--- How `Items` keeps what it holds, so that a type may hold an `Items` of itself.
+-- How `Items` keeps what it holds, so that a type may hold an `Items` of itself. No reader needs this file: the prover asks for it.
 use mathlib.Core.Path.{◌≡◌, refl, sym}
 use mathlib.Core.List.{List, []}
 use mathlib.Core.Former.{Former, this, list, via, children}

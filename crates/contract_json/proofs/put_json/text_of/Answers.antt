@@ -1,12 +1,12 @@
+use Rattle.contract_json.proofs.InRange.{fitting}
 use Rattle.contract_json.proofs.Whole.{compact, utf8, reads, reads-deep}
 use Rattle.contract_json.proofs.put_json.text_of.Goals as goal
 
 pub returns-clause-written : goal.returns-clause-written
-returns-clause-written g c = (
-  c.in_ok-put.ensures.put.0,
-  compact c.new-out.result c.put.new.out c.new.result.items c.into_inner.result.items (g.T.PutJson.json c.args.item.now)
-      c.new.ensures.items c.new-out.ensures.before c.new-out.ensures.tokens c.in_ok-put.ensures.put.1 c.into_inner.ensures.items,
-)
+returns-clause-written g c =
+    fitting _ _ _ c.in_ok-put.ensures.put.0
+    (compact c.new-out.result c.put.new.out c.new.result.items c.into_inner.result.items (g.T.PutJson.json c.args.item.now)
+    c.new.ensures.items c.new-out.ensures.before c.new-out.ensures.tokens c.in_ok-put.ensures.put.1 c.into_inner.ensures.items)
 
 pub returns-clause-utf8 : goal.returns-clause-utf8
 returns-clause-utf8 g c =

@@ -3,4 +3,4 @@ use Rattle.contract_json.proofs.Returned.{input-returned}
 use Rattle.contract_json.proofs.to_json.input_to_json.Goals as goal
 
 pub returns-clause-reads_back : goal.returns-clause-reads_back
-returns-clause-reads_back c = input-returned (view c.in_ok-json.json) c.args.input.now c.in_ok-json.ensures.written.1 c.in_ok-json.ensures.known
+returns-clause-reads_back c = input-returned (view c.in_ok-json.json) c.args.input.now c.in_ok-json.ensures.json c.in_ok-json.ensures.known

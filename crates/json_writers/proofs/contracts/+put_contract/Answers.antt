@@ -4,43 +4,37 @@ use Rattle.json_writers.specs.Written.{case_json, case_fits}
 use Rattle.json_writers.proofs.AddsLaws.{then, wrote}
 use Rattle.json_writers.proofs.ListedLaws.{listed, closed, all-more, all-over}
 use Rattle.json_writers.proofs.SymbolsOf.{symbols-more, symbols-over}
-use Rattle.json_writers.proofs.ListedContract.{contract_fits-Pay, contract_json-Pay, contract_fits-If, contract_json-If, contract_fits-When, contract_json-When, contract_fits-Let, contract_json-Let, contract_fits-Assert, contract_json-Assert}
 use Rattle.json_writers.proofs.contracts.+put_contract.Goals as goal
 
-pub put_contract-returns-in_ok-end_object-in-Pay-clause-put : goal.put_contract-returns-in_ok-end_object-in-Pay-clause-put
-put_contract-returns-in_ok-end_object-in-Pay-clause-put t c =
-    rw (c.in-Pay.is, contract_fits-Pay, contract_json-Pay) (
-      λ j. c.in_ok-put_value-in-Pay.ensures.put.0 j && c.in_ok-put_boxed-in-Pay.ensures.put.0 j,
-      (then (wrote c.in_ok-begin_object-in-Pay.ensures) (then (wrote c.in_ok-key-in-Pay.ensures) (then c.in_ok-put_party-in-Pay.ensures (then (wrote c.in_ok-key-in-Pay-2.ensures) (then c.in_ok-put_value-in-Pay.ensures.put.1 (then (wrote c.in_ok-key-in-Pay-3.ensures) (then c.in_ok-put_boxed-in-Pay.ensures.put.1 (then (wrote c.in_ok-key-in-Pay-4.ensures) (then c.in_ok-put_payee-in-Pay.ensures (then (wrote c.in_ok-key-in-Pay-5.ensures) (then c.in_ok-put_token-in-Pay.ensures.put (wrote c.in_ok-end_object-in-Pay.ensures)))))))))))),
-    )
+pub put_pay-returns-clause-put : goal.put_pay-returns-clause-put
+put_pay-returns-clause-put t c = (
+  λ j. c.in_ok-put_value.ensures.put.0 j && c.in_ok-put_boxed.ensures.put.0 j,
+  then (wrote c.in_ok-begin_object.ensures) (then (wrote c.in_ok-key.ensures) (then c.in_ok-put_party.ensures (then (wrote c.in_ok-key-2.ensures) (then c.in_ok-put_value.ensures.put.1 (then (wrote c.in_ok-key-3.ensures) (then c.in_ok-put_boxed.ensures.put.1 (then (wrote c.in_ok-key-4.ensures) (then c.in_ok-put_payee.ensures (then (wrote c.in_ok-key-5.ensures) (then c.in_ok-put_token.ensures.put (wrote c.in_ok-end_object.ensures))))))))))),
+)
 
-pub put_contract-returns-in_ok-end_object-in-If-clause-put : goal.put_contract-returns-in_ok-end_object-in-If-clause-put
-put_contract-returns-in_ok-end_object-in-If-clause-put t c =
-    rw (c.in-If.is, contract_fits-If, contract_json-If) (
-      λ j. c.in_ok-put_observation-in-If.ensures.put.0 j && c.in_ok-put_boxed-in-If-2.ensures.put.0 j && c.in_ok-put_boxed-in-If.ensures.put.0 j,
-      (then (wrote c.in_ok-begin_object-in-If.ensures) (then (wrote c.in_ok-key-in-If.ensures) (then c.in_ok-put_boxed-in-If.ensures.put.1 (then (wrote c.in_ok-key-in-If-2.ensures) (then c.in_ok-put_observation-in-If.ensures.put.1 (then (wrote c.in_ok-key-in-If-3.ensures) (then c.in_ok-put_boxed-in-If-2.ensures.put.1 (wrote c.in_ok-end_object-in-If.ensures)))))))),
-    )
+pub put_if-returns-clause-put : goal.put_if-returns-clause-put
+put_if-returns-clause-put t c = (
+  λ j. c.in_ok-put_observation.ensures.put.0 j && c.in_ok-put_boxed-2.ensures.put.0 j && c.in_ok-put_boxed.ensures.put.0 j,
+  then (wrote c.in_ok-begin_object.ensures) (then (wrote c.in_ok-key.ensures) (then c.in_ok-put_boxed.ensures.put.1 (then (wrote c.in_ok-key-2.ensures) (then c.in_ok-put_observation.ensures.put.1 (then (wrote c.in_ok-key-3.ensures) (then c.in_ok-put_boxed-2.ensures.put.1 (wrote c.in_ok-end_object.ensures))))))),
+)
 
-pub put_contract-returns-in_ok-end_object-in-When-clause-put : goal.put_contract-returns-in_ok-end_object-in-When-clause-put
-put_contract-returns-in_ok-end_object-in-When-clause-put t c =
-    rw (c.in-When.is, contract_fits-When, contract_json-When) (
-      λ j. c.in_ok-put_cases-in-When.ensures.put.0 j && c.in_ok-put_timeout-in-When.ensures.fits j && c.in_ok-put_boxed-in-When.ensures.put.0 j,
-      (then (wrote c.in_ok-begin_object-in-When.ensures) (then (wrote c.in_ok-key-in-When.ensures) (then c.in_ok-put_timeout-in-When.ensures.put (then (wrote c.in_ok-key-in-When-2.ensures) (then c.in_ok-put_boxed-in-When.ensures.put.1 (then (wrote c.in_ok-key-in-When-3.ensures) (then c.in_ok-put_cases-in-When.ensures.put.1 (wrote c.in_ok-end_object-in-When.ensures)))))))),
-    )
+pub put_when-returns-clause-put : goal.put_when-returns-clause-put
+put_when-returns-clause-put t c = (
+  λ j. c.in_ok-put_cases.ensures.put.0 j && c.in_ok-put_timeout.ensures.fits j && c.in_ok-put_boxed.ensures.put.0 j,
+  then (wrote c.in_ok-begin_object.ensures) (then (wrote c.in_ok-key.ensures) (then c.in_ok-put_timeout.ensures.put (then (wrote c.in_ok-key-2.ensures) (then c.in_ok-put_boxed.ensures.put.1 (then (wrote c.in_ok-key-3.ensures) (then c.in_ok-put_cases.ensures.put.1 (wrote c.in_ok-end_object.ensures))))))),
+)
 
-pub put_contract-returns-in_ok-end_object-in-Let-clause-put : goal.put_contract-returns-in_ok-end_object-in-Let-clause-put
-put_contract-returns-in_ok-end_object-in-Let-clause-put t c =
-    rw (c.in-Let.is, contract_fits-Let, contract_json-Let) (
-      λ j. c.in_ok-put_value-in-Let.ensures.put.0 j && c.in_ok-put_boxed-in-Let.ensures.put.0 j,
-      (then (wrote c.in_ok-begin_object-in-Let.ensures) (then (wrote c.in_ok-key-in-Let.ensures) (then c.in_ok-put_value-in-Let.ensures.put.1 (then (wrote c.in_ok-key-in-Let-2.ensures) (then c.in_ok-put_text-in-Let.ensures (then (wrote c.in_ok-key-in-Let-3.ensures) (then c.in_ok-put_boxed-in-Let.ensures.put.1 (wrote c.in_ok-end_object-in-Let.ensures)))))))),
-    )
+pub put_let-returns-clause-put : goal.put_let-returns-clause-put
+put_let-returns-clause-put t c = (
+  λ j. c.in_ok-put_value.ensures.put.0 j && c.in_ok-put_boxed.ensures.put.0 j,
+  then (wrote c.in_ok-begin_object.ensures) (then (wrote c.in_ok-key.ensures) (then c.in_ok-put_value.ensures.put.1 (then (wrote c.in_ok-key-2.ensures) (then c.in_ok-put_text.ensures (then (wrote c.in_ok-key-3.ensures) (then c.in_ok-put_boxed.ensures.put.1 (wrote c.in_ok-end_object.ensures))))))),
+)
 
-pub put_contract-returns-in_ok-end_object-in-Assert-clause-put : goal.put_contract-returns-in_ok-end_object-in-Assert-clause-put
-put_contract-returns-in_ok-end_object-in-Assert-clause-put t c =
-    rw (c.in-Assert.is, contract_fits-Assert, contract_json-Assert) (
-      λ j. c.in_ok-put_observation-in-Assert.ensures.put.0 j && c.in_ok-put_boxed-in-Assert.ensures.put.0 j,
-      (then (wrote c.in_ok-begin_object-in-Assert.ensures) (then (wrote c.in_ok-key-in-Assert.ensures) (then c.in_ok-put_observation-in-Assert.ensures.put.1 (then (wrote c.in_ok-key-in-Assert-2.ensures) (then c.in_ok-put_boxed-in-Assert.ensures.put.1 (wrote c.in_ok-end_object-in-Assert.ensures)))))),
-    )
+pub put_assert-returns-clause-put : goal.put_assert-returns-clause-put
+put_assert-returns-clause-put t c = (
+  λ j. c.in_ok-put_observation.ensures.put.0 j && c.in_ok-put_boxed.ensures.put.0 j,
+  then (wrote c.in_ok-begin_object.ensures) (then (wrote c.in_ok-key.ensures) (then c.in_ok-put_observation.ensures.put.1 (then (wrote c.in_ok-key-2.ensures) (then c.in_ok-put_boxed.ensures.put.1 (wrote c.in_ok-end_object.ensures))))),
+)
 
 pub put_cases-loop-case-preserved : goal.put_cases-loop-case-preserved
 put_cases-loop-case-preserved t c =

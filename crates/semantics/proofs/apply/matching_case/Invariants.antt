@@ -1,7 +1,7 @@
 use Rattle.std.proofs.Common.{◌≡◌, ◌+◌, drop}
 use Rattle.evaluation.specs.Numbers.{all_fit}
 use Rattle.evaluation.specs.Path.{waits_for}
-use Rattle.semantics.specs.Computed.{first_match, first_place, tried_to_match}
+use Rattle.semantics.specs.Computed.{first_match, first_match_index, tried_to_match}
 use Rattle.semantics.proofs.apply.matching_case.Given as goal
 
 -- the cases so far fit and don't match
@@ -11,5 +11,5 @@ invariant-loop-index g l =
     record {
       fits : all_fit (tried_to_match l.interval l.state l.input ks) ≡ all_fit (tried_to_match l.interval l.state l.input (drop l.index ks));
       first : first_match l.interval l.state l.input ks ≡ first_match l.interval l.state l.input (drop l.index ks);
-      place : first_place l.interval l.state l.input ks ≡ l.index + first_place l.interval l.state l.input (drop l.index ks);
+      place : first_match_index l.interval l.state l.input ks ≡ l.index + first_match_index l.interval l.state l.input (drop l.index ks);
     }

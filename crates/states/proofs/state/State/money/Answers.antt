@@ -6,7 +6,7 @@ use Rattle.std.specs.FinMap.{get, get-from_sorted}
 use Rattle.names.specs.declared.account.Account.{Account}
 use Rattle.names.specs.Orders.{account_cmp}
 use Rattle.states.specs.States.{StateMaps}
-use Rattle.states.proofs.Positive.{AllPositive-find}
+use Rattle.collections.proofs.Positive.{AllPositive-find}
 use Rattle.states.proofs.state.State.money.Goals as goal
 
 pub returns : goal.returns
@@ -16,5 +16,5 @@ returns c =
     let is = to_z-of_z {w = w128} (record { sfits = c.unwrap_or.type_inv }) ∙ c.unwrap_or.ensures in
     record {
       held = is ∙ ap (λ o. unwrap_or o (pos 0)) found;
-      positive = subst (λ n. pos 0 ≤ℤ n) (sym (is ∙ ap (λ o. unwrap_or o (pos 0)) c.get.ensures.value)) (AllPositive-find key c.self.inside.accounts c.self.invariant);
+      positive = subst (λ n. pos 0 ≤ℤ n) (sym (is ∙ ap (λ o. unwrap_or o (pos 0)) c.get.ensures.value)) (AllPositive-find account_cmp key c.self.inside.accounts c.self.invariant);
     }

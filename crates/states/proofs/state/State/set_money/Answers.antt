@@ -11,8 +11,8 @@ use Rattle.names.specs.declared.account.Account.{Account}
 use Rattle.names.specs.Orders.{account_cmp}
 use Rattle.names.specs.Totals.{account_total}
 use Rattle.states.specs.States.{StateMaps, AllPositive}
-use Rattle.names.specs.Exact.{account_exact}
-use Rattle.states.proofs.Positive.{AllPositive-put, AllPositive-where_key}
+use Rattle.names.proofs.Exact.{account_exact}
+use Rattle.collections.proofs.Positive.{AllPositive-put, AllPositive-where_key}
 use Rattle.collections.proofs.Maps.{put_is_insert, without_is_remove}
 use Rattle.states.proofs.state.State.set_money.Goals as goal
 
@@ -21,7 +21,7 @@ false_of true d differs = absurd (differs (d.0 refl))
 false_of false d differs = refl
 
 pub invariant_of-self : goal.invariant_of-self
-invariant_of-self c = subst AllPositive (sym c.remove.ensures.removed) (AllPositive-where_key _ _ c.self.invariant)
+invariant_of-self c = subst AllPositive (sym c.remove.ensures.removed) (AllPositive-where_key account_cmp _ _ c.self.invariant)
 
 pub returns-then-amount-eq0-clause-ok : goal.returns-then-amount-eq0-clause-ok
 returns-then-amount-eq0-clause-ok c =
@@ -39,7 +39,7 @@ set_entry c = c.in_ok-set.ensures.ok ∙ ap (λ v. put account_cmp (record { own
 pub invariant_of-self-2 : goal.invariant_of-self-2
 invariant_of-self-2 c =
     let not_zero : c.args.amount ≢ pos 0 = λ e. c.if-amount-eq0.false (ap (of_z w128) e) in
-    subst AllPositive (sym (set_entry c)) (AllPositive-put _ c.args.amount _ (omega (arith, ints, not_zero)) c.self.invariant)
+    subst AllPositive (sym (set_entry c)) (AllPositive-put account_cmp _ c.args.amount _ (omega (arith, ints, not_zero)) c.self.invariant)
 
 pub returns-clause-ok : goal.returns-clause-ok
 returns-clause-ok c =

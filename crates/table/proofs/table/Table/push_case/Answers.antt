@@ -1,6 +1,6 @@
 use Rattle.std.proofs.Common.{◌≡◌, length, rules}
 use Rattle.table.specs.Flat.{Flat, trees, case_of, case_tree, a_case}
-use Rattle.table.specs.Pushing.{Pushed}
+use Rattle.table.proofs.PushingLaws.{Pushed}
 use Rattle.table.proofs.Pushed.{pushed_case_by}
 use Rattle.table.proofs.table.Table.push_case.Goals as goal
 

@@ -1,6 +1,6 @@
 use Rattle.std.proofs.Common.{◌≡◌, length, rules}
 use Rattle.table.specs.Flat.{Flat, trees, cont_of, cont_tree, a_cont}
-use Rattle.table.specs.Pushing.{Pushed}
+use Rattle.table.proofs.PushingLaws.{Pushed}
 use Rattle.table.proofs.Pushed.{pushed_cont_by}
 use Rattle.table.proofs.table.Table.push_cont.Goals as goal
 

@@ -1,6 +1,6 @@
 use Rattle.std.proofs.Common.{◌≡◌, length, rules}
 use Rattle.table.specs.Flat.{Flat, trees, observation_of, observation_tree, an_observation}
-use Rattle.table.specs.Pushing.{Pushed}
+use Rattle.table.proofs.PushingLaws.{Pushed}
 use Rattle.table.proofs.Pushed.{pushed_observation_by}
 use Rattle.table.proofs.table.Table.push_observation.Goals as goal
 

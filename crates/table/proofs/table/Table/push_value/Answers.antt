@@ -1,6 +1,6 @@
 use Rattle.std.proofs.Common.{◌≡◌, length, rules}
 use Rattle.table.specs.Flat.{Flat, trees, value_of, value_tree, a_value}
-use Rattle.table.specs.Pushing.{Pushed}
+use Rattle.table.proofs.PushingLaws.{Pushed}
 use Rattle.table.proofs.Pushed.{pushed_value_by}
 use Rattle.table.proofs.table.Table.push_value.Goals as goal
 

@@ -1,0 +1,116 @@
+//! What is shown of a ledger.
+ghost use Rattle.std.specs.Prelude.{◌≡◌, ◌↔◌, IsTrue, IfOk};
+
+use collections::{Items, Memory, Same, TryClone};
+use eutxo::Shared;
+use eutxo_types::{Output, OutputRef};
+use roles::Published;
+
+/// An unspent output with the reference that names it.
+#[derive(Drop)]
+pub struct Unspent {
+    pub reference: OutputRef,
+    pub output: Output,
+}
+
+/// The unspent output of a thread, and what is published under the script in its lock. A copy of a look
+/// shares the latter.
+#[derive(Drop)]
+pub struct ThreadOutput {
+    pub reference: OutputRef,
+    pub output: Output,
+    pub published: Shared<Published>,
+}
+
+/// What is shown of a ledger at a moment. Nothing says that it still holds: outputs may have been spent since,
+/// and the tick may have gone on.
+#[derive(Drop)]
+pub struct Look {
+    /// In POSIX milliseconds.
+    pub tick: i64,
+    /// The asked thread's unspent output, where a thread was asked for and has one.
+    pub thread: Option<ThreadOutput>,
+    /// The unspent key outputs of the asked addresses, in order of creation, each once.
+    pub keys: Items<Unspent>,
+    /// The unspent payouts under the asked locks, in order of creation, each once.
+    pub payouts: Items<Unspent>,
+}
+
+impl TryClone for Unspent {
+    fn try_clone(&self) -> Result<Unspent, Memory> {
+        let output = self.output.try_clone()?;
+        Ok(Unspent {
+            reference: self.reference,
+            output,
+        })
+    }
+}
+
+impl Same for Unspent {
+    fn same(&self, other: &Unspent) -> bool {
+        self.reference == other.reference && self.output.same(&other.output)
+    }
+}
+
+impl TryClone for ThreadOutput {
+    fn try_clone(&self) -> Result<ThreadOutput, Memory> {
+        let output = self.output.try_clone()?;
+        let published = self.published.try_clone()?;
+        Ok(ThreadOutput {
+            reference: self.reference,
+            output,
+            published,
+        })
+    }
+}
+
+impl Same for ThreadOutput {
+    fn same(&self, other: &ThreadOutput) -> bool {
+        self.reference == other.reference
+            && self.output.same(&other.output)
+            && self.published.same(&other.published)
+    }
+}
+
+fn copy_of(thread: &Option<ThreadOutput>) -> Result<Option<ThreadOutput>, Memory>
+    ensures { IfOk result (λ copy. copy ≡ thread.now) }
+{
+    match thread {
+        Some(thread) => Ok(Some(thread.try_clone()?)),
+        None => Ok(None),
+    }
+}
+
+impl TryClone for Look {
+    fn try_clone(&self) -> Result<Look, Memory> {
+        let thread = copy_of(&self.thread)?;
+        let keys = self.keys.try_clone()?;
+        let payouts = self.payouts.try_clone()?;
+        Ok(Look {
+            tick: self.tick,
+            thread,
+            keys,
+            payouts,
+        })
+    }
+}
+
+fn same_thread(x: &Option<ThreadOutput>, y: &Option<ThreadOutput>) -> bool
+    ensures { IsTrue result ↔ (x.now ≡ y.now) }
+{
+    match (x, y) {
+        (Some(a), Some(b)) => a.same(b),
+        (None, None) => true,
+        (Some(_), None) => false,
+        (None, Some(_)) => false,
+    }
+}
+
+impl Same for Look {
+    fn same(&self, other: &Look) -> bool {
+        self.tick == other.tick
+            && same_thread(&self.thread, &other.thread)
+            && self.keys.same(&other.keys)
+            && self.payouts.same(&other.payouts)
+    }
+}

@@ -1,0 +1,9 @@
+mod Lists
+mod Walking
+mod Finding
+mod Gathering
+mod Moving
+mod Rounds
+mod Publishing
+mod Sound
+mod Courses

@@ -1,0 +1,202 @@
+//! What a call is answered.
+ghost use Rattle.std.specs.Prelude.{◌≡◌, ◌<◌, ◌≤◌, ◌++◌, ◌⊎◌, IfOk, IfErr, OnOk, Ok, Err, Some, length, take, slice_get, option_to_list};
+ghost use Rattle.compiler.specs.declared.fault.CompileFault.TheVariants as faults;
+ghost use Rattle.eutxo.specs.Local.{verdict_of};
+ghost use Rattle.chain.specs.Standing.{pended, published_at, publication, with_one};
+ghost use Rattle.chain.specs.Legal.{publishing, judged, submitted, if_accepted, verdicts, if_later, if_room, reply_to, with_new};
+
+use crate::call::{Call, Reply, Ticketed};
+use crate::looking::show;
+use crate::world::{Waiting, World};
+use collections::{Bytes, Items, Memory, TryClone};
+use contract::Contract;
+use eutxo::Shared;
+use eutxo_types::{Tx, TxFault, Verdict, tx_id};
+use judging::{Ledger, judge};
+use roles::{CompileFault, Published, publish};
+use std::alloc::{AllocError, Global};
+use std::sync::Arc;
+
+/// How many transactions may be pending.
+const MOST_PENDING: usize = 1024;
+
+// ---- transactions
+
+fn fault_of(alloc: Global, world: &World<'_>, tx: &Tx) -> Result<Option<TxFault>, Memory>
+    ensures { IfOk result (λ fault. fault ≡ judged world.now tx.now) }
+{
+    let id = tx_id(alloc, tx)?;
+    judge(alloc, world, tx, &id)
+}
+
+fn submit(alloc: Global, world: &World<'_>, tx: &Tx) -> Result<Reply, Memory>
+    ensures { IfOk result (λ reply. reply ≡ submitted tx.now (judged world.now tx.now)) }
+{
+    let id = tx_id(alloc, tx)?;
+    match judge(alloc, world, tx, &id)? {
+        Some(fault) => Ok(Reply::Refused(fault)),
+        None => Ok(Reply::Accepted(id)),
+    }
+}
+
+// Judges one pending transaction, and accepts it where no rule refuses it.
+fn judge_one<'a>(
+    alloc: Global,
+    world: &mut World<'a>,
+    ticket: u64,
+    tx: &'a Tx,
+) -> Result<Ticketed, Memory>
+    ensures verdict { IfOk result (λ t. t ≡ record { ticket = ticket; verdict = verdict_of (judged world.old tx.now) }) }
+    ensures world { OnOk result (world.new ≡ if_accepted world.old tx.now (judged world.old tx.now)) }
+{
+    match fault_of(alloc, world, tx)? {
+        Some(fault) => Ok(Ticketed {
+            ticket,
+            verdict: Verdict::Refused(fault),
+        }),
+        None => {
+            world.accept(alloc, tx)?;
+            Ok(Ticketed {
+                ticket,
+                verdict: Verdict::Accepted,
+            })
+        }
+    }
+}
+
+fn first_of(pending: &[Waiting<'_>], count: u64) -> usize
+    ensures most { result ≤ length pending.now }
+    ensures same { take result pending.now ≡ take count pending.now }
+{
+    if count < pending.len() as u64 {
+        count as usize
+    } else {
+        pending.len()
+    }
+}
+
+fn waiting_at<'a>(world: &World<'a>, place: usize) -> (u64, &'a Tx)
+    requires { place < length world.now.standing.pending }
+    ensures { slice_get world.now.standing.pending place ≡ Some (pended result.0 result.1.now) }
+{
+    let waiting = &world.pending()[place];
+    (waiting.ticket(), waiting.tx())
+}
+
+// Judges the first pending transactions, each after those before.
+fn round(alloc: Global, world: &mut World<'_>, count: u64) -> Result<Items<Ticketed>, Memory>
+    ensures { IfOk result (λ places. places ≡ verdicts world.old (take count world.old.standing.pending)) }
+{
+    let mut places = Items::new(alloc);
+    for i in 0..first_of(world.pending(), count) {
+        let (ticket, tx) = waiting_at(world, i);
+        places.push(judge_one(alloc, world, ticket, tx)?)?;
+    }
+    Ok(places)
+}
+
+// ---- tick and tickets
+
+fn advance(world: &World<'_>, tick: i64) -> Reply
+    ensures { result ≡ if_later world.now.standing.tick tick }
+{
+    if world.now() <= tick {
+        Reply::Advanced
+    } else {
+        Reply::Backward
+    }
+}
+
+fn enqueue(world: &World<'_>) -> Reply
+    ensures { result ≡ if_room world.now }
+{
+    if world.pending().len() < MOST_PENDING {
+        Reply::Ticket(world.tickets())
+    } else {
+        Reply::Full
+    }
+}
+
+// ---- publishing
+
+#[tactic(auto, using(crate::proofs::Publishing::compiled, crate::proofs::Publishing::not_compiled))]
+fn publication(
+    alloc: Global,
+    contract: &Contract,
+    currency: Bytes,
+) -> Result<Published, CompileFault>
+    ensures ok { IfOk result (λ object. publication contract.now currency ≡ Ok object) }
+    ensures err { IfErr result (λ fault. (fault ≡ faults.Memory) ⊎ (publication contract.now currency ≡ Err fault)) }
+{
+    publish(alloc, contract, currency)
+}
+
+// What is published, and with what it is answered.
+fn publishing(world: &World<'_>, object: Published) -> (Reply, Option<Published>)
+    ensures reply { result.0 ≡ publishing world.now (Ok object) }
+    ensures object { world.now.published ++ option_to_list result.1 ≡ with_one world.now.published (Ok object) }
+{
+    let id = object.id;
+    match world.published_at(&id) {
+        Some(known) => {
+            if *known.get() == object {
+                (Reply::Published(id), None)
+            } else {
+                (Reply::IdInUse, None)
+            }
+        }
+        None => (Reply::Published(id), Some(object)),
+    }
+}
+
+fn share(alloc: Global, object: Option<Published>) -> Result<Option<Shared<Published>>, Memory>
+    ensures { IfOk result (λ s. s ≡ object) }
+{
+    match object {
+        Some(object) => match Arc::new(alloc, object) {
+            Ok(arc) => Ok(Some(Shared::new(arc))),
+            Err(_) => Err(AllocError),
+        },
+        None => Ok(None),
+    }
+}
+
+fn publish_as(
+    alloc: Global,
+    world: &World<'_>,
+    contract: &Contract,
+    currency: &Bytes,
+) -> Result<(Reply, Option<Shared<Published>>), Memory>
+    ensures reply { IfOk result (λ r. r.0 ≡ publishing world.now (publication contract.now currency.now)) }
+    ensures object { IfOk result (λ r. world.now.published ++ option_to_list r.1 ≡ with_one world.now.published (publication contract.now currency.now)) }
+{
+    let currency = currency.try_clone()?;
+    match publication(alloc, contract, currency) {
+        Ok(object) => {
+            let (reply, object) = publishing(world, object);
+            let object = share(alloc, object)?;
+            Ok((reply, object))
+        }
+        Err(CompileFault::Memory) => Err(AllocError),
+        Err(fault) => Ok((Reply::NotCompiled(fault), None)),
+    }
+}
+
+/// What a call is answered, and what it adds to what is published.
+pub fn answer(
+    alloc: Global,
+    world: &mut World<'_>,
+    call: &Call,
+) -> Result<(Reply, Option<Shared<Published>>), Memory>
+    ensures reply { IfOk result (λ r. r.0 ≡ reply_to world.old call.now) }
+    ensures object { IfOk result (λ r. world.old.published ++ option_to_list r.1 ≡ with_new world.old.published call.now) }
+{
+    match call {
+        Call::Publish { contract, currency } => publish_as(alloc, world, contract, currency),
+        Call::Advance(tick) => Ok((advance(world, *tick), None)),
+        Call::Look(ask) => Ok((Reply::Look(show(alloc, world, ask)?), None)),
+        Call::Submit(tx) => Ok((submit(alloc, world, tx)?, None)),
+        Call::Enqueue(_) => Ok((enqueue(world), None)),
+        Call::Round(count) => Ok((Reply::Round(round(alloc, world, *count)?), None)),
+    }
+}

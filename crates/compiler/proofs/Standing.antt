@@ -1,0 +1,28 @@
+-- What is made of a contract without a fault stands for it.
+use Rattle.std.proofs.Common.{◌≡◌, sym, ap, ◌∙◌, subst, ◌≤◌, true, false, Bool}
+use Rattle.std.specs.Prelude.{nat_le, ◌&&◌, Option, Some, None, if◌then◌else◌}
+use Rattle.std.proofs.lemmas.Bool.{leb-true}
+use Rattle.contract.specs.Tree.{ContractTree}
+use Rattle.nodes.specs.declared.cont.Cont.{Cont}
+use Rattle.table.specs.Heights.{contract_height}
+use Rattle.table.specs.Flat.{Flat, nothing, Has, a_cont, cont_tree}
+use Rattle.listing.specs.Code.{code_contract, code}
+use Rattle.listing.specs.Laws.{CodesStand}
+use Rattle.compiler.specs.declared.fault.CompileFault.{CompileFault}
+use Rattle.compiler.specs.declared.fault.CompileFault.TheVariants.{TooDeep}
+use Rattle.compiler.specs.Limits.{compile_fault}
+
+not-deep : (b : Bool) (o : Option CompileFault) → (if b then o else Some TooDeep) ≡ None → b ≡ true
+not-deep true o e = cc
+not-deep false o e = cc
+
+pub low : (c : ContractTree) → compile_fault c ≡ None → contract_height c ≤ 999
+unfolding compile_fault
+low c e = leb-true (contract_height c) 999 (not-deep _ _ e)
+
+pub standing : (f g n : Flat) (k : Cont) (c : ContractTree) → CodesStand → compile_fault c ≡ None → n ≡ nothing → f ≡ g → g ≡ (code_contract c n).0 → k ≡ (code_contract c n).1 → Has f (a_cont k.0) × (cont_tree f k.0 ≡ c)
+unfolding code
+standing f g n k c law e en ef eg ek =
+    let h = law c (low c e) in
+    subst (λ (x : Flat × Cont). Has x.0 (a_cont x.1.0) × (cont_tree x.0 x.1.0 ≡ c))
+    (λ i. (sym (ef ∙ (eg ∙ ap (λ (m : Flat). (code_contract c m).0) en)) i, sym (ek ∙ ap (λ (m : Flat). (code_contract c m).1) en) i)) h

@@ -1,9 +1,0 @@
-use Rattle.std.proofs.Common.{subst}
-use Rattle.std.specs.Prelude.{IfOk}
-use Rattle.table.specs.Flat.{Flat}
-use Rattle.compiler.specs.Building.{Keeps}
-use Rattle.compiler.proofs.Keeping.{kept_where}
-use Rattle.compiler.proofs.builder.Builder.put_case.Goals as goal
-
-pub returns-clause-keeps : goal.returns-clause-keeps
-returns-clause-keeps c = subst (λ (f : Flat). IfOk c.push_case.result (λ _. Keeps f c.push_case.new.self)) c.self.view_is (kept_where c.push_case.result _ _ c.push_case.ensures.keeps)

@@ -1,0 +1,20 @@
+-- A loop takes one item more: what stands in the output, and what fits.
+use Rattle.std.proofs.Common.{◌≡◌, sym, ◌∙◌, ap, subst, ℕ, ◌+◌, ◌<◌, List, [], ◌∷◌, ◌++◌, length, get_or, take, append_assoc, add-one}
+use Rattle.std.proofs.Math.Seq.{take-suc}
+use Rattle.std.proofs.lemmas.Grind.{flat_map-append}
+use Rattle.std.proofs.lemmas.List.{append-nil}
+use Rattle.std.proofs.lemmas.List.Elements.{All-push}
+use Rattle.std.specs.List.{All, flat_map}
+
+-- the items up to the next one
+one_more : {X : Type 0} (xs : List X) (i : ℕ) (x : X) → i < length xs → x ≡ get_or xs i x → take (i + 1) xs ≡ take i xs ++ (x ∷ [])
+one_more xs i x l is = ap (λ n. take n xs) (add-one i) ∙ take-suc xs i x l ∙ ap (λ y. take i xs ++ (y ∷ [])) (sym is)
+
+pub one_more_fits : {X : Type 0} (P : X → Type 0) (xs : List X) (i : ℕ) (x : X) → i < length xs → x ≡ get_or xs i x → All P (take i xs) → P x → All P (take (i + 1) xs)
+one_more_fits P xs i x l is h here = subst (All P) (sym (one_more xs i x l is)) (All-push P (take i xs) x h here)
+
+pub one_more_stands : {X A : Type 0} (f : X → List A) (xs : List X) (i : ℕ) (x : X) → i < length xs → x ≡ get_or xs i x → (start now new : List A) → now ≡ start ++ flat_map f (take i xs) → new ≡ now ++ f x
+    → new ≡ start ++ flat_map f (take (i + 1) xs)
+one_more_stands f xs i x l is start now new h put =
+    put ∙ ap (λ ys. ys ++ f x) h ∙ append_assoc start (flat_map f (take i xs)) (f x)
+    ∙ ap (λ ys. start ++ ys) (ap (λ y. flat_map f (take i xs) ++ y) (sym (append-nil (f x))) ∙ sym (flat_map-append f (take i xs) (x ∷ [])) ∙ ap (flat_map f) (sym (one_more xs i x l is)))

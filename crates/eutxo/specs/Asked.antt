@@ -1,0 +1,26 @@
+-- What scripts are asked, and what they answer.
+use Rattle.std.specs.Prelude.{ℕ, Bool, List}
+use Rattle.contract.specs.declared.input.Input.{Input}
+use Rattle.bundle.specs.Bundles.{Amounts}
+use Rattle.machine.specs.declared.datum.Datum.{Datum}
+use Rattle.eutxo_types.specs.declared.output.Output.{Output}
+use Rattle.eutxo_types.specs.declared.spend.Spend.{Spend}
+use Rattle.eutxo_types.specs.declared.tx.Tx.{Tx}
+use Rattle.eutxo.specs.declared.validator.StepAnswer.{StepAnswer}
+
+-- a step: the id of the script, the datum that is spent, the redeemer's inputs, the transaction, and all that it spends
+pub record Stepping : Type 0 where
+  pub script : List ℕ
+  pub datum : Datum
+  pub inputs : List Input
+  pub tx : Tx
+  pub spent : List (Spend × Output)
+
+-- how the scripts of a type judge a step, tell a start, and grant a payout to what is spent beside it
+pub record Judges (V : Type 0) : Type 0 where
+  pub step : V → Stepping → StepAnswer
+  pub starts : V → Datum → Amounts → Bool
+  pub claims : List (Spend × Output) → List ℕ → List ℕ → Bool
+
+abbrev pub judges_of : {V : Type 0} → (V → Stepping → StepAnswer) → (V → Datum → Amounts → Bool) → (List (Spend × Output) → List ℕ → List ℕ → Bool) → Judges V
+judges_of step starts claims = record { step = step; starts = starts; claims = claims }

@@ -1,0 +1,124 @@
+//! Checked transactions.
+ghost use Rattle.std.specs.Prelude.{◌≡◌, IfOk};
+ghost use Rattle.eutxo.specs.Asked.{judges_of};
+ghost use Rattle.eutxo.specs.Local.{verdict_of};
+ghost use Rattle.eutxo.specs.Checks.{check_of, IsCheck};
+
+use crate::local::local;
+use crate::resolved::Resolved;
+use crate::validator::Validator;
+use collections::{Memory, Same, TryClone};
+use eutxo_types::{Tx, TxFault, Verdict, tx_id};
+use std::alloc::Global;
+use std::marker::Model;
+
+/// A transaction with its id, its resolution, and the verdict of rules 1 to 3 and 8 to 18 on these two: that
+/// the four belong together is known of every value. It is made by `check` alone.
+#[derive(Drop)]
+pub struct Checked<V: Validator> {
+    tx: Tx,
+    id: [u8; 32],
+    found: Resolved<V>,
+    verdict: Verdict,
+}
+
+impl<V: Validator> Model for Checked<V> {
+    ghost use Rattle.std.specs.Coded.{codes};
+    ghost use Rattle.states.specs.contracts.state.State as states;
+    ghost use Rattle.bundle.specs.contracts.bundle.Bundle as bundles;
+    ghost use Rattle.std.specs.FinMap.{code};
+    ghost use Rattle.std.specs.Coded.{coded_list, coded_ℕ};
+    ghost use Rattle.names.specs.Orders.{bytes_cmp};
+    ghost use Rattle.eutxo.specs.Asked.{judges_of};
+    ghost use Rattle.eutxo.specs.Checks.{CheckOf, IsCheck};
+
+    ghost Value = { CheckOf V };
+
+    ghost coded = { Prim.hlevel (codes, states.the_row.coded, bundles.the_row.coded, code {R = bytes_cmp} (coded_list coded_ℕ) V.code) };
+
+    ghost view = { λ a. record { tx = a.tx; id = a.id; found = a.found; verdict = a.verdict } };
+
+    ghost invariant = { λ a. IsCheck (judges_of V.step_gives V.starts V.claims) (record { tx = a.tx; id = a.id; found = a.found; verdict = a.verdict }) };
+}
+
+fn verdict_of(fault: Option<TxFault>) -> Verdict
+    ensures { result ≡ verdict_of fault }
+{
+    match fault {
+        Some(fault) => Verdict::Refused(fault),
+        None => Verdict::Accepted,
+    }
+}
+
+/// Judges a transaction by rules 1 to 3 and, where nothing is missing in its resolution, 8 to 18, and keeps
+/// it with its id, the resolution and the verdict: that of the lowest rule that refuses, or Accepted. The
+/// answer depends on the transaction and the resolution alone. `Memory` says nothing of either: a growth
+/// was refused.
+pub fn check<V: Validator + Drop>(
+    alloc: Global,
+    tx: &Tx,
+    found: Resolved<V>,
+) -> Result<Checked<V>, Memory>
+    ensures { IfOk result (λ c. c ≡ check_of (judges_of V.step_gives V.starts V.claims) tx.now found) }
+{
+    let id = tx_id(alloc, tx)?;
+    let fault = local(alloc, tx, &found)?;
+    let tx = tx.try_clone()?;
+    Ok(Checked {
+        tx,
+        id,
+        found,
+        verdict: verdict_of(fault),
+    })
+}
+
+impl<V: Validator + Drop> TryClone for Checked<V> {
+    fn try_clone(&self) -> Result<Checked<V>, Memory> {
+        let tx = self.tx.try_clone()?;
+        let found = self.found.try_clone()?;
+        let verdict = self.verdict.try_clone()?;
+        Ok(Checked {
+            tx,
+            id: self.id,
+            found,
+            verdict,
+        })
+    }
+}
+
+impl<V: Validator + Same> Same for Checked<V> {
+    fn same(&self, other: &Checked<V>) -> bool {
+        self.tx.same(&other.tx) && self.found.same(&other.found)
+    }
+}
+
+impl<V: Validator> Checked<V> {
+    /// The transaction.
+    pub fn tx(&self) -> &Tx
+        ensures { result.now ≡ self.now.tx }
+    {
+        &self.tx
+    }
+
+    /// Its id: the SHA-256 of its spelling.
+    pub fn id(&self) -> &[u8; 32]
+        ensures { result.now ≡ self.now.id }
+    {
+        &self.id
+    }
+
+    /// Its resolution, as it was handed in.
+    pub fn found(&self) -> &Resolved<V>
+        ensures { result.now ≡ self.now.found }
+    {
+        &self.found
+    }
+
+    /// The verdict of the rules that the transaction and the resolution decide.
+    pub fn verdict(&self) -> &Verdict
+        ensures verdict { result.now ≡ self.now.verdict }
+        ensures whole { IsCheck (judges_of V.step_gives V.starts V.claims) self.now }
+    {
+        &self.verdict
+    }
+}

@@ -1,0 +1,5 @@
+use Rattle.history.proofs.Allowed.{parties_are_authorised}
+use Rattle.history.proofs.threads.parties_are_authorised.Goals as goal
+
+pub returns : goal.returns
+returns c = parties_are_authorised c.found_is_enough.ensures

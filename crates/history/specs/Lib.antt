@@ -1,0 +1,5 @@
+pub mod Past
+pub mod Threads
+pub mod Sound
+pub mod Laws
+pub mod Worked

@@ -1,0 +1,29 @@
+//! What the rules read of a ledger.
+ghost use Rattle.std.specs.Prelude.{◌≡◌, option_copied};
+ghost use Rattle.eutxo.specs.Judgement.{Moment};
+
+use eutxo::Shared;
+use eutxo_types::{Output, OutputRef};
+
+/// A ledger (The Extended UTXO Model, "Basic UTXO Ledger"), as the rules read it at a moment. Whether it walks
+/// over all that was accepted or keeps indexes, the rules can't tell. No look-up takes memory.
+pub trait Ledger<V> {
+    /// What the rules read of it.
+    ghost moment: { Self → Moment V };
+
+    /// The unspent output that a reference names, or `None`.
+    fn unspent_at(&self, reference: &OutputRef) -> Option<&Output>
+        ensures { option_copied result ≡ (moment self.now).unspent reference.now };
+
+    /// The script that is published under an id, or `None`.
+    fn published_at(&self, script: &[u8; 32]) -> Option<&Shared<V>>
+        ensures { option_copied result ≡ (moment self.now).published script.now };
+
+    /// Whether an accepted transaction has this id.
+    fn is_used(&self, id: &[u8; 32]) -> bool
+        ensures { result ≡ (moment self.now).is_used id.now };
+
+    /// The tick, in POSIX milliseconds.
+    fn tick(&self) -> i64
+        ensures { result ≡ (moment self.now).tick };
+}

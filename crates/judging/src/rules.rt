@@ -1,0 +1,96 @@
+//! The judgement.
+ghost use Rattle.std.specs.Prelude.{◌≡◌, ◌∷◌, IfOk, position, is_none};
+ghost use Rattle.eutxo_types.specs.Ids.{id_of};
+ghost use Rattle.eutxo.specs.Asked.{judges_of};
+ghost use Rattle.eutxo.specs.Found.{is_known};
+ghost use Rattle.eutxo.specs.Judgement.{not_unspent, outside_interval, is_unknown, unknown_script, judge};
+
+use crate::found::resolve;
+use crate::ledger::Ledger;
+use collections::Memory;
+use eutxo::{Validator, local_fault, tx_fault};
+use eutxo_types::{Lock, Output, Spend, Tx, TxFault};
+use std::alloc::Global;
+
+fn missing_place<V, L: Ledger<V>>(ledger: &L, inputs: &[Spend]) -> Option<usize>
+    ensures { result ≡ position (λ x. is_none ((L.moment ledger.now).unspent x.reference)) inputs.now }
+{
+    inputs
+        .iter()
+        .position(|x| ledger.unspent_at(&x.reference).is_none())
+}
+
+fn not_unspent<V, L: Ledger<V>>(ledger: &L, tx: &Tx) -> Option<TxFault>
+    ensures { result ≡ not_unspent (L.moment ledger.now) tx.now }
+{
+    match missing_place(ledger, tx.inputs.as_slice()) {
+        Some(i) => Some(TxFault::NotUnspent(i as u64)),
+        None => None,
+    }
+}
+
+fn outside_interval<V, L: Ledger<V>>(ledger: &L, tx: &Tx) -> Option<TxFault>
+    ensures { result ≡ outside_interval (L.moment ledger.now) tx.now }
+{
+    let tick = ledger.tick();
+    if tx.interval.from <= tick && tick <= tx.interval.to {
+        None
+    } else {
+        Some(TxFault::OutsideInterval)
+    }
+}
+
+fn is_known<V, L: Ledger<V>>(ledger: &L, lock: &Lock) -> bool
+    ensures { result ≡ is_known (L.moment ledger.now).published lock.now }
+{
+    match lock {
+        Lock::Key(_) => true,
+        Lock::Payout { .. } => true,
+        Lock::Contract { script, .. } => ledger.published_at(script).is_some(),
+    }
+}
+
+fn unknown_place<V, L: Ledger<V>>(ledger: &L, outputs: &[Output]) -> Option<usize>
+    ensures { result ≡ position (is_unknown (L.moment ledger.now).published) outputs.now }
+{
+    outputs.iter().position(|o| !is_known(ledger, &o.lock))
+}
+
+fn unknown_script<V, L: Ledger<V>>(ledger: &L, tx: &Tx) -> Option<TxFault>
+    ensures { result ≡ unknown_script (L.moment ledger.now) tx.now }
+{
+    match unknown_place(ledger, tx.outputs.as_slice()) {
+        Some(i) => Some(TxFault::UnknownScript(i as u64)),
+        None => None,
+    }
+}
+
+/// The judgement of a transaction, whose id is lent, on a ledger: the fault of the first of all rules that
+/// refuses, or `None`. Answers `Memory` only where a growth was refused.
+pub fn judge<V: Validator + Drop, L: Ledger<V>>(
+    alloc: Global,
+    ledger: &L,
+    tx: &Tx,
+    id: &[u8; 32],
+) -> Result<Option<TxFault>, Memory>
+    requires { id.now ≡ id_of tx.now }
+    ensures { IfOk result (λ fault. fault ≡ judge (judges_of V.step_gives V.starts V.claims) (L.moment ledger.now) tx.now) }
+{
+    if let Some(fault) = tx_fault(tx) {
+        return Ok(Some(fault));
+    }
+    if let Some(fault) = not_unspent(ledger, tx) {
+        return Ok(Some(fault));
+    }
+    if ledger.is_used(id) {
+        return Ok(Some(TxFault::IdInUse));
+    }
+    if let Some(fault) = outside_interval(ledger, tx) {
+        return Ok(Some(fault));
+    }
+    if let Some(fault) = unknown_script(ledger, tx) {
+        return Ok(Some(fault));
+    }
+    let found = resolve(alloc, ledger, tx)?;
+    local_fault(alloc, tx, &found)
+}

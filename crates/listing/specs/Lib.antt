@@ -1,0 +1,4 @@
+pub mod Code
+pub mod Sizes
+pub mod Laws
+pub mod Building

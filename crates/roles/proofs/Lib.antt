@@ -1,0 +1,4 @@
+pub mod Leaving
+pub mod Summing
+pub mod Deciding
+pub mod Tables

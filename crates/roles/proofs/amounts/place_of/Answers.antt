@@ -1,0 +1,10 @@
+use Rattle.std.proofs.Common.{rules}
+use Rattle.std.proofs.lemmas.Fn.{always_returns_same}
+use Rattle.names.specs.Orders.{token_cmp}
+use Rattle.bundle.proofs.Searching.{searched}
+use Rattle.roles.proofs.amounts.place_of.Goals as goal
+
+pub returns : goal.returns
+returns c =
+    let by_token = c.binary_search_by.ensures.position (λ e. token_cmp e.0 c.args.token.now) (always_returns_same _ _ _ (λ a r g called. search rules)) in
+    searched c.args.token.now c.args.entries.now c.binary_search_by.result c.requires c.binary_search_by.ensures.bound by_token

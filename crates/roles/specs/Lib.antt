@@ -1,0 +1,5 @@
+pub mod Sums
+pub mod Terms
+pub mod Steps
+pub mod Publications
+pub mod Left

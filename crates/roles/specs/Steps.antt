@@ -1,0 +1,179 @@
+-- How Marlowe's script judges a step, tells a start and grants a payout.
+use Rattle.std.specs.Prelude.{ℕ, ◌+◌, ℤ, pos, int_lt, ◌==◌, Bool, true, false, not, ◌&&◌, ◌||◌, if◌then◌else◌, List, [], ◌∷◌, Option, Some, None, option_map, Result, Ok, Err}
+use Rattle.std.specs.List.{list_any, filter_map, find}
+use Rattle.std.specs.FinMap as map
+use Rattle.std.specs.FinMap.{entries}
+use Rattle.collections.specs.Same.{same_by}
+use Rattle.names.specs.declared.party.Party.{Party}
+use Rattle.names.specs.declared.party.Party.TheVariants.{Address, Role}
+use Rattle.names.specs.declared.payee.Payee.{Payee}
+use Rattle.names.specs.declared.payee.Payee.TheVariants as to
+use Rattle.names.specs.declared.token.Token.{Token}
+use Rattle.contract.specs.declared.fault.SemFault.{SemFault}
+use Rattle.contract.specs.declared.fault.SemFault.TheVariants.{NoMatch}
+use Rattle.contract.specs.declared.input.Input.{Input}
+use Rattle.contract.specs.declared.input.Input.TheVariants.{Deposit, Choice, Notify}
+use Rattle.contract.specs.declared.payment.Payment.{Payment}
+use Rattle.states.specs.States.{StateMaps}
+use Rattle.contract.specs.Tree.{ContractTree, close}
+use Rattle.semantics.specs.Walk.{Standing, Walk, answer_of}
+use Rattle.semantics.specs.Computed.{computed}
+use Rattle.bundle.specs.Bundles.{Amounts, amount_of}
+use Rattle.bundle.specs.contracts.bundle.Bundle as bundles
+use Rattle.nodes.specs.declared.cont.Cont.{Cont}
+use Rattle.machine.specs.declared.datum.Datum.{Datum}
+use Rattle.eutxo_types.specs.declared.fault.TxFault.{TxFault}
+use Rattle.eutxo_types.specs.declared.fault.TxFault.TheVariants.{Semantics, NotAuthorised, WrongContinuation, WrongPayment}
+use Rattle.eutxo_types.specs.declared.lock.Lock.{Lock}
+use Rattle.eutxo_types.specs.declared.lock.Lock.TheVariants.{Key, Payout, Contract}
+use Rattle.eutxo_types.specs.declared.output.Output.{Output}
+use Rattle.eutxo_types.specs.contracts.output.Output as outputs
+use Rattle.eutxo_types.specs.declared.spend.Spend.{Spend}
+use Rattle.eutxo.specs.declared.validator.StepAnswer.{StepAnswer}
+use Rattle.eutxo.specs.declared.validator.StepAnswer.TheVariants as answers
+use Rattle.eutxo.specs.Parts.{outputs_from}
+use Rattle.eutxo.specs.Places.{fault_if, first_of, is_empty}
+use Rattle.eutxo.specs.Rules.{has_signed}
+use Rattle.eutxo.specs.Asked.{Stepping}
+use Rattle.roles.specs.Sums.{sums_of}
+use Rattle.roles.specs.Terms.{Terms}
+
+-- whether two are the same: it passes exactly for equal ones
+abbrev pub same_output : Output → Output → Bool
+same_output = same_by outputs.the_row.coded
+
+abbrev pub same_amounts : Amounts → Amounts → Bool
+same_amounts = same_by bundles.the_row.coded
+
+-- ---- who may act
+
+abbrev pub role_token : List ℕ → List ℕ → Token
+role_token currency role = record { symbol = currency; name = role }
+
+abbrev pub is_key : Lock → Bool
+is_key (Key a) = true
+is_key (Payout currency role) = false
+is_key (Contract script d) = false
+
+-- whether an input's output is under a key and holds the role's token
+abbrev pub shows : List ℕ → List ℕ → Spend × Output → Bool
+shows currency role x = is_key x.1.lock && int_lt (pos 0) (amount_of x.1.amount (role_token currency role))
+
+abbrev pub holds_role : List (Spend × Output) → List ℕ → List ℕ → Bool
+holds_role spent currency role = list_any (shows currency role) spent
+
+-- the party that an input needs: the depositor, or the owner of the choice. A notify needs nobody
+abbrev pub needed : Input → Option Party
+needed (Deposit account party token amount) = Some party
+needed (Choice id number) = Some id.owner
+needed Notify = None
+
+-- an address that signed, or a role whose token a key input's output holds (Marlowe specification version 3, "Participants,
+-- roles and public keys")
+abbrev pub authorised : List ℕ → List (List ℕ) → List (Spend × Output) → Party → Bool
+authorised currency signers spent (Address a) = has_signed signers a
+authorised currency signers spent (Role r) = holds_role spent currency r
+
+-- of the parties that the inputs need, in order, the first that isn't authorised
+abbrev pub unauthorised : List ℕ → List (List ℕ) → List (Spend × Output) → List Input → Option Party
+unauthorised currency signers spent xs = find (λ p. not (authorised currency signers spent p)) (filter_map needed xs)
+
+-- ---- the outputs that a step has to make
+
+-- the output in which the contract goes on
+abbrev pub continuation : List ℕ → Cont → StateMaps → Output
+continuation script there s = record { lock = Contract script (record { cont = there; state = s }); amount = sums_of s }
+
+-- what is owed to a party: under its key, or for whoever holds its role's token
+abbrev pub lock_for : List ℕ → Party → Lock
+lock_for currency (Address a) = Key a
+lock_for currency (Role r) = Payout currency r
+
+-- just this much of one token
+abbrev pub only : Token → ℤ → Amounts
+only t n = map.insert map.empty t n
+
+abbrev pub owed : List ℕ → Party → Payment → Output
+owed currency party p = record { lock = lock_for currency party; amount = only p.token p.amount }
+
+-- the party to which a payment is due: payments to accounts and of 0 are made by no output
+abbrev pub due_above : Payee → ℤ → Option Party
+due_above (to.Account a) n = None
+due_above (to.Party a) n = if int_lt (pos 0) n then Some a else None
+
+abbrev pub due_to : Payment → Option Party
+due_to p = due_above p.to p.amount
+
+abbrev pub and_owed : List ℕ → Payment → Option Party → List Output → List Output
+and_owed currency p None rest = rest
+and_owed currency p (Some party) rest = owed currency party p ∷ rest
+
+-- the outputs that are due, in order
+abbrev pub due : List ℕ → List Payment → List Output
+due currency [] = []
+due currency (p ∷ ps) = and_owed currency p (due_to p) (due currency ps)
+
+-- the lowest place, from i on, where the output that is due there isn't
+abbrev pub first_unpaid : ℕ → List Output → List Output → Option ℕ
+first_unpaid i [] os = None
+first_unpaid i (x ∷ xs) [] = Some i
+first_unpaid i (x ∷ xs) (o ∷ os) = if same_output o x then first_unpaid (i + 1) xs os else Some i
+
+abbrev pub is_first : Output → List Output → Bool
+is_first x [] = false
+is_first x (o ∷ os) = same_output o x
+
+-- ---- the step
+
+-- what the transaction function makes of it
+abbrev pub walk_of : Terms → Stepping → Walk
+walk_of t s = computed s.tx.interval s.datum.state (t.tree s.datum.cont) s.inputs
+
+abbrev pub is_close : ContractTree → Bool
+is_close close = true
+is_close c = false
+
+-- 13: of the parties that act, the first that isn't authorised
+abbrev pub not_authorised : List ℕ → Stepping → Option TxFault
+not_authorised currency s = option_map NotAuthorised (unauthorised currency s.tx.signers s.spent s.inputs)
+
+-- 14: the contract goes on, and output 0 isn't the one in which it does
+abbrev pub wrong_continuation : Bool → Cont → StateMaps → Stepping → Option TxFault
+wrong_continuation closed there state s = fault_if WrongContinuation (not (closed || is_first (continuation s.script there state) s.tx.outputs))
+
+-- how many outputs stand before the payments
+abbrev pub continuing : Bool → ℕ
+continuing closed = if closed then 0 else 1
+
+-- 15: the first place at which an output that is due for a payment isn't
+abbrev pub wrong_payment : List ℕ → Bool → List Payment → Stepping → Option TxFault
+wrong_payment currency closed ps s = option_map WrongPayment (first_unpaid (continuing closed) (due currency ps) (outputs_from (continuing closed) s.tx.outputs))
+
+abbrev pub answer_by : Option TxFault → Bool → StepAnswer
+answer_by (Some f) closed = answers.Refused f
+answer_by None true = answers.Ends
+answer_by None false = answers.GoesOn
+
+-- 13 to 15, once the transaction function succeeds and leads to a number
+abbrev pub outcome_answer : List ℕ → Bool → Cont → StateMaps → List Payment → Stepping → StepAnswer
+outcome_answer currency closed there state ps s =
+    answer_by (first_of (not_authorised currency s ∷ wrong_continuation closed there state s ∷ wrong_payment currency closed ps s ∷ [])) closed
+
+-- 12: the transaction function refuses; else the others
+abbrev pub by_answer : Terms → Stepping → Walk → Result Standing SemFault → StepAnswer
+by_answer t s w (Ok a) = outcome_answer t.currency (is_close a.contract) (t.at s.datum.cont w.turns) a.state w.payments s
+by_answer t s w (Err f) = answers.Refused (Semantics f)
+
+-- 12 to 15: the transaction function on what the datum's number stands for. A number outside the table matches nothing
+abbrev pub step_of : Terms → Stepping → StepAnswer
+step_of t s = if t.has s.datum.cont then by_answer t s (walk_of t s) (answer_of (walk_of t s)) else answers.Refused (Semantics NoMatch)
+
+-- 17: a start is at the root, has neither choices nor bound values, and holds exactly the sums of its accounts
+abbrev pub same_cont : Cont → Cont → Bool
+same_cont k l = k.0 == l.0
+
+abbrev pub is_fresh : StateMaps → Bool
+is_fresh s = is_empty (entries s.choices) && is_empty (entries s.bound_values)
+
+abbrev pub starts_from : Cont → Datum → Amounts → Bool
+starts_from root d held = same_cont root d.cont && is_fresh d.state && same_amounts held (sums_of d.state)

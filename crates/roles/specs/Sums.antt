@@ -1,0 +1,13 @@
+-- What the accounts of a state hold together, token by token.
+use Rattle.std.specs.Prelude.{ℤ, ◌+ℤ◌, List, [], ◌∷◌}
+use Rattle.std.specs.FinMap as map
+use Rattle.names.specs.declared.account.Account.{Account}
+use Rattle.states.specs.States.{StateMaps}
+use Rattle.bundle.specs.Bundles.{Amounts, amount_of, with_amount}
+
+abbrev pub sums_in : List (Account × ℤ) → Amounts
+sums_in [] = map.empty
+sums_in (e ∷ es) = with_amount (sums_in es) e.0.token (amount_of (sums_in es) e.0.token +ℤ e.1)
+
+abbrev pub sums_of : StateMaps → Amounts
+sums_of s = sums_in (map.entries s.accounts)

@@ -1,0 +1,73 @@
+//! Who may act.
+ghost use Rattle.std.specs.Prelude.{◌≡◌, option_copied, int_lt, pos};
+ghost use Rattle.bundle.specs.Bundles.{amount_of};
+ghost use Rattle.roles.specs.Steps.{role_token, is_key, shows, holds_role, needed, authorised, unauthorised};
+
+use collections::{Bytes, Text};
+use contract::{Input, Party};
+use eutxo::{Spent, has_signed};
+use eutxo_types::Lock;
+
+fn is_key(lock: &Lock) -> bool
+    ensures { result ≡ is_key lock.now }
+{
+    match lock {
+        Lock::Key(_) => true,
+        Lock::Payout { .. } => false,
+        Lock::Contract { .. } => false,
+    }
+}
+
+// Whether an input's output is under a key and holds a token.
+fn shows(spent: &Spent<'_>, currency: &Bytes, role: &Text) -> bool
+    ensures { result ≡ shows currency.now role.now spent.now }
+{
+    let output = spent.output();
+    is_key(&output.lock) && output.amount.amount_by(currency, role) > 0
+}
+
+/// Whether a key input's output holds the role's token.
+pub fn holds_role(spent: &[Spent<'_>], currency: &Bytes, role: &Text) -> bool
+    ensures { result ≡ holds_role spent.now currency.now role.now }
+{
+    spent.iter().any(|x| shows(x, currency, role))
+}
+
+/// The party that an input needs: the depositor, or the owner of the choice. A notify needs nobody.
+fn needed(input: &Input) -> Option<&Party>
+    ensures { option_copied result ≡ needed input.now }
+{
+    match input {
+        Input::Deposit(_, party, _, _) => Some(party),
+        Input::Choice(id, _) => Some(&id.owner),
+        Input::Notify => None,
+    }
+}
+
+fn is_authorised(currency: &Bytes, signers: &[Text], spent: &[Spent<'_>], party: &Party) -> bool
+    ensures { result ≡ authorised currency.now signers.now spent.now party.now }
+{
+    match party {
+        Party::Address(address) => has_signed(signers, address),
+        Party::Role(role) => holds_role(spent, currency, role),
+    }
+}
+
+/// Of the parties that the inputs need, in order, the first that isn't authorised.
+pub fn unauthorised<'a>(
+    currency: &Bytes,
+    signers: &[Text],
+    spent: &[Spent<'_>],
+    inputs: &'a [Input],
+) -> Option<&'a Party>
+    ensures { option_copied result ≡ unauthorised currency.now signers.now spent.now inputs.now }
+{
+    for x in inputs {
+        if let Some(party) = needed(x)
+            && !is_authorised(currency, signers, spent, party)
+        {
+            return Some(party);
+        }
+    }
+    None
+}

@@ -1,0 +1,22 @@
+//! What holds of every published contract: laws, each the contract of a function that does nothing.
+ghost use Rattle.roles.specs.Publications.{PublishedAreTables, PublishedTellApart};
+
+use compiler::codes_stand;
+
+/// What is published is a table: its root is one of the numbers and stands for the contract, and turns
+/// that the contract of a number has lead to a number, which stands for the part that they lead to. So
+/// no step leads out of a published table.
+pub fn published_are_tables()
+    ensures { PublishedAreTables }
+{
+    codes_stand();
+}
+
+/// What is published is equal exactly where contract and currency are: their table and root are the
+/// contract's alone, and the currency is kept. So a ledger that compares published contracts in full
+/// needs nothing of their ids.
+pub fn published_tell_contracts_apart()
+    ensures { PublishedTellApart }
+{
+    codes_stand();
+}

@@ -1,0 +1,17 @@
+//! Marlowe's scripts: published contracts, and how they judge the transactions that step, start and pay
+//! out their contracts.
+#![tactic(auto)]
+
+mod amounts;
+mod authorise;
+mod laws;
+mod layout;
+mod published;
+mod publishing;
+mod script;
+mod step;
+
+pub use compiler::CompileFault;
+pub use laws::{published_are_tables, published_tell_contracts_apart};
+pub use published::Published;
+pub use publishing::publish;

@@ -1,0 +1,48 @@
+//! Publishing.
+ghost use Rattle.std.specs.Prelude.{◌≡◌, IfOk, MatchOption, Err};
+ghost use Rattle.std.specs.Result.{IsOkUnless};
+ghost use Rattle.contract.specs.Tree.{contract_tree};
+ghost use Rattle.compiler.specs.Limits.{compile_fault};
+ghost use Rattle.roles.specs.Publications.{script_id, published_of};
+
+use crate::published::Published;
+use collections::{Bytes, Memory};
+use compiler::{CompileFault, compile};
+use contract::Contract;
+use contract_bytes::{encode_contract, put_bytes};
+use sha2::{Digest, Sha256};
+use std::alloc::Global;
+
+/// The id of a contract's script under a currency: the SHA-256 of the contract's spelling and then the
+/// currency's, which begins with its length in 8 bytes.
+#[tactic(auto, unfolding(crate::specs::Publications::script_id))]
+fn script_id(alloc: Global, contract: &Contract, currency: &Bytes) -> Result<[u8; 32], Memory>
+    ensures { IfOk result (λ id. id ≡ script_id (contract_tree contract.now) currency.now) }
+{
+    let mut bytes = encode_contract(alloc, contract)?;
+    put_bytes(&mut bytes, currency)?;
+    Ok(Sha256::digest(bytes.as_slice()))
+}
+
+/// Publishes a contract with the currency symbol of its roles' tokens (Marlowe specification version 3,
+/// "Participants, roles and public keys"; The Extended UTXO Model, "Extended UTXO model: EUTXO", on
+/// scripts and their addresses). Refused is a contract that isn't compiled: one that is higher than 999
+/// (`TooDeep`), else one of more than 65,535 continuations or more than 1,000,000 values, observations
+/// and cases (`TooManyNodes`). Else only a growth that was refused gives `Memory`.
+pub fn publish(
+    alloc: Global,
+    contract: &Contract,
+    currency: Bytes,
+) -> Result<Published, CompileFault>
+    ensures fault { MatchOption (compile_fault (contract_tree contract.now)) (IsOkUnless result CompileFault.Memory) (λ fault. result ≡ Err fault) }
+    ensures published { IfOk result (λ published. published ≡ published_of (contract_tree contract.now) currency) }
+{
+    let (table, root) = compile(alloc, contract)?;
+    let id = script_id(alloc, contract, &currency)?;
+    Ok(Published {
+        id,
+        table,
+        root,
+        currency,
+    })
+}

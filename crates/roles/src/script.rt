@@ -1,0 +1,84 @@
+//! How published contracts judge.
+ghost use Rattle.std.specs.Prelude.{◌≡◌, IfOk};
+ghost use Rattle.roles.specs.Steps.{is_fresh, starts_from, same_amounts};
+ghost use Rattle.roles.specs.Sums.{sums_of};
+
+use crate::amounts::is_sums;
+use crate::authorise::holds_role;
+use crate::published::Published;
+use crate::step::{Asked, step_of};
+use bundle::Bundle;
+use collections::{Bytes, Memory, Text};
+use contract::{Input, State};
+use eutxo::{Spent, StepAnswer, Validator};
+use eutxo_types::{Cont, Datum, Tx};
+use std::alloc::Global;
+
+// Whether nothing was chosen and nothing is bound.
+fn is_fresh(state: &State) -> bool
+    ensures { result ≡ is_fresh state.now }
+{
+    state.choices().is_empty() && state.bound_values().is_empty()
+}
+
+fn holds_sums(alloc: Global, amount: &Bundle, state: &State) -> Result<bool, Memory>
+    ensures { IfOk result (λ answer. answer ≡ same_amounts amount.now (sums_of state.now)) }
+{
+    is_sums(alloc, amount, state)
+}
+
+// Whether an output with this datum and amount starts a contract whose table has this root.
+fn starts_from(alloc: Global, root: Cont, datum: &Datum, amount: &Bundle) -> Result<bool, Memory>
+    ensures { IfOk result (λ answer. answer ≡ starts_from root datum.now amount.now) }
+{
+    if root.0 == datum.cont.0 && is_fresh(&datum.state) {
+        holds_sums(alloc, amount, &datum.state)
+    } else {
+        Ok(false)
+    }
+}
+
+/// A published contract judges the steps of its threads, and their starts, by its table, root and
+/// currency. A payout is granted, whatever is published, beside a key input whose output holds the
+/// role's token.
+impl Validator for Published {
+    ghost use Rattle.std.proofs.Common.{ap};
+    ghost use Rattle.collections.proofs.SameLaws.{same_by_decides};
+    ghost use Rattle.roles.specs.contracts.published.Published as it;
+    ghost use Rattle.roles.specs.Terms.{terms_of};
+    ghost use Rattle.roles.specs.Steps.{step_of, starts_from, holds_role};
+
+    ghost step_gives = { λ p s. step_of (terms_of p) s };
+
+    ghost starts = { λ p d held. starts_from p.root d held };
+
+    ghost claims = { holds_role };
+
+    ghost alike = { λ x y e. (λ s. ap (λ p. step_of (terms_of p) s) ((same_by_decides it.the_row.coded x y).0 e), λ d held. ap (λ p. starts_from p.root d held) ((same_by_decides it.the_row.coded x y).0 e)) };
+
+    fn step(
+        &self,
+        alloc: Global,
+        script: &[u8; 32],
+        datum: &Datum,
+        inputs: &[Input],
+        tx: &Tx,
+        spent: &[Spent<'_>],
+    ) -> Result<StepAnswer, Memory> {
+        let asked = Asked {
+            script,
+            datum,
+            inputs,
+            tx,
+        };
+        step_of(alloc, self, asked, spent)
+    }
+
+    fn start(&self, alloc: Global, datum: &Datum, amount: &Bundle) -> Result<bool, Memory> {
+        starts_from(alloc, self.root, datum, amount)
+    }
+
+    fn claim(spent: &[Spent<'_>], currency: &Bytes, role: &Text) -> bool {
+        holds_role(spent, currency, role)
+    }
+}

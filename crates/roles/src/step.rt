@@ -1,0 +1,100 @@
+//! Steps.
+ghost use Rattle.std.specs.Prelude.{◌≡◌, true, IfOk};
+ghost use Rattle.table.specs.Flat.{Has, a_cont, cont_tree};
+ghost use Rattle.table.specs.Along.{has_cont};
+ghost use Rattle.roles.specs.Terms.{terms_of};
+ghost use Rattle.roles.specs.Steps.{is_close, outcome_answer, step_of};
+
+use crate::authorise::unauthorised;
+use crate::layout::{goes_on, unpaid_place};
+use crate::published::Published;
+use collections::{Bytes, Memory, TryClone};
+use contract::{Input, Outcome, SemFault};
+use eutxo::{Spent, StepAnswer};
+use eutxo_types::{Cont, Datum, Tx, TxFault};
+use machine::compute;
+use semantics::Steps;
+use std::alloc::{AllocError, Global};
+use table::Table;
+
+// What is asked about a step, but for what the transaction spends.
+#[derive(Clone, Copy)]
+pub struct Asked<'a> {
+    pub script: &'a [u8; 32],
+    pub datum: &'a Datum,
+    pub inputs: &'a [Input],
+    pub tx: &'a Tx,
+}
+
+// What is answered once the transaction function succeeds: who isn't authorised, then the continuing
+// output, then the payments.
+fn outcome_answer(
+    alloc: Global,
+    currency: &Bytes,
+    asked: Asked<'_>,
+    spent: &[Spent<'_>],
+    closed: bool,
+    outcome: &Outcome<Cont>,
+) -> Result<StepAnswer, Memory>
+    ensures { IfOk result (λ answer. answer ≡ outcome_answer currency.now closed outcome.now.place outcome.now.state outcome.now.payments (record { script = asked.entry.script.now; datum = asked.entry.datum.now; inputs = asked.entry.inputs.now; tx = asked.entry.tx.now; spent = spent.now })) }
+{
+    let tx = asked.tx;
+    let outputs = tx.outputs.as_slice();
+    if let Some(party) = unauthorised(currency, tx.signers.as_slice(), spent, asked.inputs) {
+        return Ok(StepAnswer::Refused(TxFault::NotAuthorised(party.try_clone()?)));
+    }
+    if !closed && !goes_on(alloc, asked.script, outcome.place, &outcome.state, outputs)? {
+        return Ok(StepAnswer::Refused(TxFault::WrongContinuation));
+    }
+    let from = if closed { 0 } else { 1 };
+    match unpaid_place(currency, from, outcome.payments.as_slice(), outputs) {
+        Some(i) => Ok(StepAnswer::Refused(TxFault::WrongPayment(i as u64))),
+        None => Ok(if closed {
+            StepAnswer::Ends
+        } else {
+            StepAnswer::GoesOn
+        }),
+    }
+}
+
+// Whether a number is one of a table's.
+fn has_cont(table: &Table, cont: Cont) -> bool
+    ensures has { result ≡ has_cont table.now cont }
+    ensures stands { result ≡ true → Has table.now (a_cont cont.0) }
+{
+    table.turns_lead();
+    table.contains(cont)
+}
+
+// Whether the contract of a number is Close.
+fn is_closed(table: &Table, cont: Cont) -> bool
+    requires { Has table.now (a_cont cont.0) }
+    ensures { result ≡ is_close (cont_tree table.now cont.0) }
+{
+    table.is_closed(&cont)
+}
+
+/// Judges a step of a published contract: the transaction function on the contract of the datum's
+/// number, then who is authorised, then the continuing output, then the payments.
+pub fn step_of(
+    alloc: Global,
+    published: &Published,
+    asked: Asked<'_>,
+    spent: &[Spent<'_>],
+) -> Result<StepAnswer, Memory>
+    ensures { IfOk result (λ answer. answer ≡ step_of (terms_of published.now) (record { script = asked.entry.script.now; datum = asked.entry.datum.now; inputs = asked.entry.inputs.now; tx = asked.entry.tx.now; spent = spent.now })) }
+{
+    let table = &published.table;
+    let datum = asked.datum;
+    if !has_cont(table, datum.cont) {
+        return Ok(StepAnswer::Refused(TxFault::Semantics(SemFault::NoMatch)));
+    }
+    match compute(alloc, table, datum, asked.tx.interval, asked.inputs) {
+        Ok(outcome) => {
+            let closed = is_closed(table, outcome.place);
+            outcome_answer(alloc, &published.currency, asked, spent, closed, &outcome)
+        }
+        Err(SemFault::Memory) => Err(AllocError),
+        Err(fault) => Ok(StepAnswer::Refused(TxFault::Semantics(fault))),
+    }
+}

@@ -1,0 +1,76 @@
+//! What is published, by name.
+use crate::fault::RowFault;
+use crate::words::{bytes, parts};
+use collections::{Bytes, Memory, TryClone};
+use compiler::CompileFault;
+use contract::Contract;
+use contract_json::{JsonFault, read_contract};
+use eutxo::Shared;
+use eutxo_types::Cont;
+use roles::{Published, publish};
+use std::alloc::Global;
+use std::sync::Arc;
+
+/// A published contract, under the name that the rows give it.
+#[derive(Drop)]
+pub struct Named {
+    name: String,
+    published: Shared<Published>,
+}
+
+impl Named {
+    /// The id of its script.
+    pub fn id(&self) -> [u8; 32] {
+        self.published.get().id
+    }
+
+    /// The number of its root.
+    pub fn root(&self) -> Cont {
+        self.published.get().root
+    }
+
+    /// Its validator, owned once more.
+    pub fn shared(&self) -> Result<Shared<Published>, Memory> {
+        self.published.try_clone()
+    }
+}
+
+/// What is published under a name.
+pub fn by_name<'a>(names: &'a [Named], word: &str) -> Result<&'a Named, RowFault> {
+    names
+        .iter()
+        .find(|named| named.name.as_str() == word)
+        .ok_or(RowFault::NoSuchRow)
+}
+
+/// Publishes, from `NAME CURRENCY CONTRACT`.
+pub fn named_of(alloc: Global, rest: &str) -> Result<Named, RowFault> {
+    let (name, rest) = parts(rest)?;
+    let (currency, contract) = parts(rest)?;
+    let currency = bytes(alloc, currency)?;
+    let published = published_of(alloc, read_contract(alloc, contract.as_bytes()), currency)?;
+    Ok(Named {
+        name: String::from_str(alloc, name)?,
+        published: Shared::new(Arc::new(alloc, published)?),
+    })
+}
+
+// What can be published. The function that owns it is generic in it, so that no proof walks through its drop.
+trait Publishes: Drop {
+    fn publish(&self, alloc: Global, currency: Bytes) -> Result<Published, CompileFault>;
+}
+
+impl Publishes for Contract {
+    fn publish(&self, alloc: Global, currency: Bytes) -> Result<Published, CompileFault> {
+        publish(alloc, self, currency)
+    }
+}
+
+fn published_of<C: Publishes>(
+    alloc: Global,
+    contract: Result<C, JsonFault>,
+    currency: Bytes,
+) -> Result<Published, RowFault> {
+    let contract = contract?;
+    Ok(contract.publish(alloc, currency)?)
+}

@@ -1,0 +1,45 @@
+//! A validator beside Marlowe's.
+use bundle::Bundle;
+use collections::{Bytes, Memory, Text};
+use contract::Input;
+use eutxo::{Spent, StepAnswer, Validator};
+use eutxo_types::{Datum, Tx, TxFault};
+use std::alloc::Global;
+
+/// It refuses each step with WrongContinuation, takes every output for a start, and grants no payout.
+#[derive(Clone, Copy, PartialEq, Eq)]
+pub struct Stubborn;
+
+impl Validator for Stubborn {
+    ghost use Rattle.std.specs.Prelude.{true, false, refl};
+    ghost use Rattle.eutxo_types.specs.declared.fault.TxFault.TheVariants.{WrongContinuation};
+    ghost use Rattle.eutxo.specs.declared.validator.StepAnswer.TheVariants.{Refused};
+
+    ghost step_gives = { λ s step. Refused WrongContinuation };
+
+    ghost starts = { λ s d held. true };
+
+    ghost claims = { λ spent currency role. false };
+
+    ghost alike = { λ x y e. (λ s. refl, λ d held. refl) };
+
+    fn step(
+        &self,
+        _alloc: Global,
+        _script: &[u8; 32],
+        _datum: &Datum,
+        _inputs: &[Input],
+        _tx: &Tx,
+        _spent: &[Spent<'_>],
+    ) -> Result<StepAnswer, Memory> {
+        Ok(StepAnswer::Refused(TxFault::WrongContinuation))
+    }
+
+    fn start(&self, _alloc: Global, _datum: &Datum, _amount: &Bundle) -> Result<bool, Memory> {
+        Ok(true)
+    }
+
+    fn claim(_spent: &[Spent<'_>], _currency: &Bytes, _role: &Text) -> bool {
+        false
+    }
+}
