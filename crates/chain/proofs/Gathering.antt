@@ -6,8 +6,8 @@ use Rattle.eutxo_types.specs.declared.output.Output.{Output}
 use Rattle.eutxo_types.specs.declared.output_ref.OutputRef.{OutputRef}
 use Rattle.eutxo_types.specs.declared.lock.Lock.{Lock}
 use Rattle.eutxo_types.specs.declared.tx.Tx.{Tx}
-use Rattle.builder.specs.declared.look.Unspent.{Unspent}
-use Rattle.builder.specs.declared.look.Look.{Look}
+use Rattle.looks.specs.declared.look.Unspent.{Unspent}
+use Rattle.looks.specs.declared.look.Look.{Look}
 use Rattle.history.specs.Past.{referred, made_by, made, is_spent}
 use Rattle.chain.specs.Looking.{shown_so}
 use Rattle.chain.specs.Showing.{under}

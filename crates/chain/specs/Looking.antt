@@ -10,11 +10,11 @@ use Rattle.eutxo_types.specs.declared.output_ref.OutputRef.TheVariants.{Genesis,
 use Rattle.eutxo_types.specs.declared.tx.Tx.{Tx}
 use Rattle.eutxo.specs.Parts.{same_bytes, contract_in, contract_at}
 use Rattle.roles.specs.declared.published.Published.{Published}
-use Rattle.builder.specs.declared.ask.Ask.{Ask}
-use Rattle.builder.specs.declared.ask.PayoutLock.{PayoutLock}
-use Rattle.builder.specs.declared.look.Look.{Look}
-use Rattle.builder.specs.declared.look.ThreadOutput.{ThreadOutput}
-use Rattle.builder.specs.declared.look.Unspent.{Unspent}
+use Rattle.looks.specs.declared.ask.Ask.{Ask}
+use Rattle.looks.specs.declared.ask.PayoutLock.{PayoutLock}
+use Rattle.looks.specs.declared.look.Look.{Look}
+use Rattle.looks.specs.declared.look.ThreadOutput.{ThreadOutput}
+use Rattle.looks.specs.declared.look.Unspent.{Unspent}
 use Rattle.history.specs.Past.{Past, has_id, unspent, unspent_at}
 use Rattle.history.specs.Threads.{steps, thread, ends}
 use Rattle.chain.specs.Standing.{World, past_of, published_at}

@@ -5,7 +5,7 @@ use Rattle.eutxo_types.specs.declared.output.Output.{Output}
 use Rattle.eutxo_types.specs.declared.output_ref.OutputRef.{OutputRef}
 use Rattle.eutxo_types.specs.declared.output_ref.OutputRef.TheVariants as ref
 use Rattle.eutxo_types.specs.declared.tx.Tx.{Tx}
-use Rattle.builder.specs.declared.look.Unspent.{Unspent}
+use Rattle.looks.specs.declared.look.Unspent.{Unspent}
 use Rattle.history.specs.Past.{names, is_spent}
 use Rattle.history.specs.Threads.{next_of}
 use Rattle.chain.specs.declared.looking.Naming.{Naming}

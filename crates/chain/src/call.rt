@@ -1,5 +1,5 @@
 //! Calls, replies and entries.
-use builder::{Ask, Look};
+use looks::{Ask, Look};
 use collections::{Bytes, Items, Memory, TryClone};
 use contract::Contract;
 use eutxo_types::{Tx, TxFault, Verdict};

@@ -112,14 +112,14 @@ impl Model for Chain {
     ghost use Rattle.contract.specs.contracts.tree.Contract as trees;
     ghost use Rattle.eutxo_types.specs.contracts.output.Output as outputs;
     ghost use Rattle.eutxo_types.specs.contracts.tx.Tx as txs;
-    ghost use Rattle.builder.specs.contracts.ask.Ask as asks;
-    ghost use Rattle.builder.specs.contracts.look.Look as looks;
+    ghost use Rattle.looks.specs.contracts.ask.Ask as ask_rows;
+    ghost use Rattle.looks.specs.contracts.look.Look as look_rows;
     ghost use Rattle.chain.specs.Standing.{Course};
     ghost use Rattle.chain.specs.Kept.{IsKept};
 
     ghost Value = { Course };
 
-    ghost coded = { Prim.hlevel (codes, outputs.the_row.coded, txs.the_row.coded, trees.the_row.coded, asks.the_row.coded, looks.the_row.coded) };
+    ghost coded = { Prim.hlevel (codes, outputs.the_row.coded, txs.the_row.coded, trees.the_row.coded, ask_rows.the_row.coded, look_rows.the_row.coded) };
 
     ghost view = { λ a. record { genesis = a.genesis; first_tick = a.tick; entries = a.entries.items } };
 

@@ -11,7 +11,7 @@ ghost use Rattle.chain.specs.Looking.{is_key_of, is_payout_of, under_locks, star
 ghost use Rattle.chain.specs.Showing.{naming, under, moved};
 
 use crate::world::{Kept, World, is_spent, names};
-use builder::{Ask, Look, PayoutLock, ThreadOutput, Unspent};
+use looks::{Ask, Look, PayoutLock, ThreadOutput, Unspent};
 use collections::{Bytes, Items, Memory, Text, TryClone};
 use eutxo::Shared;
 use eutxo_types::{Lock, Output, OutputRef, Redeemer, Tx};

@@ -1,6 +1,6 @@
 use Rattle.std.proofs.Common.{◌++◌, ◌∙◌, ap, sym, append_assoc, drop, ◌+◌, List}
 use Rattle.history.specs.Past.{made_by, made}
-use Rattle.builder.specs.declared.look.Unspent.{Unspent}
+use Rattle.looks.specs.declared.look.Unspent.{Unspent}
 use Rattle.chain.specs.Showing.{under}
 use Rattle.chain.proofs.Gathering.{under_next_tx}
 use Rattle.chain.proofs.looking.outputs_under.Goals as goal

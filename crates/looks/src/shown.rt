@@ -4,7 +4,7 @@ ghost use Rattle.eutxo.specs.Judgement.{found};
 ghost use Rattle.eutxo.specs.Parts.{same_ref};
 ghost use Rattle.eutxo.specs.Places.{or_else};
 ghost use Rattle.roles.specs.declared.published.Published.{Published};
-ghost use Rattle.builder.specs.Shown.{output_among, thread_output, output_shown, script_shown, shown};
+ghost use Rattle.looks.specs.Shown.{output_among, thread_output, output_shown, script_shown, shown};
 
 use crate::look::{Look, ThreadOutput, Unspent};
 use collections::Memory;

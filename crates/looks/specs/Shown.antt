@@ -6,9 +6,9 @@ use Rattle.eutxo.specs.Judgement.{Moment}
 use Rattle.eutxo.specs.Parts.{same_bytes, same_ref}
 use Rattle.eutxo.specs.Places.{or_else}
 use Rattle.roles.specs.declared.published.Published.{Published}
-use Rattle.builder.specs.declared.look.Look.{Look}
-use Rattle.builder.specs.declared.look.ThreadOutput.{ThreadOutput}
-use Rattle.builder.specs.declared.look.Unspent.{Unspent}
+use Rattle.looks.specs.declared.look.Look.{Look}
+use Rattle.looks.specs.declared.look.ThreadOutput.{ThreadOutput}
+use Rattle.looks.specs.declared.look.Unspent.{Unspent}
 
 -- of these outputs the first that a reference names
 abbrev pub output_among : List Unspent → OutputRef → Option Output
