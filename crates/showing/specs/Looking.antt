@@ -1,23 +1,22 @@
 -- What a look shows.
-use Rattle.std.specs.Prelude.{ℕ, Bool, false, not, ◌&&◌, if◌then◌else◌, List, map, filter, Option, Some, None, is_some}
+use Rattle.std.specs.Prelude.{ℕ, Bool, false, not, ◌&&◌, if◌then◌else◌, List, map, filter, Option, Some, None}
 use Rattle.std.specs.List.{list_any}
 use Rattle.machine.specs.declared.datum.Datum.{Datum}
 use Rattle.eutxo_types.specs.declared.lock.Lock.{Lock}
 use Rattle.eutxo_types.specs.declared.lock.Lock.TheVariants.{Key, Payout, Contract}
 use Rattle.eutxo_types.specs.declared.output.Output.{Output}
 use Rattle.eutxo_types.specs.declared.output_ref.OutputRef.{OutputRef}
-use Rattle.eutxo_types.specs.declared.output_ref.OutputRef.TheVariants.{Genesis, Made}
-use Rattle.eutxo_types.specs.declared.tx.Tx.{Tx}
-use Rattle.eutxo.specs.Parts.{same_bytes, contract_in, contract_at}
+use Rattle.eutxo.specs.Parts.{same_bytes, contract_in}
 use Rattle.roles.specs.declared.published.Published.{Published}
 use Rattle.looks.specs.declared.ask.Ask.{Ask}
 use Rattle.looks.specs.declared.ask.PayoutLock.{PayoutLock}
 use Rattle.looks.specs.declared.look.Look.{Look}
 use Rattle.looks.specs.declared.look.ThreadOutput.{ThreadOutput}
 use Rattle.looks.specs.declared.look.Unspent.{Unspent}
-use Rattle.history.specs.Past.{Past, has_id, unspent, unspent_at}
-use Rattle.history.specs.Threads.{steps, thread, ends}
+use Rattle.history.specs.Past.{Past, unspent, unspent_at}
+use Rattle.history.specs.Threads.{thread, ends}
 use Rattle.standing.specs.Standing.{World, past_of, published_at}
+use Rattle.standing.specs.Threads.{starts_in}
 
 -- ---- the unspent outputs under a lock
 
@@ -41,11 +40,6 @@ abbrev pub under_locks : (Lock → Bool) → Past → List Unspent
 under_locks asked past = map shown_so (filter (λ e. asked e.1.lock) (unspent past))
 
 -- ---- a thread
-
--- a start output: a contract output of an accepted transaction that steps no contract
-abbrev pub starts_in : OutputRef → Tx → Bool
-starts_in (Genesis i) tx = false
-starts_in (Made id i) tx = has_id id tx && (not (steps tx) && is_some (contract_at tx i))
 
 -- where the thread from a start output ends; of another output, nowhere
 abbrev pub end_of : Past → OutputRef → Option OutputRef

@@ -1,22 +1,22 @@
 //! What a look shows.
-ghost use Rattle.std.specs.Prelude.{◌≡◌, ◌&&◌, ◌++◌, [], ◌∷◌, Bool, Option, Some, None, IfOk, OnOk, map, filter, is_some, slice_get, option_copied};
+ghost use Rattle.std.specs.Prelude.{◌≡◌, ◌&&◌, ◌++◌, [], ◌∷◌, Bool, Option, Some, None, IfOk, OnOk, map, filter, slice_get, option_copied};
 ghost use Rattle.std.specs.List.{list_any};
 ghost use Rattle.eutxo_types.specs.declared.lock.Lock.{Lock};
-ghost use Rattle.eutxo_types.specs.Ids.{id_of};
-ghost use Rattle.eutxo.specs.Parts.{same_bytes, contract_in, contract_at};
-ghost use Rattle.history.specs.Past.{has_id, referred, made};
-ghost use Rattle.history.specs.Threads.{is_step, steps, next_of, spine, ends};
+ghost use Rattle.eutxo.specs.Parts.{same_bytes, contract_in};
+ghost use Rattle.history.specs.Past.{referred, made};
+ghost use Rattle.history.specs.Threads.{spine, ends};
 ghost use Rattle.standing.specs.Standing.{past_of, published_at};
-ghost use Rattle.showing.specs.Looking.{is_key_of, is_payout_of, under_locks, starts_in, end_of, with_published, under_script, output_at, shown_at, thread_shown, look};
+ghost use Rattle.standing.specs.Threads.{starts_in};
+ghost use Rattle.showing.specs.Looking.{is_key_of, is_payout_of, under_locks, end_of, with_published, under_script, output_at, shown_at, thread_shown, look};
 ghost use Rattle.showing.specs.Showing.{naming, under, moved};
 
 use collections::{Bytes, Items, Memory, Text, TryClone};
 use eutxo::Shared;
-use eutxo_types::{Lock, Output, OutputRef, Redeemer, Tx};
+use eutxo_types::{Lock, Output, OutputRef};
 use judging::Ledger;
 use looks::{Ask, Look, PayoutLock, ThreadOutput, Unspent};
 use roles::Published;
-use standing::{Kept, World, is_spent, names};
+use standing::{Kept, World, is_spent, names, next_of, starts_in};
 use std::alloc::Global;
 
 /// Which locks are asked for.
@@ -171,65 +171,10 @@ fn outputs_under<A: Asked>(
 
 // ---- threads
 
-fn is_step(redeemer: &Redeemer) -> bool
-    ensures { result ≡ is_step redeemer.now }
-{
-    match redeemer {
-        Redeemer::None => false,
-        Redeemer::Claim => false,
-        Redeemer::Step(_) => true,
-    }
-}
-
-fn steps(tx: &Tx) -> bool
-    ensures { result ≡ steps tx.now }
-{
-    tx.inputs.as_slice().iter().any(|x| is_step(&x.redeemer))
-}
-
-fn is_contract(output: &Output) -> bool
-    ensures { result ≡ is_some (contract_in output.now.lock) }
-{
-    matches!(output.lock, Lock::Contract { .. })
-}
-
-fn has_contract_at(tx: &Tx, index: u64) -> bool
-    ensures { result ≡ is_some (contract_at tx.now index) }
-{
-    match tx.outputs.as_slice().get(index as usize) {
-        Some(output) => is_contract(output),
-        None => false,
-    }
-}
-
-fn starts_in(kept: &Kept<'_>, reference: &OutputRef) -> bool
-    ensures { result ≡ starts_in reference.now kept.now }
-{
-    match reference {
-        OutputRef::Genesis { .. } => false,
-        OutputRef::Made { id, index } => {
-            *id == *kept.id() && !steps(kept.tx()) && has_contract_at(kept.tx(), *index)
-        }
-    }
-}
-
 fn starts(accepted: &[Kept<'_>], reference: &OutputRef) -> bool
     ensures { result ≡ list_any (starts_in reference.now) accepted.now }
 {
     accepted.iter().any(|k| starts_in(k, reference))
-}
-
-fn next_of(kept: &Kept<'_>) -> Option<OutputRef>
-    ensures { result ≡ next_of kept.now }
-{
-    if has_contract_at(kept.tx(), 0) {
-        Some(OutputRef::Made {
-            id: *kept.id(),
-            index: 0,
-        })
-    } else {
-        None
-    }
 }
 
 fn moved(kept: &Kept<'_>, at: Option<OutputRef>) -> Option<OutputRef>

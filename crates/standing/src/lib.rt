@@ -6,9 +6,11 @@
 #![tactic(auto)]
 
 mod counting;
+mod threads;
 mod ticks;
 mod world;
 
 pub use counting::{count_of, count_tickets};
+pub use threads::{next_of, starts_in};
 pub use ticks::last_tick;
 pub use world::{Kept, Waiting, World, is_same, is_spent, names, walk};
