@@ -1,0 +1,4 @@
+pub mod Following
+pub mod Starting
+pub mod Stepping
+pub mod Telling
