@@ -19,6 +19,11 @@ pub struct Named {
 }
 
 impl Named {
+    /// Its name.
+    pub fn name(&self) -> &str {
+        self.name.as_str()
+    }
+
     /// The id of its script.
     pub fn id(&self) -> [u8; 32] {
         self.published.get().id
@@ -33,14 +38,6 @@ impl Named {
     pub fn shared(&self) -> Result<Shared<Published>, Memory> {
         self.published.try_clone()
     }
-}
-
-/// What is published under a name.
-pub fn by_name<'a>(names: &'a [Named], word: &str) -> Result<&'a Named, RowFault> {
-    names
-        .iter()
-        .find(|named| named.name.as_str() == word)
-        .ok_or(RowFault::NoSuchRow)
 }
 
 /// Publishes, from `NAME CURRENCY CONTRACT`.

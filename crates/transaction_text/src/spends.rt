@@ -1,33 +1,22 @@
 //! Inputs of a transaction.
 use crate::fault::RowFault;
-use crate::words::{first, id, number, parts, put};
+use crate::references::{Sent, reference_of};
+use crate::words::{first, number, parts, put};
 use collections::Items;
 use contract::Input;
 use contract_json::read_input;
-use eutxo_types::{OutputRef, Redeemer, Spend};
+use eutxo_types::{Redeemer, Spend};
 use std::alloc::Global;
 
-/// An input, from `ORIGIN INDEX REDEEMER`.
-pub fn spend_of(alloc: Global, rest: &str) -> Result<Spend, RowFault> {
-    let (origin, rest) = parts(rest)?;
-    let (index, redeemer) = parts(rest)?;
-    let reference = reference_of(origin, index)?;
+/// An input, from `REFERENCE REDEEMER`.
+pub fn spend_of(alloc: Global, sent: &[Sent], rest: &str) -> Result<Spend, RowFault> {
+    let (reference, redeemer) = parts(rest)?;
+    let reference = reference_of(sent, reference)?;
     let redeemer = redeemer_of(alloc, redeemer)?;
     Ok(Spend {
         reference,
         redeemer,
     })
-}
-
-fn reference_of(origin: &str, index: &str) -> Result<OutputRef, RowFault> {
-    let index = number(index)?;
-    match origin {
-        "genesis" => Ok(OutputRef::Genesis { index }),
-        _ => Ok(OutputRef::Made {
-            id: id(origin)?,
-            index,
-        }),
-    }
 }
 
 fn redeemer_of(alloc: Global, rest: &str) -> Result<Redeemer, RowFault> {
@@ -47,17 +36,6 @@ fn notifies(alloc: Global, count: u64) -> Result<Items<Input>, RowFault> {
         inputs.push(Input::Notify)?;
     }
     Ok(inputs)
-}
-
-/// Puts so many inputs behind the others, which give nothing: the first outputs that the ledger began with.
-pub fn put_keys(inputs: &mut Items<Spend>, count: u64) -> Result<(), RowFault> {
-    for index in 0..count {
-        inputs.push(Spend {
-            reference: OutputRef::Genesis { index },
-            redeemer: Redeemer::None,
-        })?;
-    }
-    Ok(())
 }
 
 fn inputs_of(alloc: Global, words: &str) -> Result<Items<Input>, RowFault> {
