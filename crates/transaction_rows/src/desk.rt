@@ -1,13 +1,14 @@
 //! What is written for the next row, and what is printed for lines.
 use crate::checks::check_line;
-use crate::finds::{found_of, put_found, put_keys};
+use crate::finds::{found_of, put_found};
 use crate::sums::{added, subtracted};
 use collections::Items;
 use eutxo_types::{Output, Tx, encode_tx, tx_id};
 use std::alloc::{AllocError, Global};
 use std::mem;
 use transaction_text::{
-    Answers, Known, RowFault, first, named_of, nothing, number, parts, put, put_in, replace, write,
+    Answers, Known, RowFault, first, named_of, nothing, number, parts, put, put_in, put_keys,
+    replace, write,
 };
 
 /// What is written so far: a transaction, what its inputs find, and what is published.
@@ -71,7 +72,10 @@ fn spelled(alloc: Global, tx: &Tx) -> Result<String, AllocError> {
 // Writes a line of the transaction, of what it finds, or of what is published.
 fn written(alloc: Global, desk: &mut Desk, word: &str, rest: &str) -> Result<(), RowFault> {
     match word {
-        "publish" => put_in(&mut desk.known.published, named_of(alloc, rest)),
+        "publish" => {
+            let named = named_of(alloc, &desk.known, rest);
+            put_in(&mut desk.known.published, named)
+        }
         "finds" => put(&mut desk.finds, found_of(alloc, &desk.known, rest)),
         "many" => many(alloc, desk, rest),
         _ => write(alloc, &desk.known, &mut desk.tx, word, rest),

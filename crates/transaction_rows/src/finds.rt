@@ -1,6 +1,6 @@
 //! What inputs find.
 use collections::Items;
-use eutxo_types::{Lock, Output, OutputRef, Redeemer, Spend};
+use eutxo_types::{Lock, Output};
 use std::alloc::Global;
 use transaction_text::{Known, RowFault, locked, output_of, put, text};
 
@@ -28,15 +28,4 @@ pub fn put_found(
 fn one_lovelace(alloc: Global, address: &str) -> Result<Option<Output>, RowFault> {
     let lock = Lock::Key(text(alloc, address)?);
     Ok(Some(locked(alloc, lock, "ada 1")?))
-}
-
-/// Puts so many inputs behind the others, which give nothing: the first outputs that the ledger began with.
-pub fn put_keys(inputs: &mut Items<Spend>, count: u64) -> Result<(), RowFault> {
-    for index in 0..count {
-        inputs.push(Spend {
-            reference: OutputRef::Genesis { index },
-            redeemer: Redeemer::None,
-        })?;
-    }
-    Ok(())
 }

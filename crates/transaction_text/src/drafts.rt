@@ -2,7 +2,7 @@
 use crate::fault::RowFault;
 use crate::known::Known;
 use crate::outputs::output_of;
-use crate::spends::spend_of;
+use crate::spends::{put_keys, spend_of};
 use crate::words::{number, parts, put, text};
 use collections::Items;
 use contract::Interval;
@@ -28,7 +28,8 @@ pub fn write(
     rest: &str,
 ) -> Result<(), RowFault> {
     match word {
-        "in" => put(&mut tx.inputs, spend_of(alloc, &known.sent, rest)),
+        "in" => put(&mut tx.inputs, spend_of(alloc, known, rest)),
+        "keys" => put_keys(&mut tx.inputs, number(rest)?),
         "out" => put(&mut tx.outputs, output_of(alloc, known, rest)),
         "from" => set_interval(tx, rest),
         "signer" => put(&mut tx.signers, text(alloc, rest)),

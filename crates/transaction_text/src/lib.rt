@@ -6,6 +6,7 @@
 //! - `in REFERENCE REDEEMER` puts an input behind the others. A reference is `ORIGIN.PLACE`: the origin is `genesis`, the
 //!   name of a transaction or an id. The redeemer is `none`, `claim`, `step` and inputs of the contract, each in JSON
 //!   without spaces or as the word `notify`, or `notifies` and their number;
+//! - `keys COUNT` puts so many inputs behind the others, which give nothing: the first outputs that the ledger began with;
 //! - `out key ADDRESS AMOUNTS`, `out payout CURRENCY ROLE AMOUNTS` and `out contract SCRIPT CONTINUATION STATE AMOUNTS` put an
 //!   output behind the others. The script is an id, or `@` and the name of what is published, whose root `root` is. The
 //!   state is in JSON without spaces, or the word `empty` for the state without entries at time 0;
@@ -13,7 +14,8 @@
 //! - `signer ADDRESS` puts a signer behind the others.
 //!
 //! Amounts are `TOKEN AMOUNT ..` in any order, each token once and each amount above 0; a token is `ada` or `SYMBOL.NAME`.
-//! Ids, scripts, currencies and symbols are in hexadecimal.
+//! Ids, scripts, currencies and symbols are in hexadecimal. In place of a contract, a state or an input `$` and the name of a text stands
+//! for that text.
 #![tactic(auto)]
 
 mod amounts;
@@ -32,9 +34,10 @@ pub use amounts::{bundle_of, put_amounts, word_of};
 pub use answers::{Answers, print_rows};
 pub use drafts::{nothing, write};
 pub use fault::RowFault;
-pub use known::Known;
+pub use known::{Known, NamedText, named_text_of};
 pub use outputs::{locked, output_of};
 pub use publications::{Named, named_of};
 pub use references::{Sent, reference_of, sent_of, word_of_id, word_of_reference};
+pub use spends::put_keys;
 pub use verdicts::{refusal_line, verdict_line};
 pub use words::{bytes, first, number, parts, put, put_in, replace, text};

@@ -41,7 +41,7 @@ fn contract(alloc: Global, known: &Known, rest: &str) -> Result<Output, RowFault
     let (cont, rest) = parts(rest)?;
     let (state, amounts) = first(rest);
     let (script, root) = script_of(known, script)?;
-    let datum = datum_of(alloc, root, cont, state)?;
+    let datum = datum_of(alloc, root, cont, known.text_of(state)?)?;
     locked(alloc, Lock::Contract { script, datum }, amounts)
 }
 

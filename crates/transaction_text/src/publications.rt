@@ -1,5 +1,6 @@
 //! What is published, by name.
 use crate::fault::RowFault;
+use crate::known::Known;
 use crate::words::{bytes, parts};
 use collections::{Bytes, Memory, TryClone};
 use compiler::CompileFault;
@@ -41,9 +42,10 @@ impl Named {
 }
 
 /// Publishes, from `NAME CURRENCY CONTRACT`.
-pub fn named_of(alloc: Global, rest: &str) -> Result<Named, RowFault> {
+pub fn named_of(alloc: Global, known: &Known, rest: &str) -> Result<Named, RowFault> {
     let (name, rest) = parts(rest)?;
     let (currency, contract) = parts(rest)?;
+    let contract = known.text_of(contract)?;
     let currency = bytes(alloc, currency)?;
     let published = published_of(alloc, read_contract(alloc, contract.as_bytes()), currency)?;
     Ok(Named {
