@@ -8,12 +8,13 @@ use Rattle.roles.specs.declared.published.Published.{Published}
 use Rattle.roles.specs.Publications.{PublishedAreTables}
 use Rattle.history.specs.Laws.{marlowe, AreTables, StartIsSound, AfterIsSound, LaterIsSound}
 use Rattle.history.specs.Sound.{AreKeys}
-use Rattle.chain.specs.declared.call.Call.{Call}
-use Rattle.chain.specs.declared.call.Call.TheVariants as on
-use Rattle.chain.specs.declared.call.Reply.{Reply}
-use Rattle.chain.specs.declared.call.Reply.TheVariants as answer
-use Rattle.chain.specs.declared.call.Entry.{Entry}
-use Rattle.chain.specs.Standing.{World, Course, world, published_at, publication, with_one, publishes, published_from, published, is_published}
+use Rattle.calls.specs.declared.call.Call.{Call}
+use Rattle.calls.specs.declared.call.Call.TheVariants as on
+use Rattle.calls.specs.declared.call.Reply.{Reply}
+use Rattle.calls.specs.declared.call.Reply.TheVariants as answer
+use Rattle.calls.specs.declared.call.Entry.{Entry}
+use Rattle.standing.specs.Standing.{World, Course, world, published_at, publication, with_one, publishes, published_from, published}
+use Rattle.calls.specs.Replies.{is_published}
 use Rattle.chain.specs.Legal.{is_same, if_same, publishing, reply_to, Follows, IsLegal, with_entry, entry_of, with_new}
 use Rattle.chain.specs.Kept.{IsKept}
 use Rattle.chain.proofs.Sound.{course_so, tables_so}

@@ -1,8 +1,3 @@
-mod Lists
-mod Walking
-mod Finding
-mod Gathering
-mod Moving
 mod Rounds
 mod Publishing
 mod Sound

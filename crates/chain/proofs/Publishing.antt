@@ -14,7 +14,7 @@ use Rattle.roles.specs.Publications.{published_of, PublishedAreTables}
 use Rattle.roles.specs.Terms.{IsTable, terms_of}
 use Rattle.history.specs.Laws.{AreTables}
 use Rattle.history.specs.Sound.{IsMore}
-use Rattle.chain.specs.Standing.{published_at, if_compiled, publication, with_one}
+use Rattle.standing.specs.Standing.{published_at, if_compiled, publication, with_one}
 
 -- ---- what the call answers
 

@@ -4,8 +4,8 @@ use Rattle.std.specs.List.{slice_get}
 use Rattle.eutxo_types.specs.declared.tx.Tx.{Tx}
 use Rattle.eutxo_types.specs.declared.fault.TxFault.{TxFault}
 use Rattle.eutxo.specs.Local.{verdict_of}
-use Rattle.chain.specs.declared.call.Ticketed.{Ticketed}
-use Rattle.chain.specs.Standing.{Pending, World}
+use Rattle.calls.specs.declared.call.Ticketed.{Ticketed}
+use Rattle.standing.specs.Standing.{Pending, World}
 use Rattle.chain.specs.Legal.{if_accepted, judged, verdicts}
 
 drop_at : {A : Type 0} (xs : List A) (n : ℕ) (x : A) → slice_get xs n ≡ Some x → drop n xs ≡ x ∷ drop (suc n) xs

@@ -9,13 +9,14 @@ use Rattle.roles.specs.declared.published.Published.{Published}
 use Rattle.roles.specs.Publications.{PublishedAreTables}
 use Rattle.history.specs.Laws.{marlowe, AreTables, AfterIsSound, LaterIsSound}
 use Rattle.history.specs.Sound.{IsSound}
-use Rattle.chain.specs.declared.call.Call.{Call}
-use Rattle.chain.specs.declared.call.Call.TheVariants as on
-use Rattle.chain.specs.declared.call.Reply.{Reply}
-use Rattle.chain.specs.declared.call.Reply.TheVariants as answer
-use Rattle.chain.specs.Standing.{Pending, Standing, World, Course, world, past_of, published_at, published, publication, with_one, changed, is_advanced, kept_of, accepted_among, standing}
+use Rattle.calls.specs.declared.call.Call.{Call}
+use Rattle.calls.specs.declared.call.Call.TheVariants as on
+use Rattle.calls.specs.declared.call.Reply.{Reply}
+use Rattle.calls.specs.declared.call.Reply.TheVariants as answer
+use Rattle.standing.specs.Standing.{Pending, Standing, World, Course, world, past_of, published_at, published, publication, with_one, changed, kept_of, accepted_among, standing}
+use Rattle.calls.specs.Replies.{is_advanced}
 use Rattle.chain.specs.Legal.{submitted, accepting, if_accepted, judged, verdicts, most_pending, reply_to, with_entry, entry_of, with_new}
-use Rattle.chain.proofs.Walking.{standing_after}
+use Rattle.standing.proofs.Walking.{standing_after}
 use Rattle.chain.proofs.Publishing.{new_is_more, new_are_tables}
 
 abbrev SoundWith : List Published → List Output → List Tx → Type 0

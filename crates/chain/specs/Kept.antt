@@ -3,7 +3,7 @@ use Rattle.std.specs.Prelude.{◌≡◌, List}
 use Rattle.roles.specs.declared.published.Published.{Published}
 use Rattle.history.specs.Laws.{marlowe, AreTables}
 use Rattle.history.specs.Sound.{IsSound}
-use Rattle.chain.specs.Standing.{Course, published_at, published, world, past_of}
+use Rattle.standing.specs.Standing.{Course, published_at, published, world, past_of}
 use Rattle.chain.specs.Legal.{IsLegal}
 
 -- what was published, and a legal history whose accepted transactions are sound

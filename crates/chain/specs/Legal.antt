@@ -10,14 +10,14 @@ use Rattle.eutxo.specs.Local.{verdict_of}
 use Rattle.roles.specs.contracts.published.Published as publications
 use Rattle.roles.specs.declared.published.Published.{Published}
 use Rattle.history.specs.Laws.{marlowe}
-use Rattle.chain.specs.declared.call.Call.{Call}
-use Rattle.chain.specs.declared.call.Call.TheVariants as on
-use Rattle.chain.specs.declared.call.Reply.{Reply}
-use Rattle.chain.specs.declared.call.Reply.TheVariants as answer
-use Rattle.chain.specs.declared.call.Entry.{Entry}
-use Rattle.chain.specs.declared.call.Ticketed.{Ticketed}
-use Rattle.chain.specs.Standing.{Pending, Course, World, published_at, publication, with_one, world, moment_of}
-use Rattle.chain.specs.Looking.{look}
+use Rattle.calls.specs.declared.call.Call.{Call}
+use Rattle.calls.specs.declared.call.Call.TheVariants as on
+use Rattle.calls.specs.declared.call.Reply.{Reply}
+use Rattle.calls.specs.declared.call.Reply.TheVariants as answer
+use Rattle.calls.specs.declared.call.Entry.{Entry}
+use Rattle.calls.specs.declared.call.Ticketed.{Ticketed}
+use Rattle.standing.specs.Standing.{Pending, Course, World, published_at, publication, with_one, count_of, world, moment_of}
+use Rattle.showing.specs.Looking.{look}
 
 -- how many transactions may be pending
 abbrev pub most_pending : ℕ
@@ -74,10 +74,6 @@ reply_to w (on.Enqueue tx) = if_room w
 reply_to w (on.Round k) = answer.Round (verdicts w (take k w.standing.pending))
 
 -- ---- histories
-
--- how many entries are of a seat
-abbrev pub count_of : ℕ → List Entry → ℕ
-count_of seat es = count_by (λ e. e.seat == seat) es
 
 -- the course before its n-th entry
 abbrev pub before_entry : Course → ℕ → Course

@@ -2,18 +2,18 @@
 ghost use Rattle.std.specs.Prelude.{◌≡◌, ◌<◌, ◌≤◌, ◌++◌, ◌⊎◌, IfOk, IfErr, OnOk, Ok, Err, Some, length, take, slice_get, option_to_list};
 ghost use Rattle.compiler.specs.declared.fault.CompileFault.TheVariants as faults;
 ghost use Rattle.eutxo.specs.Local.{verdict_of};
-ghost use Rattle.chain.specs.Standing.{pended, published_at, publication, with_one};
+ghost use Rattle.standing.specs.Standing.{pended, published_at, publication, with_one};
 ghost use Rattle.chain.specs.Legal.{publishing, judged, submitted, if_accepted, verdicts, if_later, if_room, reply_to, with_new};
 
-use crate::call::{Call, Reply, Ticketed};
-use crate::looking::show;
-use crate::world::{Waiting, World};
+use calls::{Call, Reply, Ticketed};
 use collections::{Bytes, Items, Memory, TryClone};
 use contract::Contract;
 use eutxo::Shared;
 use eutxo_types::{Tx, TxFault, Verdict, tx_id};
 use judging::{Ledger, judge};
 use roles::{CompileFault, Published, publish};
+use showing::show;
+use standing::{Waiting, World};
 use std::alloc::{AllocError, Global};
 use std::sync::Arc;
 

@@ -6,17 +6,13 @@ ghost use Rattle.roles.specs.Steps.{is_key};
 ghost use Rattle.eutxo.specs.Judgement.{found};
 ghost use Rattle.std.specs.FinMap as maps;
 ghost use Rattle.chain.specs.Beginning.{fits_from, IsNoStart};
-ghost use Rattle.chain.specs.Standing.{past_of, world, standing, published, published_at, moment_of};
-ghost use Rattle.chain.specs.Ticks.{tick_after};
+ghost use Rattle.standing.specs.Standing.{past_of, world, standing, published, published_at, moment_of};
 ghost use Rattle.chain.specs.Legal.{reply_to, entry_of, with_entry, with_new, IsLegal};
 
 use crate::answering::answer;
-use crate::call::{Call, Entry, Reply};
-use crate::counting::count_of;
 use crate::genesis_fault::GenesisFault;
-use crate::reading::is_advanced;
-use crate::world::{World, walk};
 use bundle::{Bundle, BundleFault};
+use calls::{Call, Entry, Reply};
 use collections::{Items, Memory, TryClone};
 use eutxo::{Checked, Resolved, Shared};
 use eutxo_types::{Lock, Output, Tx};
@@ -26,35 +22,9 @@ use history::{
 };
 use judging::resolve;
 use roles::{Published, published_are_tables};
+use standing::{World, count_of, last_tick, walk};
 use std::alloc::{AllocError, Global};
 use std::marker::Model;
-
-// The tick that an entry leaves.
-fn tick_after(tick: i64, entry: &Entry) -> i64
-    ensures { result ≡ tick_after tick entry.now }
-{
-    match &entry.call {
-        Call::Advance(later) => {
-            if is_advanced(&entry.reply) {
-                *later
-            } else {
-                tick
-            }
-        }
-        _ => tick,
-    }
-}
-
-#[tactic(auto, using(crate::proofs::Walking::tick_next))]
-fn last_tick(first: i64, entries: &[Entry]) -> i64
-    ensures { result ≡ (standing first entries.now).tick }
-{
-    let mut tick = first;
-    for e in entries {
-        tick = tick_after(tick, e);
-    }
-    tick
-}
 
 fn add_object(
     published: &mut Vec<Shared<Published>>,
@@ -114,7 +84,7 @@ impl Model for Chain {
     ghost use Rattle.eutxo_types.specs.contracts.tx.Tx as txs;
     ghost use Rattle.looks.specs.contracts.ask.Ask as ask_rows;
     ghost use Rattle.looks.specs.contracts.look.Look as look_rows;
-    ghost use Rattle.chain.specs.Standing.{Course};
+    ghost use Rattle.standing.specs.Standing.{Course};
     ghost use Rattle.chain.specs.Kept.{IsKept};
 
     ghost Value = { Course };

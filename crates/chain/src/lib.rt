@@ -1,21 +1,16 @@
 //! A ledger of one thread: calls, replies, and the history of both.
 //!
 //! A history is a list of entries, each a call and its reply. What stands after it (the tick, what was accepted,
-//! what is pending, what is published) is read off calls and replies alone (`specs/Standing.antt`); a table
+//! what is pending, what is published) is read off calls and replies alone (the crate `standing`); a table
 //! gives the reply of each call from what stands (`specs/Legal.antt`). A `Chain` makes the entries one by
 //! one, so that its history is always legal; and what is proved of every list of accepted transactions
 //! (the crate `history`) holds of it, whatever was called.
 #![tactic(auto)]
 
 mod answering;
-mod call;
 mod chain;
-mod counting;
 mod genesis_fault;
-mod looking;
-mod reading;
-mod world;
 
-pub use call::{Call, Entry, Reply, Ticketed};
+pub use calls::{Call, Entry, Reply, Ticketed};
 pub use chain::Chain;
 pub use genesis_fault::GenesisFault;

@@ -1,7 +1,7 @@
 use Rattle.std.proofs.Common.{◌++◌, ◌∙◌, ap, sym, take, drop, ◌+◌, List}
 use Rattle.std.specs.List.{slice_get}
-use Rattle.chain.specs.declared.call.Ticketed.{Ticketed}
-use Rattle.chain.specs.Standing.{Pending, World, pended}
+use Rattle.calls.specs.declared.call.Ticketed.{Ticketed}
+use Rattle.standing.specs.Standing.{Pending, World, pended}
 use Rattle.chain.specs.Legal.{judged, verdicts}
 use Rattle.chain.proofs.Rounds.{at_taken, place_more, pending_stays}
 use Rattle.chain.proofs.answering.round.Goals as goal

@@ -1,8 +1,9 @@
 use Rattle.std.proofs.Common.{rules, ◌≡◌, ◌++◌, ◌∷◌, [], refl, sym, ◌∙◌, ap, subst, List}
 use Rattle.std.specs.Option.{option_to_list}
-use Rattle.chain.specs.declared.call.Entry.{Entry}
-use Rattle.chain.specs.Standing.{Course, world, published}
-use Rattle.chain.specs.Legal.{count_of, reply_to, entry_of, with_new}
+use Rattle.calls.specs.declared.call.Entry.{Entry}
+use Rattle.standing.specs.Standing.{Course, world, published}
+use Rattle.standing.specs.Standing.{count_of}
+use Rattle.chain.specs.Legal.{reply_to, entry_of, with_new}
 use Rattle.chain.specs.Kept.{IsKept}
 use Rattle.chain.proofs.Courses.{kept_more, same_entry}
 use Rattle.chain.proofs.chain.Chain.step.Goals as goal

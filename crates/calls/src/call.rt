@@ -1,0 +1,111 @@
+//! Calls, replies and entries.
+use collections::{Bytes, Items, Memory, TryClone};
+use contract::Contract;
+use eutxo_types::{Tx, TxFault, Verdict};
+use looks::{Ask, Look};
+use roles::CompileFault;
+
+/// What a caller asks of the chain.
+#[derive(Drop)]
+pub enum Call {
+    /// To publish a contract with the currency symbol of its roles' tokens (Marlowe specification version 3,
+    /// "Participants, roles and public keys").
+    Publish { contract: Contract, currency: Bytes },
+    /// To advance the tick, in POSIX milliseconds.
+    Advance(i64),
+    /// To be shown a thread and unspent outputs.
+    Look(Ask),
+    /// To judge a transaction, and accept it where no rule refuses it.
+    Submit(Tx),
+    /// To let a transaction wait for a round.
+    Enqueue(Tx),
+    /// To judge the first pending transactions, at most so many, in order.
+    Round(u64),
+}
+
+/// The verdict of a transaction that was enqueued with this ticket.
+#[derive(Drop)]
+pub struct Ticketed {
+    pub ticket: u64,
+    pub verdict: Verdict,
+}
+
+/// What the chain answers to a call.
+#[derive(Drop)]
+pub enum Reply {
+    /// To Publish: the id of the contract's script, also where the same was published before.
+    Published([u8; 32]),
+    /// To Publish: the contract isn't compiled.
+    NotCompiled(CompileFault),
+    /// To Publish: another contract or currency has this id.
+    IdInUse,
+    /// To Advance: the tick is the one that was asked for.
+    Advanced,
+    /// To Advance: the tick that was asked for lies before the present one.
+    Backward,
+    /// To Look.
+    Look(Look),
+    /// To Submit: the transaction's id.
+    Accepted([u8; 32]),
+    /// To Submit: the fault of the first rule that refuses.
+    Refused(TxFault),
+    /// To Enqueue: the ticket. Tickets count from 0.
+    Ticket(u64),
+    /// To Enqueue: 1,024 transactions are pending.
+    Full,
+    /// To Round: the tickets that were taken out, in order, each with its verdict.
+    Round(Items<Ticketed>),
+}
+
+/// An answered call: who made it, how many entries of the same seat stand before it, the call and the reply.
+#[derive(Drop)]
+pub struct Entry {
+    pub seat: u64,
+    pub number: u64,
+    pub call: Call,
+    pub reply: Reply,
+}
+
+impl TryClone for Call {
+    fn try_clone(&self) -> Result<Call, Memory> {
+        match self {
+            Call::Publish { contract, currency } => {
+                let currency = currency.try_clone()?;
+                let contract = contract.try_clone()?;
+                Ok(Call::Publish { contract, currency })
+            }
+            Call::Advance(tick) => Ok(Call::Advance(*tick)),
+            Call::Look(ask) => Ok(Call::Look(ask.try_clone()?)),
+            Call::Submit(tx) => Ok(Call::Submit(tx.try_clone()?)),
+            Call::Enqueue(tx) => Ok(Call::Enqueue(tx.try_clone()?)),
+            Call::Round(count) => Ok(Call::Round(*count)),
+        }
+    }
+}
+
+impl TryClone for Ticketed {
+    fn try_clone(&self) -> Result<Ticketed, Memory> {
+        Ok(Ticketed {
+            ticket: self.ticket,
+            verdict: self.verdict.try_clone()?,
+        })
+    }
+}
+
+impl TryClone for Reply {
+    fn try_clone(&self) -> Result<Reply, Memory> {
+        match self {
+            Reply::Published(id) => Ok(Reply::Published(*id)),
+            Reply::NotCompiled(fault) => Ok(Reply::NotCompiled(*fault)),
+            Reply::IdInUse => Ok(Reply::IdInUse),
+            Reply::Advanced => Ok(Reply::Advanced),
+            Reply::Backward => Ok(Reply::Backward),
+            Reply::Look(look) => Ok(Reply::Look(look.try_clone()?)),
+            Reply::Accepted(id) => Ok(Reply::Accepted(*id)),
+            Reply::Refused(fault) => Ok(Reply::Refused(fault.try_clone()?)),
+            Reply::Ticket(ticket) => Ok(Reply::Ticket(*ticket)),
+            Reply::Full => Ok(Reply::Full),
+            Reply::Round(places) => Ok(Reply::Round(places.try_clone()?)),
+        }
+    }
+}

@@ -1,0 +1,42 @@
+//! What a reply says.
+ghost use Rattle.std.specs.Prelude.{◌≡◌};
+ghost use Rattle.calls.specs.Replies.{is_advanced, is_accepted, ticket_in, places_in, accepts};
+
+use crate::call::{Reply, Ticketed};
+use eutxo_types::Verdict;
+
+pub fn is_advanced(reply: &Reply) -> bool
+    ensures { result ≡ is_advanced reply.now }
+{
+    matches!(reply, Reply::Advanced)
+}
+
+pub fn is_accepted(reply: &Reply) -> bool
+    ensures { result ≡ is_accepted reply.now }
+{
+    matches!(reply, Reply::Accepted(_))
+}
+
+pub fn ticket_in(reply: &Reply) -> Option<u64>
+    ensures { result ≡ ticket_in reply.now }
+{
+    match reply {
+        Reply::Ticket(ticket) => Some(*ticket),
+        _ => None,
+    }
+}
+
+pub fn places_in(reply: &Reply) -> &[Ticketed]
+    ensures { result.now ≡ places_in reply.now }
+{
+    match reply {
+        Reply::Round(places) => places.as_slice(),
+        _ => &[],
+    }
+}
+
+pub fn accepts(verdict: &Verdict) -> bool
+    ensures { result ≡ accepts verdict.now }
+{
+    matches!(verdict, Verdict::Accepted)
+}

@@ -1,0 +1,3 @@
+mod Lists
+pub mod Walking
+pub mod Finding

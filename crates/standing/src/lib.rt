@@ -1,0 +1,14 @@
+//! What stands after the entries of a history.
+//!
+//! The tick, what was accepted, what is pending and what was published are read off calls and replies alone
+//! (`specs/Standing.antt`). `walk` finds them by going over the entries once, and a `World` is what it found: a
+//! ledger at a moment, by which a transaction can be judged.
+#![tactic(auto)]
+
+mod counting;
+mod ticks;
+mod world;
+
+pub use counting::{count_of, count_tickets};
+pub use ticks::last_tick;
+pub use world::{Kept, Waiting, World, is_same, is_spent, names, walk};

@@ -1,0 +1,437 @@
+//! What stands after a history, found by walking over the entries.
+ghost use Rattle.std.specs.Prelude.{◌≡◌, ◌++◌, ◌∷◌, [], OnOk, IfOk, drop, slice_get, option_copied};
+ghost use Rattle.std.specs.Map.{lookup};
+ghost use Rattle.eutxo_types.specs.declared.output_ref.OutputRef.TheVariants as OutputRef;
+ghost use Rattle.eutxo_types.specs.Ids.{id_of};
+ghost use Rattle.eutxo.specs.Parts.{same_ref};
+ghost use Rattle.history.specs.Past.{names, is_spent, is_used, referred, made, made_by, created, unspent_at};
+ghost use Rattle.standing.specs.Standing.{pended, kept_of, accepted_among, changed, standing, tickets, published_at, past_of, moment_of};
+
+use crate::counting::count_tickets;
+use calls::{Call, Entry, Ticketed, accepts, is_accepted, is_advanced, places_in, ticket_in};
+use collections::Memory;
+use eutxo::Shared;
+use eutxo_types::{Output, OutputRef, Tx, tx_id};
+use judging::Ledger;
+use roles::Published;
+use std::alloc::Global;
+use std::marker::Model;
+
+/// An accepted transaction, with its id. Clauses see the transaction.
+#[derive(Drop)]
+pub struct Kept<'a> {
+    id: [u8; 32],
+    tx: &'a Tx,
+}
+
+impl<'a> Model for Kept<'a> {
+    ghost use Rattle.std.specs.Prelude.{◌≡◌};
+    ghost use Rattle.eutxo_types.specs.declared.tx.Tx.{Tx};
+    ghost use Rattle.eutxo_types.specs.contracts.tx.Tx as txs;
+    ghost use Rattle.eutxo_types.specs.Ids.{id_of};
+
+    ghost Value = { Tx };
+
+    ghost coded = { txs.the_row.coded };
+
+    ghost view = { λ a. a.tx.now };
+
+    ghost invariant = { λ a. a.id ≡ id_of a.tx.now };
+}
+
+impl<'a> Kept<'a> {
+    fn new(alloc: Global, tx: &'a Tx) -> Result<Kept<'a>, Memory>
+        ensures { IfOk result (λ k. k ≡ tx.now) }
+    {
+        let id = tx_id(alloc, tx)?;
+        Ok(Kept { id, tx })
+    }
+
+    pub fn tx(&self) -> &'a Tx
+        ensures { result.now ≡ self.now }
+    {
+        self.tx
+    }
+
+    pub fn id(&self) -> &[u8; 32]
+        ensures { result.now ≡ id_of self.now }
+    {
+        &self.id
+    }
+}
+
+/// A pending transaction, with its ticket. Clauses see the pair.
+#[derive(Drop)]
+pub struct Waiting<'a> {
+    ticket: u64,
+    tx: &'a Tx,
+}
+
+impl<'a> Model for Waiting<'a> {
+    ghost use Rattle.std.specs.Coded.{coded×, coded_ℕ};
+    ghost use Rattle.eutxo_types.specs.contracts.tx.Tx as txs;
+    ghost use Rattle.standing.specs.Standing.{Pending, pended};
+
+    ghost Value = { Pending };
+
+    ghost coded = { coded× coded_ℕ txs.the_row.coded };
+
+    ghost view = { λ a. pended a.ticket a.tx.now };
+}
+
+impl<'a> Waiting<'a> {
+    fn new(ticket: u64, tx: &'a Tx) -> Waiting<'a>
+        ensures { result ≡ pended ticket tx.now }
+    {
+        Waiting { ticket, tx }
+    }
+
+    pub fn ticket(&self) -> u64
+        ensures { result ≡ self.now.0 }
+    {
+        self.ticket
+    }
+
+    pub fn tx(&self) -> &'a Tx
+        ensures { result.now ≡ self.now.1 }
+    {
+        self.tx
+    }
+}
+
+/// What stands after a history.
+#[derive(Drop)]
+pub struct World<'a> {
+    genesis: &'a [Output],
+    published: &'a [Shared<Published>],
+    tick: i64,
+    accepted: Vec<Kept<'a>>,
+    pending: Vec<Waiting<'a>>,
+    tickets: u64,
+}
+
+impl<'a> Model for World<'a> {
+    ghost use Rattle.std.specs.Coded.{codes};
+    ghost use Rattle.eutxo_types.specs.contracts.tx.Tx as txs;
+    ghost use Rattle.eutxo_types.specs.contracts.output.Output as outputs;
+    ghost use Rattle.roles.specs.contracts.published.Published as publications;
+    ghost use Rattle.standing.specs.Standing.{World};
+
+    ghost Value = { World };
+
+    ghost coded = { Prim.hlevel (codes, txs.the_row.coded, outputs.the_row.coded, publications.the_row.coded) };
+
+    ghost view = { λ a. record { genesis = a.genesis.now; published = a.published.now; standing = record { tick = a.tick; accepted = a.accepted.items; pending = a.pending.items }; tickets = a.tickets } };
+}
+
+// ---- the walk
+
+fn keep<'a>(alloc: Global, accepted: &mut Vec<Kept<'a>>, tx: &'a Tx) -> Result<(), Memory>
+    ensures { OnOk result (accepted.new.items ≡ accepted.old.items ++ tx.now ∷ []) }
+{
+    accepted.push(Kept::new(alloc, tx)?)?;
+    Ok(())
+}
+
+fn wait<'a>(pending: &mut Vec<Waiting<'a>>, ticket: u64, tx: &'a Tx) -> Result<(), Memory>
+    ensures { OnOk result (pending.new.items ≡ pending.old.items ++ pended ticket tx.now ∷ []) }
+{
+    pending.push(Waiting::new(ticket, tx))?;
+    Ok(())
+}
+
+fn place_at(places: &[Ticketed], i: usize) -> Option<&Ticketed>
+    ensures { option_copied result ≡ slice_get places.now i }
+{
+    places.get(i)
+}
+
+// Keeps a pending transaction, where its place accepted it.
+fn keep_at<'a>(
+    alloc: Global,
+    accepted: &mut Vec<Kept<'a>>,
+    waiting: &Waiting<'a>,
+    place: Option<&Ticketed>,
+) -> Result<(), Memory>
+    ensures { OnOk result (accepted.new.items ≡ accepted.old.items ++ kept_of waiting.now (option_copied place.entry)) }
+{
+    match place {
+        Some(place) => {
+            if accepts(&place.verdict) {
+                keep(alloc, accepted, waiting.tx())?;
+            }
+            Ok(())
+        }
+        None => Ok(()),
+    }
+}
+
+// Keeps those of the pending transactions that the places of a round accepted.
+fn keep_among<'a>(
+    alloc: Global,
+    accepted: &mut Vec<Kept<'a>>,
+    pending: &[Waiting<'a>],
+    places: &[Ticketed],
+) -> Result<(), Memory>
+    ensures { OnOk result (accepted.new.items ≡ accepted.old.items ++ accepted_among pending.now places.now) }
+{
+    for (i, w) in pending.iter().enumerate() {
+        keep_at(alloc, accepted, w, place_at(places, i))?;
+    }
+    Ok(())
+}
+
+fn take_out(pending: &mut Vec<Waiting<'_>>, count: u64) -> Result<(), Memory>
+    ensures { OnOk result (pending.new.items ≡ drop count pending.old.items) }
+{
+    if count >= pending.len() as u64 {
+        pending.clear();
+        Ok(())
+    } else {
+        let rest = pending.split_off(count as usize)?;
+        *pending = rest;
+        Ok(())
+    }
+}
+
+impl<'a> World<'a> {
+    // Takes what an entry changed.
+    fn take(&mut self, alloc: Global, entry: &'a Entry) -> Result<(), Memory>
+        ensures { OnOk result (self.new ≡ record self.old { standing = changed self.old.standing entry.now.call entry.now.reply }) }
+    {
+        match &entry.call {
+            Call::Publish { .. } => Ok(()),
+            Call::Advance(tick) => {
+                if is_advanced(&entry.reply) {
+                    self.tick = *tick;
+                }
+                Ok(())
+            }
+            Call::Look(_) => Ok(()),
+            Call::Submit(tx) => {
+                if is_accepted(&entry.reply) {
+                    keep(alloc, &mut self.accepted, tx)?;
+                }
+                Ok(())
+            }
+            Call::Enqueue(tx) => {
+                if let Some(ticket) = ticket_in(&entry.reply) {
+                    wait(&mut self.pending, ticket, tx)?;
+                }
+                Ok(())
+            }
+            Call::Round(count) => {
+                keep_among(
+                    alloc,
+                    &mut self.accepted,
+                    &self.pending,
+                    places_in(&entry.reply),
+                )?;
+                take_out(&mut self.pending, *count)
+            }
+        }
+    }
+}
+
+/// What stands after these entries.
+pub fn walk<'a>(
+    alloc: Global,
+    genesis: &'a [Output],
+    tick: i64,
+    published: &'a [Shared<Published>],
+    entries: &'a [Entry],
+) -> Result<World<'a>, Memory>
+    ensures { IfOk result (λ w. w ≡ record { genesis = genesis.now; published = published.now; standing = standing tick entries.now; tickets = tickets entries.now }) }
+{
+    let mut world = World {
+        genesis,
+        published,
+        tick,
+        accepted: Vec::new(alloc),
+        pending: Vec::new(alloc),
+        tickets: count_tickets(entries),
+    };
+    for e in entries {
+        world.take(alloc, e)?;
+    }
+    Ok(world)
+}
+
+// ---- what the rules read
+
+/// Whether two references name one output.
+pub fn is_same(a: &OutputRef, b: &OutputRef) -> bool
+    ensures { result ≡ same_ref a.now b.now }
+{
+    match (a, b) {
+        (OutputRef::Genesis { index: i }, OutputRef::Genesis { index: j }) => *i == *j,
+        (OutputRef::Made { id: n, index: i }, OutputRef::Made { id: m, index: j }) => {
+            *n == *m && *i == *j
+        }
+        (OutputRef::Genesis { .. }, OutputRef::Made { .. }) => false,
+        (OutputRef::Made { .. }, OutputRef::Genesis { .. }) => false,
+    }
+}
+
+/// Whether an input of the transaction names the output.
+pub fn names(tx: &Tx, reference: &OutputRef) -> bool
+    ensures { result ≡ names reference.now tx.now }
+{
+    tx.inputs
+        .as_slice()
+        .iter()
+        .any(|x| is_same(&x.reference, reference))
+}
+
+fn output_of(outputs: &[Output], index: u64) -> Option<&Output>
+    ensures { option_copied result ≡ slice_get outputs.now index }
+{
+    outputs.get(index as usize)
+}
+
+pub fn is_spent(accepted: &[Kept<'_>], reference: &OutputRef) -> bool
+    ensures { result ≡ is_spent accepted.now reference.now }
+{
+    accepted.iter().any(|k| names(k.tx(), reference))
+}
+
+// What a transaction made of that name.
+#[tactic(auto, using(crate::proofs::Finding::made_here, crate::proofs::Finding::made_elsewhere, crate::proofs::Finding::made_not))]
+fn made<'a>(kept: &Kept<'a>, reference: &OutputRef) -> Option<&'a Output>
+    ensures { option_copied result ≡ lookup (same_ref reference.now) (made kept.now) }
+{
+    let tx = kept.tx();
+    match reference {
+        OutputRef::Genesis { .. } => None,
+        OutputRef::Made { id, index } => {
+            if *id == *kept.id() {
+                output_of(tx.outputs.as_slice(), *index)
+            } else {
+                None
+            }
+        }
+    }
+}
+
+#[tactic(auto, using(crate::proofs::Finding::made_at, crate::proofs::Finding::made_later))]
+fn made_at<'a>(accepted: &[Kept<'a>], reference: &OutputRef) -> Option<&'a Output>
+    ensures { option_copied result ≡ lookup (same_ref reference.now) (made_by accepted.now) }
+{
+    for k in accepted {
+        if let Some(output) = made(k, reference) {
+            return Some(output);
+        }
+    }
+    None
+}
+
+#[tactic(auto, using(crate::proofs::Finding::genesis_here, crate::proofs::Finding::genesis_not))]
+fn genesis_at<'a>(genesis: &'a [Output], reference: &OutputRef) -> Option<&'a Output>
+    ensures { option_copied result ≡ lookup (same_ref reference.now) (referred (λ i. OutputRef.Genesis i) 0 genesis.now) }
+{
+    match reference {
+        OutputRef::Genesis { index } => output_of(genesis, *index),
+        OutputRef::Made { .. } => None,
+    }
+}
+
+fn find_published<'a>(
+    published: &'a [Shared<Published>],
+    id: &[u8; 32],
+) -> Option<&'a Shared<Published>>
+    ensures { option_copied result ≡ published_at published.now id.now }
+{
+    published.iter().find(|p| p.get().id == *id)
+}
+
+impl<'a> World<'a> {
+    #[tactic(auto, using(crate::proofs::Finding::found_front, crate::proofs::Finding::found_back))]
+    fn output_at(&self, reference: &OutputRef) -> Option<&Output>
+        ensures { option_copied result ≡ lookup (same_ref reference.now) (created (past_of self.now)) }
+    {
+        match genesis_at(self.genesis, reference) {
+            Some(output) => Some(output),
+            None => made_at(&self.accepted, reference),
+        }
+    }
+
+    pub fn now(&self) -> i64
+        ensures { result ≡ self.now.standing.tick }
+    {
+        self.tick
+    }
+
+    pub fn genesis(&self) -> &'a [Output]
+        ensures { result.now ≡ self.now.genesis }
+    {
+        self.genesis
+    }
+
+    pub fn accepted(&self) -> &[Kept<'a>]
+        ensures { result.now ≡ self.now.standing.accepted }
+    {
+        &self.accepted
+    }
+
+    pub fn pending(&self) -> &[Waiting<'a>]
+        ensures { result.now ≡ self.now.standing.pending }
+    {
+        &self.pending
+    }
+
+    pub fn tickets(&self) -> u64
+        ensures { result ≡ self.now.tickets }
+    {
+        self.tickets
+    }
+
+    /// Accepts a transaction.
+    pub fn accept(&mut self, alloc: Global, tx: &'a Tx) -> Result<(), Memory>
+        ensures { OnOk result (self.new ≡ record self.old { standing = record self.old.standing { accepted = self.old.standing.accepted ++ tx.now ∷ [] } }) }
+    {
+        keep(alloc, &mut self.accepted, tx)
+    }
+
+    fn is_spent(&self, reference: &OutputRef) -> bool
+        ensures { result ≡ is_spent self.now.standing.accepted reference.now }
+    {
+        is_spent(&self.accepted, reference)
+    }
+
+    // The output that a reference names, where it is unspent.
+    fn find(&self, reference: &OutputRef) -> Option<&Output>
+        ensures { option_copied result ≡ unspent_at (past_of self.now) reference.now }
+    {
+        if self.is_spent(reference) {
+            None
+        } else {
+            self.output_at(reference)
+        }
+    }
+
+    fn has_used(&self, id: &[u8; 32]) -> bool
+        ensures { result ≡ is_used self.now.standing.accepted id.now }
+    {
+        self.accepted.iter().any(|k| *id == *k.id())
+    }
+}
+
+impl<'a> Ledger<Published> for World<'a> {
+    ghost moment = { λ w. moment_of w };
+
+    fn unspent_at(&self, reference: &OutputRef) -> Option<&Output> {
+        self.find(reference)
+    }
+
+    fn published_at(&self, script: &[u8; 32]) -> Option<&Shared<Published>> {
+        find_published(self.published, script)
+    }
+
+    fn is_used(&self, id: &[u8; 32]) -> bool {
+        self.has_used(id)
+    }
+
+    fn tick(&self) -> i64 {
+        self.tick
+    }
+}
