@@ -1,9 +1,8 @@
 //! Outputs and looks as they are printed.
 use collections::Memory;
 use contract::State;
+use contract_json::state_to_json;
 use eutxo_types::{Datum, Lock, Output, OutputRef};
-use json::Writer;
-use json_outcomes::put_state;
 use looks::{Look, ThreadOutput, Unspent};
 use std::alloc::{AllocError, Global};
 use transaction_text::{Known, put_amounts, word_of_reference};
@@ -104,12 +103,7 @@ pub fn state_word(alloc: Global, state: &State) -> Result<String, Memory> {
     if is_empty(state) {
         return String::from_str(alloc, "empty");
     }
-    let mut out = Writer::new(Vec::new(alloc));
-    put_state(alloc, &mut out, state)?;
-    match String::from_utf8(out.into_inner()) {
-        Ok(word) => Ok(word),
-        Err(_) => unreachable!(),
-    }
+    state_to_json(alloc, state)?.to_string(alloc)
 }
 
 fn is_empty(state: &State) -> bool {
