@@ -29,6 +29,8 @@
 //! - `resolve` prints what is found of what the transaction names that is written: a line for each input, and one for each
 //!   script; it leaves the transaction as it is;
 //! - `check` prints the verdict on that transaction and what is found, and keeps both at hand for the calls below, as a cache;
+//! - `steps_of REFERENCE` prints the number of steps of the thread that starts there, and for each its interval and the number
+//!   where the contract went on, then a line for each input, warning and payment, and the state;
 //! - `history` prints a line for each entry: its place, `SEAT.NUMBER`, the call, and the reply without what a look shows.
 //!
 //! A line that begins with `- ` says what follows, and is printed. An empty line is nothing. Any other line prints
@@ -37,6 +39,7 @@
 
 mod asked;
 mod played;
+mod recorded;
 mod replies;
 mod session;
 mod shown;

@@ -1,6 +1,7 @@
 //! A session: a chain, and what is written for it.
 use crate::asked::{history_lines, keep_check, resolved_lines};
 use crate::played::played;
+use crate::recorded::steps_lines;
 use crate::started::started;
 use chain::Chain;
 use collections::Items;
@@ -109,6 +110,10 @@ fn answered(
     match word {
         "tick" => tick_line(alloc, chain),
         "history" => Ok(history_lines(alloc, &desk.known, chain.history())?),
+        "steps_of" => {
+            let start = reference_of(&desk.known.sent, rest)?;
+            Ok(steps_lines(alloc, chain.steps_of(alloc, &start))?)
+        }
         "resolve" => Ok(resolved_lines(
             alloc,
             &desk.known,
