@@ -28,6 +28,7 @@
 //! - `tick` prints it;
 //! - `resolve` prints what is found of what the transaction names that is written: a line for each input, and one for each
 //!   script; it leaves the transaction as it is;
+//! - `seen` prints, of the same, what the last look holds;
 //! - `check` prints the verdict on that transaction and what is found, and keeps both at hand for the calls below, as a cache;
 //! - `history` prints a line for each entry: its place, `SEAT.NUMBER`, the call, and the reply without what a look shows.
 //!
