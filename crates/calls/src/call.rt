@@ -1,5 +1,5 @@
 //! Calls, replies and entries.
-use collections::{Bytes, Items, Memory, TryClone};
+use collections::{Bytes, Items, Memory, Same, TryClone};
 use contract::Contract;
 use eutxo_types::{Tx, TxFault, Verdict};
 use looks::{Ask, Look};
@@ -83,12 +83,55 @@ impl TryClone for Call {
     }
 }
 
+impl Same for Call {
+    fn same(&self, other: &Call) -> bool {
+        match self {
+            Call::Publish {
+                contract: c,
+                currency: a,
+            } => match other {
+                Call::Publish {
+                    contract: d,
+                    currency: b,
+                } => a.same(b) && c.same(d),
+                _ => false,
+            },
+            Call::Advance(a) => match other {
+                Call::Advance(b) => *a == *b,
+                _ => false,
+            },
+            Call::Look(a) => match other {
+                Call::Look(b) => a.same(b),
+                _ => false,
+            },
+            Call::Submit(a) => match other {
+                Call::Submit(b) => a.same(b),
+                _ => false,
+            },
+            Call::Enqueue(a) => match other {
+                Call::Enqueue(b) => a.same(b),
+                _ => false,
+            },
+            Call::Round(a) => match other {
+                Call::Round(b) => *a == *b,
+                _ => false,
+            },
+        }
+    }
+}
+
 impl TryClone for Ticketed {
     fn try_clone(&self) -> Result<Ticketed, Memory> {
         Ok(Ticketed {
             ticket: self.ticket,
             verdict: self.verdict.try_clone()?,
         })
+    }
+}
+
+impl Same for Ticketed {
+    fn same(&self, other: &Ticketed) -> bool {
+        self.ticket == other.ticket && self.verdict.same(&other.verdict)
     }
 }
 
@@ -107,5 +150,53 @@ impl TryClone for Reply {
             Reply::Full => Ok(Reply::Full),
             Reply::Round(places) => Ok(Reply::Round(places.try_clone()?)),
         }
+    }
+}
+
+impl Same for Reply {
+    fn same(&self, other: &Reply) -> bool {
+        match self {
+            Reply::Published(a) => match other {
+                Reply::Published(b) => *a == *b,
+                _ => false,
+            },
+            Reply::NotCompiled(a) => match other {
+                Reply::NotCompiled(b) => *a == *b,
+                _ => false,
+            },
+            Reply::IdInUse => matches!(other, Reply::IdInUse),
+            Reply::Advanced => matches!(other, Reply::Advanced),
+            Reply::Backward => matches!(other, Reply::Backward),
+            Reply::Look(a) => match other {
+                Reply::Look(b) => a.same(b),
+                _ => false,
+            },
+            Reply::Accepted(a) => match other {
+                Reply::Accepted(b) => *a == *b,
+                _ => false,
+            },
+            Reply::Refused(a) => match other {
+                Reply::Refused(b) => a.same(b),
+                _ => false,
+            },
+            Reply::Ticket(a) => match other {
+                Reply::Ticket(b) => *a == *b,
+                _ => false,
+            },
+            Reply::Full => matches!(other, Reply::Full),
+            Reply::Round(a) => match other {
+                Reply::Round(b) => a.same(b),
+                _ => false,
+            },
+        }
+    }
+}
+
+impl Same for Entry {
+    fn same(&self, other: &Entry) -> bool {
+        self.seat == other.seat
+            && self.number == other.number
+            && self.call.same(&other.call)
+            && self.reply.same(&other.reply)
     }
 }

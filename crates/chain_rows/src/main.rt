@@ -28,6 +28,7 @@
 //! - `tick` prints it;
 //! - `resolve` prints what is found of what the transaction names that is written: a line for each input, and one for each
 //!   script; it leaves the transaction as it is;
+//! - `seen` prints, of the same, what the last look holds;
 //! - `check` prints the verdict on that transaction and what is found, and keeps both at hand for the calls below, as a cache;
 //! - `steps_of REFERENCE` prints the number of steps of the thread that starts there, and for each its interval and the number
 //!   where the contract went on, then a line for each input, warning and payment, and the state;

@@ -39,7 +39,7 @@ fn called(
     let seat = number(seat)?;
     let call = call_of(alloc, desk, word, rest)?;
     let replies = chain.step(alloc, seat, call, &desk.checks);
-    reply_lines(alloc, &desk.known, replies)
+    reply_lines(alloc, &desk.known, &mut desk.look, replies)
 }
 
 fn call_of(alloc: Global, desk: &mut Desk, word: &str, rest: &str) -> Result<Call, RowFault> {
@@ -76,7 +76,7 @@ fn finished(alloc: Global, desk: &mut Desk, name: &str) -> Result<Tx, RowFault> 
 fn enqueues(
     alloc: Global,
     chain: &mut Chain,
-    desk: &Desk,
+    desk: &mut Desk,
     seat: &str,
     count: &str,
 ) -> Result<String, RowFault> {
@@ -86,7 +86,7 @@ fn enqueues(
     for _ in 0..count {
         let call = Call::Enqueue(desk.tx.try_clone()?);
         let replies = chain.step(alloc, seat, call, &desk.checks);
-        last = reply_lines(alloc, &desk.known, replies)?;
+        last = reply_lines(alloc, &desk.known, &mut desk.look, replies)?;
     }
     Ok(last)
 }

@@ -2,12 +2,16 @@
 use crate::shown::put_look;
 use chain::{Call, Reply, Ticketed};
 use collections::Memory;
+use looks::Look;
 use std::alloc::{AllocError, Global};
-use transaction_text::{Known, RowFault, refusal_line, verdict_line, word_of_id};
+use transaction_text::{Known, RowFault, refusal_line, replace, verdict_line, word_of_id};
 
 /// What is printed. The function that owns it is generic in it, so that no proof walks through its drop.
 pub trait Printed: Drop {
     fn lines(&self, alloc: Global, known: &Known) -> Result<String, AllocError>;
+
+    /// Keeps the look that it is, if it is one.
+    fn keep(self, place: &mut Option<Look>);
 }
 
 impl Printed for Reply {
@@ -18,16 +22,25 @@ impl Printed for Reply {
         }
         Ok(lines)
     }
+
+    fn keep(self, place: &mut Option<Look>) {
+        if let Reply::Look(look) = self {
+            replace(place, Some(look));
+        }
+    }
 }
 
-/// The lines for a reply, of which the call gives two copies.
+/// The lines for a reply, of which the call gives two copies. A look is kept.
 pub fn reply_lines<P: Printed>(
     alloc: Global,
     known: &Known,
+    place: &mut Option<Look>,
     replies: Result<(P, P), Memory>,
 ) -> Result<String, RowFault> {
-    let (mine, _) = replies?;
-    Ok(mine.lines(alloc, known)?)
+    let (mine, told) = replies?;
+    let lines = mine.lines(alloc, known)?;
+    told.keep(place);
+    Ok(lines)
 }
 
 /// The first line for a reply.

@@ -7,6 +7,7 @@ use chain::Chain;
 use collections::Items;
 use eutxo::Checked;
 use eutxo_types::{Output, Tx};
+use looks::Look;
 use roles::Published;
 use std::alloc::Global;
 use std::mem;
@@ -15,12 +16,13 @@ use transaction_text::{
     replace, write,
 };
 
-/// What is written so far: the outputs to begin with, a transaction, what has a name, and checks at hand.
+/// What is written so far: the outputs to begin with, a transaction, what has a name, the last look, and checks at hand.
 #[derive(Drop)]
 pub struct Desk {
     pub genesis: Items<Output>,
     pub tx: Tx,
     pub known: Known,
+    pub look: Option<Look>,
     pub checks: Vec<Checked<Published>>,
 }
 
@@ -37,6 +39,7 @@ fn empty_desk(alloc: Global) -> Desk {
         genesis: Items::new(alloc),
         tx: nothing(alloc),
         known: Known::new(alloc),
+        look: None,
         checks: Vec::new(alloc),
     }
 }
@@ -120,6 +123,7 @@ fn answered(
             &desk.tx,
             chain.resolve(alloc, &desk.tx),
         )?),
+        "seen" => seen_lines(alloc, desk),
         "check" => keep_check(
             alloc,
             &mut desk.checks,
@@ -133,4 +137,15 @@ fn answered(
 fn tick_line(alloc: Global, chain: &Chain) -> Result<String, RowFault> {
     let tick = chain.tick();
     Ok(format!(in alloc; "tick {tick}")?)
+}
+
+// What the last look holds of what the transaction names.
+fn seen_lines(alloc: Global, desk: &Desk) -> Result<String, RowFault> {
+    match &desk.look {
+        Some(look) => {
+            let found = look.resolve(alloc, &desk.tx);
+            Ok(resolved_lines(alloc, &desk.known, &desk.tx, found)?)
+        }
+        None => Err(RowFault::NoSuchRow),
+    }
 }
