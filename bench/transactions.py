@@ -1,7 +1,8 @@
 """Spells transactions in bytes by the tables of docs/formats.md, "Bytes", and adds and subtracts amounts, apart from the
-programs: prints what `transaction_rows` must print for its data.
+programs: prints what `transaction_rows` must print for its data without checks, in the order of its `args`. These are the
+first lines of its stdout.
 
-Call it: transactions.py > ../crates/transaction_rows/stdout
+Call it: transactions.py | cmp -n $(transactions.py | wc -c) - ../crates/transaction_rows/stdout
 """
 import hashlib
 import json
@@ -151,7 +152,8 @@ def subtracted(rest):
 # ---- transactions
 
 def spend(words):
-    origin, place, redeemer, *rest = words
+    named, redeemer, *rest = words
+    origin, _, place = named.partition(".")
     reference = b"\0" if origin == "genesis" else b"\1" + id_of(origin)
     wanted(redeemer in ("none", "claim", "step"))
     spelled = {"none": b"\0", "claim": b"\1", "step": b"\2"}[redeemer]
@@ -213,6 +215,5 @@ def rows(path):
             print("no such row")
 
 
-with open(os.path.join(CRATE, "args")) as file:
-    for name in file.read().split():
-        rows(os.path.join(CRATE, "data", name))
+for name in ("transactions.txt", "parts.txt", "sums.txt"):
+    rows(os.path.join(CRATE, "data", name))

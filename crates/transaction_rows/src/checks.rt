@@ -1,14 +1,12 @@
 //! Checks of transactions.
-use crate::fault::RowFault;
-use crate::publications::Named;
 use crate::stubborn::Stubborn;
-use crate::verdicts::verdict_line;
 use collections::{Items, Memory};
 use eutxo::{Resolved, Scripts, Shared, Validator, check};
 use eutxo_types::{Output, Tx};
 use roles::Published;
 use std::alloc::{AllocError, Global};
 use std::sync::Arc;
+use transaction_text::{Named, RowFault, verdict_line};
 
 /// A validator that a row can ask for: what it is for something published.
 trait Asked: Validator + Drop {

@@ -1,8 +1,7 @@
 //! Sums and differences of bundles.
-use crate::amounts::{bundle_of, put_amounts, word_of};
-use crate::fault::RowFault;
 use bundle::{Bundle, BundleFault};
 use std::alloc::{AllocError, Global};
+use transaction_text::{RowFault, bundle_of, put_amounts, word_of};
 
 /// Adds, from `AMOUNTS / AMOUNTS`: the line for the answer, and what is in the first bundle afterwards.
 pub fn added(alloc: Global, rest: &str) -> Result<String, RowFault> {

@@ -1,5 +1,6 @@
 //! What is published, by name.
 use crate::fault::RowFault;
+use crate::known::Known;
 use crate::words::{bytes, parts};
 use collections::{Bytes, Memory, TryClone};
 use compiler::CompileFault;
@@ -19,6 +20,11 @@ pub struct Named {
 }
 
 impl Named {
+    /// Its name.
+    pub fn name(&self) -> &str {
+        self.name.as_str()
+    }
+
     /// The id of its script.
     pub fn id(&self) -> [u8; 32] {
         self.published.get().id
@@ -35,18 +41,11 @@ impl Named {
     }
 }
 
-/// What is published under a name.
-pub fn by_name<'a>(names: &'a [Named], word: &str) -> Result<&'a Named, RowFault> {
-    names
-        .iter()
-        .find(|named| named.name.as_str() == word)
-        .ok_or(RowFault::NoSuchRow)
-}
-
 /// Publishes, from `NAME CURRENCY CONTRACT`.
-pub fn named_of(alloc: Global, rest: &str) -> Result<Named, RowFault> {
+pub fn named_of(alloc: Global, known: &Known, rest: &str) -> Result<Named, RowFault> {
     let (name, rest) = parts(rest)?;
     let (currency, contract) = parts(rest)?;
+    let contract = known.text_of(contract)?;
     let currency = bytes(alloc, currency)?;
     let published = published_of(alloc, read_contract(alloc, contract.as_bytes()), currency)?;
     Ok(Named {

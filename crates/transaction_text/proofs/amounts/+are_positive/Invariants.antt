@@ -1,5 +1,5 @@
 use Rattle.std.proofs.Common.{length}
-use Rattle.transaction_rows.proofs.amounts.+are_positive.Given as goal
+use Rattle.transaction_text.proofs.amounts.+are_positive.Given as goal
 
 abbrev pub decreases-are_positive : goal.decreases-are_positive
 decreases-are_positive l = length l.entries.now

@@ -1,47 +1,20 @@
 //! Outputs of a transaction.
 use crate::amounts::bundle_of;
 use crate::fault::RowFault;
-use crate::publications::{Named, by_name};
-use crate::words::{bytes, first, id, number, parts, put, text};
-use collections::Items;
+use crate::known::Known;
+use crate::words::{bytes, first, id, number, parts, text};
 use contract::State;
 use contract_json::read_state;
 use eutxo_types::{Cont, Datum, Lock, Output};
 use std::alloc::Global;
 
-/// What an input finds: an output, or `nothing`.
-pub fn found_of(alloc: Global, names: &[Named], rest: &str) -> Result<Option<Output>, RowFault> {
-    match rest {
-        "nothing" => Ok(None),
-        _ => Ok(Some(output_of(alloc, names, rest)?)),
-    }
-}
-
-/// Puts so many key outputs of an address with one lovelace each behind the others.
-pub fn put_found(
-    alloc: Global,
-    finds: &mut Items<Option<Output>>,
-    count: u64,
-    address: &str,
-) -> Result<(), RowFault> {
-    for _ in 0..count {
-        put(finds, one_lovelace(alloc, address))?;
-    }
-    Ok(())
-}
-
-fn one_lovelace(alloc: Global, address: &str) -> Result<Option<Output>, RowFault> {
-    let lock = Lock::Key(text(alloc, address)?);
-    Ok(Some(locked(alloc, lock, "ada 1")?))
-}
-
 /// An output, from `SORT` and what follows it.
-pub fn output_of(alloc: Global, names: &[Named], rest: &str) -> Result<Output, RowFault> {
+pub fn output_of(alloc: Global, known: &Known, rest: &str) -> Result<Output, RowFault> {
     let (sort, rest) = parts(rest)?;
     match sort {
         "key" => key(alloc, rest),
         "payout" => payout(alloc, rest),
-        "contract" => contract(alloc, names, rest),
+        "contract" => contract(alloc, known, rest),
         _ => Err(RowFault::NoSuchRow),
     }
 }
@@ -63,20 +36,20 @@ fn payout(alloc: Global, rest: &str) -> Result<Output, RowFault> {
 }
 
 // From `SCRIPT CONTINUATION STATE TOKEN AMOUNT ..`.
-fn contract(alloc: Global, names: &[Named], rest: &str) -> Result<Output, RowFault> {
+fn contract(alloc: Global, known: &Known, rest: &str) -> Result<Output, RowFault> {
     let (script, rest) = parts(rest)?;
     let (cont, rest) = parts(rest)?;
     let (state, amounts) = first(rest);
-    let (script, root) = script_of(names, script)?;
-    let datum = datum_of(alloc, root, cont, state)?;
+    let (script, root) = script_of(known, script)?;
+    let datum = datum_of(alloc, root, cont, known.text_of(state)?)?;
     locked(alloc, Lock::Contract { script, datum }, amounts)
 }
 
 // The id of a script and its root, from `@` and the name of what is published, or from an id.
-fn script_of(names: &[Named], word: &str) -> Result<([u8; 32], Cont), RowFault> {
+fn script_of(known: &Known, word: &str) -> Result<([u8; 32], Cont), RowFault> {
     match word.strip_prefix('@') {
         Some(name) => {
-            let named = by_name(names, name)?;
+            let named = known.by_name(name)?;
             Ok((named.id(), named.root()))
         }
         None => Ok((id(word)?, Cont(0))),
@@ -100,7 +73,8 @@ fn state_of(alloc: Global, word: &str) -> Result<State, RowFault> {
     }
 }
 
-fn locked(alloc: Global, lock: Lock, amounts: &str) -> Result<Output, RowFault> {
+/// An output of a lock, from `TOKEN AMOUNT ..`.
+pub fn locked(alloc: Global, lock: Lock, amounts: &str) -> Result<Output, RowFault> {
     let amount = bundle_of(alloc, amounts)?;
     Ok(Output { lock, amount })
 }

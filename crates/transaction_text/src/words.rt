@@ -52,3 +52,8 @@ pub fn put_in<T: Drop>(list: &mut Vec<T>, item: Result<T, RowFault>) -> Result<(
     list.push(item?)?;
     Ok(())
 }
+
+/// Puts something in the place of something else. It is generic in it, so that no proof walks through its drop.
+pub fn replace<T: Drop>(place: &mut T, by: T) {
+    *place = by;
+}

@@ -4,13 +4,20 @@ use contract::{Party, Token};
 use eutxo_types::{TxFault, Verdict};
 use std::alloc::{AllocError, Global};
 
-/// The line for a verdict: `accepted`, or `refused` and the fault with its place, party, token or inner fault.
+/// The line for a verdict: `accepted`, or the refusal's.
 pub fn verdict_line(alloc: Global, verdict: &Verdict) -> Result<String, AllocError> {
     match verdict {
         Verdict::Accepted => String::from_str(alloc, "accepted"),
-        Verdict::Refused(TxFault::NotAuthorised(party)) => not_authorised(alloc, party),
-        Verdict::Refused(TxFault::NotPreserved(token)) => not_preserved(alloc, token),
-        Verdict::Refused(fault) => format!(in alloc; "refused {fault:?}"),
+        Verdict::Refused(fault) => refusal_line(alloc, fault),
+    }
+}
+
+/// The line for a refusal: `refused` and the fault with its place, party, token or inner fault.
+pub fn refusal_line(alloc: Global, fault: &TxFault) -> Result<String, AllocError> {
+    match fault {
+        TxFault::NotAuthorised(party) => not_authorised(alloc, party),
+        TxFault::NotPreserved(token) => not_preserved(alloc, token),
+        fault => format!(in alloc; "refused {fault:?}"),
     }
 }
 

@@ -1,0 +1,58 @@
+//! `chain_rows`: worked rows of a chain as data. It reads the files that its arguments name, line by line, and prints what the
+//! chain answers; `stdout` has what it must print.
+//!
+//! A paragraph is a session of its own. It begins with a line `# SUBJECT`, which is printed. Then `genesis` and an output, a
+//! line each, have the outputs that the chain begins with, and `begin TICK` begins it; from there on each line is a call, a
+//! question, or one that writes a transaction.
+//!
+//! `let NAME TEXT` names a text, for all paragraphs below it: `$NAME` then stands for it in place of a contract, a state or an
+//! input.
+//!
+//! Transactions and outputs are written as `transaction_text` says. A transaction has the name that it was handed in under,
+//! as the origin of what it made, and a script that of its first publishing.
+//!
+//! These are calls. Each begins with its word and the number of the seat, and prints the reply:
+//!
+//! - `publish SEAT NAME CURRENCY CONTRACT`: the contract in JSON. Prints `published @NAME`, or `in use`;
+//! - `advance SEAT TICK`: `advanced` or `backward`;
+//! - `look SEAT`, and in any number `thread REFERENCE`, `key ADDRESS` and `payout CURRENCY.ROLE`: prints `tick TICK`, then a
+//!   line for each output that is shown, with its reference: the thread's and what is published under its script, or
+//!   `no thread`, then those of keys, then payouts;
+//! - `submit SEAT NAME` hands in the transaction that is written, under this name: `accepted NAME`, or `refused FAULT`;
+//! - `enqueue SEAT NAME` enqueues it: `ticket N` or `full`. `enqueues SEAT COUNT` enqueues so many copies of it, and prints the
+//!   last reply;
+//! - `round SEAT COUNT`: the tickets that are taken out, each with its verdict, or `none`.
+//!
+//! These are questions:
+//!
+//! - `tick` prints it;
+//! - `resolve` prints what is found of what the transaction names that is written: a line for each input, and one for each
+//!   script; it leaves the transaction as it is;
+//! - `seen` prints, of the same, what the last look holds;
+//! - `check` prints the verdict on that transaction and what is found, and keeps both at hand for the calls below, as a cache;
+//! - `steps_of REFERENCE` prints the number of steps of the thread that starts there, and for each its interval and the number
+//!   where the contract went on, then a line for each input, warning and payment, and the state;
+//! - `history` prints a line for each entry: its place, `SEAT.NUMBER`, the call, and the reply without what a look shows.
+//!
+//! A line that begins with `- ` says what follows, and is printed. An empty line is nothing. Any other line prints
+//! `no such row`.
+#![tactic(auto)]
+
+mod asked;
+mod played;
+mod recorded;
+mod replies;
+mod session;
+mod shown;
+mod started;
+
+use crate::session::Session;
+use std::process::ExitCode;
+use transaction_text::print_rows;
+
+fn main(rt: HostRuntime) -> ExitCode {
+    match print_rows::<Session, HostRuntime>(&rt) {
+        Ok(()) => ExitCode::SUCCESS,
+        Err(_) => ExitCode::from(2),
+    }
+}

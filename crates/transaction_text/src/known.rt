@@ -1,0 +1,76 @@
+//! What has a name.
+use crate::fault::RowFault;
+use crate::publications::Named;
+use crate::references::Sent;
+use crate::words::parts;
+use std::alloc::{AllocError, Global};
+
+/// A text, under the name that the rows give it.
+#[derive(Drop)]
+pub struct NamedText {
+    name: String,
+    text: String,
+}
+
+/// A text under a name, from `NAME TEXT`.
+pub fn named_text_of(alloc: Global, rest: &str) -> Result<NamedText, RowFault> {
+    let (name, text) = parts(rest)?;
+    Ok(NamedText {
+        name: String::from_str(alloc, name)?,
+        text: String::from_str(alloc, text)?,
+    })
+}
+
+/// What the lines before have named.
+#[derive(Drop)]
+pub struct Known {
+    pub texts: Vec<NamedText>,
+    pub published: Vec<Named>,
+    pub sent: Vec<Sent>,
+}
+
+impl Known {
+    /// Nothing. Takes no memory.
+    pub fn new(alloc: Global) -> Known {
+        Known {
+            texts: Vec::new(alloc),
+            published: Vec::new(alloc),
+            sent: Vec::new(alloc),
+        }
+    }
+
+    /// The text that a word stands for: the one of the name behind a `$`, else the word itself.
+    pub fn text_of<'a>(&'a self, word: &'a str) -> Result<&'a str, RowFault> {
+        match word.strip_prefix('$') {
+            Some(name) => self.text_named(name),
+            None => Ok(word),
+        }
+    }
+
+    fn text_named(&self, name: &str) -> Result<&str, RowFault> {
+        let found = self.texts.iter().find(|x| x.name.as_str() == name);
+        match found {
+            Some(x) => Ok(x.text.as_str()),
+            None => Err(RowFault::NoSuchRow),
+        }
+    }
+
+    /// What is published under a name.
+    pub fn by_name(&self, word: &str) -> Result<&Named, RowFault> {
+        self.published
+            .iter()
+            .find(|named| named.name() == word)
+            .ok_or(RowFault::NoSuchRow)
+    }
+
+    /// The word for a script: `@` and the name that it was first published under, else its id.
+    pub fn word_of_script(&self, alloc: Global, id: &[u8; 32]) -> Result<String, AllocError> {
+        match self.published.iter().find(|named| named.id() == *id) {
+            Some(named) => {
+                let name = named.name();
+                format!(in alloc; "@{name}")
+            }
+            None => hex::encode(alloc, id.as_slice()),
+        }
+    }
+}

@@ -1,0 +1,43 @@
+//! Transactions as text: how the row programs read what a line says of one, and how they print verdicts and amounts.
+//!
+//! A program answers a text line by line (`Answers`), and what is written so far belongs to it. These lines write a
+//! transaction, and print nothing:
+//!
+//! - `in REFERENCE REDEEMER` puts an input behind the others. A reference is `ORIGIN.PLACE`: the origin is `genesis`, the
+//!   name of a transaction or an id. The redeemer is `none`, `claim`, `step` and inputs of the contract, each in JSON
+//!   without spaces or as the word `notify`, or `notifies` and their number;
+//! - `keys COUNT` puts so many inputs behind the others, which give nothing: the first outputs that the ledger began with;
+//! - `out key ADDRESS AMOUNTS`, `out payout CURRENCY ROLE AMOUNTS` and `out contract SCRIPT CONTINUATION STATE AMOUNTS` put an
+//!   output behind the others. The script is an id, or `@` and the name of what is published, whose root `root` is. The
+//!   state is in JSON without spaces, or the word `empty` for the state without entries at time 0;
+//! - `from TIME to TIME` sets the interval;
+//! - `signer ADDRESS` puts a signer behind the others.
+//!
+//! Amounts are `TOKEN AMOUNT ..` in any order, each token once and each amount above 0; a token is `ada` or `SYMBOL.NAME`.
+//! Ids, scripts, currencies and symbols are in hexadecimal. In place of a contract, a state or an input `$` and the name of a text stands
+//! for that text.
+#![tactic(auto)]
+
+mod amounts;
+mod answers;
+mod drafts;
+mod fault;
+mod known;
+mod outputs;
+mod publications;
+mod references;
+mod spends;
+mod verdicts;
+mod words;
+
+pub use amounts::{bundle_of, put_amounts, word_of};
+pub use answers::{Answers, print_rows};
+pub use drafts::{nothing, write};
+pub use fault::RowFault;
+pub use known::{Known, NamedText, named_text_of};
+pub use outputs::{locked, output_of};
+pub use publications::{Named, named_of};
+pub use references::{Sent, reference_of, sent_of, word_of_id, word_of_reference};
+pub use spends::put_keys;
+pub use verdicts::{refusal_line, verdict_line};
+pub use words::{bytes, first, number, parts, put, put_in, replace, text};

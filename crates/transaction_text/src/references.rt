@@ -1,0 +1,65 @@
+//! References of outputs.
+use crate::fault::RowFault;
+use crate::words::{id, number};
+use eutxo_types::{OutputRef, Tx, tx_id};
+use std::alloc::{AllocError, Global};
+
+/// A transaction's id, under the name that the rows give it.
+#[derive(Drop)]
+pub struct Sent {
+    name: String,
+    id: [u8; 32],
+}
+
+/// A transaction under a name.
+pub fn sent_of(alloc: Global, name: &str, tx: &Tx) -> Result<Sent, RowFault> {
+    let id = tx_id(alloc, tx)?;
+    Ok(Sent {
+        name: String::from_str(alloc, name)?,
+        id,
+    })
+}
+
+/// An output, from `ORIGIN.PLACE`: the origin is `genesis`, the name of a transaction, or an id.
+pub fn reference_of(sent: &[Sent], word: &str) -> Result<OutputRef, RowFault> {
+    let (origin, index) = word.split_once('.').ok_or(RowFault::NoSuchRow)?;
+    let index = number(index)?;
+    match origin {
+        "genesis" => Ok(OutputRef::Genesis { index }),
+        _ => Ok(OutputRef::Made {
+            id: id_of(sent, origin)?,
+            index,
+        }),
+    }
+}
+
+// The id of the transaction of that name, or the one that the word spells.
+fn id_of(sent: &[Sent], word: &str) -> Result<[u8; 32], RowFault> {
+    match sent.iter().find(|x| x.name.as_str() == word) {
+        Some(x) => Ok(x.id),
+        None => id(word),
+    }
+}
+
+/// The word for a transaction: its first name, else its id.
+pub fn word_of_id(alloc: Global, sent: &[Sent], id: &[u8; 32]) -> Result<String, AllocError> {
+    match sent.iter().find(|x| x.id == *id) {
+        Some(x) => String::from_str(alloc, x.name.as_str()),
+        None => hex::encode(alloc, id.as_slice()),
+    }
+}
+
+/// The word for a reference: `ORIGIN.PLACE`.
+pub fn word_of_reference(
+    alloc: Global,
+    sent: &[Sent],
+    reference: &OutputRef,
+) -> Result<String, AllocError> {
+    match reference {
+        OutputRef::Genesis { index } => format!(in alloc; "genesis.{index}"),
+        OutputRef::Made { id, index } => {
+            let origin = word_of_id(alloc, sent, id)?;
+            format!(in alloc; "{origin}.{index}")
+        }
+    }
+}
