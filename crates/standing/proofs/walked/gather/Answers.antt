@@ -1,12 +1,11 @@
 use Rattle.std.proofs.Common.{◌∙◌, ap, to_z, of_z, w64}
-use Rattle.standing.specs.Standing.{Standing, World, changed, tickets}
+use Rattle.standing.specs.Standing.{Standing, changed}
 use Rattle.standing.proofs.Walking.{standing_next}
-use Rattle.standing.proofs.world.walk.Goals as goal
+use Rattle.standing.proofs.walked.gather.Goals as goal
 
 pub loop-e-preserved : goal.loop-e-preserved
 loop-e-preserved c =
     let e = c.e-item.result in
     c.in_ok-take.ensures
-    ∙ ap (λ (w : World). record w { standing = changed w.standing e.call e.reply }) c.loop-e.invariant
-    ∙ ap (λ (s : Standing). let w : World = record { genesis = c.args.genesis.now; published = c.args.published.now; standing = s; tickets = tickets c.args.entries.now } in w)
-    (standing_next (to_z w64 (of_z w64 c.args.tick)) c.args.entries.now c.loop-e.e-index e c.loop-e-test.true c.e-item.is)
+    ∙ ap (λ (s : Standing). changed s e.call e.reply) c.loop-e.invariant
+    ∙ standing_next (to_z w64 (of_z w64 c.args.tick)) c.args.entries.now c.loop-e.e-index e c.loop-e-test.true c.e-item.is
