@@ -1,5 +1,5 @@
 -- One more entry of a course.
-use Rattle.std.proofs.Common.{◌≡◌, ℕ, zero, suc, ℤ, Bool, true, false, List, [], ◌∷◌, ◌++◌, refl, sym, ◌∙◌, ap, subst, Option, Some, None, ◌⊎◌, inl, inr, take, Result, Ok, Err}
+use Rattle.std.proofs.Common.{◌≡◌, ℕ, zero, suc, ℤ, Bool, true, false, List, [], ◌∷◌, ◌++◌, refl, sym, ◌∙◌, ap, subst, Option, Some, None, ◌⊎◌, inl, inr, map, take, Result, Ok, Err}
 use Rattle.std.specs.Prelude.{if◌then◌else◌, is_some}
 use Rattle.std.specs.List.{slice_get}
 use Rattle.compiler.specs.declared.fault.CompileFault.{CompileFault}
@@ -13,10 +13,12 @@ use Rattle.calls.specs.declared.call.Call.TheVariants as on
 use Rattle.calls.specs.declared.call.Reply.{Reply}
 use Rattle.calls.specs.declared.call.Reply.TheVariants as answer
 use Rattle.calls.specs.declared.call.Entry.{Entry}
-use Rattle.standing.specs.Standing.{World, Course, world, published_at, publication, with_one, publishes, published_from, published}
+use Rattle.eutxo_types.specs.Ids.{id_of}
+use Rattle.standing.specs.Standing.{Standing, World, Course, changed, world, published_at, publication, with_one, publishes, published_from, published}
 use Rattle.calls.specs.Replies.{is_published}
 use Rattle.chain.specs.Legal.{is_same, if_same, publishing, reply_to, Follows, IsLegal, with_entry, entry_of, with_new}
 use Rattle.chain.specs.Kept.{IsKept}
+use Rattle.standing.proofs.Walking.{standing_after}
 use Rattle.chain.proofs.Sound.{course_so, tables_so}
 
 -- the element at n of a list that grew
@@ -65,20 +67,21 @@ legal_more c seat call legal n e h =
     ]
 
 -- a chain that kept one more entry
-pub kept_more : AfterIsSound marlowe → LaterIsSound marlowe → PublishedAreTables → (ps later : List Published) (c : Course) (seat : ℕ) (call : Call) → IsKept ps c → later ≡ with_new (published c.entries) call →
-    IsKept later (with_entry c (entry_of c seat call))
-kept_more law law_later law_tables ps later c seat call kept h =
+pub kept_more : AfterIsSound marlowe → LaterIsSound marlowe → PublishedAreTables → (ps later : List Published) (ids more : List (List ℕ)) (c : Course) (seat : ℕ) (call : Call) → IsKept ps ids c → later ≡ with_new (published c.entries) call →
+    map id_of (world c).standing.accepted ++ more ≡ map id_of (changed (world c).standing call (reply_to (world c) call)).accepted → IsKept later (ids ++ more) (with_entry c (entry_of c seat call))
+kept_more law law_later law_tables ps later ids more c seat call kept h k =
     let e = entry_of c seat call in
     let all : published (c.entries ++ e ∷ []) ≡ with_new (published c.entries) call = published_after [] c.entries e ∙ new_is (world c) call in
     record {
       objects = h ∙ sym all;
+      used = ap (λ (l : List (List ℕ)). l ++ more) kept.used ∙ k ∙ ap (λ (s : Standing). map id_of s.accepted) (sym (standing_after (record { tick = c.first_tick; accepted = []; pending = [] }) c.entries e));
       legal = legal_more c seat call kept.legal;
       sound = course_so law law_later c (published (c.entries ++ e ∷ [])) kept.sound seat call all;
       tables = subst (λ (l : List Published). AreTables (published_at l)) (sym all) (tables_so law_tables (published c.entries) kept.tables call);
     }
 
-pub kept_start : StartIsSound marlowe → (genesis : List Output) (tick : ℤ) → AreKeys genesis → IsKept [] (record { genesis = genesis; first_tick = tick; entries = [] })
-kept_start law genesis tick keys = record { objects = refl; legal = λ n e h. cc; sound = law (published_at []) genesis keys; tables = λ script p h. cc }
+pub kept_start : StartIsSound marlowe → (genesis : List Output) (tick : ℤ) → AreKeys genesis → IsKept [] [] (record { genesis = genesis; first_tick = tick; entries = [] })
+kept_start law genesis tick keys = record { objects = refl; used = refl; legal = λ n e h. cc; sound = law (published_at []) genesis keys; tables = λ script p h. cc }
 
 pub same_entry : (a b : Entry) → a.seat ≡ b.seat → a.number ≡ b.number → a.call ≡ b.call → a.reply ≡ b.reply → a ≡ b
 same_entry a b p q r s = λ i. record { seat = p i; number = q i; call = r i; reply = s i }

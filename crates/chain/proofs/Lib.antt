@@ -1,4 +1,6 @@
 mod Rounds
+mod Accepting
 mod Publishing
 mod Sound
 mod Courses
+mod Fitting

@@ -8,13 +8,13 @@ use Rattle.calls.specs.declared.call.Ticketed.{Ticketed}
 use Rattle.standing.specs.Standing.{Pending, World}
 use Rattle.chain.specs.Legal.{if_accepted, judged, verdicts}
 
-drop_at : {A : Type 0} (xs : List A) (n : ℕ) (x : A) → slice_get xs n ≡ Some x → drop n xs ≡ x ∷ drop (suc n) xs
+pub drop_at : {A : Type 0} (xs : List A) (n : ℕ) (x : A) → slice_get xs n ≡ Some x → drop n xs ≡ x ∷ drop (suc n) xs
 drop_at [] zero x h = cc
 drop_at [] (suc n) x h = cc
 drop_at (y ∷ xs) zero x h = let e : y ≡ x = cc in ap (λ (z : _). z ∷ xs) e
 drop_at (y ∷ xs) (suc n) x h = drop_at xs n x h
 
-one_more : (i : ℕ) → suc i ≡ i + 1
+pub one_more : (i : ℕ) → suc i ≡ i + 1
 one_more i = omega arith
 
 pub at_taken : {A : Type 0} (xs : List A) (n i : ℕ) → i < n → slice_get (take n xs) i ≡ slice_get xs i

@@ -1,10 +1,8 @@
 -- What a chain accepted is sound.
-use Rattle.std.proofs.Common.{◌≡◌, ℕ, zero, suc, ℤ, Bool, true, false, List, [], ◌∷◌, ◌++◌, refl, sym, ap, subst, append_assoc, Option, Some, None, take, length}
-use Rattle.std.specs.Prelude.{if◌then◌else◌, int_le, nat_lt}
+use Rattle.std.proofs.Common.{◌≡◌, ℕ, List, [], ◌∷◌, ◌++◌, refl, sym, ap, subst, Option, Some, None, take}
 use Rattle.eutxo_types.specs.declared.output.Output.{Output}
 use Rattle.eutxo_types.specs.declared.tx.Tx.{Tx}
 use Rattle.eutxo_types.specs.declared.fault.TxFault.{TxFault}
-use Rattle.eutxo.specs.Local.{verdict_of}
 use Rattle.roles.specs.declared.published.Published.{Published}
 use Rattle.roles.specs.Publications.{PublishedAreTables}
 use Rattle.history.specs.Laws.{marlowe, AreTables, AfterIsSound, LaterIsSound}
@@ -12,11 +10,10 @@ use Rattle.history.specs.Sound.{IsSound}
 use Rattle.calls.specs.declared.call.Call.{Call}
 use Rattle.calls.specs.declared.call.Call.TheVariants as on
 use Rattle.calls.specs.declared.call.Reply.{Reply}
-use Rattle.calls.specs.declared.call.Reply.TheVariants as answer
-use Rattle.standing.specs.Standing.{Pending, Standing, World, Course, world, past_of, published_at, published, publication, with_one, changed, kept_of, accepted_among, standing}
-use Rattle.calls.specs.Replies.{is_advanced}
-use Rattle.chain.specs.Legal.{submitted, accepting, if_accepted, judged, verdicts, most_pending, reply_to, with_entry, entry_of, with_new}
+use Rattle.standing.specs.Standing.{Pending, Standing, World, Course, world, past_of, published_at, published, publication, with_one, changed, accepted_among, standing}
+use Rattle.chain.specs.Legal.{submitted, accepting, if_accepted, judged, verdicts, reply_to, with_entry, entry_of, with_new}
 use Rattle.standing.proofs.Walking.{standing_after}
+use Rattle.chain.proofs.Accepting.{after_advance, after_enqueue, only_first, no_more, one_kept}
 use Rattle.chain.proofs.Publishing.{new_is_more, new_are_tables}
 
 abbrev SoundWith : List Published → List Output → List Tx → Type 0
@@ -36,22 +33,6 @@ if_accepted_so law w sound tx (Some f) h = sound
 
 -- ---- rounds
 
--- only the first are judged
-only_first : (w : World) (k : ℕ) (ps : List Pending) → accepted_among ps (verdicts w (take k ps)) ≡ accepted_among (take k ps) (verdicts w (take k ps))
-only_first w zero [] = refl
-only_first w zero (p ∷ ps) = refl
-only_first w (suc k) [] = refl
-only_first w (suc k) (p ∷ ps) = ap (λ (l : List Tx). kept_of p (Some (record { ticket = p.0; verdict = verdict_of (judged w p.1) })) ++ l) (only_first (if_accepted w p.1 (judged w p.1)) k ps)
-
-no_more : {A : Type 0} (xs : List A) → xs ++ [] ≡ xs
-no_more [] = refl
-no_more (x ∷ xs) = ap (λ (l : List _). x ∷ l) (no_more xs)
-
-one_kept : (w : World) (p : Pending) (rest : List Tx) (f : Option TxFault) →
-    (if_accepted w p.1 f).standing.accepted ++ rest ≡ w.standing.accepted ++ (kept_of p (Some (record { ticket = p.0; verdict = verdict_of f })) ++ rest)
-one_kept w p rest None = append_assoc w.standing.accepted (p.1 ∷ []) rest
-one_kept w p rest (Some f) = refl
-
 same_published : (w : World) (tx : Tx) (f : Option TxFault) → ((if_accepted w tx f).published ≡ w.published) × ((if_accepted w tx f).genesis ≡ w.genesis)
 same_published w tx None = (refl, refl)
 same_published w tx (Some f) = (refl, refl)
@@ -69,14 +50,6 @@ round_so law w sound (p ∷ ps) =
 
 -- ---- one call
 
-after_advance : (s : Standing) (t : ℤ) (b : Bool) → (let r : Reply = if b then answer.Advanced else answer.Backward in (if is_advanced r then record s { tick = t } else s).accepted) ≡ s.accepted
-after_advance s t true = refl
-after_advance s t false = refl
-
-after_enqueue : (s : Standing) (tx : Tx) (n : ℕ) (b : Bool) → (let r : Reply = if b then answer.Ticket n else answer.Full in (changed s (on.Enqueue tx) r).accepted) ≡ s.accepted
-after_enqueue s tx n true = refl
-after_enqueue s tx n false = refl
-
 submit_so : AfterIsSound marlowe → (w : World) → SoundIn w → (tx : Tx) (f : Option TxFault) → judged w tx ≡ f →
     SoundWith w.published w.genesis (let r : Reply = submitted tx f in (changed w.standing (on.Submit tx) r).accepted)
 submit_so law w sound tx None h = accepted_so law w sound tx h
@@ -85,10 +58,10 @@ submit_so law w sound tx (Some f) h = sound
 call_so : AfterIsSound marlowe → LaterIsSound marlowe → (w : World) → SoundIn w → (call : Call) → SoundWith (with_new w.published call) w.genesis (changed w.standing call (reply_to w call)).accepted
 call_so law later w sound (on.Publish contract currency) =
     later (published_at w.published) (published_at (with_one w.published (publication contract currency))) (past_of w) (new_is_more w.published (publication contract currency)) sound
-call_so law later w sound (on.Advance t) = subst (λ (l : List Tx). SoundWith w.published w.genesis l) (sym (after_advance w.standing t (int_le w.standing.tick t))) sound
+call_so law later w sound (on.Advance t) = subst (λ (l : List Tx). SoundWith w.published w.genesis l) (after_advance w.standing t) sound
 call_so law later w sound (on.Look ask) = sound
 call_so law later w sound (on.Submit tx) = submit_so law w sound tx (judged w tx) refl
-call_so law later w sound (on.Enqueue tx) = subst (λ (l : List Tx). SoundWith w.published w.genesis l) (sym (after_enqueue w.standing tx w.tickets (nat_lt (length w.standing.pending) most_pending))) sound
+call_so law later w sound (on.Enqueue tx) = subst (λ (l : List Tx). SoundWith w.published w.genesis l) (after_enqueue w tx) sound
 call_so law later w sound (on.Round k) =
     subst (λ (l : List Tx). SoundWith w.published w.genesis (w.standing.accepted ++ l)) (sym (only_first w k w.standing.pending))
     (round_so law w sound (take k w.standing.pending))

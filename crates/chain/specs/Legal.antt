@@ -1,5 +1,5 @@
 -- Which histories are legal: the table of calls, and what ties entries to it.
-use Rattle.std.specs.Prelude.{◌≡◌, ℕ, ℤ, int_le, nat_lt, Bool, ◌==◌, if◌then◌else◌, List, [], ◌∷◌, ◌++◌, take, length, count_by, slice_get, Option, Some, None, Result, Ok, Err}
+use Rattle.std.specs.Prelude.{◌≡◌, ℕ, ℤ, int_le, nat_lt, Bool, if◌then◌else◌, List, [], ◌∷◌, ◌++◌, take, length, slice_get, Option, Some, None, Result, Ok, Err}
 use Rattle.collections.specs.Same.{same_by}
 use Rattle.compiler.specs.declared.fault.CompileFault.{CompileFault}
 use Rattle.eutxo_types.specs.declared.fault.TxFault.{TxFault}

@@ -1,8 +1,9 @@
 //! What a call is answered.
 ghost use Rattle.std.specs.Prelude.{◌≡◌, ◌<◌, ◌≤◌, ◌++◌, ◌⊎◌, IfOk, IfErr, OnOk, Ok, Err, Some, length, take, slice_get, option_to_list};
 ghost use Rattle.compiler.specs.declared.fault.CompileFault.TheVariants as faults;
+ghost use Rattle.eutxo_types.specs.Ids.{id_of};
 ghost use Rattle.eutxo.specs.Local.{verdict_of};
-ghost use Rattle.standing.specs.Standing.{pended, published_at, publication, with_one};
+ghost use Rattle.standing.specs.Standing.{pended, accepted_among, changed, published_at, publication, with_one};
 ghost use Rattle.chain.specs.Legal.{publishing, judged, submitted, if_accepted, verdicts, if_later, if_room, reply_to, with_new};
 
 use calls::{Call, Reply, Ticketed};
@@ -22,18 +23,33 @@ const MOST_PENDING: usize = 1024;
 
 // ---- transactions
 
-fn fault_of(alloc: Global, world: &World<'_>, tx: &Tx) -> Result<Option<TxFault>, Memory>
-    ensures { IfOk result (λ fault. fault ≡ judged world.now tx.now) }
-{
-    let id = tx_id(alloc, tx)?;
-    judge(alloc, world, tx, &id)
-}
-
-fn submit(alloc: Global, world: &World<'_>, tx: &Tx) -> Result<Reply, Memory>
-    ensures { IfOk result (λ reply. reply ≡ submitted tx.now (judged world.now tx.now)) }
+// Judges a transaction, and accepts it where no rule refuses it. Answers the fault and the transaction's id,
+// which is computed here alone.
+fn judge_and_accept<'a>(
+    alloc: Global,
+    world: &mut World<'a>,
+    tx: &'a Tx,
+) -> Result<(Option<TxFault>, [u8; 32]), Memory>
+    ensures fault { IfOk result (λ r. r.0 ≡ judged world.old tx.now) }
+    ensures id { IfOk result (λ r. r.1 ≡ id_of tx.now) }
+    ensures world { OnOk result (world.new ≡ if_accepted world.old tx.now (judged world.old tx.now)) }
 {
     let id = tx_id(alloc, tx)?;
     match judge(alloc, world, tx, &id)? {
+        Some(fault) => Ok((Some(fault), id)),
+        None => {
+            world.accept(tx, id)?;
+            Ok((None, id))
+        }
+    }
+}
+
+fn submit<'a>(alloc: Global, world: &mut World<'a>, tx: &'a Tx) -> Result<Reply, Memory>
+    ensures reply { IfOk result (λ reply. reply ≡ submitted tx.now (judged world.old tx.now)) }
+    ensures world { OnOk result (world.new ≡ if_accepted world.old tx.now (judged world.old tx.now)) }
+{
+    let (fault, id) = judge_and_accept(alloc, world, tx)?;
+    match fault {
         Some(fault) => Ok(Reply::Refused(fault)),
         None => Ok(Reply::Accepted(id)),
     }
@@ -49,19 +65,12 @@ fn judge_one<'a>(
     ensures verdict { IfOk result (λ t. t ≡ record { ticket = ticket; verdict = verdict_of (judged world.old tx.now) }) }
     ensures world { OnOk result (world.new ≡ if_accepted world.old tx.now (judged world.old tx.now)) }
 {
-    match fault_of(alloc, world, tx)? {
-        Some(fault) => Ok(Ticketed {
-            ticket,
-            verdict: Verdict::Refused(fault),
-        }),
-        None => {
-            world.accept(alloc, tx)?;
-            Ok(Ticketed {
-                ticket,
-                verdict: Verdict::Accepted,
-            })
-        }
-    }
+    let (fault, _) = judge_and_accept(alloc, world, tx)?;
+    let verdict = match fault {
+        Some(fault) => Verdict::Refused(fault),
+        None => Verdict::Accepted,
+    };
+    Ok(Ticketed { ticket, verdict })
 }
 
 fn first_of(pending: &[Waiting<'_>], count: u64) -> usize
@@ -83,9 +92,10 @@ fn waiting_at<'a>(world: &World<'a>, place: usize) -> (u64, &'a Tx)
     (waiting.ticket(), waiting.tx())
 }
 
-// Judges the first pending transactions, each after those before.
+// Judges the first pending transactions, each after those before, and accepts those that no rule refuses.
 fn round(alloc: Global, world: &mut World<'_>, count: u64) -> Result<Items<Ticketed>, Memory>
-    ensures { IfOk result (λ places. places ≡ verdicts world.old (take count world.old.standing.pending)) }
+    ensures places { IfOk result (λ places. places ≡ verdicts world.old (take count world.old.standing.pending)) }
+    ensures accepted { OnOk result (world.new.standing.accepted ≡ world.old.standing.accepted ++ accepted_among world.old.standing.pending (verdicts world.old (take count world.old.standing.pending))) }
 {
     let mut places = Items::new(alloc);
     for i in 0..first_of(world.pending(), count) {
@@ -182,14 +192,16 @@ fn publish_as(
     }
 }
 
-/// What a call is answered, and what it adds to what is published.
-pub fn answer(
+/// What a call is answered, and what it adds to what is published. The world accepts what the call accepts.
+#[tactic(auto, using(crate::proofs::Accepting::after_advance, crate::proofs::Accepting::after_enqueue, crate::proofs::Accepting::after_submit))]
+pub fn answer<'a>(
     alloc: Global,
-    world: &mut World<'_>,
-    call: &Call,
+    world: &mut World<'a>,
+    call: &'a Call,
 ) -> Result<(Reply, Option<Shared<Published>>), Memory>
     ensures reply { IfOk result (λ r. r.0 ≡ reply_to world.old call.now) }
     ensures object { IfOk result (λ r. world.old.published ++ option_to_list r.1 ≡ with_new world.old.published call.now) }
+    ensures accepted { OnOk result (world.new.standing.accepted ≡ (changed world.old.standing call.now (reply_to world.old call.now)).accepted) }
 {
     match call {
         Call::Publish { contract, currency } => publish_as(alloc, world, contract, currency),

@@ -1,12 +1,13 @@
 //! The ledger of one thread.
-ghost use Rattle.std.specs.Prelude.{◌≡◌, ◌↔◌, ◌++◌, [], true, IfOk, IfErr, OnErr, OnOk, IsTrue, option_to_list};
-ghost use Rattle.history.specs.Laws.{marlowe, EachIsARun, EachStepHasItsThread, EachContractEndsAThread, AreFunded, IsPreserved};
+ghost use Rattle.std.specs.Prelude.{◌≡◌, ◌↔◌, ◌++◌, [], All, IfOk, IfErr, OnErr, OnOk, IsTrue, map, option_to_list};
+ghost use Rattle.history.specs.Laws.{marlowe, EachIsARun, EndsWithItsRun, EachStepHasItsThread, ContractsAreStepped, EachContractEndsAThread, EachEndIsUnspent, AreFunded, AreOfTables, EachIsAuthorised, IsSpentOnce, IsPreserved};
 ghost use Rattle.history.specs.Sound.{AreKeys};
 ghost use Rattle.roles.specs.Steps.{is_key};
 ghost use Rattle.eutxo.specs.Judgement.{found};
-ghost use Rattle.std.specs.FinMap as maps;
-ghost use Rattle.chain.specs.Beginning.{fits_from, IsNoStart};
-ghost use Rattle.standing.specs.Standing.{past_of, world, standing, published, published_at, moment_of};
+ghost use Rattle.std.specs.Bool.{MatchBool};
+ghost use Rattle.chain.specs.Beginning.{IsNatural, SumsFit, HasLargeSum, IsNoStart};
+ghost use Rattle.eutxo_types.specs.Ids.{id_of};
+ghost use Rattle.standing.specs.Standing.{changed, past_of, world, standing, published, published_at, moment_of};
 ghost use Rattle.chain.specs.Legal.{reply_to, entry_of, with_entry, with_new, IsLegal};
 ghost use Rattle.records.specs.Recording.{AreSteps};
 
@@ -18,27 +19,34 @@ use collections::{Items, Memory, TryClone};
 use eutxo::{Checked, Resolved, Shared};
 use eutxo_types::{Lock, Output, OutputRef, Tx};
 use history::{
-    accepting_is_sound, contracts_are_funded, contracts_end_threads, publishing_is_sound,
-    starting_is_sound, steps_stand_on_threads, threads_are_runs, tokens_are_preserved,
+    accepting_is_sound, contracts_are_funded, contracts_end_threads, outputs_are_spent_once,
+    parties_are_authorised, publishing_is_sound, starting_is_sound, steps_stand_on_threads,
+    threads_are_runs, tokens_are_preserved,
 };
 use judging::resolve;
 use records::{StepRecord, steps_of};
 use roles::{Published, published_are_tables};
-use standing::{World, count_of, last_tick, walk};
+use standing::{World, count_of, ids_of, last_tick, walk};
 use std::alloc::{AllocError, Global};
 use std::marker::Model;
 
-fn add_object(
+// Adds what one call published, and the ids of what it accepted, or neither.
+fn add_found(
     published: &mut Vec<Shared<Published>>,
     object: Option<Shared<Published>>,
+    ids: &mut Vec<[u8; 32]>,
+    mut more: Vec<[u8; 32]>,
 ) -> Result<(), Memory>
-    ensures ok { OnOk result (published.new.items ≡ published.old.items ++ option_to_list object) }
-    ensures err { OnErr result (published.new.items ≡ published.old.items) }
+    ensures object { OnOk result (published.new.items ≡ published.old.items ++ option_to_list object) }
+    ensures ids { OnOk result (ids.new.items ≡ ids.old.items ++ more.items) }
+    ensures err { OnErr result ((published.new.items ≡ published.old.items) × (ids.new.items ≡ ids.old.items)) }
 {
-    match object {
-        Some(object) => Ok(published.push(object)?),
-        None => Ok(()),
+    published.reserve(1)?;
+    ids.append(&mut more)?;
+    if let Some(object) = object {
+        published.push_reserved(object);
     }
+    Ok(())
 }
 
 fn is_key(lock: &Lock) -> bool
@@ -53,10 +61,27 @@ fn are_keys(outputs: &[Output]) -> bool
     outputs.iter().all(|o| is_key(&o.lock))
 }
 
-// Whether the sum of each token over these outputs is at most 2^127 - 1.
-fn sums_fit(alloc: Global, outputs: &[Output]) -> Result<bool, Memory>
-    ensures { IfOk result (λ fits. fits ≡ fits_from maps.empty outputs.now) }
+fn is_natural(output: &Output)
+    ensures { IsNatural output.now }
 {
+    let _ = output.amount.entries();
+}
+
+// No amount is below 0, so what some outputs hold is never more than what all hold.
+fn are_natural(outputs: &[Output])
+    ensures { All IsNatural outputs.now }
+{
+    for o in outputs {
+        is_natural(o);
+    }
+}
+
+// Whether the sum of each token over these outputs is at most 2^127 - 1.
+#[tactic(auto, using(crate::proofs::Fitting::sums_start, crate::proofs::Fitting::amounts_start, crate::proofs::Fitting::sums_next, crate::proofs::Fitting::fitting_sum, crate::proofs::Fitting::sums_fit, crate::proofs::Fitting::sum_is_large))]
+fn sums_fit(alloc: Global, outputs: &[Output]) -> Result<bool, Memory>
+    ensures { IfOk result (λ fits. MatchBool fits (SumsFit outputs.now) (HasLargeSum outputs.now)) }
+{
+    are_natural(outputs);
     let mut held = Bundle::new(alloc);
     for o in outputs {
         match held.add(&o.amount) {
@@ -68,14 +93,16 @@ fn sums_fit(alloc: Global, outputs: &[Output]) -> Result<bool, Memory>
     Ok(true)
 }
 
-/// The ledger of one thread: what it began with, what was published, and its history. It finds everything
-/// else by walking over the entries. Clauses see the outputs and the tick that it began with, and the
-/// entries.
+/// The ledger of one thread: what it began with, what was published, its history, and the ids of what was
+/// accepted, each of which is computed once. It finds everything else by walking over the entries. Clauses
+/// see the outputs and the tick that it began with, and the entries.
 #[derive(Drop)]
 pub struct Chain {
     genesis: Items<Output>,
     tick: i64,
     published: Vec<Shared<Published>>,
+    // Of the accepted transactions, in order.
+    ids: Vec<[u8; 32]>,
     entries: Vec<Entry>,
 }
 
@@ -95,7 +122,15 @@ impl Model for Chain {
 
     ghost view = { λ a. record { genesis = a.genesis; first_tick = a.tick; entries = a.entries.items } };
 
-    ghost invariant = { λ a. IsKept a.published.items (record { genesis = a.genesis; first_tick = a.tick; entries = a.entries.items }) };
+    ghost invariant = { λ a. IsKept a.published.items a.ids.items (record { genesis = a.genesis; first_tick = a.tick; entries = a.entries.items }) };
+}
+
+// What is found for one call: its reply, what it publishes, and the ids of the transactions that it accepts.
+#[derive(Drop)]
+struct Found {
+    reply: Reply,
+    object: Option<Shared<Published>>,
+    ids: Vec<[u8; 32]>,
 }
 
 impl Chain {
@@ -109,6 +144,7 @@ impl Chain {
             genesis: outputs,
             tick,
             published: Vec::new(alloc),
+            ids: Vec::new(alloc),
             entries: Vec::new(alloc),
         }
     }
@@ -122,20 +158,22 @@ impl Chain {
             self.tick,
             &self.published,
             &self.entries,
+            &self.ids,
         )
     }
 
-    // What a call is answered, and what it adds to what is published.
-    fn replies(
-        &self,
-        alloc: Global,
-        call: &Call,
-    ) -> Result<(Reply, Option<Shared<Published>>), Memory>
-        ensures reply { IfOk result (λ r. r.0 ≡ reply_to (world self.now) call.now) }
-        ensures object { IfOk result (λ r. published self.now.entries ++ option_to_list r.1 ≡ with_new (published self.now.entries) call.now) }
+    // What a call is answered, what it publishes, and the ids of what it accepts.
+    #[tactic(auto, using(crate::proofs::Accepting::enough_found))]
+    fn replies(&self, alloc: Global, call: &Call) -> Result<Found, Memory>
+        ensures reply { IfOk result (λ r. r.reply ≡ reply_to (world self.now) call.now) }
+        ensures object { IfOk result (λ r. published self.now.entries ++ option_to_list r.object ≡ with_new (published self.now.entries) call.now) }
+        ensures ids { IfOk result (λ r. map id_of (world self.now).standing.accepted ++ r.ids.items ≡ map id_of (changed (world self.now).standing call.now (reply_to (world self.now) call.now)).accepted) }
     {
         let mut world = self.world(alloc)?;
-        answer(alloc, &mut world, call)
+        let known = world.accepted().len();
+        let (reply, object) = answer(alloc, &mut world, call)?;
+        let ids = ids_of(alloc, &world.accepted()[known..])?;
+        Ok(Found { reply, object, ids })
     }
 
     /// Makes the entry of one call, and answers its reply in two equal copies. The entry's number counts the
@@ -158,12 +196,12 @@ impl Chain {
         accepting_is_sound::<Published>();
         publishing_is_sound::<Published>();
         published_are_tables();
-        let (reply, object) = self.replies(alloc, &call)?;
+        let Found { reply, object, ids } = self.replies(alloc, &call)?;
         let mine = reply.try_clone()?;
         let told = reply.try_clone()?;
         let number = count_of(&self.entries, seat);
         self.entries.reserve(1)?;
-        add_object(&mut self.published, object)?;
+        add_found(&mut self.published, object, &mut self.ids, ids)?;
         self.entries.push_reserved(Entry {
             seat,
             number,
@@ -182,23 +220,35 @@ impl Chain {
 
     /// The entries, in order. Takes no memory.
     ///
-    /// They are legal. And whatever was called: the thread of each start output is exactly one run of the
-    /// contract that was published under its script; every accepted step stands on exactly one thread, and each
-    /// unspent contract output is the end of exactly one; it holds just the sums of its accounts; and of each
-    /// token the unspent outputs hold together what the first outputs held.
+    /// They are legal. And whatever was called, this holds of what was accepted. The thread of each start output
+    /// is exactly one run of the contract that was published under its script, and where the thread has an end,
+    /// its datum says where that run stands. Every accepted step stands on exactly one thread, and a contract
+    /// output is spent by a step alone. Each party that a step's inputs need is authorised: an address among the
+    /// signers, or a role whose token a key input's output holds. Each unspent contract output is the end of
+    /// exactly one thread, and each thread's end is an unspent contract output. Such an output holds just the
+    /// sums of its accounts, and stands at a number of the table that was published under its script. No output is
+    /// spent twice. Of each token the unspent outputs hold together what the first outputs held.
     pub fn history(&self) -> &[Entry]
         ensures all { result.now ≡ self.now.entries }
         ensures legal { IsLegal self.now }
         ensures runs { EachIsARun (published_at (published self.now.entries)) (past_of (world self.now)) }
+        ensures stand { EndsWithItsRun (published_at (published self.now.entries)) (past_of (world self.now)) }
         ensures steps { EachStepHasItsThread (past_of (world self.now)) }
+        ensures stepped { ContractsAreStepped (past_of (world self.now)) }
+        ensures authorised { EachIsAuthorised (published_at (published self.now.entries)) (past_of (world self.now)) }
         ensures ends { EachContractEndsAThread (past_of (world self.now)) }
+        ensures unspent { EachEndIsUnspent (past_of (world self.now)) }
         ensures funded { AreFunded (past_of (world self.now)) }
+        ensures numbers { AreOfTables (published_at (published self.now.entries)) (past_of (world self.now)) }
+        ensures once { IsSpentOnce (past_of (world self.now)) }
         ensures preserved { IsPreserved (past_of (world self.now)) }
     {
         threads_are_runs();
         steps_stand_on_threads::<Published>();
         contracts_end_threads::<Published>();
+        parties_are_authorised();
         contracts_are_funded();
+        outputs_are_spent_once::<Published>();
         tokens_are_preserved::<Published>();
         &self.entries
     }
@@ -233,7 +283,7 @@ impl Chain {
     /// one isn't a key output (`NotKey`), else outputs of which the sum of a token is above 2^127 - 1
     /// (`TooLarge`); else only a growth that was refused gives `Memory`.
     pub fn genesis(alloc: Global, outputs: Items<Output>, tick: i64) -> Result<Chain, GenesisFault>
-        ensures ok { IfOk result (λ chain. (chain ≡ record { genesis = outputs; first_tick = tick; entries = [] }) × AreKeys outputs × (fits_from maps.empty outputs ≡ true)) }
+        ensures ok { IfOk result (λ chain. (chain ≡ record { genesis = outputs; first_tick = tick; entries = [] }) × AreKeys outputs × SumsFit outputs) }
         ensures err { IfErr result (λ fault. IsNoStart outputs fault) }
     {
         if !are_keys(outputs.as_slice()) {

@@ -106,7 +106,7 @@ fn add_one<A: Asked>(
 ) -> Result<(), Memory>
     ensures { OnOk result (found.new ≡ found.old ++ under (A.asks asked.now) accepted.now ((reference, output.now) ∷ [])) }
 {
-    if !is_spent(accepted, &reference) && asked.asks(&output.lock) {
+    if asked.asks(&output.lock) && !is_spent(accepted, &reference) {
         let output = output.try_clone()?;
         found.push(Unspent { reference, output })?;
     }

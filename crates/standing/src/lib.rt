@@ -2,15 +2,19 @@
 //!
 //! The tick, what was accepted, what is pending and what was published are read off calls and replies alone
 //! (`specs/Standing.antt`). `walk` finds them by going over the entries once, and a `World` is what it found: a
-//! ledger at a moment, by which a transaction can be judged.
+//! ledger at a moment, by which a transaction can be judged. Accepted transactions are not hashed again: whoever
+//! keeps the entries keeps the ids.
 #![tactic(auto)]
 
 mod counting;
+mod kept;
 mod threads;
 mod ticks;
+mod walked;
 mod world;
 
 pub use counting::{count_of, count_tickets};
+pub use kept::{Kept, Waiting, ids_of};
 pub use threads::{next_of, starts_in};
 pub use ticks::last_tick;
-pub use world::{Kept, Waiting, World, is_same, is_spent, names, walk};
+pub use world::{World, is_same, is_spent, names, walk};

@@ -6,7 +6,7 @@ ghost use Rattle.history.specs.Past.{has_id};
 ghost use Rattle.history.specs.Threads.{is_step, steps, next_of};
 ghost use Rattle.standing.specs.Threads.{starts_in};
 
-use crate::world::Kept;
+use crate::kept::Kept;
 use eutxo_types::{Lock, Output, OutputRef, Redeemer, Tx};
 
 fn is_step(redeemer: &Redeemer) -> bool

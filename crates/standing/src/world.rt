@@ -1,103 +1,23 @@
 //! What stands after a history, found by walking over the entries.
-ghost use Rattle.std.specs.Prelude.{◌≡◌, ◌++◌, ◌∷◌, [], OnOk, IfOk, drop, slice_get, option_copied};
+ghost use Rattle.std.specs.Prelude.{◌≡◌, ◌++◌, ◌∷◌, [], OnOk, IfOk, map, slice_get, option_copied};
 ghost use Rattle.std.specs.Map.{lookup};
 ghost use Rattle.eutxo_types.specs.declared.output_ref.OutputRef.TheVariants as OutputRef;
 ghost use Rattle.eutxo_types.specs.Ids.{id_of};
 ghost use Rattle.eutxo.specs.Parts.{same_ref};
 ghost use Rattle.history.specs.Past.{names, is_spent, is_used, referred, made, made_by, created, unspent_at};
-ghost use Rattle.standing.specs.Standing.{pended, kept_of, accepted_among, changed, standing, tickets, published_at, past_of, moment_of};
+ghost use Rattle.standing.specs.Standing.{standing, tickets, published_at, past_of, moment_of};
 
 use crate::counting::count_tickets;
-use calls::{Call, Entry, Ticketed, accepts, is_accepted, is_advanced, places_in, ticket_in};
+use crate::kept::{Kept, Waiting, with_ids};
+use crate::walked::{Walked, gather};
+use calls::Entry;
 use collections::Memory;
 use eutxo::Shared;
-use eutxo_types::{Output, OutputRef, Tx, tx_id};
+use eutxo_types::{Output, OutputRef, Tx};
 use judging::Ledger;
 use roles::Published;
 use std::alloc::Global;
 use std::marker::Model;
-
-/// An accepted transaction, with its id. Clauses see the transaction.
-#[derive(Drop)]
-pub struct Kept<'a> {
-    id: [u8; 32],
-    tx: &'a Tx,
-}
-
-impl<'a> Model for Kept<'a> {
-    ghost use Rattle.std.specs.Prelude.{◌≡◌};
-    ghost use Rattle.eutxo_types.specs.declared.tx.Tx.{Tx};
-    ghost use Rattle.eutxo_types.specs.contracts.tx.Tx as txs;
-    ghost use Rattle.eutxo_types.specs.Ids.{id_of};
-
-    ghost Value = { Tx };
-
-    ghost coded = { txs.the_row.coded };
-
-    ghost view = { λ a. a.tx.now };
-
-    ghost invariant = { λ a. a.id ≡ id_of a.tx.now };
-}
-
-impl<'a> Kept<'a> {
-    fn new(alloc: Global, tx: &'a Tx) -> Result<Kept<'a>, Memory>
-        ensures { IfOk result (λ k. k ≡ tx.now) }
-    {
-        let id = tx_id(alloc, tx)?;
-        Ok(Kept { id, tx })
-    }
-
-    pub fn tx(&self) -> &'a Tx
-        ensures { result.now ≡ self.now }
-    {
-        self.tx
-    }
-
-    pub fn id(&self) -> &[u8; 32]
-        ensures { result.now ≡ id_of self.now }
-    {
-        &self.id
-    }
-}
-
-/// A pending transaction, with its ticket. Clauses see the pair.
-#[derive(Drop)]
-pub struct Waiting<'a> {
-    ticket: u64,
-    tx: &'a Tx,
-}
-
-impl<'a> Model for Waiting<'a> {
-    ghost use Rattle.std.specs.Coded.{coded×, coded_ℕ};
-    ghost use Rattle.eutxo_types.specs.contracts.tx.Tx as txs;
-    ghost use Rattle.standing.specs.Standing.{Pending, pended};
-
-    ghost Value = { Pending };
-
-    ghost coded = { coded× coded_ℕ txs.the_row.coded };
-
-    ghost view = { λ a. pended a.ticket a.tx.now };
-}
-
-impl<'a> Waiting<'a> {
-    fn new(ticket: u64, tx: &'a Tx) -> Waiting<'a>
-        ensures { result ≡ pended ticket tx.now }
-    {
-        Waiting { ticket, tx }
-    }
-
-    pub fn ticket(&self) -> u64
-        ensures { result ≡ self.now.0 }
-    {
-        self.ticket
-    }
-
-    pub fn tx(&self) -> &'a Tx
-        ensures { result.now ≡ self.now.1 }
-    {
-        self.tx
-    }
-}
 
 /// What stands after a history.
 #[derive(Drop)]
@@ -124,137 +44,32 @@ impl<'a> Model for World<'a> {
     ghost view = { λ a. record { genesis = a.genesis.now; published = a.published.now; standing = record { tick = a.tick; accepted = a.accepted.items; pending = a.pending.items }; tickets = a.tickets } };
 }
 
-// ---- the walk
-
-fn keep<'a>(alloc: Global, accepted: &mut Vec<Kept<'a>>, tx: &'a Tx) -> Result<(), Memory>
-    ensures { OnOk result (accepted.new.items ≡ accepted.old.items ++ tx.now ∷ []) }
-{
-    accepted.push(Kept::new(alloc, tx)?)?;
-    Ok(())
-}
-
-fn wait<'a>(pending: &mut Vec<Waiting<'a>>, ticket: u64, tx: &'a Tx) -> Result<(), Memory>
-    ensures { OnOk result (pending.new.items ≡ pending.old.items ++ pended ticket tx.now ∷ []) }
-{
-    pending.push(Waiting::new(ticket, tx))?;
-    Ok(())
-}
-
-fn place_at(places: &[Ticketed], i: usize) -> Option<&Ticketed>
-    ensures { option_copied result ≡ slice_get places.now i }
-{
-    places.get(i)
-}
-
-// Keeps a pending transaction, where its place accepted it.
-fn keep_at<'a>(
-    alloc: Global,
-    accepted: &mut Vec<Kept<'a>>,
-    waiting: &Waiting<'a>,
-    place: Option<&Ticketed>,
-) -> Result<(), Memory>
-    ensures { OnOk result (accepted.new.items ≡ accepted.old.items ++ kept_of waiting.now (option_copied place.entry)) }
-{
-    match place {
-        Some(place) => {
-            if accepts(&place.verdict) {
-                keep(alloc, accepted, waiting.tx())?;
-            }
-            Ok(())
-        }
-        None => Ok(()),
-    }
-}
-
-// Keeps those of the pending transactions that the places of a round accepted.
-fn keep_among<'a>(
-    alloc: Global,
-    accepted: &mut Vec<Kept<'a>>,
-    pending: &[Waiting<'a>],
-    places: &[Ticketed],
-) -> Result<(), Memory>
-    ensures { OnOk result (accepted.new.items ≡ accepted.old.items ++ accepted_among pending.now places.now) }
-{
-    for (i, w) in pending.iter().enumerate() {
-        keep_at(alloc, accepted, w, place_at(places, i))?;
-    }
-    Ok(())
-}
-
-fn take_out(pending: &mut Vec<Waiting<'_>>, count: u64) -> Result<(), Memory>
-    ensures { OnOk result (pending.new.items ≡ drop count pending.old.items) }
-{
-    if count >= pending.len() as u64 {
-        pending.clear();
-        Ok(())
-    } else {
-        let rest = pending.split_off(count as usize)?;
-        *pending = rest;
-        Ok(())
-    }
-}
-
-impl<'a> World<'a> {
-    // Takes what an entry changed.
-    fn take(&mut self, alloc: Global, entry: &'a Entry) -> Result<(), Memory>
-        ensures { OnOk result (self.new ≡ record self.old { standing = changed self.old.standing entry.now.call entry.now.reply }) }
-    {
-        match &entry.call {
-            Call::Publish { .. } => Ok(()),
-            Call::Advance(tick) => {
-                if is_advanced(&entry.reply) {
-                    self.tick = *tick;
-                }
-                Ok(())
-            }
-            Call::Look(_) => Ok(()),
-            Call::Submit(tx) => {
-                if is_accepted(&entry.reply) {
-                    keep(alloc, &mut self.accepted, tx)?;
-                }
-                Ok(())
-            }
-            Call::Enqueue(tx) => {
-                if let Some(ticket) = ticket_in(&entry.reply) {
-                    wait(&mut self.pending, ticket, tx)?;
-                }
-                Ok(())
-            }
-            Call::Round(count) => {
-                keep_among(
-                    alloc,
-                    &mut self.accepted,
-                    &self.pending,
-                    places_in(&entry.reply),
-                )?;
-                take_out(&mut self.pending, *count)
-            }
-        }
-    }
-}
-
-/// What stands after these entries.
+/// What stands after these entries, where the ids are those of the accepted transactions, in order. Hashes nothing.
 pub fn walk<'a>(
     alloc: Global,
     genesis: &'a [Output],
     tick: i64,
     published: &'a [Shared<Published>],
     entries: &'a [Entry],
+    ids: &[[u8; 32]],
 ) -> Result<World<'a>, Memory>
+    requires { ids.now ≡ map id_of (standing tick entries.now).accepted }
     ensures { IfOk result (λ w. w ≡ record { genesis = genesis.now; published = published.now; standing = standing tick entries.now; tickets = tickets entries.now }) }
 {
-    let mut world = World {
+    let Walked {
+        tick,
+        accepted,
+        pending,
+    } = gather(alloc, tick, entries)?;
+    let accepted = with_ids(alloc, &accepted, ids)?;
+    Ok(World {
         genesis,
         published,
         tick,
-        accepted: Vec::new(alloc),
-        pending: Vec::new(alloc),
+        accepted,
+        pending,
         tickets: count_tickets(entries),
-    };
-    for e in entries {
-        world.take(alloc, e)?;
-    }
-    Ok(world)
+    })
 }
 
 // ---- what the rules read
@@ -385,11 +200,13 @@ impl<'a> World<'a> {
         self.tickets
     }
 
-    /// Accepts a transaction.
-    pub fn accept(&mut self, alloc: Global, tx: &'a Tx) -> Result<(), Memory>
+    /// Accepts a transaction, whose id is given.
+    pub fn accept(&mut self, tx: &'a Tx, id: [u8; 32]) -> Result<(), Memory>
+        requires { id ≡ id_of tx.now }
         ensures { OnOk result (self.new ≡ record self.old { standing = record self.old.standing { accepted = self.old.standing.accepted ++ tx.now ∷ [] } }) }
     {
-        keep(alloc, &mut self.accepted, tx)
+        self.accepted.push(Kept::new(tx, id))?;
+        Ok(())
     }
 
     fn is_spent(&self, reference: &OutputRef) -> bool

@@ -1,7 +1,9 @@
-use Rattle.std.proofs.Common.{◌≡◌, drop}
-use Rattle.std.specs.FinMap as maps
-use Rattle.chain.specs.Beginning.{fits_from}
+use Rattle.std.proofs.Common.{drop}
+use Rattle.chain.proofs.Fitting.{AreAmounts, AreSums}
 use Rattle.chain.proofs.chain.sums_fit.Given as goal
 
 abbrev pub invariant-loop-o : goal.invariant-loop-o
-invariant-loop-o l = fits_from maps.empty l.outputs ≡ fits_from l.held (drop l.o-index l.outputs)
+invariant-loop-o l = record {
+  sums : AreSums l.outputs l.held (drop l.o-index l.outputs);
+  fit : AreAmounts l.held;
+}

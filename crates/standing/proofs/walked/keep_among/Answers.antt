@@ -4,7 +4,7 @@ use Rattle.calls.specs.declared.call.Ticketed.{Ticketed}
 use Rattle.eutxo_types.specs.declared.tx.Tx.{Tx}
 use Rattle.standing.specs.Standing.{kept_of, accepted_among}
 use Rattle.standing.proofs.Walking.{among_next}
-use Rattle.standing.proofs.world.keep_among.Goals as goal
+use Rattle.standing.proofs.walked.keep_among.Goals as goal
 
 pub loop-i-preserved : goal.loop-i-preserved
 loop-i-preserved c =

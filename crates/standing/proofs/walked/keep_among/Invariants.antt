@@ -1,6 +1,6 @@
 use Rattle.std.proofs.Common.{◌≡◌, ◌++◌, drop}
 use Rattle.standing.specs.Standing.{accepted_among}
-use Rattle.standing.proofs.world.keep_among.Given as goal
+use Rattle.standing.proofs.walked.keep_among.Given as goal
 
 abbrev pub invariant-loop-i : goal.invariant-loop-i
 invariant-loop-i l =
