@@ -7,3 +7,4 @@ pub mod Steps
 pub mod Starts
 pub mod Claims
 pub mod Built
+pub mod Serving

@@ -104,8 +104,8 @@ abbrev pub step_spent : StepRequest → Thread → List Unspent
 step_spent r e = own e ∷ step_front r e
 
 -- 6, with the limit on the contract's inputs
-abbrev pub too_many_given : StepRequest → Thread → Option BuildFault
-too_many_given r e = if nat_lt 256 (length r.inputs) then Some TooMany else too_many (step_spent r e)
+abbrev pub too_many_given : List Input → List Unspent → Option BuildFault
+too_many_given xs spent = if nat_lt 256 (length xs) then Some TooMany else too_many spent
 
 -- ---- WHAT HINDERS A STEP: the first of seven clauses that fails
 
@@ -116,7 +116,7 @@ hinders_thread r e =
     ∷ not_signed r.signers r.offered
     ∷ not_authorised e.0.published.currency r
     ∷ no_funds (deposits r.inputs) r.offered
-    ∷ too_many_given r e
+    ∷ too_many_given r.inputs (step_spent r e)
     ∷ repeated (own e ∷ r.offered)
     ∷ [])
 

@@ -1,6 +1,7 @@
 //! What is shown of a ledger.
 ghost use Rattle.std.specs.Prelude.{◌≡◌, ◌↔◌, IsTrue, IfOk};
 
+use bundle::{Bundle, Holds};
 use collections::{Items, Memory, Same, TryClone};
 use eutxo::Shared;
 use eutxo_types::{Output, OutputRef};
@@ -34,6 +35,14 @@ pub struct Look {
     pub keys: Items<Unspent>,
     /// The unspent payouts under the asked locks, in order of creation, each once.
     pub payouts: Items<Unspent>,
+}
+
+impl Holds for Unspent {
+    ghost held = { λ unspent. unspent.output.amount };
+
+    fn amounts(&self) -> &Bundle {
+        &self.output.amount
+    }
 }
 
 impl TryClone for Unspent {

@@ -34,7 +34,7 @@ pub fn holds_role(spent: &[Spent<'_>], currency: &Bytes, role: &Text) -> bool
 }
 
 /// The party that an input needs: the depositor, or the owner of the choice. A notify needs nobody.
-fn needed(input: &Input) -> Option<&Party>
+pub fn needed(input: &Input) -> Option<&Party>
     ensures { option_copied result ≡ needed input.now }
 {
     match input {

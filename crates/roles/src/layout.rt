@@ -94,8 +94,8 @@ fn pays(currency: &Bytes, party: &Party, payment: &Payment, output: &Output) -> 
     is_owed(currency, party, payment, output)
 }
 
-/// The party to which a payment is due.
-fn due_to(payment: &Payment) -> Option<&Party>
+/// The party to which a payment is due: none where it goes to an account, or is of 0.
+pub fn due_to(payment: &Payment) -> Option<&Party>
     ensures { option_copied result ≡ due_to payment.now }
 {
     match &payment.to {

@@ -21,7 +21,8 @@ fn is_fresh(state: &State) -> bool
     state.choices().is_empty() && state.bound_values().is_empty()
 }
 
-fn holds_sums(alloc: Global, amount: &Bundle, state: &State) -> Result<bool, Memory>
+/// Whether an amount is exactly the sums of a state's accounts. It takes memory for a number a token.
+pub fn holds_sums(alloc: Global, amount: &Bundle, state: &State) -> Result<bool, Memory>
     ensures { IfOk result (λ answer. answer ≡ same_amounts amount.now (sums_of state.now)) }
 {
     is_sums(alloc, amount, state)

@@ -1,0 +1,67 @@
+//! The limits on what is spent.
+ghost use Rattle.std.specs.Prelude.{◌≡◌, ◌++◌, ◌∷◌, map, length, nat_lt, ◌||◌, IfOk, OnOk};
+ghost use Rattle.bundle.specs.Bundles.{plus};
+ghost use Rattle.building.specs.Holding.{sums, held};
+ghost use Rattle.building.specs.Clauses.{is_over, too_many, has_repeat, repeated};
+ghost use Rattle.building.specs.Steps.{too_many_given};
+ghost use Rattle.builder.specs.Code.{AreBundles, Passes};
+
+use crate::sum::{see_room, sum};
+use building::BuildFault;
+use bundle::{Bundle, BundleFault};
+use collections::{Memory, TryClone};
+use contract::Input;
+use eutxo_types::{Output, OutputRef};
+use looks::Unspent;
+use std::alloc::Global;
+use std::collections::HashSet;
+
+const MOST: usize = 256;
+
+/// Puts the references of outputs behind others.
+pub(crate) fn put_references(
+    references: &mut Vec<OutputRef>,
+    outputs: &[Unspent],
+) -> Result<(), Memory>
+    ensures { OnOk result (references.new.items ≡ references.old.items ++ map (λ u. u.reference) outputs.now) }
+{
+    for unspent in outputs {
+        references.push(unspent.reference)?;
+    }
+    Ok(())
+}
+
+/// Whether two references name one output, by a set of those that come later.
+pub(crate) fn has_repeat(alloc: Global, references: &[OutputRef]) -> Result<bool, Memory>
+    ensures { IfOk result (λ answer. answer ≡ has_repeat references.now) }
+{
+    let mut later = HashSet::new(alloc);
+    for i in (0..references.len()).rev() {
+        if !later.insert(references[i])? {
+            return Ok(true);
+        }
+    }
+    Ok(false)
+}
+
+/// What a thread's output and the front hold together, where the limits hold.
+pub(crate) fn within_limits(
+    alloc: Global,
+    reference: OutputRef,
+    output: &Output,
+    inputs: &[Input],
+    front: &[Unspent],
+) -> Result<Bundle, BuildFault>
+    requires { AreBundles held front.now }
+    ensures all { IfOk result (λ all. all ≡ sums held (record { reference = reference; output = output.now } ∷ front.now)) }
+    ensures passes { Passes result (too_many_given inputs.now (record { reference = reference; output = output.now } ∷ front.now)) }
+{
+    if inputs.len() > MOST || front.len() >= MOST {
+        return Err(BuildFault::TooMany);
+    }
+    match sum(alloc, front) {
+        Ok(held) => with_output(output, &held),
+        Err(BundleFault::Memory) => Err(BuildFault::Memory),
+        Err(_) => Err(BuildFault::TooMany),
+    }
+}

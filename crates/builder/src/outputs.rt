@@ -1,0 +1,97 @@
+//! The outputs of a layout.
+ghost use Rattle.std.specs.Prelude.{◌≡◌, ◌⊎◌, ◌++◌, true, pos, ◌<ℤ◌, IfOk, IfErr, OnOk};
+ghost use Rattle.roles.specs.Steps.{lock_for, owed, due, continuation};
+ghost use Rattle.roles.specs.Sums.{sums_of};
+ghost use Rattle.building.specs.Clauses.{is_much};
+ghost use Rattle.building.specs.Laying.{given_to};
+
+use crate::accounts::{only, sums_of};
+use bundle::{Bundle, BundleFault};
+use collections::{Bytes, Items, Memory, Text, TryClone};
+use contract::{Party, Payment, State};
+use eutxo_types::{Cont, Datum, Lock, Output};
+use roles::due_to;
+use std::alloc::Global;
+
+fn lock_for(currency: &Bytes, party: &Party) -> Result<Lock, Memory>
+    ensures { IfOk result (λ lock. lock ≡ lock_for currency.now party.now) }
+{
+    match party {
+        Party::Address(address) => Ok(Lock::Key(address.try_clone()?)),
+        Party::Role(role) => Ok(Lock::Payout {
+            currency: currency.try_clone()?,
+            role: role.try_clone()?,
+        }),
+    }
+}
+
+// The output for a payment to a party.
+fn owed(
+    alloc: Global,
+    currency: &Bytes,
+    party: &Party,
+    payment: &Payment,
+) -> Result<Output, Memory>
+    requires { pos 0 <ℤ payment.now.amount }
+    ensures { IfOk result (λ output. output ≡ owed currency.now party.now payment.now) }
+{
+    let lock = lock_for(currency, party)?;
+    let amount = only(alloc, &payment.token, payment.amount)?;
+    Ok(Output { lock, amount })
+}
+
+/// Puts the outputs that are due for payments behind others.
+pub(crate) fn put_due(
+    alloc: Global,
+    outputs: &mut Items<Output>,
+    currency: &Bytes,
+    payments: &[Payment],
+) -> Result<(), Memory>
+    ensures { OnOk result (outputs.new ≡ outputs.old ++ due currency.now payments.now) }
+{
+    for payment in payments {
+        if let Some(party) = due_to(payment) {
+            outputs.push(owed(alloc, currency, party, payment)?)?;
+        }
+    }
+    Ok(())
+}
+
+/// The output in which a contract goes on, with the sums of its accounts: refused with `TooLarge` only where the sum
+/// of a token is above 2^127 - 1, and otherwise only for memory.
+pub(crate) fn continuation(
+    alloc: Global,
+    script: &[u8; 32],
+    there: Cont,
+    state: State,
+) -> Result<Output, BundleFault>
+    ensures ok { IfOk result (λ output. output ≡ continuation script.now there state) }
+    ensures err { IfErr result (λ fault. (fault ≡ BundleFault.Memory) ⊎ ((fault ≡ BundleFault.TooLarge) × (is_much (sums_of state) ≡ true))) }
+{
+    match sums_of(alloc, &state) {
+        Ok(amount) => {
+            let datum = Datum { cont: there, state };
+            let lock = Lock::Contract {
+                script: *script,
+                datum,
+            };
+            Ok(Output { lock, amount })
+        }
+        Err(fault) => Err(fault),
+    }
+}
+
+/// Puts an output to an address behind others, where there is anything for it.
+pub(crate) fn put_given(
+    outputs: &mut Items<Output>,
+    address: &Text,
+    amount: Bundle,
+) -> Result<(), Memory>
+    ensures { OnOk result (outputs.new ≡ outputs.old ++ given_to address.now amount) }
+{
+    if amount.is_empty() {
+        return Ok(());
+    }
+    let lock = Lock::Key(address.try_clone()?);
+    outputs.push(Output { lock, amount })
+}
