@@ -38,7 +38,7 @@ use Rattle.looks.specs.declared.look.Unspent.{Unspent}
 use Rattle.building.specs.Requests.{StepRequest}
 use Rattle.building.specs.Holding.{sums, held, wanted, lacks, least_lacking}
 use Rattle.building.specs.Laying.{rest}
-use Rattle.building.specs.Steps.{Thread, walk, deposit_of, deposits, own, goes_on, made}
+use Rattle.building.specs.Steps.{Thread, terms, walk, deposit_of, deposits, own, goes_on, made}
 use Rattle.building.specs.Starts.{accounts_of}
 use Rattle.building.specs.Serving.{AreBundles}
 use Rattle.building.proofs.Holdings.{amount_of-empty, amount_of-sums, total_of-append, total_of-natural}
@@ -190,7 +190,7 @@ pub funded : MoneyIsKept → EndsQuiet → PaymentsAreNatural → (r : StepReque
     AllPositive (entries e.1.state.accounts) → is_none (least_lacking (deposits r.inputs) us) ≡ true → AreBundles held us → (u : Token) → Funded r e a us u
 funded money quiet natural r e a us sums_held ok above covered bundles u =
     let w = walk r e in
-    let c = _ in
+    let c = (terms e).tree e.1.cont in
     let well : w.end ≡ Ok a = ended_well (all_fit w.numbers) w.end a ok in
     let kept = money u r.interval e.1.state c r.inputs a well in
     let all : total_of held u (own e ∷ us) ≡ states.total_of u e.1.state +ℤ total_of held u us = ap (λ n. n +ℤ total_of held u us) (ap (λ m. amount_of m u) sums_held ∙ amount_of-sums_in (entries e.1.state.accounts) u) in

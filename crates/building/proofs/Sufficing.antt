@@ -32,21 +32,23 @@ not_true : (b : Bool) → b ≡ false → b ≡ true → ⊥
 not_true b h k = cc
 
 -- there is a least where there is any
-none_least : (p : Token → Bool) (ts : List Token) → is_none (least (filter p ts)) ≡ true → list_all (λ t. not (p t)) ts ≡ true
+pub none_least : (p : Token → Bool) (ts : List Token) → is_none (least (filter p ts)) ≡ true → list_all (λ t. not (p t)) ts ≡ true
 none_least p [] h = refl
-none_least p (t ∷ ts) h = by (p t) refl h
+none_least p (t ∷ ts) h = by (p t) refl (none_least p ts) h
   where
-    by : (b : Bool) → p t ≡ b → is_none (least (if b then t ∷ filter p ts else filter p ts)) ≡ true → not (p t) && list_all (λ u. not (p u)) ts ≡ true
-    by true q k = absurd (not_true _ (lesser_some t (least (filter p ts))) k)
-    by false q k = and_true (not (p t)) _ (ap not q) (none_least p ts k)
+    by : (b : Bool) → p t ≡ b → (is_none (least (filter p ts)) ≡ true → list_all (λ u. not (p u)) ts ≡ true) → is_none (least (if b then t ∷ filter p ts else filter p ts)) ≡ true → not (p t) && list_all (λ u. not (p u)) ts ≡ true
+    by true q f k = absurd (not_true _ (lesser_some t (least (filter p ts))) k)
+    by false q f k = and_true (not (p t)) _ (ap not q) (f k)
 
 least_none : (p : Token → Bool) (ts : List Token) → list_all (λ t. not (p t)) ts ≡ true → is_none (least (filter p ts)) ≡ true
 least_none p [] h = refl
-least_none p (t ∷ ts) h = by (p t) refl
+least_none p (t ∷ ts) h =
+    let k = and_so (not (p t)) (list_all (λ u. not (p u)) ts) h in
+    by (p t) k.0 (least_none p ts k.1)
   where
-    by : (b : Bool) → p t ≡ b → is_none (least (if b then t ∷ filter p ts else filter p ts)) ≡ true
-    by true q = absurd (cc (and_so (not (p t)) _ h, ap not q))
-    by false q = least_none p ts (and_so (not (p t)) (list_all (λ u. not (p u)) ts) h).1
+    by : (b : Bool) → not b ≡ true → is_none (least (filter p ts)) ≡ true → is_none (least (if b then t ∷ filter p ts else filter p ts)) ≡ true
+    by true q f = absurd (cc)
+    by false q f = f
 
 all_weaker : (p q : Token → Bool) (ts : List Token) → ((t : Token) → p t ≡ true → q t ≡ true) → list_all p ts ≡ true → list_all q ts ≡ true
 all_weaker p q [] f h = refl
@@ -58,11 +60,11 @@ all_weaker p q (t ∷ ts) f h =
 
 any_more : {A : Type 0} (p : A → Bool) (xs ys : List A) → list_any p xs ≡ true → list_any p (xs ++ ys) ≡ true
 any_more p [] ys h = absurd (cc)
-any_more p (x ∷ xs) ys h = by (p x) h
+any_more p (x ∷ xs) ys h = by (p x) (any_more p xs ys) h
   where
-    by : (b : Bool) → b || list_any p xs ≡ true → b || list_any p (xs ++ ys) ≡ true
-    by true k = refl
-    by false k = any_more p xs ys k
+    by : (b : Bool) → (list_any p xs ≡ true → list_any p (xs ++ ys) ≡ true) → b || list_any p xs ≡ true → b || list_any p (xs ++ ys) ≡ true
+    by true f k = refl
+    by false f k = f k
 
 held_more : (us vs : List Unspent) (t : Token) → holds_token us t ≡ true → holds_token (us ++ vs) t ≡ true
 held_more us vs t h = any_more (λ u. int_lt (pos 0) (amount_of (held u) t)) us vs h
