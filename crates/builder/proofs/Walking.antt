@@ -1,5 +1,5 @@
 -- Walks over lists.
-use Rattle.std.proofs.Common.{◌≡◌, ℕ, zero, suc, ◌+◌, ◌-◌, ◌<◌, ◌≤◌, ℤ, pos, ◌+ℤ◌, ◌≤ℤ◌, Bool, true, false, ◌||◌, List, [], ◌∷◌, ◌++◌, length, take, drop, get_or, refl, sym, ◌∙◌, ap, subst, arith}
+use Rattle.std.proofs.Common.{◌≡◌, ℕ, zero, suc, ◌+◌, ◌-◌, ◌<◌, ◌≤◌, ℤ, pos, ◌+ℤ◌, ◌≤ℤ◌, Bool, true, false, ◌||◌, if◌then◌else◌, List, [], ◌∷◌, ◌++◌, length, take, drop, get_or, refl, sym, ◌∙◌, ap, subst, arith}
 use Rattle.std.proofs.lemmas.Int.{ints}
 use Rattle.std.proofs.lemmas.List.{drop_more, take_more}
 use Rattle.std.specs.List.{list_any}
@@ -95,5 +95,9 @@ none_here a b h k = rw h k
 pub once_here : (rs : List OutputRef) (n : ℕ) (r : OutputRef) → 0 < n → n ≤ length rs → r ≡ get_or rs (n - 1) r → list_any (λ s. same_ref s r) (drop n rs) ≡ false → has_repeat (drop n rs) ≡ false → has_repeat (drop (n - 1) rs) ≡ false
 once_here rs n r h l is k o = subst (λ ss. has_repeat ss ≡ false) (sym (back rs n r h l is)) (none_here (list_any (λ s. same_ref s r) (drop n rs)) (has_repeat (drop n rs)) k o)
 
-pub among_here : (rs : List OutputRef) (n : ℕ) (r q : OutputRef) → 0 < n → n ≤ length rs → r ≡ get_or rs (n - 1) r → same_ref r q || list_any (λ s. same_ref s q) (drop n rs) ≡ list_any (λ s. same_ref s q) (drop (n - 1) rs)
-among_here rs n r q h l is = ap (list_any (λ s. same_ref s q)) (sym (back rs n r h l is))
+pub among_here : (rs : List OutputRef) (n : ℕ) (r q : OutputRef) → 0 < n → n ≤ length rs → r ≡ get_or rs (n - 1) r → (if same_ref r q then true else list_any (λ s. same_ref s q) (drop n rs)) ≡ list_any (λ s. same_ref s q) (drop (n - 1) rs)
+among_here rs n r q h l is = either (same_ref r q) (list_any (λ s. same_ref s q) (drop n rs)) ∙ ap (list_any (λ s. same_ref s q)) (sym (back rs n r h l is))
+  where
+    either : (a b : Bool) → (if a then true else b) ≡ a || b
+    either true b = refl
+    either false b = refl

@@ -1,5 +1,5 @@
 //! The limits on what is spent.
-ghost use Rattle.std.specs.Prelude.{◌≡◌, ◌⊎◌, ◌||◌, ◌++◌, ◌∷◌, true, not, map, IfOk, IfErr, OnOk};
+ghost use Rattle.std.specs.Prelude.{◌≡◌, ◌⊎◌, if◌then◌else◌, ◌++◌, ◌∷◌, true, not, map, IfOk, IfErr, OnOk};
 ghost use Rattle.std.specs.HashSet.{contains};
 ghost use Rattle.eutxo.specs.Parts.{same_ref};
 ghost use Rattle.bundle.specs.Bundles.{plus};
@@ -37,7 +37,7 @@ pub(crate) fn put_references(
 // Puts a reference into a set, and answers whether it is new there.
 fn put(set: &mut HashSet<OutputRef>, reference: OutputRef) -> Result<bool, Memory>
     ensures fresh { IfOk result (λ fresh. fresh ≡ not (contains same_ref set.old reference)) }
-    ensures put { OnOk result ((r : OutputRef) → contains same_ref set.new r ≡ same_ref reference r || contains same_ref set.old r) }
+    ensures put { OnOk result ((r : OutputRef) → contains same_ref set.new r ≡ (if same_ref reference r then true else contains same_ref set.old r)) }
 {
     let fresh = set.insert(reference)?;
     Ok(fresh)
