@@ -1,0 +1,10 @@
+pub mod Tests
+pub mod Named
+pub mod Sums
+pub mod Fronts
+pub mod Pairs
+pub mod Spending
+pub mod Judging
+pub mod Outputs
+pub mod Threads
+pub mod Stepping

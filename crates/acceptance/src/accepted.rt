@@ -1,0 +1,17 @@
+//! That layouts are accepted.
+ghost use Rattle.acceptance.specs.Accepting.{StepsPass, StartsPass, ClaimsPass, StepsAreAccepted, StartsAreAccepted, ClaimsAreAccepted};
+
+use eutxo::found_is_enough;
+use roles::Published;
+
+/// The layout of a step that nothing hinders is accepted by every ledger at every moment at which what it spends is
+/// unspent with the contents that were handed in, the thread's script is published as the look shows it, no accepted
+/// transaction has its id and the tick lies in its interval. And no rule refuses it on any resolution that has what was
+/// handed in.
+pub fn steps_are_accepted()
+    ensures passes { StepsPass }
+    ensures accepted { StepsAreAccepted }
+{
+    found_is_enough::<Published>();
+}
+

@@ -1,0 +1,7 @@
+//! What holds of the layout of every request that nothing hinders: laws, each the contract of a function that does
+//! nothing.
+#![tactic(auto)]
+
+mod accepted;
+
+pub use accepted::steps_are_accepted;
