@@ -3,7 +3,7 @@ ghost use Rattle.std.specs.Prelude.{◌≡◌};
 ghost use Rattle.std.specs.List.{list_all};
 ghost use Rattle.building.specs.Holding.{held, holds_token};
 ghost use Rattle.building.specs.Fronts.{suffices};
-ghost use Rattle.builder.specs.Code.{AreBundles, IsShortest};
+ghost use Rattle.building.specs.Serving.{AreBundles, IsShortest};
 
 use crate::amounts::Amount;
 use crate::funds::least_lacking;

@@ -31,10 +31,7 @@ fn lesser<'a>(token: &'a Token, least: Option<&'a Token>) -> Option<&'a Token>
 }
 
 /// The least of the wanted tokens of which outputs hold less.
-pub(crate) fn least_lacking<'a>(
-    amounts: &[Amount<'a>],
-    outputs: &[Unspent],
-) -> Option<&'a Token>
+pub(crate) fn least_lacking<'a>(amounts: &[Amount<'a>], outputs: &[Unspent]) -> Option<&'a Token>
     ensures { option_copied result ≡ least_lacking amounts.now outputs.now }
 {
     let mut least = None;

@@ -3,7 +3,8 @@ ghost use Rattle.std.specs.Prelude.{◌≡◌, ◌++◌, map, IfOk, OnOk};
 ghost use Rattle.building.specs.Laying.{by_key};
 
 use collections::{Items, Memory, TryClone};
-use eutxo_types::{Redeemer, Spend};
+use contract::Input;
+use eutxo_types::{OutputRef, Redeemer, Spend};
 use looks::Unspent;
 use std::alloc::Global;
 
@@ -14,6 +15,20 @@ fn by_key(unspent: &Unspent) -> Spend
         reference: unspent.reference,
         redeemer: Redeemer::None,
     }
+}
+
+/// The input that spends a thread's output, with a step.
+pub(crate) fn by_step(
+    alloc: Global,
+    reference: OutputRef,
+    inputs: &[Input],
+) -> Result<Spend, Memory>
+    ensures { IfOk result (λ spend. spend ≡ record { reference = reference; redeemer = Redeemer.Step inputs.now }) }
+{
+    Ok(Spend {
+        reference,
+        redeemer: Redeemer::Step(copies_of(alloc, inputs)?),
+    })
 }
 
 /// Puts the inputs that spend key outputs behind others.

@@ -6,8 +6,10 @@
 //! ledger: they build on what was seen of one.
 #![tactic(auto)]
 
+mod accounts;
 mod amounts;
 mod authorise;
+mod checks;
 mod front;
 mod funds;
 mod inputs;

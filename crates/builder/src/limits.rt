@@ -1,15 +1,16 @@
 //! The limits on what is spent.
-ghost use Rattle.std.specs.Prelude.{◌≡◌, ◌++◌, ◌∷◌, map, length, nat_lt, ◌||◌, IfOk, OnOk};
+ghost use Rattle.std.specs.Prelude.{◌≡◌, ◌⊎◌, ◌++◌, ◌∷◌, true, map, IfOk, IfErr, OnOk};
 ghost use Rattle.bundle.specs.Bundles.{plus};
 ghost use Rattle.building.specs.Holding.{sums, held};
-ghost use Rattle.building.specs.Clauses.{is_over, too_many, has_repeat, repeated};
+ghost use Rattle.building.specs.Clauses.{is_much, has_repeat};
 ghost use Rattle.building.specs.Steps.{too_many_given};
-ghost use Rattle.builder.specs.Code.{AreBundles, Passes};
+ghost use Rattle.building.specs.Serving.{AreBundles};
+ghost use Rattle.builder.specs.Code.{Passes};
 
-use crate::sum::{see_room, sum};
+use crate::sum::{both, copy_of, see, see_room, sum};
 use building::BuildFault;
 use bundle::{Bundle, BundleFault};
-use collections::{Memory, TryClone};
+use collections::Memory;
 use contract::Input;
 use eutxo_types::{Output, OutputRef};
 use looks::Unspent;
@@ -44,6 +45,23 @@ pub(crate) fn has_repeat(alloc: Global, references: &[OutputRef]) -> Result<bool
     Ok(false)
 }
 
+// What a thread's output and others hold together.
+fn spent(alloc: Global, output: &Output, front: &[Unspent]) -> Result<Bundle, BundleFault>
+    requires { AreBundles held front.now }
+    ensures ok { IfOk result (λ all. all ≡ plus output.now.amount (sums held front.now)) }
+    ensures err { IfErr result (λ fault. (fault ≡ BundleFault.Memory) ⊎ ((fault ≡ BundleFault.TooLarge) × (is_much (plus output.now.amount (sums held front.now)) ≡ true))) }
+{
+    see(output);
+    let amount = match copy_of(output) {
+        Ok(amount) => amount,
+        Err(fault) => return Err(fault),
+    };
+    match sum(alloc, front) {
+        Ok(others) => both(amount, &others),
+        Err(fault) => Err(fault),
+    }
+}
+
 /// What a thread's output and the front hold together, where the limits hold.
 pub(crate) fn within_limits(
     alloc: Global,
@@ -56,11 +74,15 @@ pub(crate) fn within_limits(
     ensures all { IfOk result (λ all. all ≡ sums held (record { reference = reference; output = output.now } ∷ front.now)) }
     ensures passes { Passes result (too_many_given inputs.now (record { reference = reference; output = output.now } ∷ front.now)) }
 {
+    let _ = reference;
     if inputs.len() > MOST || front.len() >= MOST {
         return Err(BuildFault::TooMany);
     }
-    match sum(alloc, front) {
-        Ok(held) => with_output(output, &held),
+    match spent(alloc, output, front) {
+        Ok(all) => {
+            see_room(&all);
+            Ok(all)
+        }
         Err(BundleFault::Memory) => Err(BuildFault::Memory),
         Err(_) => Err(BuildFault::TooMany),
     }

@@ -1,16 +1,20 @@
 //! The outputs of a layout.
-ghost use Rattle.std.specs.Prelude.{◌≡◌, ◌⊎◌, ◌++◌, true, pos, ◌<ℤ◌, IfOk, IfErr, OnOk};
+ghost use Rattle.std.specs.Prelude.{◌≡◌, ◌⊎◌, ◌++◌, ◌∷◌, [], true, pos, ◌<ℤ◌, if◌then◌else◌, IfOk, IfErr, OnOk};
+ghost use Rattle.bundle.specs.Bundles.{minus};
 ghost use Rattle.roles.specs.Steps.{lock_for, owed, due, continuation};
 ghost use Rattle.roles.specs.Sums.{sums_of};
+ghost use Rattle.building.specs.Holding.{sums};
 ghost use Rattle.building.specs.Clauses.{is_much};
 ghost use Rattle.building.specs.Laying.{given_to};
 
 use crate::accounts::{only, sums_of};
+use crate::sum::{see_all, sum};
+use building::BuildFault;
 use bundle::{Bundle, BundleFault};
 use collections::{Bytes, Items, Memory, Text, TryClone};
-use contract::{Party, Payment, State};
+use contract::{Outcome, Party, Payment, State};
 use eutxo_types::{Cont, Datum, Lock, Output};
-use roles::due_to;
+use roles::{Published, due_to};
 use std::alloc::Global;
 
 fn lock_for(currency: &Bytes, party: &Party) -> Result<Lock, Memory>
@@ -26,12 +30,7 @@ fn lock_for(currency: &Bytes, party: &Party) -> Result<Lock, Memory>
 }
 
 // The output for a payment to a party.
-fn owed(
-    alloc: Global,
-    currency: &Bytes,
-    party: &Party,
-    payment: &Payment,
-) -> Result<Output, Memory>
+fn owed(alloc: Global, currency: &Bytes, party: &Party, payment: &Payment) -> Result<Output, Memory>
     requires { pos 0 <ℤ payment.now.amount }
     ensures { IfOk result (λ output. output ≡ owed currency.now party.now payment.now) }
 {
@@ -94,4 +93,45 @@ pub(crate) fn put_given(
     }
     let lock = Lock::Key(address.try_clone()?);
     outputs.push(Output { lock, amount })
+}
+
+/// The output in which a published contract goes on, unless it is closed, and those that are due for the payments.
+pub(crate) fn made(
+    alloc: Global,
+    published: &Published,
+    closed: bool,
+    outcome: Outcome<Cont>,
+) -> Result<Items<Output>, BuildFault>
+    ensures ok { IfOk result (λ outputs. outputs ≡ (if closed then [] else continuation published.now.id outcome.place outcome.state ∷ []) ++ due published.now.currency outcome.payments) }
+    ensures err { IfErr result (λ fault. fault ≡ BuildFault.Memory) }
+{
+    let mut outputs = Items::new(alloc);
+    if !closed {
+        match continuation(alloc, &published.id, outcome.place, outcome.state) {
+            Ok(output) => outputs.push(output)?,
+            Err(_) => return Err(BuildFault::Memory),
+        }
+    }
+    put_due(
+        alloc,
+        &mut outputs,
+        &published.currency,
+        outcome.payments.as_slice(),
+    )?;
+    Ok(outputs)
+}
+
+/// What is spent and not made, of which there is enough.
+pub(crate) fn rest(alloc: Global, mut all: Bundle, made: &[Output]) -> Result<Bundle, BuildFault>
+    ensures ok { IfOk result (λ rest. rest ≡ minus all (sums (λ o. o.amount) made.now)) }
+    ensures err { IfErr result (λ fault. fault ≡ BuildFault.Memory) }
+{
+    see_all(made);
+    match sum(alloc, made) {
+        Ok(sum) => match all.subtract(&sum) {
+            Ok(()) => Ok(all),
+            Err(_) => Err(BuildFault::Memory),
+        },
+        Err(_) => Err(BuildFault::Memory),
+    }
 }

@@ -2,17 +2,18 @@
 ghost use Rattle.std.specs.Prelude.{◌≡◌, ◌⊎◌, true, false, IfOk, IfErr, pos, int_lt, ◌-◌, ◌^◌};
 ghost use Rattle.std.specs.List.{list_any};
 ghost use Rattle.std.specs.FinMap.{entries};
-ghost use Rattle.bundle.specs.Bundles.{AllPositive, plus, too_large};
+ghost use Rattle.bundle.specs.Bundles.{AllPositive, plus};
 ghost use Rattle.building.specs.Holding.{sums};
 ghost use Rattle.building.specs.Clauses.{is_much};
-ghost use Rattle.builder.specs.Code.{AreBundles};
+ghost use Rattle.building.specs.Serving.{AreBundles};
 
 use bundle::{Bundle, BundleFault, Holds};
 use collections::TryClone;
 use names::Token;
 use std::alloc::Global;
 
-fn see<A: Holds>(item: &A)
+/// What it holds is above 0. It does nothing.
+pub(crate) fn see<A: Holds>(item: &A)
     ensures { AllPositive (entries (A.held item.now)) }
 {
     let _ = item.amounts().entries();
@@ -42,17 +43,21 @@ pub(crate) fn see_room(bundle: &Bundle)
     has_room(bundle.entries());
 }
 
-fn both(mut left: Bundle, right: &Bundle) -> Result<Bundle, BundleFault>
+/// Both together: refused with `TooLarge` only where the sum of a token is above 2^127 - 1, and otherwise only for
+/// memory.
+pub(crate) fn both(mut left: Bundle, right: &Bundle) -> Result<Bundle, BundleFault>
     ensures ok { IfOk result (λ bundle. bundle ≡ plus left right.now) }
-    ensures err { IfErr result (λ fault. (fault ≡ BundleFault.Memory) ⊎ ((fault ≡ BundleFault.TooLarge) × (too_large left right.now ≡ true))) }
+    ensures err { IfErr result (λ fault. (fault ≡ BundleFault.Memory) ⊎ ((fault ≡ BundleFault.TooLarge) × (is_much (plus left right.now) ≡ true))) }
 {
+    let _ = right.entries();
     match left.add(right) {
         Ok(()) => Ok(left),
         Err(fault) => Err(fault),
     }
 }
 
-fn copy_of<A: Holds>(item: &A) -> Result<Bundle, BundleFault>
+/// What it holds.
+pub(crate) fn copy_of<A: Holds>(item: &A) -> Result<Bundle, BundleFault>
     ensures ok { IfOk result (λ bundle. bundle ≡ A.held item.now) }
     ensures err { IfErr result (λ fault. fault ≡ BundleFault.Memory) }
 {
@@ -74,9 +79,13 @@ pub(crate) fn sum<A: Holds>(alloc: Global, items: &[A]) -> Result<Bundle, Bundle
         [item] => copy_of(item),
         _ => {
             let (front, back) = items.split_at(items.len() / 2);
-            let left = sum(alloc, front)?;
-            let right = sum(alloc, back)?;
-            both(left, &right)
+            match sum(alloc, front) {
+                Ok(left) => match sum(alloc, back) {
+                    Ok(right) => both(left, &right),
+                    Err(fault) => Err(fault),
+                },
+                Err(fault) => Err(fault),
+            }
         }
     }
 }

@@ -147,12 +147,12 @@ none_above h = omega (arith, ints, h)
 
 much_in : (es : List (Token × ℤ)) → T (is_sorted token_cmp es) → list_any (λ e. int_lt most e.1) es ≡ true → (t : Token) × (most <ℤ unwrap_or (find token_cmp t es) (pos 0))
 much_in [] s h = absurd (cc)
-much_in (e ∷ es) s h = by (int_lt most e.1) refl
+much_in (e ∷ es) s h = by (int_lt most e.1) refl (much_in es (third _ _ s))
   where
-    by : (b : Bool) → int_lt most e.1 ≡ b → (t : Token) × (most <ℤ unwrap_or (find token_cmp t (e ∷ es)) (pos 0))
-    by true q = (e.0, subst (λ o. most <ℤ unwrap_or o (pos 0)) (sym (found_first e es)) (below most e.1 q))
-    by false q =
-        let k = much_in es (third _ _ s) (subst (λ b. b || list_any (λ x. int_lt most x.1) es ≡ true) q h) in
+    by : (b : Bool) → int_lt most e.1 ≡ b → (list_any (λ x. int_lt most x.1) es ≡ true → (t : Token) × (most <ℤ unwrap_or (find token_cmp t es) (pos 0))) → (t : Token) × (most <ℤ unwrap_or (find token_cmp t (e ∷ es)) (pos 0))
+    by true q f = (e.0, subst (λ o. most <ℤ unwrap_or o (pos 0)) (sym (found_first e es)) (below most e.1 q))
+    by false q f =
+        let k = f (subst (λ b. b || list_any (λ x. int_lt most x.1) es ≡ true) q h) in
         (k.0, found_later k.0 e es (λ n. most <ℤ n) s (λ z. absurd (none_above z)) k.1)
 
 -- and where there is too much, there is more of a token
@@ -166,12 +166,12 @@ more_than a b e h k = omega (arith, ints, h, k)
 
 large_in : (a : Amounts) (es : List (Token × ℤ)) → T (is_sorted token_cmp es) → AllPositive es → any_large a es ≡ true → (t : Token) × (most <ℤ (amount_of a t +ℤ unwrap_or (find token_cmp t es) (pos 0)))
 large_in a [] s p h = absurd (cc)
-large_in a (e ∷ es) s p h = by (is_large (amount_of a e.0) e.1) refl
+large_in a (e ∷ es) s p h = by (is_large (amount_of a e.0) e.1) refl (large_in a es (third _ _ s) p.1)
   where
-    by : (b : Bool) → is_large (amount_of a e.0) e.1 ≡ b → (t : Token) × (most <ℤ (amount_of a t +ℤ unwrap_or (find token_cmp t (e ∷ es)) (pos 0)))
-    by true q = (e.0, subst (λ o. most <ℤ (amount_of a e.0 +ℤ unwrap_or o (pos 0))) (sym (found_first e es)) (below most (amount_of a e.0 +ℤ e.1) q))
-    by false q =
-        let k = large_in a es (third _ _ s) p.1 (subst (λ b. b || any_large a es ≡ true) q h) in
+    by : (b : Bool) → is_large (amount_of a e.0) e.1 ≡ b → (any_large a es ≡ true → (t : Token) × (most <ℤ (amount_of a t +ℤ unwrap_or (find token_cmp t es) (pos 0)))) → (t : Token) × (most <ℤ (amount_of a t +ℤ unwrap_or (find token_cmp t (e ∷ es)) (pos 0)))
+    by true q f = (e.0, subst (λ o. most <ℤ (amount_of a e.0 +ℤ unwrap_or o (pos 0))) (sym (found_first e es)) (below most (amount_of a e.0 +ℤ e.1) q))
+    by false q f =
+        let k = f (subst (λ b. b || any_large a es ≡ true) q h) in
         (k.0, found_later k.0 e es (λ n. most <ℤ (amount_of a k.0 +ℤ n)) s (λ z. more_than (amount_of a k.0) (pos 0) e.1 z p.0) k.1)
 
 -- two bundles of which a sum is too large hold too much

@@ -39,10 +39,10 @@ is_over us = nat_lt 256 (length us) || is_much (sums held us)
 abbrev pub too_many : List Unspent → Option BuildFault
 too_many spent = if is_over spent then Some TooMany else None
 
--- whether two references name one output
+-- whether two of these references name one output
 abbrev pub has_repeat : List OutputRef → Bool
 has_repeat [] = false
-has_repeat (r ∷ rs) = list_any (same_ref r) rs || has_repeat rs
+has_repeat (r ∷ rs) = list_any (λ s. same_ref s r) rs || has_repeat rs
 
 -- 7: of all that is handed in to be spent, two name one output
 abbrev pub repeated : List Unspent → Option BuildFault

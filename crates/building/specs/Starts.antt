@@ -2,6 +2,7 @@
 use Rattle.std.specs.Prelude.{ℤ, Bool, not, ◌&&◌, if◌then◌else◌, List, [], ◌∷◌, ◌++◌, map, Option, Some}
 use Rattle.std.specs.FinMap.{entries, empty}
 use Rattle.names.specs.declared.token.Token.{Token}
+use Rattle.names.specs.Equal.{ada}
 use Rattle.states.specs.States.{StateMaps}
 use Rattle.eutxo_types.specs.declared.output.Output.{Output}
 use Rattle.eutxo_types.specs.declared.tx.Tx.{Tx}
@@ -22,9 +23,6 @@ fresh s = record { accounts = s.accounts; choices = empty; bound_values = empty;
 -- what the accounts have
 abbrev pub accounts_of : StateMaps → List (Token × ℤ)
 accounts_of s = map (λ e. (e.0.token, e.1)) (entries s.accounts)
-
-abbrev pub ada : Token
-ada = record { symbol = []; name = [] }
 
 -- the shortest front that covers the accounts and has one output at least
 abbrev pub funds : StateMaps → List Unspent → Bool

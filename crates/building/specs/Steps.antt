@@ -88,8 +88,8 @@ may_act currency signers offered (Address a) = has_signed signers a
 may_act currency signers offered (Role r) = holds_token offered (role_token currency r)
 
 -- 4: of the parties that the inputs need, in order, the first that may not act
-abbrev pub not_authorised : List ℕ → StepRequest → Option BuildFault
-not_authorised currency r = option_map NotAuthorised (find (λ p. not (may_act currency r.signers r.offered p)) (filter_map needed r.inputs))
+abbrev pub not_authorised : List ℕ → List (List ℕ) → List Unspent → List Input → Option BuildFault
+not_authorised currency signers offered xs = option_map NotAuthorised (find (λ p. not (may_act currency signers offered p)) (filter_map needed xs))
 
 -- ---- what is spent
 
@@ -114,7 +114,7 @@ hinders_thread r e =
     first_of
     (refused (answer_of (walk r e))
     ∷ not_signed r.signers r.offered
-    ∷ not_authorised e.0.published.currency r
+    ∷ not_authorised e.0.published.currency r.signers r.offered r.inputs
     ∷ no_funds (deposits r.inputs) r.offered
     ∷ too_many_given r.inputs (step_spent r e)
     ∷ repeated (own e ∷ r.offered)

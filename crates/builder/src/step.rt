@@ -1,0 +1,179 @@
+//! Steps of a thread.
+ghost use Rattle.std.specs.Prelude.{◌≡◌, ◌∷◌, ◌++◌, [], Some, Ok, map, if◌then◌else◌, IfOk, IfErr};
+ghost use Rattle.collections.specs.Answers.{Aside};
+ghost use Rattle.table.specs.Flat.{Has, a_cont, cont_tree};
+ghost use Rattle.semantics.specs.Walk.{standing, answer_of};
+ghost use Rattle.bundle.specs.Bundles.{minus};
+ghost use Rattle.eutxo.specs.Parts.{contract_in};
+ghost use Rattle.roles.specs.Steps.{continuation, due};
+ghost use Rattle.building.specs.Holding.{sums};
+ghost use Rattle.building.specs.Built.{built};
+ghost use Rattle.building.specs.Laying.{by_key, by_step, given_to};
+ghost use Rattle.building.specs.Steps.{thread_in, terms, walk, own, hinders_thread, layout_thread, hinders_on, layout_on, hinders_step, layout_step};
+ghost use Rattle.builder.specs.Code.{asked};
+
+use crate::amounts::deposits;
+use crate::checks::{check_authorised, check_funds, check_once, check_signed};
+use crate::front::front_length;
+use crate::inputs::{by_step, copies_of, put_keys};
+use crate::limits::within_limits;
+use crate::outputs::{made, put_given, rest};
+use crate::roles_needed::roles_of;
+use crate::sum::see_all;
+use crate::thread::datum_of;
+use building::BuildFault;
+use bundle::Bundle;
+use collections::{Items, Text};
+use contract::{Input, Interval, Outcome, SemFault};
+use eutxo_types::{Cont, Datum, Output, Tx};
+use looks::{Look, ThreadOutput, Unspent};
+use machine::compute;
+use semantics::Steps;
+use std::alloc::Global;
+use std::marker::Model;
+
+// What is asked for. Clauses see the request.
+#[derive(Drop)]
+struct Asked<'a> {
+    interval: Interval,
+    inputs: &'a [Input],
+    signers: &'a [Text],
+    offered: &'a [Unspent],
+    change: &'a Text,
+}
+
+impl<'a> Model for Asked<'a> {
+    ghost use Rattle.building.specs.Requests.{StepRequest};
+
+    ghost Value = { StepRequest };
+
+    ghost view = { λ a. record { interval = a.interval; inputs = a.inputs.now; signers = a.signers.now; offered = a.offered.now; change = a.change.now } };
+}
+
+// The transaction of a step, from what it spends and makes but for the change.
+fn lay_out(
+    alloc: Global,
+    asked: &Asked<'_>,
+    thread: &ThreadOutput,
+    front: &[Unspent],
+    all: Bundle,
+    mut outputs: Items<Output>,
+) -> Result<Tx, BuildFault>
+    ensures ok { IfOk result (λ tx. tx ≡ record {
+      inputs = by_step asked.now.inputs (record { reference = thread.now.reference; output = thread.now.output }) ∷ map by_key front.now;
+      outputs = outputs ++ given_to asked.now.change (minus all (sums (λ o. o.amount) outputs));
+      interval = asked.now.interval;
+      signers = asked.now.signers;
+    }) }
+    ensures err { IfErr result (λ fault. fault ≡ BuildFault.Memory) }
+{
+    let change = rest(alloc, all, outputs.as_slice())?;
+    put_given(&mut outputs, asked.change, change)?;
+    let mut inputs = Items::new(alloc);
+    inputs.push(by_step(alloc, thread.reference, asked.inputs)?)?;
+    put_keys(&mut inputs, front)?;
+    let signers = copies_of(alloc, asked.signers)?;
+    Ok(Tx {
+        inputs,
+        outputs,
+        interval: asked.interval,
+        signers,
+    })
+}
+
+// The transaction of a step that the contract takes, or the first later clause that fails.
+fn finish(
+    alloc: Global,
+    asked: &Asked<'_>,
+    thread: &ThreadOutput,
+    datum: &Datum,
+    outcome: Outcome<Cont>,
+) -> Result<Tx, BuildFault>
+    requires ended { answer_of (walk asked.now (thread.now, datum.now)) ≡ Ok (standing outcome.state (cont_tree thread.now.published.table outcome.place.0)) }
+    requires paid { outcome.payments ≡ (walk asked.now (thread.now, datum.now)).payments }
+    requires led { (terms (thread.now, datum.now)).at datum.now.cont (walk asked.now (thread.now, datum.now)).turns ≡ outcome.place }
+    requires has { Has thread.now.published.table (a_cont outcome.place.0) }
+    ensures { Aside BuildFault.Memory result (built (hinders_thread asked.now (thread.now, datum.now)) (layout_thread asked.now (thread.now, datum.now))) }
+{
+    let published = thread.published.get();
+    let currency = &published.currency;
+    check_signed(asked.signers, asked.offered)?;
+    check_authorised(currency, asked.signers, asked.offered, asked.inputs)?;
+    let amounts = deposits(alloc, asked.inputs)?;
+    check_funds(&amounts, asked.offered)?;
+    see_all(asked.offered);
+    let roles = roles_of(alloc, currency, asked.inputs)?;
+    let front = &asked.offered[..front_length(&roles, &amounts, asked.offered)];
+    let all = within_limits(alloc, thread.reference, &thread.output, asked.inputs, front)?;
+    check_once(alloc, thread.reference, &thread.output, asked.offered)?;
+    let closed = published.table.is_closed(&outcome.place);
+    let made = made(alloc, published, closed, outcome)?;
+    lay_out(alloc, asked, thread, front, all, made)
+}
+
+// Builds on a thread that stands.
+fn build_at(
+    alloc: Global,
+    asked: &Asked<'_>,
+    thread: &ThreadOutput,
+    datum: &Datum,
+) -> Result<Tx, BuildFault>
+    requires { thread_in thread.now (contract_in thread.now.output.lock) ≡ Some (thread.now, datum.now) }
+    ensures { Aside BuildFault.Memory result (built (hinders_thread asked.now (thread.now, datum.now)) (layout_thread asked.now (thread.now, datum.now))) }
+{
+    let table = &thread.published.get().table;
+    table.turns_lead();
+    match compute(alloc, table, datum, asked.interval, asked.inputs) {
+        Ok(outcome) => finish(alloc, asked, thread, datum, outcome),
+        Err(SemFault::Memory) => Err(BuildFault::Memory),
+        Err(fault) => Err(BuildFault::Semantics(fault)),
+    }
+}
+
+// Builds on a thread.
+fn build_on(alloc: Global, asked: &Asked<'_>, thread: &ThreadOutput) -> Result<Tx, BuildFault>
+    ensures { let e = thread_in thread.now (contract_in thread.now.output.lock) in
+        Aside BuildFault.Memory result (built (hinders_on asked.now e) (layout_on asked.now e)) }
+{
+    match datum_of(alloc, thread) {
+        Ok(None) => Err(BuildFault::NoThread),
+        Ok(Some(datum)) => build_at(alloc, asked, thread, datum),
+        Err(_) => Err(BuildFault::Memory),
+    }
+}
+
+/// Builds the transaction that steps the thread which a look shows, with these inputs of the contract, in an
+/// interval in POSIX milliseconds, signed by these addresses. It spends the thread's output and the shortest front
+/// of the offered outputs that holds the tokens of the roles which the inputs need and covers the deposits. The
+/// contract goes on in output 0, unless it is Close; the payments follow that are due to parties; and what is left
+/// goes to the key of the address `change`.
+///
+/// Refused is a request for which there is no thread (`NoThread`), which the contract refuses (`Semantics`), of which
+/// an offered output isn't under the key of a signer (`NotSigned`), of which a party doesn't sign and has no role
+/// token among what is offered (`NotAuthorised`), which isn't funded (`NoFunds`), which leaves the limits (`TooMany`),
+/// or which names an output twice (`Repeated`): the first of these answers, and nothing else is refused but memory.
+/// The tick of the look isn't read.
+pub fn build_step(
+    alloc: Global,
+    look: &Look,
+    interval: Interval,
+    inputs: &[Input],
+    signers: &[Text],
+    offered: &[Unspent],
+    change: &Text,
+) -> Result<Tx, BuildFault>
+    ensures { let r = asked interval inputs.now signers.now offered.now change.now in
+        Aside BuildFault.Memory result (built (hinders_step look.now r) (layout_step look.now r)) }
+{
+    let asked = Asked {
+        interval,
+        inputs,
+        signers,
+        offered,
+        change,
+    };
+    match &look.thread {
+        None => Err(BuildFault::NoThread),
+        Some(thread) => build_on(alloc, &asked, thread),
+    }
+}
