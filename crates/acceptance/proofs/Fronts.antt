@@ -11,12 +11,3 @@ shortest_rest {A} test (x ∷ xs) = by_test (test []) (shortest (λ ys. test (x 
     by_test : (b : Bool) (further : List A) → (later : List A) × (xs ≡ further ++ later) → (later : List A) × (x ∷ xs ≡ (if b then [] else x ∷ further) ++ later)
     by_test true further r = (x ∷ xs, refl)
     by_test false further r = (r.0, ap (λ ys. x ∷ ys) r.1)
-
--- it passes, where all does
-pub shortest_passes : {A : Type 0} (test : List A → Bool) (xs : List A) → test xs ≡ true → test (shortest test xs) ≡ true
-shortest_passes test [] h = h
-shortest_passes {A} test (x ∷ xs) h = by_test (test []) (shortest (λ ys. test (x ∷ ys)) xs) refl (shortest_passes (λ ys. test (x ∷ ys)) xs h)
-  where
-    by_test : (b : Bool) (further : List A) → test [] ≡ b → test (x ∷ further) ≡ true → test (if b then [] else x ∷ further) ≡ true
-    by_test true further e k = e
-    by_test false further e k = k

@@ -1,5 +1,5 @@
 -- A step that nothing hinders is accepted.
-use Rattle.std.proofs.Common.{◌≡◌, ℕ, ◌+◌, nat_lt, Bool, true, false, not, ◌&&◌, ◌||◌, List, [], ◌∷◌, ◌++◌, map, length, refl, sym, ap, ◌∙◌, subst, Option, Some, None, Result, Ok, Err}
+use Rattle.std.proofs.Common.{◌≡◌, ℕ, ◌+◌, nat_lt, Bool, true, false, not, ◌&&◌, ◌||◌, List, [], ◌∷◌, ◌++◌, map, length, refl, sym, ap, ◌∙◌, subst, append_assoc, Option, Some, None, Result, Ok, Err}
 use Rattle.std.specs.Prelude.{if◌then◌else◌, is_some, is_none, count_by}
 use Rattle.std.specs.List.{list_all, filter_map, cons_option, AllByRecursion}
 use Rattle.std.specs.Option.{option_map}
@@ -33,7 +33,7 @@ use Rattle.looks.specs.declared.look.Look.{Look}
 use Rattle.looks.specs.declared.look.Unspent.{Unspent}
 use Rattle.building.specs.declared.fault.BuildFault.TheVariants.{NotSigned, NotAuthorised, NoFunds, TooMany, Repeated}
 use Rattle.building.specs.Requests.{StepRequest}
-use Rattle.building.specs.Holding.{held, holds_token, least_lacking}
+use Rattle.building.specs.Holding.{sums, held, holds_token, least_lacking}
 use Rattle.building.specs.Fronts.{suffices}
 use Rattle.building.specs.Clauses.{is_signed, not_signed, no_funds, is_much, is_over, too_many, has_repeat, repeated}
 use Rattle.building.specs.Laying.{given_to, rest}
@@ -44,7 +44,8 @@ use Rattle.acceptance.proofs.Tests.{Nowhere, Everywhere, both, together, neither
 use Rattle.acceptance.proofs.Named.{repeat_front}
 use Rattle.acceptance.proofs.Pairs.{laid, paired, pairs, all_paired, all_named, names, map-both, AreKeyed, IsKeyed, keyed, nowhere_keys, front_holds, no_keys_step}
 use Rattle.acceptance.proofs.Sums.{total-changed}
-use Rattle.acceptance.proofs.Fronts.{shortest_rest, shortest_passes}
+use Rattle.acceptance.proofs.Fronts.{shortest_rest}
+use Rattle.building.proofs.Shortest.{shortest_passes}
 use Rattle.acceptance.proofs.Outputs.{IsSo, each_due, each_given, each_unless, after_first, goes_on_first, all_paid, after_passing}
 use Rattle.acceptance.proofs.Spending.{first_rules, IsOpened, passing}
 use Rattle.acceptance.proofs.Threads.{IsThread, thread_so}
@@ -119,8 +120,8 @@ module _ (r : StepRequest) (e : Thread) (is : IsThread e) (clear : hinders_threa
   abbrev tx : Tx
   tx = laid w us fs (firsts ++ change) r.interval r.signers
 
-  clauses : AllByRecursion (λ x. x ≡ None) (refused (answer_of (walk r e)) ∷ not_signed r.signers r.offered ∷ not_authorised p.currency r ∷ no_funds (deposits r.inputs) r.offered ∷ too_many_given r e ∷ repeated (own e ∷ r.offered) ∷ [])
-  clauses = each_none (refused (answer_of (walk r e)) ∷ not_signed r.signers r.offered ∷ not_authorised p.currency r ∷ no_funds (deposits r.inputs) r.offered ∷ too_many_given r e ∷ repeated (own e ∷ r.offered) ∷ []) clear
+  clauses : AllByRecursion (λ x. x ≡ None) (refused (answer_of (walk r e)) ∷ not_signed r.signers r.offered ∷ not_authorised p.currency r.signers r.offered r.inputs ∷ no_funds (deposits r.inputs) r.offered ∷ too_many_given r.inputs (us ++ fs) ∷ repeated (own e ∷ r.offered) ∷ [])
+  clauses = each_none (refused (answer_of (walk r e)) ∷ not_signed r.signers r.offered ∷ not_authorised p.currency r.signers r.offered r.inputs ∷ no_funds (deposits r.inputs) r.offered ∷ too_many_given r.inputs (us ++ fs) ∷ repeated (own e ∷ r.offered) ∷ []) clear
 
   later : (more : List Unspent) × (r.offered ≡ fs ++ more)
   later = shortest_rest (suffices (roles_of p.currency r.inputs) (deposits r.inputs)) r.offered

@@ -22,22 +22,8 @@ use Rattle.eutxo.specs.Rules.{not_preserved}
 use Rattle.looks.specs.declared.look.Unspent.{Unspent}
 use Rattle.building.specs.Holding.{sums, held}
 use Rattle.building.specs.Laying.{given_to, rest}
+use Rattle.building.proofs.Holdings.{amount_of-sums, total_of-append}
 use Rattle.acceptance.proofs.Tests.{Nowhere, none_kept}
-
--- several hold together what each holds
-pub amount_of-sums : {A : Type 0} (h : A → Amounts) (xs : List A) (t : Token) → amount_of (sums h xs) t ≡ total_of h t xs
-amount_of-sums h [] t = ap (λ o. unwrap_or o (pos 0)) (get-empty token_cmp t)
-amount_of-sums h (x ∷ xs) t = sums_are_of_each_token (h x) (sums h xs) t ∙ ap (λ n. amount_of (h x) t +ℤ n) (amount_of-sums h xs t)
-
-none_first : (n : ℤ) → n ≡ pos 0 +ℤ n
-none_first n = omega (arith, ints)
-
-assoc : (a b c d : ℤ) → d ≡ b +ℤ c → a +ℤ d ≡ (a +ℤ b) +ℤ c
-assoc a b c d h = omega (arith, ints)
-
-pub total-append : {A : Type 0} (h : A → Amounts) (t : Token) (xs ys : List A) → total_of h t (xs ++ ys) ≡ total_of h t xs +ℤ total_of h t ys
-total-append h t [] ys = none_first (total_of h t ys)
-total-append h t (x ∷ xs) ys = assoc (amount_of (h x) t) (total_of h t xs) (total_of h t ys) (total_of h t (xs ++ ys)) (total-append h t xs ys)
 
 no_more : (n : ℤ) → n +ℤ pos 0 ≡ n
 no_more n = omega (arith, ints)
@@ -56,7 +42,7 @@ all_again s r d h = omega (arith, ints)
 -- what is made and the change are all that is spent
 pub total-changed : (address : List ℕ) (spent : List Unspent) (made : List Output) (t : Token) → total_of (λ (o : Output). o.amount) t (made ++ given_to address (rest spent made)) ≡ total_of held t spent
 total-changed address spent made t =
-    total-append (λ (o : Output). o.amount) t made (given_to address (rest spent made))
+    total_of-append (λ (o : Output). o.amount) t made (given_to address (rest spent made))
     ∙ ap (λ n. total_of (λ (o : Output). o.amount) t made +ℤ n) (total-given address (rest spent made) t)
     ∙ all_again (total_of (λ (o : Output). o.amount) t made) (amount_of (rest spent made) t) (total_of held t spent)
     (rests_are_of_each_token (sums held spent) (sums (λ (o : Output). o.amount) made) t

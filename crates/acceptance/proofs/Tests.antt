@@ -1,5 +1,5 @@
 -- Tests that hold nowhere, or everywhere, and the first of several.
-use Rattle.std.proofs.Common.{◌≡◌, ℕ, ◌+◌, ◌<◌, length, Bool, true, false, ◌&&◌, ◌||◌, not, cond, List, [], ◌∷◌, ◌++◌, refl, sym, ◌∙◌, ap, subst, arith, Option, Some, None}
+use Rattle.std.proofs.Common.{◌≡◌, ℕ, suc, ◌+◌, ◌<◌, length, Bool, true, false, ◌&&◌, ◌||◌, not, cond, List, [], ◌∷◌, ◌++◌, refl, sym, ◌∙◌, ap, subst, arith, Option, Some, None}
 use Rattle.std.specs.Prelude.{if◌then◌else◌, count_by, fold, All}
 use Rattle.std.specs.List.{list_any, list_all, find, filter, position, position_from, AllByRecursion}
 use Rattle.std.specs.Option.{option_map}
@@ -57,7 +57,7 @@ each_so P Q f (x ∷ xs) h = (f x h.0, each_so P Q f xs h.1)
 -- of each element by its place, and by recursion
 pub by_recursion : {A : Type 0} (P : A → Type 0) (xs : List A) → All P xs → AllByRecursion P xs
 by_recursion P [] h = tt
-by_recursion P (x ∷ xs) h = (h 0 x (omega arith), by_recursion P xs (λ k d l. h (k + 1) d (omega (arith, l))))
+by_recursion P (x ∷ xs) h = (h 0 x (omega arith), by_recursion P xs (λ k d l. h (suc k) d (omega (arith, l))))
 
 pub not_any : {A : Type 0} (test : A → Bool) (xs : List A) → Nowhere test xs → list_any test xs ≡ false
 not_any test [] h = refl
