@@ -7,4 +7,7 @@ pub mod Spending
 pub mod Judging
 pub mod Outputs
 pub mod Threads
+pub mod Clauses
 pub mod Stepping
+pub mod Claiming
+pub mod Starting

@@ -46,13 +46,16 @@ each_due test v h currency (p ∷ ps) = by (due_to p) (due currency ps) (each_du
     by None rest k = k
     by (Some party) rest k = (so_for test v h currency party, k)
 
--- and of what is given to an address
-pub each_given : (test : Lock → Bool) (v : Bool) → IsSo test v → (address : List ℕ) (m : Amounts) → AllByRecursion (λ (o : Output). test o.lock ≡ v) (given_to address m)
-each_given test v h address m = by (is_empty (entries m))
+-- and what holds of a key output holds of what is given to an address
+pub each_given_so : (P : Output → Type 0) (address : List ℕ) (m : Amounts) → P (record { lock = Key address; amount = m }) → AllByRecursion P (given_to address m)
+each_given_so P address m h = by (is_empty (entries m))
   where
-    by : (b : Bool) → AllByRecursion (λ (x : Output). test x.lock ≡ v) (if b then [] else record { lock = Key address; amount = m } ∷ [])
+    by : (b : Bool) → AllByRecursion P (if b then [] else record { lock = Key address; amount = m } ∷ [])
     by true = tt
-    by false = (h.key address, tt)
+    by false = (h, tt)
+
+pub each_given : (test : Lock → Bool) (v : Bool) → IsSo test v → (address : List ℕ) (m : Amounts) → AllByRecursion (λ (o : Output). test o.lock ≡ v) (given_to address m)
+each_given test v h address m = each_given_so (λ (o : Output). test o.lock ≡ v) address m (h.key address)
 
 -- of an output that is there unless the contract is over
 pub each_unless : (test : Lock → Bool) (v b : Bool) (o : Output) → test o.lock ≡ v → AllByRecursion (λ (x : Output). test x.lock ≡ v) (if b then [] else o ∷ [])

@@ -49,6 +49,7 @@ use Rattle.building.proofs.Shortest.{shortest_passes}
 use Rattle.acceptance.proofs.Outputs.{IsSo, each_due, each_given, each_unless, after_first, goes_on_first, all_paid, after_passing}
 use Rattle.acceptance.proofs.Spending.{first_rules, IsOpened, passing}
 use Rattle.acceptance.proofs.Threads.{IsThread, thread_so}
+use Rattle.acceptance.proofs.Clauses.{is_nothing, unless_else, first_clear, keyed_front, named_once, not_many, pairs_known}
 use Rattle.acceptance.proofs.Judging.{IsClean, passes, judged}
 
 -- ---- who may act
@@ -64,33 +65,6 @@ all_act : (currency : List ℕ) (signers : List (List ℕ)) (offered fs : List U
 all_act currency signers offered fs ys holds [] h k = tt
 all_act currency signers offered fs ys holds (Address a ∷ ps) h k = (h.0, all_act currency signers offered fs ys holds ps h.1 k)
 all_act currency signers offered fs ys holds (Role r ∷ ps) h k = (ap not (holds r ∙ k.0), all_act currency signers offered fs ys holds ps h.1 k.1)
-
--- ---- the clauses
-
-is_nothing : {A : Type 0} (o : Option A) → o ≡ None → is_none o ≡ true
-is_nothing o h = ap is_none h
-
-few_given : {F : Type 0} (b : Bool) (x : F) (o : Option F) → (if b then Some x else o) ≡ None → (b ≡ false) × (o ≡ None)
-few_given true x o h = cc
-few_given false x o h = (refl, h)
-
--- of what nobody hinders, the front is of signed keys
-pub keyed_front : (signers : List (List ℕ)) (fs later offered : List Unspent) → offered ≡ fs ++ later → not_signed signers offered ≡ None → AreKeyed signers fs
-keyed_front signers fs later offered e h =
-    let signed : Everywhere (λ (u : Unspent). is_signed signers u.output.lock) offered =
-    all_everywhere (λ (u : Unspent). is_signed signers u.output.lock) offered (only_if (list_all (λ (u : Unspent). is_signed signers u.output.lock) offered) NotSigned h) in
-    let is_so : Unspent → Type 0 = λ u. is_signed signers u.output.lock ≡ true in
-    each_so is_so (IsKeyed signers) (keyed signers) fs (each_front is_so fs later (subst (AllByRecursion is_so) e signed))
-
--- nothing is named twice
-pub named_once : (us fs later offered : List Unspent) → offered ≡ fs ++ later → repeated (us ++ offered) ≡ None → has_repeat (names (us ++ fs)) ≡ false
-named_once us fs later offered e h =
-    repeat_front (names (us ++ fs)) (names later)
-    (ap has_repeat (sym (map-both (λ (u : Unspent). u.reference) (us ++ fs) later) ∙ ap names (append_assoc us fs later) ∙ ap (λ zs. names (us ++ zs)) (sym e)) ∙ unless (has_repeat (names (us ++ offered))) Repeated h)
-
--- and there aren't too many
-pub not_many : (spent : List Unspent) → too_many spent ≡ None → nat_lt 256 (length spent) ≡ false
-not_many spent h = (neither (nat_lt 256 (length spent)) (is_much (sums held spent)) (unless (is_over spent) TooMany h)).0
 
 module _ (r : StepRequest) (e : Thread) (is : IsThread e) (clear : hinders_thread r e ≡ None) (a : Standing) (ok : answer_of (walk r e) ≡ Ok a) where
   abbrev p : Published
@@ -142,7 +116,7 @@ module _ (r : StepRequest) (e : Thread) (is : IsThread e) (clear : hinders_threa
       all_everywhere (holds_token fs) ts (both (list_all (holds_token fs) ts) (is_none (least_lacking ns fs)) all).0
 
   few : (nat_lt 256 (length r.inputs) ≡ false) × (too_many (us ++ fs) ≡ None)
-  few = few_given (nat_lt 256 (length r.inputs)) TooMany (too_many (us ++ fs)) clauses.1.1.1.1.0
+  few = unless_else (nat_lt 256 (length r.inputs)) TooMany (too_many (us ++ fs)) clauses.1.1.1.1.0
 
   first : of_tx tx ≡ None
   first = first_rules w us fs (firsts ++ change) r.interval r.signers refl (not_many (us ++ fs) few.1) few.0 (named_once us fs later.0 r.offered later.1 clauses.1.1.1.1.1.0)
@@ -211,11 +185,7 @@ module _ (r : StepRequest) (e : Thread) (is : IsThread e) (clear : hinders_threa
         (each-append (λ (o : Output). is_known named o.lock ≡ true) firsts change
         (each-append (λ (o : Output). is_known named o.lock ≡ true) (goes_on e (walk r e) a) (due p.currency (walk r e).payments) (each_unless (is_known named) true closed going known_is) (each_due (is_known named) true so_known p.currency (walk r e).payments))
         (each_given (is_known named) true so_known r.change (rest (us ++ fs) firsts))))
-        (everywhere_all (λ (x : Spend × Output). is_known named x.1.lock) ys (ap (is_known named) is.lock ∙ known_is, keys_known fs signed))
-      where
-        keys_known : (xs : List Unspent) → AreKeyed r.signers xs → Everywhere (λ (x : Spend × Output). is_known named x.1.lock) (paired with.None xs)
-        keys_known [] g = tt
-        keys_known (x ∷ xs) g = (ap (is_known named) g.0.lock, keys_known xs g.1)
+        (pairs_known named w r.signers us fs (ap (is_known named) is.lock ∙ known_is, tt) signed)
 
     rules : of_spent marlowe named tx ys ≡ None
     rules =
@@ -238,16 +208,9 @@ its_pairs r e = pairs (with.Step r.inputs) (own e ∷ []) (step_front r e)
 
 clean_thread : (r : StepRequest) (e : Thread) → IsThread e → hinders_thread r e ≡ None → (named : List ℕ → Option Published) → named e.0.published.id ≡ Some e.0.published → IsClean named (layout_thread r e) (step_spent r e) (its_pairs r e)
 clean_thread r e is clear named there =
-    let end = ends_well (answer_of (walk r e)) (few_given_first clear) in
+    let end = ends_well (answer_of (walk r e)) (first_clear (refused (answer_of (walk r e))) (not_signed r.signers r.offered ∷ not_authorised e.0.published.currency r.signers r.offered r.inputs ∷ no_funds (deposits r.inputs) r.offered ∷ too_many_given r.inputs (step_spent r e) ∷ repeated (own e ∷ r.offered) ∷ []) clear) in
     subst (λ os. IsClean named (laid (with.Step r.inputs) (own e ∷ []) (step_front r e) (os ++ given_to r.change (rest (step_spent r e) os)) r.interval r.signers) (step_spent r e) (its_pairs r e))
     (sym (ap (made e (walk r e)) end.1)) (clean r e is clear end.0 end.1 named there)
-  where
-    few_given_first : hinders_thread r e ≡ None → refused (answer_of (walk r e)) ≡ None
-    few_given_first h = (clauses_first (refused (answer_of (walk r e))) _ h)
-      where
-        clauses_first : {F : Type 0} (o : Option F) (os : List (Option F)) → Rattle.eutxo.specs.Places.first_of (o ∷ os) ≡ None → o ≡ None
-        clauses_first None os k = refl
-        clauses_first (Some x) os k = cc
 
 clean_step : (look : Look) (r : StepRequest) (e : Thread) → thread look ≡ Some e → hinders_on r (thread look) ≡ None → (named : List ℕ → Option Published) → named e.0.published.id ≡ Some e.0.published → IsClean named (layout_on r (thread look)) (step_spent r e) (its_pairs r e)
 clean_step look r e shown clear named there =

@@ -63,6 +63,10 @@ pub not_any : {A : Type 0} (test : A → Bool) (xs : List A) → Nowhere test xs
 not_any test [] h = refl
 not_any test (x ∷ xs) h = none_of_two (test x) (list_any test xs) h.0 (not_any test xs h.1)
 
+pub any_nowhere : {A : Type 0} (test : A → Bool) (xs : List A) → list_any test xs ≡ false → Nowhere test xs
+any_nowhere test [] h = tt
+any_nowhere test (x ∷ xs) h = let p = neither (test x) (list_any test xs) h in (p.0, any_nowhere test xs p.1)
+
 pub all_everywhere : {A : Type 0} (test : A → Bool) (xs : List A) → list_all test xs ≡ true → Everywhere test xs
 all_everywhere test [] h = tt
 all_everywhere test (x ∷ xs) h = let p = both (test x) (list_all test xs) h in (p.0, all_everywhere test xs p.1)

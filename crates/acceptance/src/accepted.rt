@@ -15,3 +15,18 @@ pub fn steps_are_accepted()
     found_is_enough::<Published>();
 }
 
+/// So is the layout of a start that nothing hinders, where what is started is published under its id.
+pub fn starts_are_accepted()
+    ensures passes { StartsPass }
+    ensures accepted { StartsAreAccepted }
+{
+    found_is_enough::<Published>();
+}
+
+/// And the layout of a claim that nothing hinders.
+pub fn claims_are_accepted()
+    ensures passes { ClaimsPass }
+    ensures accepted { ClaimsAreAccepted }
+{
+    found_is_enough::<Published>();
+}

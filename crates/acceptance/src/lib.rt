@@ -4,4 +4,4 @@
 
 mod accepted;
 
-pub use accepted::steps_are_accepted;
+pub use accepted::{claims_are_accepted, starts_are_accepted, steps_are_accepted};
