@@ -33,6 +33,7 @@ use Rattle.building.proofs.Holdings.{amount_of-sums, total_of-append}
 use Rattle.building.proofs.Shortest.{shortest_passes}
 use Rattle.history.specs.Laws.{marlowe}
 use Rattle.acceptance.specs.Accepting.{ClaimsPass, ClaimsAreAccepted}
+use Rattle.acceptance.specs.AfterPasts.{ClaimsAreAcceptedAfter}
 use Rattle.acceptance.proofs.Tests.{Nowhere, Everywhere, both, together, neither, not_not, each-append, each_so, any_nowhere, all_everywhere, everywhere_all, none_counted, found_nowhere, each_none, unless, unmapped, mapped, no_place}
 use Rattle.acceptance.proofs.Pairs.{laid, pairs, paired, all_paired, all_named, AreKeyed, IsKeyed, nowhere_keys, nowhere_paired, front_holds, no_step}
 use Rattle.acceptance.proofs.Sums.{total-given}
@@ -41,6 +42,7 @@ use Rattle.acceptance.proofs.Outputs.{IsSo, each_given, each_given_so}
 use Rattle.acceptance.proofs.Spending.{first_rules, IsOpened, passing}
 use Rattle.acceptance.proofs.Clauses.{keyed_front, named_once, not_many, pairs_known}
 use Rattle.acceptance.proofs.Judging.{IsClean, passes, judged}
+use Rattle.acceptance.proofs.Unused.{judged_after}
 
 -- a payout is opened by a claim, and no contract
 payout_opened : (l : Lock) → is_payout l ≡ true → (is_key l ≡ false) × (opens with.Claim l ≡ true) × (contract_in l ≡ None)
@@ -177,3 +179,6 @@ claims_pass r found clear outputs = passes (layout_claim r) found (r.payouts ++ 
 
 pub claims_are_accepted : FoundIsEnough marlowe → ClaimsAreAccepted
 claims_are_accepted enough r m clear admits = judged enough m (layout_claim r) (r.payouts ++ claim_front r) (pairs with.Claim r.payouts (claim_front r)) (clean r clear m.published) admits
+
+pub claims_are_accepted_after : FoundIsEnough marlowe → ClaimsAreAcceptedAfter
+claims_are_accepted_after enough r published past tick clear is = judged_after enough published past tick (layout_claim r) (r.payouts ++ claim_front r) (pairs with.Claim r.payouts (claim_front r)) (clean r clear published) is

@@ -6,8 +6,11 @@ pub mod Pairs
 pub mod Spending
 pub mod Judging
 pub mod Outputs
-pub mod Threads
+pub mod LookThreads
 pub mod Clauses
+pub mod Unused
 pub mod Stepping
 pub mod Claiming
 pub mod Starting
+pub mod Shown
+pub mod Closing

@@ -35,6 +35,7 @@ use Rattle.building.specs.Starts.{fresh, accounts_of, funds, start_front, start_
 use Rattle.building.proofs.Shortest.{shortest_passes}
 use Rattle.history.specs.Laws.{marlowe}
 use Rattle.acceptance.specs.Accepting.{StartsPass, StartsAreAccepted}
+use Rattle.acceptance.specs.AfterPasts.{StartsAreAcceptedAfter}
 use Rattle.acceptance.proofs.Tests.{Nowhere, both, together, not_so, none_counted, each_none, unmapped, mapped, no_place, everywhere_all}
 use Rattle.acceptance.proofs.Pairs.{laid, pairs, all_paired, all_named, AreKeyed, nowhere_keys, no_step}
 use Rattle.acceptance.proofs.Sums.{total-changed}
@@ -43,6 +44,7 @@ use Rattle.acceptance.proofs.Outputs.{same_amounts_itself, IsSo, each_given, eac
 use Rattle.acceptance.proofs.Spending.{first_rules, passing}
 use Rattle.acceptance.proofs.Clauses.{is_nothing, unless_else, keyed_front, named_once, not_many, pairs_known}
 use Rattle.acceptance.proofs.Judging.{IsClean, passes, judged}
+use Rattle.acceptance.proofs.Unused.{judged_after}
 
 no_keys : (fs : List Unspent) → is_empty fs ≡ false → is_empty (map by_key fs) ≡ false
 no_keys [] h = cc
@@ -127,3 +129,6 @@ starts_pass r found clear outputs script = passes (layout_start r) found (start_
 
 pub starts_are_accepted : FoundIsEnough marlowe → StartsAreAccepted
 starts_are_accepted enough r m clear script admits = judged enough m (layout_start r) (start_front r) (pairs with.None [] (start_front r)) (clean r clear m.published script) admits
+
+pub starts_are_accepted_after : FoundIsEnough marlowe → StartsAreAcceptedAfter
+starts_are_accepted_after enough r published past tick clear script is = judged_after enough published past tick (layout_start r) (start_front r) (pairs with.None [] (start_front r)) (clean r clear published script) is

@@ -40,6 +40,7 @@ use Rattle.building.specs.Laying.{given_to, rest}
 use Rattle.building.specs.Steps.{Thread, terms, thread, walk, refused, token_of, roles_of, deposits, may_act, not_authorised, step_front, own, step_spent, too_many_given, hinders_thread, hinders_on, goes_on, made, layout_thread, layout_on}
 use Rattle.history.specs.Laws.{marlowe}
 use Rattle.acceptance.specs.Accepting.{StepsPass, StepsAreAccepted}
+use Rattle.acceptance.specs.AfterPasts.{StepsAreAcceptedAfter}
 use Rattle.acceptance.proofs.Tests.{Nowhere, Everywhere, both, together, neither, not_not, each-append, each_front, each_so, all_everywhere, everywhere_all, one_counted, no_fault, not_found, found_nowhere, each_none, none_of, unless, only_if, if_not, mapped, unmapped}
 use Rattle.acceptance.proofs.Named.{repeat_front}
 use Rattle.acceptance.proofs.Pairs.{laid, paired, pairs, all_paired, all_named, names, map-both, AreKeyed, IsKeyed, keyed, nowhere_keys, front_holds, no_keys_step}
@@ -48,9 +49,10 @@ use Rattle.acceptance.proofs.Fronts.{shortest_rest}
 use Rattle.building.proofs.Shortest.{shortest_passes}
 use Rattle.acceptance.proofs.Outputs.{IsSo, each_due, each_given, each_unless, after_first, goes_on_first, all_paid, after_passing}
 use Rattle.acceptance.proofs.Spending.{first_rules, IsOpened, passing}
-use Rattle.acceptance.proofs.Threads.{IsThread, thread_so}
+use Rattle.acceptance.proofs.LookThreads.{IsThread, thread_so}
 use Rattle.acceptance.proofs.Clauses.{is_nothing, unless_else, first_clear, keyed_front, named_once, not_many, pairs_known}
 use Rattle.acceptance.proofs.Judging.{IsClean, passes, judged}
+use Rattle.acceptance.proofs.Unused.{judged_after}
 
 -- ---- who may act
 
@@ -224,3 +226,7 @@ steps_pass look r e found shown clear outputs script =
 pub steps_are_accepted : FoundIsEnough marlowe → StepsAreAccepted
 steps_are_accepted enough look r e m shown clear script admits =
     judged enough m (layout_on r (thread look)) (step_spent r e) (its_pairs r e) (clean_step look r e shown clear m.published script) admits
+
+pub steps_are_accepted_after : FoundIsEnough marlowe → StepsAreAcceptedAfter
+steps_are_accepted_after enough look r e published past tick shown clear script is =
+    judged_after enough published past tick (layout_on r (thread look)) (step_spent r e) (its_pairs r e) (clean_step look r e shown clear published script) is

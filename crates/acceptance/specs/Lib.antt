@@ -1,1 +1,4 @@
 pub mod Accepting
+pub mod AfterPasts
+pub mod ShownThreads
+pub mod AfterLast

@@ -1,5 +1,6 @@
 //! That layouts are accepted.
 ghost use Rattle.acceptance.specs.Accepting.{StepsPass, StartsPass, ClaimsPass, StepsAreAccepted, StartsAreAccepted, ClaimsAreAccepted};
+ghost use Rattle.acceptance.specs.AfterPasts.{StepsAreAcceptedAfter, StartsAreAcceptedAfter, ClaimsAreAcceptedAfter};
 
 use eutxo::found_is_enough;
 use roles::Published;
@@ -11,6 +12,7 @@ use roles::Published;
 pub fn steps_are_accepted()
     ensures passes { StepsPass }
     ensures accepted { StepsAreAccepted }
+    ensures after { StepsAreAcceptedAfter }
 {
     found_is_enough::<Published>();
 }
@@ -19,6 +21,7 @@ pub fn steps_are_accepted()
 pub fn starts_are_accepted()
     ensures passes { StartsPass }
     ensures accepted { StartsAreAccepted }
+    ensures after { StartsAreAcceptedAfter }
 {
     found_is_enough::<Published>();
 }
@@ -27,6 +30,7 @@ pub fn starts_are_accepted()
 pub fn claims_are_accepted()
     ensures passes { ClaimsPass }
     ensures accepted { ClaimsAreAccepted }
+    ensures after { ClaimsAreAcceptedAfter }
 {
     found_is_enough::<Published>();
 }

@@ -3,5 +3,7 @@
 #![tactic(auto)]
 
 mod accepted;
+mod threads;
 
 pub use accepted::{claims_are_accepted, starts_are_accepted, steps_are_accepted};
+pub use threads::{anyone_closes_after_the_last_timeout, shown_threads_stand};
