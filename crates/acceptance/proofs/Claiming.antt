@@ -1,10 +1,9 @@
 -- A claim that nothing hinders is accepted.
-use Rattle.std.proofs.Common.{◌≡◌, ℕ, nat_lt, ◌+ℤ◌, Bool, true, false, not, ◌&&◌, ◌||◌, List, [], ◌∷◌, ◌++◌, map, length, refl, sym, ap, ◌∙◌, Option, Some, None}
-use Rattle.std.specs.Prelude.{if◌then◌else◌, is_none, count_by}
-use Rattle.std.specs.List.{list_all, list_any, filter_map, cons_option, AllByRecursion}
+use Rattle.std.proofs.Common.{◌≡◌, ℕ, nat_lt, ◌+ℤ◌, Bool, true, false, not, ◌||◌, List, [], ◌∷◌, ◌++◌, map, refl, sym, ap, ◌∙◌, Option, None}
+use Rattle.std.specs.Prelude.{is_none, count_by}
+use Rattle.std.specs.List.{list_all, list_any, cons_option, AllByRecursion}
 use Rattle.names.specs.declared.party.Party.TheVariants.{Role}
 use Rattle.names.specs.declared.token.Token.{Token}
-use Rattle.bundle.specs.Bundles.{Amounts}
 use Rattle.bundle.specs.Totals.{total_of}
 use Rattle.eutxo_types.specs.declared.fault.TxFault.TheVariants.{WrongStart}
 use Rattle.eutxo_types.specs.declared.lock.Lock.{Lock}
@@ -34,8 +33,8 @@ use Rattle.building.proofs.Shortest.{shortest_passes}
 use Rattle.history.specs.Laws.{marlowe}
 use Rattle.acceptance.specs.Accepting.{ClaimsPass, ClaimsAreAccepted}
 use Rattle.acceptance.specs.AfterPasts.{ClaimsAreAcceptedAfter}
-use Rattle.acceptance.proofs.Tests.{Nowhere, Everywhere, both, together, neither, not_not, each-append, each_so, any_nowhere, all_everywhere, everywhere_all, none_counted, found_nowhere, each_none, unless, unmapped, mapped, no_place}
-use Rattle.acceptance.proofs.Pairs.{laid, pairs, paired, all_paired, all_named, AreKeyed, IsKeyed, nowhere_keys, nowhere_paired, front_holds, no_step}
+use Rattle.acceptance.proofs.Tests.{Everywhere, both, together, neither, not_not, each-append, each_so, any_nowhere, all_everywhere, everywhere_all, none_counted, found_nowhere, each_none, unless, unmapped, mapped, no_place}
+use Rattle.acceptance.proofs.Pairs.{laid, pairs, paired, all_paired, all_named, AreKeyed, nowhere_keys, nowhere_paired, front_holds, no_step}
 use Rattle.acceptance.proofs.Sums.{total-given}
 use Rattle.acceptance.proofs.Fronts.{shortest_rest}
 use Rattle.acceptance.proofs.Outputs.{IsSo, each_given, each_given_so}

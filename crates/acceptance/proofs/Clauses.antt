@@ -1,5 +1,5 @@
 -- What the clauses leave that every request may fail of.
-use Rattle.std.proofs.Common.{◌≡◌, ℕ, nat_lt, Bool, true, false, ◌||◌, List, [], ◌∷◌, ◌++◌, map, length, refl, sym, ap, ◌∙◌, subst, append_assoc, Option, Some, None}
+use Rattle.std.proofs.Common.{◌≡◌, ℕ, nat_lt, Bool, true, false, List, [], ◌∷◌, ◌++◌, length, refl, sym, ap, ◌∙◌, subst, append_assoc, Option, Some, None}
 use Rattle.std.specs.Prelude.{if◌then◌else◌, is_none}
 use Rattle.std.specs.List.{list_all, AllByRecursion}
 use Rattle.eutxo_types.specs.declared.output.Output.{Output}
@@ -15,7 +15,7 @@ use Rattle.building.specs.Holding.{sums, held}
 use Rattle.building.specs.Clauses.{is_signed, not_signed, is_much, is_over, too_many, has_repeat, repeated}
 use Rattle.acceptance.proofs.Tests.{Everywhere, neither, each-append, each_front, each_so, all_everywhere, everywhere_all, unless, only_if}
 use Rattle.acceptance.proofs.Named.{repeat_front}
-use Rattle.acceptance.proofs.Pairs.{paired, pairs, names, map-both, AreKeyed, IsKeyed, keyed, nowhere_keys, nowhere_paired}
+use Rattle.acceptance.proofs.Pairs.{paired, pairs, names, map-both, AreKeyed, IsKeyed, keyed}
 
 pub is_nothing : {A : Type 0} (o : Option A) → o ≡ None → is_none o ≡ true
 is_nothing o h = ap is_none h

@@ -7,13 +7,12 @@ use Rattle.contract.specs.declared.interval.Interval.{Interval}
 use Rattle.semantics.specs.Walk.{Standing, answer_of}
 use Rattle.semantics.specs.Closing.{ClosesSo, ClosesAfterLast}
 use Rattle.bundle.specs.Bundles.{Amounts, amount_of, each}
-use Rattle.looks.specs.declared.look.Look.{Look}
 use Rattle.building.specs.declared.fault.BuildFault.{BuildFault}
 use Rattle.building.specs.declared.fault.BuildFault.TheVariants.{Semantics, TooMany}
 use Rattle.building.specs.Requests.{StepRequest}
 use Rattle.building.specs.Holding.{sums, held}
 use Rattle.building.specs.Clauses.{is_much}
-use Rattle.building.specs.Steps.{Thread, terms, thread, walk, own, hinders_thread, hinders_on}
+use Rattle.building.specs.Steps.{Thread, terms, walk, own, hinders_thread, hinders_on}
 use Rattle.building.proofs.Holdings.{entries-empty}
 use Rattle.building.proofs.Funding.{amount_of-sums_in}
 use Rattle.acceptance.specs.AfterLast.{closing, Closes, AnyoneCloses, NobodyElse}
@@ -27,9 +26,13 @@ hinders_after (Err f) much = Some (Semantics f)
 closes_by : (r : StepRequest) (e : Thread) (end : Result Standing SemFault) (much : Bool) → answer_of (walk r e) ≡ end → much ≡ false → IsThread e → r.inputs ≡ [] →
     ClosesSo r.interval e.1.state ((terms e).tree e.1.cont) end → Closes r e (hinders_after end much)
 closes_by r e (Ok a) true q m is n h = cc
-closes_by r e (Ok a) false q m is n h =
-    (a, q, h.0, λ t. ap (λ xs. Rattle.semantics.specs.Money.paid_out t (Rattle.semantics.specs.Computed.computed r.interval e.1.state ((terms e).tree e.1.cont) xs).payments) n
-      ∙ h.1 t ∙ sym (ap (λ m. amount_of m t) is.sums ∙ amount_of-sums_in (entries e.1.state.accounts) t))
+closes_by r e (Ok a) false q m is n h = (
+  a,
+  q,
+  h.0,
+  λ t. ap (λ xs. Rattle.semantics.specs.Money.paid_out t (Rattle.semantics.specs.Computed.computed r.interval e.1.state ((terms e).tree e.1.cont) xs).payments) n
+      ∙ h.1 t ∙ sym (ap (λ m. amount_of m t) is.sums ∙ amount_of-sums_in (entries e.1.state.accounts) t),
+)
 closes_by r e (Err f) much q m is n (inl h) = inl (ap Semantics h)
 closes_by r e (Err f) much q m is n (inr h) = inr (ap Semantics h.0, h.1)
 

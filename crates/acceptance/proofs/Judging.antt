@@ -1,10 +1,8 @@
 -- From what a transaction spends to the judgement.
-use Rattle.std.proofs.Common.{◌≡◌, ℕ, ℤ, ◌≤ℤ◌, int_le, Bool, true, false, not, ◌&&◌, List, [], ◌∷◌, map, refl, sym, ap, ◌∙◌, subst, Option, Some, None, arith}
+use Rattle.std.proofs.Common.{◌≡◌, ℕ, ℤ, ◌≤ℤ◌, int_le, Bool, true, false, not, ◌&&◌, List, [], ◌∷◌, map, refl, ap, ◌∙◌, Option, Some, None, arith}
 use Rattle.std.proofs.lemmas.Int.{ints}
 use Rattle.std.specs.Prelude.{is_some, is_none, if◌then◌else◌}
 use Rattle.std.specs.List.{list_all, AllByRecursion}
-use Rattle.std.specs.Option.{option_map}
-use Rattle.eutxo_types.specs.declared.fault.TxFault.{TxFault}
 use Rattle.eutxo_types.specs.declared.fault.TxFault.TheVariants.{NotUnspent, IdInUse, OutsideInterval, UnknownScript}
 use Rattle.eutxo_types.specs.declared.output.Output.{Output}
 use Rattle.eutxo_types.specs.declared.output_ref.OutputRef.{OutputRef}
@@ -20,7 +18,7 @@ use Rattle.eutxo.specs.Places.{or_else}
 use Rattle.roles.specs.declared.published.Published.{Published}
 use Rattle.looks.specs.declared.look.Unspent.{Unspent}
 use Rattle.history.specs.Laws.{marlowe}
-use Rattle.acceptance.specs.Accepting.{contents, Passes, AreUnspent, Admits}
+use Rattle.acceptance.specs.Accepting.{contents, Passes, Admits}
 use Rattle.acceptance.proofs.Tests.{Nowhere, both, by_recursion, all_everywhere, no_fault, none_of, if_not}
 use Rattle.acceptance.proofs.Named.{refs}
 use Rattle.acceptance.proofs.Pairs.{names}
@@ -46,8 +44,7 @@ module _ (named : List ℕ → Option Published) (tx : Tx) (spent : List Unspent
 -- on each resolution with these outputs
 pub passes : (tx : Tx) (found : Resolved Published) (spent : List Unspent) (ys : List (Spend × Output)) → IsClean (script_at found.scripts) tx spent ys → found.outputs ≡ contents spent → Passes tx found
 passes tx found spent ys h e =
-    let all : whole tx found ≡ Some ys = ap (λ os. if_known (script_at found.scripts) tx.outputs (with_outputs tx.inputs os)) e ∙ its_whole (script_at found.scripts) tx spent ys h in
-    (
+    let all : whole tx found ≡ Some ys = ap (λ os. if_known (script_at found.scripts) tx.outputs (with_outputs tx.inputs os)) e ∙ its_whole (script_at found.scripts) tx spent ys h in (
       ap is_some all,
       ap (or_else (of_tx tx)) (ap (of_whole marlowe (script_at found.scripts) tx) all ∙ h.rules) ∙ ap (λ f. or_else f None) h.first,
     )
@@ -98,7 +95,7 @@ judged enough m tx spent ys h a =
             if_not (not (int_le tx.interval.from m.tick && int_le m.tick tx.interval.to)) OutsideInterval (and_two (int_le tx.interval.from m.tick) (int_le m.tick tx.interval.to) (le_is tx.interval.from m.tick a.from) (le_is m.tick tx.interval.to a.to)),
             (
               no_fault UnknownScript (is_unknown m.published) tx.outputs (all_named m.published tx.outputs (all_everywhere (λ (o : Output). is_known m.published o.lock) tx.outputs
-              (both (list_all (λ (o : Output). is_known m.published o.lock) tx.outputs) (list_all (λ (x : Spend × Output). is_known m.published x.1.lock) ys) h.known).0)),
+                  (both (list_all (λ (o : Output). is_known m.published o.lock) tx.outputs) (list_all (λ (x : Spend × Output). is_known m.published x.1.lock) ys) h.known).0)),
               (
                 enough m tx ∙ none_of (of_tx tx ∷ of_whole marlowe m.published tx (if_known m.published tx.outputs (with_outputs tx.inputs (outputs_found m tx))) ∷ []) (h.first, (ap (of_whole marlowe m.published tx) all ∙ h.rules, tt)),
                 tt,

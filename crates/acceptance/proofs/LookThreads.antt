@@ -1,5 +1,5 @@
 -- The thread that a look shows.
-use Rattle.std.proofs.Common.{◌≡◌, ℕ, Bool, true, false, ◌&&◌, List, refl, sym, ap, ◌∙◌, subst, Option, Some, None}
+use Rattle.std.proofs.Common.{◌≡◌, ℕ, Bool, true, false, ◌&&◌, List, refl, ap, ◌∙◌, subst, Option, Some, None}
 use Rattle.std.specs.Prelude.{if◌then◌else◌}
 use Rattle.std.specs.Cmp.Lexicographic.{bytes_decides}
 use Rattle.collections.proofs.SameLaws.{same_by_decides}
@@ -14,7 +14,7 @@ use Rattle.roles.specs.Steps.{same_amounts}
 use Rattle.looks.specs.declared.look.Look.{Look}
 use Rattle.looks.specs.declared.look.ThreadOutput.{ThreadOutput}
 use Rattle.building.specs.Steps.{Thread, terms, stands, thread_in, thread_of, thread}
-use Rattle.acceptance.proofs.Tests.{both, together}
+use Rattle.acceptance.proofs.Tests.{both}
 
 -- it has the lock of what is published, at a number of the table, and holds the sums of its accounts
 pub record IsThread (e : Thread) : Type 0 where

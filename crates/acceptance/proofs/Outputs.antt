@@ -1,5 +1,5 @@
 -- The outputs that layouts make.
-use Rattle.std.proofs.Common.{◌≡◌, ℕ, ◌+◌, ℤ, Bool, true, false, not, ◌||◌, List, [], ◌∷◌, ◌++◌, refl, sym, ap, ◌∙◌, subst, Option, Some, None}
+use Rattle.std.proofs.Common.{◌≡◌, ℕ, ◌+◌, Bool, true, false, ◌||◌, List, [], ◌∷◌, ◌++◌, refl, ap, ◌∙◌, Option, Some, None}
 use Rattle.std.specs.Prelude.{if◌then◌else◌}
 use Rattle.std.specs.List.{AllByRecursion}
 use Rattle.std.specs.FinMap.{entries}
@@ -18,7 +18,6 @@ use Rattle.eutxo.specs.Places.{is_empty}
 use Rattle.eutxo.specs.Rules.{stray_after, after_answer}
 use Rattle.roles.specs.Steps.{same_output, same_amounts, lock_for, due_to, and_owed, due, first_unpaid, is_first, continuing, answer_by}
 use Rattle.building.specs.Laying.{given_to}
-use Rattle.acceptance.proofs.Tests.{each-append}
 
 pub same_output_itself : (o : Output) → same_output o o ≡ true
 same_output_itself o = (same_by_decides outputs.the_row.coded o o).1 refl

@@ -1,7 +1,7 @@
 -- Inputs with the outputs that were handed in for them.
-use Rattle.std.proofs.Common.{◌≡◌, ℕ, ℤ, ◌+ℤ◌, Bool, true, false, ◌||◌, List, [], ◌∷◌, ◌++◌, map, refl, sym, ap, ◌∙◌, Option, Some, None}
+use Rattle.std.proofs.Common.{◌≡◌, ℕ, ◌+ℤ◌, Bool, true, false, ◌||◌, List, [], ◌∷◌, ◌++◌, map, refl, sym, ap, ◌∙◌, Option, Some, None}
 use Rattle.std.specs.Prelude.{int_lt, ◌&&◌, pos}
-use Rattle.std.specs.List.{list_any, AllByRecursion}
+use Rattle.std.specs.List.{AllByRecursion}
 use Rattle.std.specs.Option.{option_map}
 use Rattle.contract.specs.declared.interval.Interval.{Interval}
 use Rattle.names.specs.declared.token.Token.{Token}
@@ -18,7 +18,7 @@ use Rattle.eutxo_types.specs.declared.tx.Tx.{Tx}
 use Rattle.eutxo.specs.Found.{with_outputs}
 use Rattle.eutxo.specs.Parts.{inputs_of, contract_in}
 use Rattle.eutxo.specs.Rules.{has_signed, or_contract, stepped}
-use Rattle.roles.specs.Steps.{is_key, role_token, shows, holds_role}
+use Rattle.roles.specs.Steps.{is_key, role_token, holds_role}
 use Rattle.looks.specs.declared.look.Unspent.{Unspent}
 use Rattle.building.specs.Clauses.{is_signed}
 use Rattle.building.specs.Holding.{held, holds_token}

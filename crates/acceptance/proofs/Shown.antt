@@ -1,22 +1,17 @@
 -- A thread that a ledger shows stands.
-use Rattle.std.proofs.Common.{◌≡◌, ℕ, Bool, true, ◌&&◌, List, refl, sym, ap, ◌∙◌, subst, Option, Some, None}
+use Rattle.std.proofs.Common.{◌≡◌, ℕ, true, ◌&&◌, List, sym, ap, ◌∙◌, subst, Option, Some, None}
 use Rattle.std.specs.Prelude.{if◌then◌else◌}
 use Rattle.std.specs.Cmp.Lexicographic.{bytes_decides}
 use Rattle.collections.proofs.SameLaws.{same_by_decides}
 use Rattle.bundle.specs.contracts.bundle.Bundle as bundles
 use Rattle.machine.specs.declared.datum.Datum.{Datum}
 use Rattle.eutxo.specs.Parts.{same_bytes}
-use Rattle.roles.specs.declared.published.Published.{Published}
 use Rattle.roles.specs.Sums.{sums_of}
 use Rattle.roles.specs.Steps.{same_amounts}
 use Rattle.roles.specs.Terms.{terms_of}
-use Rattle.looks.specs.declared.look.Look.{Look}
-use Rattle.looks.specs.declared.look.ThreadOutput.{ThreadOutput}
 use Rattle.building.specs.Steps.{Thread, stands, thread_in, thread_of}
-use Rattle.history.specs.Past.{Past}
-use Rattle.history.specs.Sound.{IsSound}
-use Rattle.history.specs.Laws.{marlowe, AreTables, ContractsAreFunded, ContractsAreOfTables}
-use Rattle.acceptance.specs.ShownThreads.{AreUnderIds, IsShown, ShownThreadsStand}
+use Rattle.history.specs.Laws.{ContractsAreFunded, ContractsAreOfTables}
+use Rattle.acceptance.specs.ShownThreads.{ShownThreadsStand}
 use Rattle.acceptance.proofs.Tests.{together}
 
 same_some : {A : Type 0} (a b : A) → ◌≡◌ {A = Option A} (Some a) (Some b) → a ≡ b

@@ -1,5 +1,5 @@
 -- The rules that every layout meets alike.
-use Rattle.std.proofs.Common.{◌≡◌, ℕ, nat_lt, Bool, true, false, not, ◌||◌, List, [], ◌∷◌, ◌++◌, map, length, refl, sym, ap, ◌∙◌, subst, Option, Some, None}
+use Rattle.std.proofs.Common.{◌≡◌, ℕ, nat_lt, Bool, true, false, not, ◌||◌, List, [], ◌∷◌, ◌++◌, map, length, refl, sym, ap, ◌∙◌, Option, None}
 use Rattle.std.specs.Prelude.{count_by}
 use Rattle.std.specs.List.{AllByRecursion, list_any}
 use Rattle.std.proofs.lemmas.List.{length-map}
@@ -17,7 +17,7 @@ use Rattle.eutxo_types.specs.declared.tx.Tx.{Tx}
 use Rattle.eutxo.specs.Local.{of_tx, of_spent, spent_rules}
 use Rattle.eutxo.specs.Parts.{inputs_of, is_contract}
 use Rattle.eutxo.specs.Places.{is_empty}
-use Rattle.eutxo.specs.Rules.{no_inputs, too_many, has_too_many, repeated_input, lacks_signer, not_signed, two_contracts, opens, wrong_redeemer, lacks_role, role_missing, stepped, of_step, not_preserved}
+use Rattle.eutxo.specs.Rules.{no_inputs, too_many, has_too_many, repeated_input, lacks_signer, not_signed, opens, wrong_redeemer, lacks_role, role_missing, stepped, of_step}
 use Rattle.roles.specs.declared.published.Published.{Published}
 use Rattle.roles.specs.Steps.{is_key, holds_role}
 use Rattle.looks.specs.declared.look.Unspent.{Unspent}
@@ -26,7 +26,7 @@ use Rattle.building.specs.Holding.{held}
 use Rattle.building.specs.Laying.{spend_with, by_key}
 use Rattle.history.specs.Laws.{marlowe}
 use Rattle.acceptance.proofs.Tests.{Nowhere, each-append, each_so, not_any, none_of_two, none_of, no_fault, if_not, mapped}
-use Rattle.acceptance.proofs.Named.{refs, fresh}
+use Rattle.acceptance.proofs.Named.{fresh}
 use Rattle.acceptance.proofs.Pairs.{laid, paired, pairs, names, all_named, AreKeyed, IsKeyed, nowhere_keys, nowhere_paired, total_pairs}
 use Rattle.acceptance.proofs.Sums.{preserved}
 
@@ -54,7 +54,7 @@ module _ (w : Redeemer) (us fs : List Unspent) (os : List Output) (i : Interval)
         if_not (is_empty tx.inputs) NoInputs some,
         (
           if_not (nat_lt 256 (length tx.inputs) || list_any has_too_many tx.inputs) TooMany (none_of_two (nat_lt 256 (length tx.inputs)) (list_any has_too_many tx.inputs)
-          (ap (nat_lt 256) all_counted ∙ few) (not_any has_too_many tx.inputs (each-append (λ x. has_too_many x ≡ false) (map (spend_with w) us) (map by_key fs) (given_few given us) (keys_few fs)))),
+              (ap (nat_lt 256) all_counted ∙ few) (not_any has_too_many tx.inputs (each-append (λ x. has_too_many x ≡ false) (map (spend_with w) us) (map by_key fs) (given_few given us) (keys_few fs)))),
           (mapped RepeatedInput _ (fresh tx.inputs (ap has_repeat (all_named w us fs) ∙ once)), tt),
         ),
       )

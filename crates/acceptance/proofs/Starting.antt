@@ -1,13 +1,11 @@
 -- A start that nothing hinders is accepted.
-use Rattle.std.proofs.Common.{◌≡◌, ℕ, ℤ, nat_lt, Bool, true, false, not, ◌&&◌, ◌||◌, List, [], ◌∷◌, ◌++◌, map, length, refl, sym, ap, ◌∙◌, subst, Option, Some, None}
-use Rattle.std.specs.Prelude.{if◌then◌else◌, is_some, is_none, count_by}
-use Rattle.std.specs.List.{list_all, list_any, AllByRecursion}
+use Rattle.std.proofs.Common.{◌≡◌, ℕ, ℤ, nat_lt, true, false, not, ◌&&◌, List, [], ◌∷◌, ◌++◌, map, refl, sym, ap, ◌∙◌, Option, Some, None}
+use Rattle.std.specs.Prelude.{is_some, is_none}
+use Rattle.std.specs.List.{list_all, AllByRecursion}
 use Rattle.std.proofs.lemmas.Bool.{eq-eqb}
-use Rattle.std.specs.FinMap.{FinMap, entries, empty, entries-from_sorted}
+use Rattle.std.specs.FinMap.{entries, empty, entries-from_sorted}
 use Rattle.std.specs.declared.cmp.Ordering.{Ordering}
 use Rattle.collections.proofs.Maps.{no_entries}
-use Rattle.names.specs.declared.choice_id.ChoiceId.{ChoiceId}
-use Rattle.names.specs.declared.token.Token.{Token}
 use Rattle.names.specs.Equal.{ada}
 use Rattle.names.specs.Orders.{bytes_cmp, choice_id_cmp}
 use Rattle.machine.specs.declared.datum.Datum.{Datum}
@@ -28,7 +26,7 @@ use Rattle.roles.specs.Steps.{same_cont, is_fresh, same_amounts, starts_from}
 use Rattle.looks.specs.declared.look.Unspent.{Unspent}
 use Rattle.building.specs.declared.fault.BuildFault.TheVariants.{NoFunds}
 use Rattle.building.specs.Requests.{StartRequest}
-use Rattle.building.specs.Holding.{held, least_lacking}
+use Rattle.building.specs.Holding.{least_lacking}
 use Rattle.building.specs.Clauses.{not_signed, no_funds, too_many, repeated}
 use Rattle.building.specs.Laying.{by_key, given_to, rest}
 use Rattle.building.specs.Starts.{fresh, accounts_of, funds, start_front, start_funds, hinders_start, start_output, layout_start}
@@ -36,7 +34,7 @@ use Rattle.building.proofs.Shortest.{shortest_passes}
 use Rattle.history.specs.Laws.{marlowe}
 use Rattle.acceptance.specs.Accepting.{StartsPass, StartsAreAccepted}
 use Rattle.acceptance.specs.AfterPasts.{StartsAreAcceptedAfter}
-use Rattle.acceptance.proofs.Tests.{Nowhere, both, together, not_so, none_counted, each_none, unmapped, mapped, no_place, everywhere_all}
+use Rattle.acceptance.proofs.Tests.{both, together, not_so, none_counted, each_none, unmapped, mapped, no_place, everywhere_all}
 use Rattle.acceptance.proofs.Pairs.{laid, pairs, all_paired, all_named, AreKeyed, nowhere_keys, no_step}
 use Rattle.acceptance.proofs.Sums.{total-changed}
 use Rattle.acceptance.proofs.Fronts.{shortest_rest}

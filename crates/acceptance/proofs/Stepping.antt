@@ -1,19 +1,15 @@
 -- A step that nothing hinders is accepted.
-use Rattle.std.proofs.Common.{◌≡◌, ℕ, ◌+◌, nat_lt, Bool, true, false, not, ◌&&◌, ◌||◌, List, [], ◌∷◌, ◌++◌, map, length, refl, sym, ap, ◌∙◌, subst, append_assoc, Option, Some, None, Result, Ok, Err}
-use Rattle.std.specs.Prelude.{if◌then◌else◌, is_some, is_none, count_by}
+use Rattle.std.proofs.Common.{◌≡◌, ℕ, ◌+◌, nat_lt, Bool, true, false, not, List, [], ◌∷◌, ◌++◌, length, refl, sym, ap, ◌∙◌, subst, Option, Some, None, Result, Ok, Err}
+use Rattle.std.specs.Prelude.{if◌then◌else◌, is_some, is_none}
 use Rattle.std.specs.List.{list_all, filter_map, cons_option, AllByRecursion}
 use Rattle.std.specs.Option.{option_map}
 use Rattle.contract.specs.declared.fault.SemFault.{SemFault}
 use Rattle.names.specs.declared.party.Party.{Party}
 use Rattle.names.specs.declared.party.Party.TheVariants.{Address, Role}
-use Rattle.names.specs.declared.token.Token.{Token}
-use Rattle.semantics.specs.Walk.{Standing, Walk, answer_of}
+use Rattle.semantics.specs.Walk.{Standing, answer_of}
 use Rattle.machine.specs.declared.datum.Datum.{Datum}
 use Rattle.contract.specs.declared.input.Input.{Input}
-use Rattle.nodes.specs.declared.cont.Cont.{Cont}
-use Rattle.bundle.specs.Totals.{total_of}
 use Rattle.eutxo_types.specs.declared.fault.TxFault.TheVariants as faults
-use Rattle.eutxo_types.specs.declared.lock.Lock.TheVariants.{Contract}
 use Rattle.eutxo_types.specs.declared.output.Output.{Output}
 use Rattle.eutxo_types.specs.declared.redeemer.Redeemer.{Redeemer}
 use Rattle.eutxo_types.specs.declared.redeemer.Redeemer.TheVariants as with
@@ -23,27 +19,25 @@ use Rattle.eutxo.specs.Asked.{Stepping}
 use Rattle.eutxo.specs.Found.{script_at, is_known, all_known}
 use Rattle.eutxo.specs.Laws.{FoundIsEnough}
 use Rattle.eutxo.specs.Local.{of_tx, of_spent}
-use Rattle.eutxo.specs.Parts.{is_contract, contract_in, outputs_from}
-use Rattle.eutxo.specs.Rules.{has_signed, lacks_role, or_contract, stepped, stepping, stray_after, after_answer, of_script, of_step, opens}
+use Rattle.eutxo.specs.Parts.{is_contract, contract_in}
+use Rattle.eutxo.specs.Rules.{lacks_role, or_contract, stepped, stepping, stray_after, after_answer, of_script, of_step, opens}
 use Rattle.roles.specs.declared.published.Published.{Published}
-use Rattle.roles.specs.Terms.{Terms, terms_of}
 use Rattle.roles.specs.Steps.{is_key, holds_role, role_token, needed, authorised, unauthorised, continuation, due, first_unpaid, is_first, is_close, continuing, by_answer, answer_by, outcome_answer, step_of}
 use Rattle.roles.specs.Steps as roles
 use Rattle.looks.specs.declared.look.Look.{Look}
 use Rattle.looks.specs.declared.look.Unspent.{Unspent}
-use Rattle.building.specs.declared.fault.BuildFault.TheVariants.{NotSigned, NotAuthorised, NoFunds, TooMany, Repeated}
+use Rattle.building.specs.declared.fault.BuildFault.TheVariants.{NotAuthorised, NoFunds, TooMany}
 use Rattle.building.specs.Requests.{StepRequest}
-use Rattle.building.specs.Holding.{sums, held, holds_token, least_lacking}
+use Rattle.building.specs.Holding.{holds_token, least_lacking}
 use Rattle.building.specs.Fronts.{suffices}
-use Rattle.building.specs.Clauses.{is_signed, not_signed, no_funds, is_much, is_over, too_many, has_repeat, repeated}
+use Rattle.building.specs.Clauses.{not_signed, no_funds, too_many, repeated}
 use Rattle.building.specs.Laying.{given_to, rest}
 use Rattle.building.specs.Steps.{Thread, terms, thread, walk, refused, token_of, roles_of, deposits, may_act, not_authorised, step_front, own, step_spent, too_many_given, hinders_thread, hinders_on, goes_on, made, layout_thread, layout_on}
 use Rattle.history.specs.Laws.{marlowe}
 use Rattle.acceptance.specs.Accepting.{StepsPass, StepsAreAccepted}
 use Rattle.acceptance.specs.AfterPasts.{StepsAreAcceptedAfter}
-use Rattle.acceptance.proofs.Tests.{Nowhere, Everywhere, both, together, neither, not_not, each-append, each_front, each_so, all_everywhere, everywhere_all, one_counted, no_fault, not_found, found_nowhere, each_none, none_of, unless, only_if, if_not, mapped, unmapped}
-use Rattle.acceptance.proofs.Named.{repeat_front}
-use Rattle.acceptance.proofs.Pairs.{laid, paired, pairs, all_paired, all_named, names, map-both, AreKeyed, IsKeyed, keyed, nowhere_keys, front_holds, no_keys_step}
+use Rattle.acceptance.proofs.Tests.{Nowhere, Everywhere, both, together, not_not, each-append, all_everywhere, everywhere_all, one_counted, no_fault, not_found, found_nowhere, each_none, none_of, if_not, mapped, unmapped}
+use Rattle.acceptance.proofs.Pairs.{laid, paired, pairs, all_paired, all_named, AreKeyed, nowhere_keys, front_holds}
 use Rattle.acceptance.proofs.Sums.{total-changed}
 use Rattle.acceptance.proofs.Fronts.{shortest_rest}
 use Rattle.building.proofs.Shortest.{shortest_passes}

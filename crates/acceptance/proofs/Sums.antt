@@ -1,17 +1,17 @@
 -- What is spent and what is made hold the same, token by token.
-use Rattle.std.proofs.Common.{◌≡◌, ℕ, ℤ, pos, ◌+ℤ◌, ◌-ℤ◌, Bool, true, false, not, cond, List, [], ◌∷◌, ◌++◌, map, refl, sym, ap, ◌∙◌, Option, Some, None, arith}
+use Rattle.std.proofs.Common.{◌≡◌, ℕ, ℤ, pos, ◌+ℤ◌, ◌-ℤ◌, false, not, List, [], ◌∷◌, ◌++◌, refl, sym, ap, ◌∙◌, None, arith}
 use Rattle.std.proofs.lemmas.Int.{ints}
 use Rattle.std.proofs.lemmas.Bool.Decides.{Decides-int_eq}
 use Rattle.std.specs.Prelude.{if◌then◌else◌}
 use Rattle.std.specs.Option.{unwrap_or, option_map}
 use Rattle.std.specs.Ordering.{int_eq}
-use Rattle.std.specs.FinMap.{entries, get, get-empty, get-entries}
+use Rattle.std.specs.FinMap.{entries, get-entries}
 use Rattle.std.specs.FinMap.Entries.{find}
 use Rattle.names.specs.declared.token.Token.{Token}
 use Rattle.names.specs.Orders.{token_cmp}
 use Rattle.bundle.specs.Bundles.{Amounts, amount_of}
 use Rattle.bundle.specs.Totals.{total_of}
-use Rattle.bundle.proofs.Amounts.{sums_are_of_each_token, rests_are_of_each_token}
+use Rattle.bundle.proofs.Amounts.{rests_are_of_each_token}
 use Rattle.eutxo_types.specs.declared.fault.TxFault.TheVariants.{NotPreserved}
 use Rattle.eutxo_types.specs.declared.lock.Lock.TheVariants.{Key}
 use Rattle.eutxo_types.specs.declared.output.Output.{Output}

@@ -1,5 +1,5 @@
 -- Tests that hold nowhere, or everywhere, and the first of several.
-use Rattle.std.proofs.Common.{◌≡◌, ℕ, suc, ◌+◌, ◌<◌, length, Bool, true, false, ◌&&◌, ◌||◌, not, cond, List, [], ◌∷◌, ◌++◌, refl, sym, ◌∙◌, ap, subst, arith, Option, Some, None}
+use Rattle.std.proofs.Common.{◌≡◌, ℕ, suc, ◌+◌, Bool, true, false, ◌&&◌, ◌||◌, not, cond, List, [], ◌∷◌, ◌++◌, refl, ◌∙◌, ap, arith, Option, Some, None}
 use Rattle.std.specs.Prelude.{if◌then◌else◌, count_by, fold, All}
 use Rattle.std.specs.List.{list_any, list_all, find, filter, position, position_from, AllByRecursion}
 use Rattle.std.specs.Option.{option_map}

@@ -1,5 +1,5 @@
 -- When the layout of a request is accepted.
-use Rattle.std.specs.Prelude.{◌≡◌, ℤ, ◌≤ℤ◌, Bool, true, false, List, ◌++◌, map, All, Option, Some, None, is_some}
+use Rattle.std.specs.Prelude.{◌≡◌, ◌≤ℤ◌, true, false, List, ◌++◌, map, All, Option, Some, None, is_some}
 use Rattle.eutxo_types.specs.declared.output.Output.{Output}
 use Rattle.eutxo_types.specs.declared.tx.Tx.{Tx}
 use Rattle.eutxo_types.specs.Ids.{id_of}

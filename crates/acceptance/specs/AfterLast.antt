@@ -1,5 +1,5 @@
 -- After the last timeout anyone can close a thread: without inputs, and with nothing offered.
-use Rattle.std.specs.Prelude.{◌≡◌, ℕ, ◌≤ℤ◌, Bool, false, List, [], ◌⊎◌, Option, Some, None, Ok}
+use Rattle.std.specs.Prelude.{◌≡◌, ℕ, ◌≤ℤ◌, false, List, [], ◌⊎◌, Option, Some, None, Ok}
 use Rattle.names.specs.declared.token.Token.{Token}
 use Rattle.contract.specs.declared.fault.SemFault.TheVariants.{Useless, Leaves128}
 use Rattle.contract.specs.declared.interval.Interval.{Interval}
