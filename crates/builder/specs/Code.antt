@@ -7,8 +7,8 @@ use Rattle.building.specs.declared.fault.BuildFault.{BuildFault}
 use Rattle.building.specs.declared.fault.BuildFault.TheVariants.{Memory}
 use Rattle.building.specs.Requests.{StepRequest}
 
-abbrev pub asked : Interval → List Input → List (List ℕ) → List Unspent → List ℕ → StepRequest
-asked interval inputs signers offered change = record { interval = interval; inputs = inputs; signers = signers; offered = offered; change = change }
+abbrev pub request : Interval → List Input → List (List ℕ) → List Unspent → List ℕ → StepRequest
+request interval inputs signers offered change = record { interval = interval; inputs = inputs; signers = signers; offered = offered; change = change }
 
 -- memory aside, a check is passed where its clause names nothing, and else answers the fault that it names
 abbrev pub Passes : {X : Type 0} → Result X BuildFault → Option BuildFault → Type 0

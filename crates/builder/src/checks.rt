@@ -34,7 +34,7 @@ pub(crate) fn check_authorised(
     offered: &[Unspent],
     inputs: &[Input],
 ) -> Result<(), BuildFault>
-    ensures { Passes result (not_authorised currency.now inputs.now signers.now offered.now) }
+    ensures { Passes result (not_authorised currency.now signers.now offered.now inputs.now) }
 {
     match unauthorised(currency, signers, offered, inputs) {
         None => Ok(()),

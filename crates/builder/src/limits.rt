@@ -1,5 +1,7 @@
 //! The limits on what is spent.
-ghost use Rattle.std.specs.Prelude.{◌≡◌, ◌⊎◌, ◌++◌, ◌∷◌, true, map, IfOk, IfErr, OnOk};
+ghost use Rattle.std.specs.Prelude.{◌≡◌, ◌⊎◌, ◌||◌, ◌++◌, ◌∷◌, true, not, map, IfOk, IfErr, OnOk};
+ghost use Rattle.std.specs.HashSet.{contains};
+ghost use Rattle.eutxo.specs.Parts.{same_ref};
 ghost use Rattle.bundle.specs.Bundles.{plus};
 ghost use Rattle.building.specs.Holding.{sums, held};
 ghost use Rattle.building.specs.Clauses.{is_much, has_repeat};
@@ -7,7 +9,7 @@ ghost use Rattle.building.specs.Steps.{too_many_given};
 ghost use Rattle.building.specs.Serving.{AreBundles};
 ghost use Rattle.builder.specs.Code.{Passes};
 
-use crate::sum::{both, copy_of, see, see_room, sum};
+use crate::sum::{see, see_room, sum, with};
 use building::BuildFault;
 use bundle::{Bundle, BundleFault};
 use collections::Memory;
@@ -32,14 +34,29 @@ pub(crate) fn put_references(
     Ok(())
 }
 
+// Puts a reference into a set, and answers whether it is new there.
+fn put(set: &mut HashSet<OutputRef>, reference: OutputRef) -> Result<bool, Memory>
+    ensures fresh { IfOk result (λ fresh. fresh ≡ not (contains same_ref set.old reference)) }
+    ensures put { OnOk result ((r : OutputRef) → contains same_ref set.new r ≡ same_ref reference r || contains same_ref set.old r) }
+{
+    let fresh = set.insert(reference)?;
+    Ok(fresh)
+}
+
 /// Whether two references name one output, by a set of those that come later.
 pub(crate) fn has_repeat(alloc: Global, references: &[OutputRef]) -> Result<bool, Memory>
     ensures { IfOk result (λ answer. answer ≡ has_repeat references.now) }
 {
     let mut later = HashSet::new(alloc);
     for i in (0..references.len()).rev() {
-        if !later.insert(references[i])? {
-            return Ok(true);
+        let reference = references[i];
+        match put(&mut later, reference) {
+            Ok(fresh) => {
+                if !fresh {
+                    return Ok(true);
+                }
+            }
+            Err(refused) => return Err(refused),
         }
     }
     Ok(false)
@@ -52,12 +69,8 @@ fn spent(alloc: Global, output: &Output, front: &[Unspent]) -> Result<Bundle, Bu
     ensures err { IfErr result (λ fault. (fault ≡ BundleFault.Memory) ⊎ ((fault ≡ BundleFault.TooLarge) × (is_much (plus output.now.amount (sums held front.now)) ≡ true))) }
 {
     see(output);
-    let amount = match copy_of(output) {
-        Ok(amount) => amount,
-        Err(fault) => return Err(fault),
-    };
     match sum(alloc, front) {
-        Ok(others) => both(amount, &others),
+        Ok(others) => with(output, &others),
         Err(fault) => Err(fault),
     }
 }

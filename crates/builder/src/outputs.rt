@@ -1,6 +1,8 @@
 //! The outputs of a layout.
 ghost use Rattle.std.specs.Prelude.{◌≡◌, ◌⊎◌, ◌++◌, ◌∷◌, [], true, pos, ◌<ℤ◌, if◌then◌else◌, IfOk, IfErr, OnOk};
+ghost use Rattle.std.specs.FinMap.{entries};
 ghost use Rattle.bundle.specs.Bundles.{minus};
+ghost use Rattle.eutxo.specs.Places.{is_empty};
 ghost use Rattle.roles.specs.Steps.{lock_for, owed, due, continuation};
 ghost use Rattle.roles.specs.Sums.{sums_of};
 ghost use Rattle.building.specs.Holding.{sums};
@@ -80,6 +82,15 @@ pub(crate) fn continuation(
     }
 }
 
+fn is_nothing(amount: &Bundle) -> bool
+    ensures { result ≡ is_empty (entries amount.now) }
+{
+    match amount.entries() {
+        [] => true,
+        [_, ..] => false,
+    }
+}
+
 /// Puts an output to an address behind others, where there is anything for it.
 pub(crate) fn put_given(
     outputs: &mut Items<Output>,
@@ -88,7 +99,7 @@ pub(crate) fn put_given(
 ) -> Result<(), Memory>
     ensures { OnOk result (outputs.new ≡ outputs.old ++ given_to address.now amount) }
 {
-    if amount.is_empty() {
+    if is_nothing(&amount) {
         return Ok(());
     }
     let lock = Lock::Key(address.try_clone()?);
@@ -105,19 +116,21 @@ pub(crate) fn made(
     ensures ok { IfOk result (λ outputs. outputs ≡ (if closed then [] else continuation published.now.id outcome.place outcome.state ∷ []) ++ due published.now.currency outcome.payments) }
     ensures err { IfErr result (λ fault. fault ≡ BuildFault.Memory) }
 {
+    let Outcome {
+        payments,
+        state,
+        place,
+        ..
+    } = outcome;
     let mut outputs = Items::new(alloc);
     if !closed {
-        match continuation(alloc, &published.id, outcome.place, outcome.state) {
+        match continuation(alloc, &published.id, place, state) {
             Ok(output) => outputs.push(output)?,
             Err(_) => return Err(BuildFault::Memory),
         }
     }
-    put_due(
-        alloc,
-        &mut outputs,
-        &published.currency,
-        outcome.payments.as_slice(),
-    )?;
+    let currency = &published.currency;
+    put_due(alloc, &mut outputs, currency, payments.as_slice())?;
     Ok(outputs)
 }
 

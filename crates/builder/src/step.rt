@@ -10,7 +10,7 @@ ghost use Rattle.building.specs.Holding.{sums};
 ghost use Rattle.building.specs.Built.{built};
 ghost use Rattle.building.specs.Laying.{by_key, by_step, given_to};
 ghost use Rattle.building.specs.Steps.{thread_in, terms, walk, own, hinders_thread, layout_thread, hinders_on, layout_on, hinders_step, layout_step};
-ghost use Rattle.builder.specs.Code.{asked};
+ghost use Rattle.builder.specs.Code.{request};
 
 use crate::amounts::deposits;
 use crate::checks::{check_authorised, check_funds, check_once, check_signed};
@@ -30,10 +30,9 @@ use looks::{Look, ThreadOutput, Unspent};
 use machine::compute;
 use semantics::Steps;
 use std::alloc::Global;
-use std::marker::Model;
 
-// What is asked for. Clauses see the request.
-#[derive(Drop)]
+// What is asked for.
+#[derive(Clone, Copy)]
 struct Asked<'a> {
     interval: Interval,
     inputs: &'a [Input],
@@ -42,28 +41,20 @@ struct Asked<'a> {
     change: &'a Text,
 }
 
-impl<'a> Model for Asked<'a> {
-    ghost use Rattle.building.specs.Requests.{StepRequest};
-
-    ghost Value = { StepRequest };
-
-    ghost view = { λ a. record { interval = a.interval; inputs = a.inputs.now; signers = a.signers.now; offered = a.offered.now; change = a.change.now } };
-}
-
 // The transaction of a step, from what it spends and makes but for the change.
 fn lay_out(
     alloc: Global,
-    asked: &Asked<'_>,
+    asked: Asked<'_>,
     thread: &ThreadOutput,
     front: &[Unspent],
     all: Bundle,
     mut outputs: Items<Output>,
 ) -> Result<Tx, BuildFault>
     ensures ok { IfOk result (λ tx. tx ≡ record {
-      inputs = by_step asked.now.inputs (record { reference = thread.now.reference; output = thread.now.output }) ∷ map by_key front.now;
-      outputs = outputs ++ given_to asked.now.change (minus all (sums (λ o. o.amount) outputs));
-      interval = asked.now.interval;
-      signers = asked.now.signers;
+      inputs = by_step asked.entry.inputs.now (record { reference = thread.now.reference; output = thread.now.output }) ∷ map by_key front.now;
+      outputs = outputs ++ given_to asked.entry.change.now (minus all (sums (λ o. o.amount) outputs));
+      interval = asked.entry.interval;
+      signers = asked.entry.signers.now;
     }) }
     ensures err { IfErr result (λ fault. fault ≡ BuildFault.Memory) }
 {
@@ -84,16 +75,16 @@ fn lay_out(
 // The transaction of a step that the contract takes, or the first later clause that fails.
 fn finish(
     alloc: Global,
-    asked: &Asked<'_>,
+    asked: Asked<'_>,
     thread: &ThreadOutput,
     datum: &Datum,
     outcome: Outcome<Cont>,
 ) -> Result<Tx, BuildFault>
-    requires ended { answer_of (walk asked.now (thread.now, datum.now)) ≡ Ok (standing outcome.state (cont_tree thread.now.published.table outcome.place.0)) }
-    requires paid { outcome.payments ≡ (walk asked.now (thread.now, datum.now)).payments }
-    requires led { (terms (thread.now, datum.now)).at datum.now.cont (walk asked.now (thread.now, datum.now)).turns ≡ outcome.place }
+    requires ended { answer_of (walk (request asked.interval asked.inputs.now asked.signers.now asked.offered.now asked.change.now) (thread.now, datum.now)) ≡ Ok (standing outcome.state (cont_tree thread.now.published.table outcome.place.0)) }
+    requires paid { outcome.payments ≡ (walk (request asked.interval asked.inputs.now asked.signers.now asked.offered.now asked.change.now) (thread.now, datum.now)).payments }
+    requires led { (terms (thread.now, datum.now)).at datum.now.cont (walk (request asked.interval asked.inputs.now asked.signers.now asked.offered.now asked.change.now) (thread.now, datum.now)).turns ≡ outcome.place }
     requires has { Has thread.now.published.table (a_cont outcome.place.0) }
-    ensures { Aside BuildFault.Memory result (built (hinders_thread asked.now (thread.now, datum.now)) (layout_thread asked.now (thread.now, datum.now))) }
+    ensures { Aside BuildFault.Memory result (built (hinders_thread (request asked.entry.interval asked.entry.inputs.now asked.entry.signers.now asked.entry.offered.now asked.entry.change.now) (thread.now, datum.now)) (layout_thread (request asked.entry.interval asked.entry.inputs.now asked.entry.signers.now asked.entry.offered.now asked.entry.change.now) (thread.now, datum.now))) }
 {
     let published = thread.published.get();
     let currency = &published.currency;
@@ -114,12 +105,12 @@ fn finish(
 // Builds on a thread that stands.
 fn build_at(
     alloc: Global,
-    asked: &Asked<'_>,
+    asked: Asked<'_>,
     thread: &ThreadOutput,
     datum: &Datum,
 ) -> Result<Tx, BuildFault>
     requires { thread_in thread.now (contract_in thread.now.output.lock) ≡ Some (thread.now, datum.now) }
-    ensures { Aside BuildFault.Memory result (built (hinders_thread asked.now (thread.now, datum.now)) (layout_thread asked.now (thread.now, datum.now))) }
+    ensures { Aside BuildFault.Memory result (built (hinders_thread (request asked.entry.interval asked.entry.inputs.now asked.entry.signers.now asked.entry.offered.now asked.entry.change.now) (thread.now, datum.now)) (layout_thread (request asked.entry.interval asked.entry.inputs.now asked.entry.signers.now asked.entry.offered.now asked.entry.change.now) (thread.now, datum.now))) }
 {
     let table = &thread.published.get().table;
     table.turns_lead();
@@ -131,9 +122,9 @@ fn build_at(
 }
 
 // Builds on a thread.
-fn build_on(alloc: Global, asked: &Asked<'_>, thread: &ThreadOutput) -> Result<Tx, BuildFault>
+fn build_on(alloc: Global, asked: Asked<'_>, thread: &ThreadOutput) -> Result<Tx, BuildFault>
     ensures { let e = thread_in thread.now (contract_in thread.now.output.lock) in
-        Aside BuildFault.Memory result (built (hinders_on asked.now e) (layout_on asked.now e)) }
+        Aside BuildFault.Memory result (built (hinders_on (request asked.entry.interval asked.entry.inputs.now asked.entry.signers.now asked.entry.offered.now asked.entry.change.now) e) (layout_on (request asked.entry.interval asked.entry.inputs.now asked.entry.signers.now asked.entry.offered.now asked.entry.change.now) e)) }
 {
     match datum_of(alloc, thread) {
         Ok(None) => Err(BuildFault::NoThread),
@@ -162,7 +153,7 @@ pub fn build_step(
     offered: &[Unspent],
     change: &Text,
 ) -> Result<Tx, BuildFault>
-    ensures { let r = asked interval inputs.now signers.now offered.now change.now in
+    ensures { let r = request interval inputs.now signers.now offered.now change.now in
         Aside BuildFault.Memory result (built (hinders_step look.now r) (layout_step look.now r)) }
 {
     let asked = Asked {
@@ -174,6 +165,6 @@ pub fn build_step(
     };
     match &look.thread {
         None => Err(BuildFault::NoThread),
-        Some(thread) => build_on(alloc, &asked, thread),
+        Some(thread) => build_on(alloc, asked, thread),
     }
 }

@@ -28,11 +28,17 @@ pub(crate) fn see_all<A: Holds>(items: &[A])
     }
 }
 
+fn is_within(entry: &(Token, i128))
+    ensures { int_lt (pos (2 ^ 127 - 1)) entry.now.1 ≡ false }
+{
+    let _amount = entry.1;
+}
+
 fn has_room(entries: &[(Token, i128)])
     ensures { list_any (λ e. int_lt (pos (2 ^ 127 - 1)) e.1) entries.now ≡ false }
 {
     for entry in entries {
-        let _ = entry.1;
+        is_within(entry);
     }
 }
 
@@ -43,9 +49,8 @@ pub(crate) fn see_room(bundle: &Bundle)
     has_room(bundle.entries());
 }
 
-/// Both together: refused with `TooLarge` only where the sum of a token is above 2^127 - 1, and otherwise only for
-/// memory.
-pub(crate) fn both(mut left: Bundle, right: &Bundle) -> Result<Bundle, BundleFault>
+// Both together.
+fn both(mut left: Bundle, right: &Bundle) -> Result<Bundle, BundleFault>
     ensures ok { IfOk result (λ bundle. bundle ≡ plus left right.now) }
     ensures err { IfErr result (λ fault. (fault ≡ BundleFault.Memory) ⊎ ((fault ≡ BundleFault.TooLarge) × (is_much (plus left right.now) ≡ true))) }
 {
@@ -56,8 +61,8 @@ pub(crate) fn both(mut left: Bundle, right: &Bundle) -> Result<Bundle, BundleFau
     }
 }
 
-/// What it holds.
-pub(crate) fn copy_of<A: Holds>(item: &A) -> Result<Bundle, BundleFault>
+// What it holds.
+fn copy_of<A: Holds>(item: &A) -> Result<Bundle, BundleFault>
     ensures ok { IfOk result (λ bundle. bundle ≡ A.held item.now) }
     ensures err { IfErr result (λ fault. fault ≡ BundleFault.Memory) }
 {
@@ -67,25 +72,31 @@ pub(crate) fn copy_of<A: Holds>(item: &A) -> Result<Bundle, BundleFault>
     }
 }
 
-/// What all of these hold together, in n log n steps: refused with `TooLarge` only where the sum of a token is above
-/// 2^127 - 1, and otherwise only for memory.
+/// What an item and others hold together: refused with `TooLarge` only where the sum of a token is above 2^127 - 1,
+/// and otherwise only for memory.
+pub(crate) fn with<A: Holds>(item: &A, others: &Bundle) -> Result<Bundle, BundleFault>
+    ensures ok { IfOk result (λ bundle. bundle ≡ plus (A.held item.now) others.now) }
+    ensures err { IfErr result (λ fault. (fault ≡ BundleFault.Memory) ⊎ ((fault ≡ BundleFault.TooLarge) × (is_much (plus (A.held item.now) others.now) ≡ true))) }
+{
+    match copy_of(item) {
+        Ok(bundle) => both(bundle, others),
+        Err(fault) => Err(fault),
+    }
+}
+
+/// What all of these hold together: refused with `TooLarge` only where the sum of a token is above 2^127 - 1, and
+/// otherwise only for memory.
 pub(crate) fn sum<A: Holds>(alloc: Global, items: &[A]) -> Result<Bundle, BundleFault>
     requires { AreBundles A.held items.now }
     ensures ok { IfOk result (λ bundle. bundle ≡ sums A.held items.now) }
     ensures err { IfErr result (λ fault. (fault ≡ BundleFault.Memory) ⊎ ((fault ≡ BundleFault.TooLarge) × (is_much (sums A.held items.now) ≡ true))) }
 {
-    match items {
-        [] => Ok(Bundle::new(alloc)),
-        [item] => copy_of(item),
-        _ => {
-            let (front, back) = items.split_at(items.len() / 2);
-            match sum(alloc, front) {
-                Ok(left) => match sum(alloc, back) {
-                    Ok(right) => both(left, &right),
-                    Err(fault) => Err(fault),
-                },
-                Err(fault) => Err(fault),
-            }
+    let mut all = Bundle::new(alloc);
+    for i in (0..items.len()).rev() {
+        match with(&items[i], &all) {
+            Ok(more) => all = more,
+            Err(fault) => return Err(fault),
         }
     }
+    Ok(all)
 }
