@@ -13,4 +13,5 @@ pub mod Stepping
 pub mod Claiming
 pub mod Starting
 pub mod Shown
+pub mod Changing
 pub mod Closing

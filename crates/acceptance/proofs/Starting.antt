@@ -73,20 +73,22 @@ module _ (r : StartRequest) (clear : hinders_start r ≡ None) where
   funded : (is_empty r.offered ≡ false) × (no_funds (accounts_of r.state) r.offered ≡ None)
   funded = unless_else (is_empty r.offered) (NoFunds ada) (no_funds (accounts_of r.state) r.offered) clauses.1.0
 
-  some : is_empty fs ≡ false
-  some =
+  -- the front has an output, and nothing lacks in it
+  pub enough : (is_empty fs ≡ false) × (is_none (least_lacking (accounts_of r.state) fs) ≡ true)
+  enough =
       let all = shortest_passes (funds r.state) r.offered (together (not (is_empty r.offered)) (is_none (least_lacking (accounts_of r.state) r.offered))
       (ap not funded.0) (is_nothing (least_lacking (accounts_of r.state) r.offered) (unmapped NoFunds _ funded.1))) in
-      not_so (is_empty fs) (both (not (is_empty fs)) (is_none (least_lacking (accounts_of r.state) fs)) all).0
+      let k = both (not (is_empty fs)) (is_none (least_lacking (accounts_of r.state) fs)) all in
+      (not_so (is_empty fs) k.0, k.1)
 
-  later : (more : List Unspent) × (r.offered ≡ fs ++ more)
+  pub later : (more : List Unspent) × (r.offered ≡ fs ++ more)
   later = shortest_rest (funds r.state) r.offered
 
   signed : AreKeyed r.signers fs
   signed = keyed_front r.signers fs later.0 r.offered later.1 clauses.0
 
   first : of_tx tx ≡ None
-  first = first_rules with.None [] fs (output ∷ change) r.interval r.signers (no_keys fs some) (not_many fs clauses.1.1.0) refl (named_once [] fs later.0 r.offered later.1 clauses.1.1.1.0)
+  first = first_rules with.None [] fs (output ∷ change) r.interval r.signers (no_keys fs enough.0) (not_many fs clauses.1.1.0) refl (named_once [] fs later.0 r.offered later.1 clauses.1.1.1.0)
 
   -- it is a start
   starts : starts_from r.published.root (record { cont = r.published.root; state = fresh r.state }) output.amount ≡ true

@@ -6,7 +6,10 @@ use Rattle.eutxo_types.specs.declared.fault.TxFault.TheVariants.{NoInputs}
 use Rattle.eutxo_types.specs.declared.output.Output.{Output}
 use Rattle.eutxo_types.specs.declared.spend.Spend.{Spend}
 use Rattle.eutxo_types.specs.declared.tx.Tx.{Tx}
+use Rattle.eutxo_types.specs.Fitting.{TxFits}
 use Rattle.eutxo_types.specs.Ids.{id_of}
+use Rattle.eutxo_types.specs.Spelling.{tx_bytes}
+use Rattle.contract_bytes.specs.Unambiguous.{BeginsNoOther}
 use Rattle.eutxo.specs.Judgement.{judge}
 use Rattle.eutxo.specs.Laws.{FoundIsEnough}
 use Rattle.eutxo.specs.Parts.{same_ref}
@@ -19,7 +22,7 @@ use Rattle.history.specs.Past.{Past, has_id, is_spent, is_used, unspent_at}
 use Rattle.history.specs.Sound.{moment}
 use Rattle.history.specs.Laws.{marlowe}
 use Rattle.history.proofs.References.{same_ref-refl, unspent_so}
-use Rattle.acceptance.specs.AfterPasts.{IsAlone, IsOpen}
+use Rattle.acceptance.specs.AfterPasts.{IsAlone, BytesTellApart, IsOpen}
 use Rattle.acceptance.proofs.Tests.{by_recursion, unless}
 use Rattle.acceptance.proofs.Named.{refs}
 use Rattle.acceptance.proofs.Pairs.{names}
@@ -64,6 +67,10 @@ from_first p tx (x ∷ xs) [] e s n h alone = cc
 from_first p tx (x ∷ xs) (u ∷ us) e s n h alone =
     let same : x.reference ≡ u.reference = cc in
     new p tx x xs u.output e (ap (unspent_at p) same ∙ h.0) alone (is_used p.accepted (id_of tx)) refl
+
+-- bytes tell transactions apart
+pub bytes_tell_apart : BeginsNoOther TxFits tx_bytes → BytesTellApart
+bytes_tell_apart law p tx fits all h n other at e = law other tx (all n other at) fits [] (append-nil (tx_bytes other) ∙ h n other at e)
 
 -- so what is clean is accepted after a past
 pub judged_after : FoundIsEnough marlowe → (published : List ℕ → Option Published) (p : Past) (tick : ℤ) (tx : Tx) (spent : List Unspent) (ys : List (Spend × Output)) → IsClean published tx spent ys → IsOpen p tick spent tx → judge marlowe (moment published p tick) tx ≡ None

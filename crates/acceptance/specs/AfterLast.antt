@@ -1,5 +1,5 @@
 -- After the last timeout anyone can close a thread: without inputs, and with nothing offered.
-use Rattle.std.specs.Prelude.{◌≡◌, ℕ, ◌≤ℤ◌, false, List, [], ◌⊎◌, Option, Some, None, Ok}
+use Rattle.std.specs.Prelude.{◌≡◌, ℕ, pos, ◌-◌, ◌^◌, ◌≤ℤ◌, List, [], ◌⊎◌, Option, Some, None, Ok}
 use Rattle.names.specs.declared.token.Token.{Token}
 use Rattle.contract.specs.declared.fault.SemFault.TheVariants.{Useless, Leaves128}
 use Rattle.contract.specs.declared.interval.Interval.{Interval}
@@ -12,7 +12,6 @@ use Rattle.looks.specs.declared.look.Look.{Look}
 use Rattle.building.specs.declared.fault.BuildFault.{BuildFault}
 use Rattle.building.specs.declared.fault.BuildFault.TheVariants.{NoThread, Semantics}
 use Rattle.building.specs.Requests.{StepRequest}
-use Rattle.building.specs.Clauses.{is_much}
 use Rattle.building.specs.Steps.{Thread, terms, thread, walk, hinders_step}
 
 -- a step without inputs and offers
@@ -25,10 +24,10 @@ abbrev pub Closes : StepRequest → Thread → Option BuildFault → Type 0
 Closes r e None = (a : Standing) × (answer_of (walk r e) ≡ Ok a) × IsSpent a.state a.contract × ((t : Token) → paid_out t (walk r e).payments ≡ amount_of e.0.output.amount t)
 Closes r e (Some f) = (f ≡ Semantics Leaves128) ⊎ ((f ≡ Semantics Useless) × IsSpent e.1.state ((terms e).tree e.1.cont))
 
--- ANYONE CLOSES A THREAD from the last timeout on, in an interval that ends neither before its start nor before the minimum time. (Of no
--- token does an output hold more than 2^127 - 1: that is so of every bundle.)
+-- ANYONE CLOSES A THREAD from the last timeout on, in an interval that ends neither before its start nor before the minimum time. (Its
+-- output holds no more than 2^127 - 1 of a token, as no output does.)
 abbrev pub AnyoneCloses : Type 0
-AnyoneCloses = (look : Look) (e : Thread) (i : Interval) (signers : List (List ℕ)) (change : List ℕ) → thread look ≡ Some e → is_much e.0.output.amount ≡ false →
+AnyoneCloses = (look : Look) (e : Thread) (i : Interval) (signers : List (List ℕ)) (change : List ℕ) → thread look ≡ Some e → ((t : Token) → amount_of e.0.output.amount t ≤ℤ pos (2 ^ 127 - 1)) →
     HasReached (last ((terms e).tree e.1.cont)) i.from → i.from ≤ℤ i.to → e.1.state.min_time ≤ℤ i.to →
     Closes (closing i signers change) e (hinders_step look (closing i signers change))
 

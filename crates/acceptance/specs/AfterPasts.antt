@@ -1,7 +1,9 @@
 -- When a layout is accepted after what a ledger accepted, however it came by it.
 use Rattle.std.specs.Prelude.{◌≡◌, ℕ, ℤ, ◌≤ℤ◌, List, ◌++◌, slice_get, All, Option, Some, None}
 use Rattle.eutxo_types.specs.declared.tx.Tx.{Tx}
+use Rattle.eutxo_types.specs.Fitting.{TxFits}
 use Rattle.eutxo_types.specs.Ids.{id_of}
+use Rattle.eutxo_types.specs.Spelling.{tx_bytes}
 use Rattle.eutxo.specs.Judgement.{judge}
 use Rattle.roles.specs.declared.published.Published.{Published}
 use Rattle.looks.specs.declared.look.Look.{Look}
@@ -17,6 +19,14 @@ use Rattle.history.specs.Laws.{marlowe}
 -- no other transaction that was accepted has its id, which is a SHA-256 of its bytes
 abbrev pub IsAlone : Past → Tx → Type 0
 IsAlone past tx = (n : ℕ) (other : Tx) → slice_get past.accepted n ≡ Some other → id_of other ≡ id_of tx → other ≡ tx
+
+-- none of other bytes has it; and that is the same, since bytes tell transactions apart, where all fit their spelling, as each does that
+-- was spelled
+abbrev pub IsAloneByBytes : Past → Tx → Type 0
+IsAloneByBytes past tx = (n : ℕ) (other : Tx) → slice_get past.accepted n ≡ Some other → id_of other ≡ id_of tx → tx_bytes other ≡ tx_bytes tx
+
+abbrev pub BytesTellApart : Type 0
+BytesTellApart = (past : Past) (tx : Tx) → TxFits tx → ((n : ℕ) (other : Tx) → slice_get past.accepted n ≡ Some other → TxFits other) → IsAloneByBytes past tx → IsAlone past tx
 
 -- after a past, what a transaction spends is unspent as it was handed in, no other has its id, and the tick lies in its interval
 pub record IsOpen (past : Past) (tick : ℤ) (spent : List Unspent) (tx : Tx) : Type 0 where

@@ -1,8 +1,9 @@
 //! That layouts are accepted.
 ghost use Rattle.acceptance.specs.Accepting.{StepsPass, StartsPass, ClaimsPass, StepsAreAccepted, StartsAreAccepted, ClaimsAreAccepted};
-ghost use Rattle.acceptance.specs.AfterPasts.{StepsAreAcceptedAfter, StartsAreAcceptedAfter, ClaimsAreAcceptedAfter};
+ghost use Rattle.acceptance.specs.AfterPasts.{StepsAreAcceptedAfter, StartsAreAcceptedAfter, ClaimsAreAcceptedAfter, BytesTellApart};
 
 use eutxo::found_is_enough;
+use eutxo_types::no_transaction_begins_another;
 use roles::Published;
 
 /// The layout of a step that nothing hinders is accepted by every ledger at every moment at which what it spends is
@@ -33,4 +34,12 @@ pub fn claims_are_accepted()
     ensures after { ClaimsAreAcceptedAfter }
 {
     found_is_enough::<Published>();
+}
+
+/// Where no accepted transaction of other bytes has the SHA-256 of a transaction's, and all fit their spelling, no other
+/// accepted transaction has its id.
+pub fn bytes_tell_accepted_apart()
+    ensures { BytesTellApart }
+{
+    no_transaction_begins_another();
 }
