@@ -1,8 +1,7 @@
 -- What is left for the change.
-use Rattle.std.proofs.Common.{◌≡◌, ℕ, ℤ, pos, ◌+ℤ◌, ◌-ℤ◌, ◌≤ℤ◌, ◌&&◌, not, true, List, [], ◌∷◌, ◌++◌, refl, sym, ap, ◌∙◌, subst, Option, Some, None, Ok, arith}
+use Rattle.std.proofs.Common.{◌≡◌, ℤ, pos, ◌+ℤ◌, ◌-ℤ◌, ◌≤ℤ◌, List, [], ◌∷◌, ◌++◌, sym, ap, ◌∙◌, subst, None, arith}
 use Rattle.std.proofs.lemmas.Int.{ints}
-use Rattle.std.specs.Prelude.{is_none}
-use Rattle.std.specs.List.{list_all, AllByRecursion}
+use Rattle.std.specs.List.{AllByRecursion}
 use Rattle.std.specs.FinMap.{entries}
 use Rattle.names.specs.declared.token.Token.{Token}
 use Rattle.states.specs.States as states
@@ -10,22 +9,19 @@ use Rattle.states.specs.States.{AllPositive}
 use Rattle.semantics.specs.Laws.{EndsQuiet}
 use Rattle.semantics.specs.Money.{deposited, MoneyIsKept}
 use Rattle.semantics.specs.Naturals.{PaymentsAreNatural}
-use Rattle.semantics.specs.Walk.{answer_of}
 use Rattle.bundle.specs.Bundles.{Amounts, amount_of}
 use Rattle.bundle.specs.Totals.{total_of}
 use Rattle.bundle.proofs.Amounts.{rests_are_of_each_token}
 use Rattle.eutxo_types.specs.declared.output.Output.{Output}
-use Rattle.eutxo.specs.Places.{is_empty}
 use Rattle.looks.specs.declared.look.Unspent.{Unspent}
 use Rattle.roles.specs.Sums.{sums_of}
-use Rattle.building.specs.Requests.{StepRequest, StartRequest}
-use Rattle.building.specs.Holding.{sums, held, holds_token, wanted, least_lacking}
-use Rattle.building.specs.Fronts.{suffices}
+use Rattle.building.specs.Requests.{StepRequest}
+use Rattle.building.specs.Holding.{sums, held}
 use Rattle.building.specs.Laying.{rest}
 use Rattle.building.specs.Serving as serving
-use Rattle.building.specs.Steps.{Thread, thread, walk, made, roles_of, deposits, step_front, step_spent, step_made, own, hinders_thread, hinders_on, refused}
-use Rattle.building.specs.Starts.{accounts_of, fresh, start_front, start_output, hinders_start}
-use Rattle.building.proofs.Funding.{Funded, funded, all_covered, wanted-accounts, amount_of-sums_in}
+use Rattle.building.specs.Steps.{Thread, walk, made, step_front, step_spent, step_made, hinders_thread, hinders_on}
+use Rattle.building.specs.Starts.{accounts_of, fresh, start_front, start_output}
+use Rattle.building.proofs.Funding.{funded, all_covered, wanted-accounts, amount_of-sums_in}
 use Rattle.building.proofs.Holdings.{amount_of-sums}
 use Rattle.acceptance.specs.Change.{AreBundles, StepChangeIsTheRest, StartChangeIsTheRest}
 use Rattle.acceptance.proofs.Tests.{by_recursion, each_front}
@@ -66,10 +62,9 @@ start_change_is_the_rest r t clear offered =
     let more = starting.later r clear in
     let amount : Output → Amounts = λ o. o.amount in
     let made = start_output r ∷ [] in
-    let had : total_of amount t made ≡ states.total_of t r.state = just_one (amount_of (sums_of (fresh r.state)) t) ∙ amount_of-sums_in (entries r.state.accounts) t in
-    (
+    let had : total_of amount t made ≡ states.total_of t r.state = just_one (amount_of (sums_of (fresh r.state)) t) ∙ amount_of-sums_in (entries r.state.accounts) t in (
       rests_are_of_each_token (sums held fs) (sums amount made) t
-      ∙ ap (λ n. n -ℤ amount_of (sums amount made) t) (amount_of-sums held fs t)
-      ∙ ap (λ n. total_of held t fs -ℤ n) (amount_of-sums amount made t ∙ had),
+          ∙ ap (λ n. n -ℤ amount_of (sums amount made) t) (amount_of-sums held fs t)
+          ∙ ap (λ n. total_of held t fs -ℤ n) (amount_of-sums amount made t ∙ had),
       subst (λ n. n ≤ℤ total_of held t fs) (wanted-accounts t r.state) (all_covered t (accounts_of r.state) fs (front_bundles fs more.0 r.offered more.1 offered) (starting.enough r clear).1),
     )

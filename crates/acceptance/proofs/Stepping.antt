@@ -1,7 +1,7 @@
 -- A step that nothing hinders is accepted.
 use Rattle.std.proofs.Common.{◌≡◌, ℕ, ◌+◌, nat_lt, Bool, true, false, not, List, [], ◌∷◌, ◌++◌, length, refl, sym, ap, ◌∙◌, subst, Option, Some, None, Result, Ok, Err}
 use Rattle.std.specs.Prelude.{if◌then◌else◌, is_some, is_none}
-use Rattle.std.specs.List.{position, list_all, filter_map, cons_option, AllByRecursion}
+use Rattle.std.specs.List.{position, list_all, filter_map, AllByRecursion}
 use Rattle.std.specs.Option.{option_map}
 use Rattle.contract.specs.declared.fault.SemFault.{SemFault}
 use Rattle.contract.specs.declared.fault.SemFault.TheVariants.{NoMatch}

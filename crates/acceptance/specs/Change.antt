@@ -1,5 +1,5 @@
 -- What is left for the change.
-use Rattle.std.specs.Prelude.{◌≡◌, ◌-ℤ◌, ◌≤ℤ◌, List, [], ◌∷◌, All, Option, Some, None}
+use Rattle.std.specs.Prelude.{◌≡◌, ◌-ℤ◌, ◌≤ℤ◌, List, [], ◌∷◌, All, Some, None}
 use Rattle.std.specs.FinMap.{entries}
 use Rattle.names.specs.declared.token.Token.{Token}
 use Rattle.states.specs.States as states
