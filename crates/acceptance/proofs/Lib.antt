@@ -1,0 +1,17 @@
+pub mod Tests
+pub mod Named
+pub mod Sums
+pub mod Fronts
+pub mod Pairs
+pub mod Spending
+pub mod Judging
+pub mod Outputs
+pub mod LookThreads
+pub mod Clauses
+pub mod Unused
+pub mod Stepping
+pub mod Claiming
+pub mod Starting
+pub mod Shown
+pub mod Changing
+pub mod Closing

@@ -1,0 +1,5 @@
+pub mod Accepting
+pub mod AfterPasts
+pub mod ShownThreads
+pub mod Change
+pub mod AfterLast

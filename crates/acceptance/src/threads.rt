@@ -1,0 +1,26 @@
+//! Threads that are shown, and threads that are closed.
+ghost use Rattle.acceptance.specs.ShownThreads.{ShownThreadsStand};
+ghost use Rattle.acceptance.specs.AfterLast.{AnyoneCloses, NobodyElse};
+
+use history::contracts_are_funded;
+use semantics::contracts_close_after_the_last_timeout;
+
+/// A look that shows an unspent contract output of a ledger, with what is published there under its script, shows a
+/// thread: of that script, at a number of the table, with just the sums of its accounts. So only that the thread has
+/// no unspent output leaves a step without one.
+pub fn shown_threads_stand()
+    ensures { ShownThreadsStand }
+{
+    contracts_are_funded();
+}
+
+/// After the last timeout anyone can close a thread, without inputs and with nothing offered, in an interval that
+/// ends neither before its start nor before the minimum time: Close without accounts remains, and the parties are
+/// paid all that the thread's output held. Only that a number leaves 128 bits hinders it, or that Close without
+/// accounts stands already.
+pub fn anyone_closes_after_the_last_timeout()
+    ensures closes { AnyoneCloses }
+    ensures none { NobodyElse }
+{
+    contracts_close_after_the_last_timeout();
+}
