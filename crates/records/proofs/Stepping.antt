@@ -5,7 +5,6 @@ use Rattle.std.proofs.lemmas.List.{at_drop_more, map-append}
 use Rattle.std.proofs.lemmas.List.Elements.{All-append}
 use Rattle.roles.specs.Terms.{Terms}
 use Rattle.history.specs.Threads.{Link, Member, Run, Carries}
-use Rattle.history.proofs.Plain.{no_more}
 use Rattle.records.specs.declared.step_record.StepRecord.{StepRecord}
 use Rattle.records.specs.Recording.{member_of}
 use Rattle.records.specs.Walking.{Point, stands_after, left_by, IsStepOf, IsRunOf, Goes}
@@ -23,9 +22,6 @@ stands_at : (p : Point) (xs : List StepRecord) (x : StepRecord) → stands_after
 stands_at p xs x = ap (left_by p) (ap (λ (n : ℕ). slice_get (xs ++ x ∷ []) n) (ap (λ (n : ℕ). n - 1) (length-append xs (x ∷ [])) ∙ less_one (length xs)) ∙ at_end xs x)
 
 -- ---- a walk
-
-pub begun : (t : Terms) (p : Point) (script : List ℕ) (ls : List Link) (run : List Member) → IsRunOf t p script ls run → Goes t p script ls [] ls
-begun t p script ls run h = record { rest = run; whole = h; here = h }
 
 -- the next member of what is left
 record Next (t : Terms) (p : Point) (script : List ℕ) (l : Link) (left : List Link) (run : List Member) : Type 0 where
@@ -88,14 +84,3 @@ all_one P x h (suc k) d l = absurd (omega (arith, l))
 
 pub all_next : {A : Type 0} (P : A → Type 0) (xs more : List A) (x : A) → more ≡ xs ++ x ∷ [] → All P xs → P x → All P more
 all_next P xs more x added all h = subst (λ (m : List _). All P m) (sym added) (All-append P xs (x ∷ []) all (all_one P x h))
-
--- ---- the end
-
-nothing_left : (t : Terms) (script : List ℕ) (run : List Member) → Carries t script [] run → run ≡ []
-nothing_left t script [] h = refl
-nothing_left t script (x ∷ xs) h = absurd h
-
-pub gone : (t : Terms) (p : Point) (script : List ℕ) (ls : List Link) (xs : List StepRecord) → Goes t p script ls xs [] → IsRunOf t p script ls (map (member_of t) xs)
-gone t p script ls xs g =
-    let ms = map (member_of t) xs in
-    subst (λ (m : List Member). IsRunOf t p script ls m) (ap (λ (m : List Member). ms ++ m) (nothing_left t script g.rest g.here.carried) ∙ no_more ms) g.whole

@@ -5,7 +5,7 @@ use Rattle.std.specs.List.{All}
 use Rattle.machine.specs.declared.datum.Datum.{Datum}
 use Rattle.eutxo_types.specs.declared.output_ref.OutputRef.{OutputRef}
 use Rattle.roles.specs.declared.published.Published.{Published}
-use Rattle.roles.specs.Terms.{Terms, terms_of}
+use Rattle.roles.specs.Terms.{terms_of}
 use Rattle.history.specs.Past.{Past}
 use Rattle.history.specs.Sound.{IsSound}
 use Rattle.history.specs.Laws.{marlowe, AreTables, ThreadsAreRuns}
