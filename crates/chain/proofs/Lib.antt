@@ -4,3 +4,4 @@ mod Publishing
 mod Sound
 mod Courses
 mod Fitting
+mod Layouts

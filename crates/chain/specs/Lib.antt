@@ -1,3 +1,4 @@
 pub mod Legal
 pub mod Beginning
 pub mod Kept
+pub mod Layouts

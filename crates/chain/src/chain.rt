@@ -8,11 +8,15 @@ ghost use Rattle.std.specs.Bool.{MatchBool};
 ghost use Rattle.chain.specs.Beginning.{IsNatural, SumsFit, HasLargeSum, IsNoStart};
 ghost use Rattle.eutxo_types.specs.Ids.{id_of};
 ghost use Rattle.standing.specs.Standing.{changed, past_of, world, standing, published, published_at, moment_of};
+ghost use Rattle.chain.specs.Layouts.{AcceptsSteps, AcceptsStarts, AcceptsClaims, ShowsStanding};
 ghost use Rattle.chain.specs.Legal.{reply_to, entry_of, with_entry, with_new, IsLegal};
 ghost use Rattle.records.specs.Recording.{AreSteps};
 
 use crate::answering::answer;
 use crate::genesis_fault::GenesisFault;
+use acceptance::{
+    claims_are_accepted, shown_threads_stand, starts_are_accepted, steps_are_accepted,
+};
 use bundle::{Bundle, BundleFault};
 use calls::{Call, Entry, Reply};
 use collections::{Items, Memory, TryClone};
@@ -176,10 +180,32 @@ impl Chain {
         Ok(Found { reply, object, ids })
     }
 
+    /// The layout of a request that nothing hinders is accepted next, for every look and request, where what it
+    /// spends is unspent as it was handed in, no other accepted transaction has its id, the tick lies in its
+    /// interval, and the thread's script (of a start: what is started) is published as the request has it. And a
+    /// look that shows a thread shows one that stands. It does nothing.
+    pub fn layouts_are_accepted(&self)
+        ensures steps { AcceptsSteps self.now }
+        ensures starts { AcceptsStarts self.now }
+        ensures claims { AcceptsClaims self.now }
+        ensures shown { ShowsStanding self.now }
+    {
+        steps_are_accepted();
+        starts_are_accepted();
+        claims_are_accepted();
+        shown_threads_stand();
+        let _tick = self.tick;
+    }
+
     /// Makes the entry of one call, and answers its reply in two equal copies. The entry's number counts the
     /// earlier entries of its seat, and its reply is that of the table of calls (`reply_to`). `cache` has checks
     /// that were made before; they are not looked at. Answers `Memory` only where a growth was refused: then no
     /// entry is made, and nothing is changed.
+    ///
+    /// So a Submit of the layout of a request that nothing hinders (`builder`) is accepted, whatever other entries
+    /// there are: where what it spends is unspent as it was handed in, no other accepted transaction has its id, the
+    /// tick lies in its interval and its script is published as the request has it. And a Look that shows a thread
+    /// shows one that stands, as a step asks of it.
     pub fn step(
         &mut self,
         alloc: Global,
@@ -191,8 +217,13 @@ impl Chain {
         ensures mine { IfOk result (λ r. r.0 ≡ (entry_of self.old seat call).reply) }
         ensures told { IfOk result (λ r. r.1 ≡ (entry_of self.old seat call).reply) }
         ensures err { OnErr result (self.new ≡ self.old) }
+        ensures steps { AcceptsSteps self.old }
+        ensures starts { AcceptsStarts self.old }
+        ensures claims { AcceptsClaims self.old }
+        ensures shown { ShowsStanding self.old }
     {
         let _ = cache;
+        self.layouts_are_accepted();
         accepting_is_sound::<Published>();
         publishing_is_sound::<Published>();
         published_are_tables();
