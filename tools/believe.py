@@ -64,8 +64,10 @@ CALLS = [
     ("`roles::Published` as a `Validator`", "roles/src/step.rt: step_of; roles/src/script.rt: starts_from; roles/src/authorise.rt: holds_role"),
     ("`judging::judge` and `resolve`", "judging/src/rules.rt: judge; judging/src/found.rt: resolve"),
     ("`looks::Look::resolve`", "looks/src/shown.rt: resolve"),
-    ("`chain::Chain`", "chain/src/chain.rt: genesis step tick resolve"),
+    ("`chain::Chain`", "chain/src/chain.rt: genesis step tick resolve steps_of"),
     ("`chain::Chain::history`, with its laws", "chain/src/chain.rt: history"),
+    ("`builder::build_step`", "builder/src/step.rt: build_step"),
+    ("`acceptance::steps_are_accepted`", "acceptance/src/accepted.rt: steps_are_accepted"),
     ("the laws of `semantics`", "semantics/src/laws.rt: reductions_have_one_result contracts_settle_in_one_way transactions_have_one_answer "
      "turns_lead_to_the_remaining_contract transactions_end_quiet time_never_goes_back payments_are_natural accounts_stay_above_zero "
      "contracts_close_after_the_last_timeout; semantics/src/money.rt: money_is_kept"),
@@ -358,10 +360,12 @@ class Beliefs:
 
     def follow(self, text, scope, bound, path):
         """Meets all names of a text but those that are bound in it."""
-        bound = set(bound)
+        bound, last = set(bound), ""
         for line in text.splitlines():
             tokens, later = list(TOKEN.finditer(line)), set()
-            words = [""] + [token.group() for token in tokens] + ["", ""]
+            # (a record may stand on several lines, a field on each)
+            words = [last if last in ("{", ";") else ""] + [token.group() for token in tokens] + ["", ""]
+            last = tokens[-1].group() if tokens else last
             for at, word in enumerate(words[1:-2], 1):
                 before, after = words[at - 1], words[at + 1]
                 if before == "." and line[tokens[at - 1].start() - 1] == "." or before in ("{", ";") and after == "=":
