@@ -1,5 +1,5 @@
 -- Walks over lists.
-use Rattle.std.proofs.Common.{◌≡◌, ℕ, zero, suc, ◌+◌, ◌-◌, ◌<◌, ◌≤◌, ℤ, pos, ◌+ℤ◌, ◌≤ℤ◌, Bool, true, false, ◌||◌, List, [], ◌∷◌, ◌++◌, length, take, drop, get_or, refl, sym, ◌∙◌, ap, subst, arith}
+use Rattle.std.proofs.Common.{◌≡◌, ℕ, zero, suc, ◌+◌, ◌-◌, ◌<◌, ◌≤◌, ℤ, pos, ◌+ℤ◌, ◌≤ℤ◌, Bool, true, false, ◌||◌, if◌then◌else◌, List, [], ◌∷◌, ◌++◌, length, take, drop, get_or, refl, sym, ◌∙◌, ap, subst, arith}
 use Rattle.std.proofs.lemmas.Int.{ints}
 use Rattle.std.proofs.lemmas.List.{drop_more, take_more}
 use Rattle.std.specs.List.{list_any}
@@ -8,7 +8,9 @@ use Rattle.names.specs.declared.token.Token.{Token}
 use Rattle.states.specs.States.{counted}
 use Rattle.bundle.specs.Bundles.{Amounts, AllPositive, plus}
 use Rattle.eutxo_types.specs.declared.output_ref.OutputRef.{OutputRef}
-use Rattle.eutxo.specs.Parts.{same_ref}
+use Rattle.eutxo_types.specs.declared.output_ref.OutputRef.TheVariants.{Genesis, Made}
+use Rattle.std.specs.Prelude.{◌==◌, ◌&&◌}
+use Rattle.eutxo.specs.Parts.{same_bytes, same_ref}
 use Rattle.looks.specs.declared.look.Unspent.{Unspent}
 use Rattle.building.specs.Holding.{sums, held, wanted}
 use Rattle.building.specs.Fronts.{suffices}
@@ -95,5 +97,27 @@ none_here a b h k = rw h k
 pub once_here : (rs : List OutputRef) (n : ℕ) (r : OutputRef) → 0 < n → n ≤ length rs → r ≡ get_or rs (n - 1) r → list_any (λ s. same_ref s r) (drop n rs) ≡ false → has_repeat (drop n rs) ≡ false → has_repeat (drop (n - 1) rs) ≡ false
 once_here rs n r h l is k o = subst (λ ss. has_repeat ss ≡ false) (sym (back rs n r h l is)) (none_here (list_any (λ s. same_ref s r) (drop n rs)) (has_repeat (drop n rs)) k o)
 
-pub among_here : (rs : List OutputRef) (n : ℕ) (r q : OutputRef) → 0 < n → n ≤ length rs → r ≡ get_or rs (n - 1) r → same_ref r q || list_any (λ s. same_ref s q) (drop n rs) ≡ list_any (λ s. same_ref s q) (drop (n - 1) rs)
-among_here rs n r q h l is = ap (list_any (λ s. same_ref s q)) (sym (back rs n r h l is))
+pub among_here : (rs : List OutputRef) (n : ℕ) (r q : OutputRef) → 0 < n → n ≤ length rs → r ≡ get_or rs (n - 1) r → (if same_ref r q then true else list_any (λ s. same_ref s q) (drop n rs)) ≡ list_any (λ s. same_ref s q) (drop (n - 1) rs)
+among_here rs n r q h l is = either (same_ref r q) (list_any (λ s. same_ref s q) (drop n rs)) ∙ ap (list_any (λ s. same_ref s q)) (sym (back rs n r h l is))
+  where
+    either : (a b : Bool) → (if a then true else b) ≡ a || b
+    either true b = refl
+    either false b = refl
+
+-- ---- sets of references
+
+pub agree : (eq : OutputRef → OutputRef → Bool) → ((i j : ℕ) → eq (Genesis i) (Genesis j) ≡ (i == j)) → ((n m : List ℕ) (i j : ℕ) → eq (Made n i) (Made m j) ≡ same_bytes n m && (i == j)) →
+    ((i j : ℕ) (m : List ℕ) → eq (Genesis i) (Made m j) ≡ false) → ((i j : ℕ) (n : List ℕ) → eq (Made n i) (Genesis j) ≡ false) → (a b : OutputRef) → eq a b ≡ same_ref a b
+agree eq g m x y (Genesis i) (Genesis j) = g i j
+agree eq g m x y (Made n i) (Made k j) = m n k i j
+agree eq g m x y (Genesis i) (Made k j) = x i j k
+agree eq g m x y (Made n i) (Genesis j) = y i j n
+
+any_as : (p q : OutputRef → Bool) → ((a : OutputRef) → p a ≡ q a) → (rs : List OutputRef) → list_any p rs ≡ list_any q rs
+any_as p q f [] = refl
+any_as p q f (r ∷ rs) = ap (λ b. b || list_any p rs) (f r) ∙ ap (λ b. q r || b) (any_as p q f rs)
+
+pub moved : (eq : OutputRef → OutputRef → Bool) → ((a b : OutputRef) → eq a b ≡ same_ref a b) → (new old : List OutputRef) (k r : OutputRef) →
+    list_any (eq r) new ≡ (if eq k r then true else list_any (eq r) old) → list_any (same_ref r) new ≡ (if same_ref k r then true else list_any (same_ref r) old)
+moved eq f new old k r h =
+    sym (any_as (eq r) (same_ref r) (f r) new) ∙ h ∙ ap (λ b. if b then true else list_any (eq r) old) (f k r) ∙ ap (λ b. if same_ref k r then true else b) (any_as (eq r) (same_ref r) (f r) old)

@@ -6,21 +6,21 @@ ghost use Rattle.semantics.specs.Walk.{standing, answer_of};
 ghost use Rattle.bundle.specs.Bundles.{minus};
 ghost use Rattle.eutxo.specs.Parts.{contract_in};
 ghost use Rattle.roles.specs.Steps.{continuation, due};
-ghost use Rattle.building.specs.Holding.{sums};
+ghost use Rattle.building.specs.Holding.{sums, held};
 ghost use Rattle.building.specs.Built.{built};
 ghost use Rattle.building.specs.Laying.{by_key, by_step, given_to};
-ghost use Rattle.building.specs.Steps.{thread_in, terms, walk, own, hinders_thread, layout_thread, hinders_on, layout_on, hinders_step, layout_step};
-ghost use Rattle.builder.specs.Code.{request};
+ghost use Rattle.building.specs.Steps.{thread_in, terms, walk, step_front, step_spent, hinders_thread, layout_thread, hinders_on, layout_on, hinders_step, layout_step};
+ghost use Rattle.builder.specs.Code.{request, later, Passes};
 
 use crate::amounts::deposits;
 use crate::checks::{check_authorised, check_funds, check_once, check_signed};
-use crate::front::front_length;
+use crate::front::front_of;
 use crate::inputs::{by_step, copies_of, put_keys};
 use crate::limits::within_limits;
 use crate::outputs::{made, put_given, rest};
 use crate::roles_needed::roles_of;
 use crate::sum::see_all;
-use crate::thread::datum_of;
+use crate::thread::{datum_of, is_closed};
 use building::BuildFault;
 use bundle::Bundle;
 use collections::{Items, Text};
@@ -28,7 +28,6 @@ use contract::{Input, Interval, Outcome, SemFault};
 use eutxo_types::{Cont, Datum, Output, Tx};
 use looks::{Look, ThreadOutput, Unspent};
 use machine::compute;
-use semantics::Steps;
 use std::alloc::Global;
 
 // What is asked for.
@@ -41,23 +40,61 @@ struct Asked<'a> {
     change: &'a Text,
 }
 
-// The transaction of a step, from what it spends and makes but for the change.
+// What is spent of a thread's output and the offered outputs, where nothing after the contract's answer hinders the
+// step.
+#[derive(Drop)]
+struct Funds<'a> {
+    all: Bundle,
+    front: &'a [Unspent],
+}
+
+// What is spent, or the first of the clauses on signers, parties, funds, limits and repeats that fails.
+fn funds_of<'a>(
+    alloc: Global,
+    asked: Asked<'a>,
+    thread: &ThreadOutput,
+    datum: &Datum,
+) -> Result<Funds<'a>, BuildFault>
+    ensures all { IfOk result (λ funds. funds.all ≡ sums held (step_spent (request asked.entry.interval asked.entry.inputs.now asked.entry.signers.now asked.entry.offered.now asked.entry.change.now) (thread.now, datum.now))) }
+    ensures front { IfOk result (λ funds. funds.front.now ≡ step_front (request asked.entry.interval asked.entry.inputs.now asked.entry.signers.now asked.entry.offered.now asked.entry.change.now) (thread.now, datum.now)) }
+    ensures passes { Passes result (later (request asked.entry.interval asked.entry.inputs.now asked.entry.signers.now asked.entry.offered.now asked.entry.change.now) (thread.now, datum.now)) }
+{
+    let _ = datum;
+    let currency = &thread.published.get().currency;
+    let offered = asked.offered;
+    check_signed(asked.signers, offered)?;
+    check_authorised(currency, asked.signers, offered, asked.inputs)?;
+    let amounts = deposits(alloc, asked.inputs)?;
+    check_funds(&amounts, offered)?;
+    see_all(offered);
+    let roles = roles_of(alloc, currency, asked.inputs)?;
+    let front = front_of(&roles, &amounts, offered);
+    match within_limits(alloc, thread.reference, &thread.output, asked.inputs, front) {
+        Ok(all) => match check_once(alloc, thread.reference, &thread.output, offered) {
+            Ok(()) => Ok(Funds { all, front }),
+            Err(fault) => Err(fault),
+        },
+        Err(fault) => Err(fault),
+    }
+}
+
+// The transaction of a step, from what it spends and what it makes but for the change.
 fn lay_out(
     alloc: Global,
     asked: Asked<'_>,
     thread: &ThreadOutput,
-    front: &[Unspent],
-    all: Bundle,
+    funds: Funds<'_>,
     mut outputs: Items<Output>,
 ) -> Result<Tx, BuildFault>
     ensures ok { IfOk result (λ tx. tx ≡ record {
-      inputs = by_step asked.entry.inputs.now (record { reference = thread.now.reference; output = thread.now.output }) ∷ map by_key front.now;
-      outputs = outputs ++ given_to asked.entry.change.now (minus all (sums (λ o. o.amount) outputs));
+      inputs = by_step asked.entry.inputs.now (record { reference = thread.now.reference; output = thread.now.output }) ∷ map by_key funds.entry.front.now;
+      outputs = outputs ++ given_to asked.entry.change.now (minus funds.entry.all (sums (λ o. o.amount) outputs));
       interval = asked.entry.interval;
       signers = asked.entry.signers.now;
     }) }
     ensures err { IfErr result (λ fault. fault ≡ BuildFault.Memory) }
 {
+    let Funds { all, front } = funds;
     let change = rest(alloc, all, outputs.as_slice())?;
     put_given(&mut outputs, asked.change, change)?;
     let mut inputs = Items::new(alloc);
@@ -72,34 +109,31 @@ fn lay_out(
     })
 }
 
-// The transaction of a step that the contract takes, or the first later clause that fails.
+// The transaction of a step that nothing hinders.
 fn finish(
     alloc: Global,
     asked: Asked<'_>,
     thread: &ThreadOutput,
     datum: &Datum,
+    funds: Funds<'_>,
     outcome: Outcome<Cont>,
 ) -> Result<Tx, BuildFault>
     requires ended { answer_of (walk (request asked.interval asked.inputs.now asked.signers.now asked.offered.now asked.change.now) (thread.now, datum.now)) ≡ Ok (standing outcome.state (cont_tree thread.now.published.table outcome.place.0)) }
     requires paid { outcome.payments ≡ (walk (request asked.interval asked.inputs.now asked.signers.now asked.offered.now asked.change.now) (thread.now, datum.now)).payments }
     requires led { (terms (thread.now, datum.now)).at datum.now.cont (walk (request asked.interval asked.inputs.now asked.signers.now asked.offered.now asked.change.now) (thread.now, datum.now)).turns ≡ outcome.place }
     requires has { Has thread.now.published.table (a_cont outcome.place.0) }
-    ensures { Aside BuildFault.Memory result (built (hinders_thread (request asked.entry.interval asked.entry.inputs.now asked.entry.signers.now asked.entry.offered.now asked.entry.change.now) (thread.now, datum.now)) (layout_thread (request asked.entry.interval asked.entry.inputs.now asked.entry.signers.now asked.entry.offered.now asked.entry.change.now) (thread.now, datum.now))) }
+    requires all { funds.all ≡ sums held (step_spent (request asked.interval asked.inputs.now asked.signers.now asked.offered.now asked.change.now) (thread.now, datum.now)) }
+    requires front { funds.front.now ≡ step_front (request asked.interval asked.inputs.now asked.signers.now asked.offered.now asked.change.now) (thread.now, datum.now) }
+    ensures ok { IfOk result (λ tx. tx ≡ layout_thread (request asked.entry.interval asked.entry.inputs.now asked.entry.signers.now asked.entry.offered.now asked.entry.change.now) (thread.now, datum.now)) }
+    ensures err { IfErr result (λ fault. fault ≡ BuildFault.Memory) }
 {
+    let _ = datum;
     let published = thread.published.get();
-    let currency = &published.currency;
-    check_signed(asked.signers, asked.offered)?;
-    check_authorised(currency, asked.signers, asked.offered, asked.inputs)?;
-    let amounts = deposits(alloc, asked.inputs)?;
-    check_funds(&amounts, asked.offered)?;
-    see_all(asked.offered);
-    let roles = roles_of(alloc, currency, asked.inputs)?;
-    let front = &asked.offered[..front_length(&roles, &amounts, asked.offered)];
-    let all = within_limits(alloc, thread.reference, &thread.output, asked.inputs, front)?;
-    check_once(alloc, thread.reference, &thread.output, asked.offered)?;
-    let closed = published.table.is_closed(&outcome.place);
-    let made = made(alloc, published, closed, outcome)?;
-    lay_out(alloc, asked, thread, front, all, made)
+    let closed = is_closed(&published.table, outcome.place);
+    match made(alloc, published, closed, outcome) {
+        Ok(made) => lay_out(alloc, asked, thread, funds, made),
+        Err(fault) => Err(fault),
+    }
 }
 
 // Builds on a thread that stands.
@@ -115,7 +149,10 @@ fn build_at(
     let table = &thread.published.get().table;
     table.turns_lead();
     match compute(alloc, table, datum, asked.interval, asked.inputs) {
-        Ok(outcome) => finish(alloc, asked, thread, datum, outcome),
+        Ok(outcome) => match funds_of(alloc, asked, thread, datum) {
+            Ok(funds) => finish(alloc, asked, thread, datum, funds, outcome),
+            Err(fault) => Err(fault),
+        },
         Err(SemFault::Memory) => Err(BuildFault::Memory),
         Err(fault) => Err(BuildFault::Semantics(fault)),
     }

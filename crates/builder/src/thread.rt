@@ -1,14 +1,16 @@
 //! The thread that a look shows.
 ghost use Rattle.std.specs.Prelude.{◌≡◌, true, IfOk, option_map, option_copied};
-ghost use Rattle.table.specs.Flat.{Has, a_cont};
+ghost use Rattle.table.specs.Flat.{Has, a_cont, cont_tree};
 ghost use Rattle.table.specs.Along.{has_cont};
 ghost use Rattle.eutxo.specs.Parts.{contract_in};
+ghost use Rattle.roles.specs.Steps.{is_close};
 ghost use Rattle.building.specs.Steps.{stands, thread_in};
 
 use collections::Memory;
 use eutxo_types::{Cont, Datum, Lock};
 use looks::ThreadOutput;
 use roles::holds_sums;
+use semantics::Steps;
 use std::alloc::Global;
 use table::Table;
 
@@ -17,6 +19,14 @@ fn has_cont(table: &Table, cont: Cont) -> bool
 {
     table.turns_lead();
     table.contains(cont)
+}
+
+/// Whether the contract of a number is Close.
+pub(crate) fn is_closed(table: &Table, cont: Cont) -> bool
+    requires { Has table.now (a_cont cont.0) }
+    ensures { result ≡ is_close (cont_tree table.now cont.0) }
+{
+    table.is_closed(&cont)
 }
 
 // Whether a thread's output is of the published script, at a number of its table, and holds exactly the sums of its

@@ -86,7 +86,7 @@ suffices_with roles ns us vs p h =
     (all_weaker (holds_token us) (holds_token (us ++ vs)) roles (λ t. held_more us vs t) k.0)
     (least_none (lacks ns (us ++ vs)) ts (all_weaker (λ t. not (lacks ns us t)) (λ t. not (lacks ns (us ++ vs) t)) ts (λ t. covered_more ns us vs t p) (none_least (lacks ns us) ts k.1)))
 
-bundles_take : {A : Type 0} (w : A → Amounts) (n : ℕ) (xs : List A) → AreBundles w xs → AreBundles w (take n xs)
+pub bundles_take : {A : Type 0} (w : A → Amounts) (n : ℕ) (xs : List A) → AreBundles w xs → AreBundles w (take n xs)
 bundles_take w zero xs h = tt
 bundles_take w (suc n) [] h = tt
 bundles_take w (suc n) (x ∷ xs) h = (h.0, bundles_take w n xs h.1)
