@@ -20,7 +20,7 @@ use Rattle.building.specs.Clauses.{is_much}
 use Rattle.building.specs.Steps.{Thread, terms, walk, own, hinders_thread, hinders_on}
 use Rattle.building.proofs.Holdings.{entries-empty, most, much_of}
 use Rattle.building.proofs.Funding.{amount_of-sums_in}
-use Rattle.acceptance.specs.AfterLast.{closing, Closes, AnyoneCloses, NobodyElse}
+use Rattle.acceptance.specs.AfterLast.{closing, Closes, AnyoneCloses, NoThreadHinders}
 use Rattle.acceptance.proofs.LookThreads.{IsThread, thread_so}
 
 -- what hinders it: the answer of the transaction function, or that too much is spent
@@ -66,5 +66,5 @@ anyone_closes law look e i signers change shown small h g m =
     subst (Closes r e) (sym (ap (hinders_on r) shown ∙ after_is i signers change e (answer_of (walk r e)) refl))
     (closes_by r e (answer_of (walk r e)) (is_much e.0.output.amount) refl (not_much e.0.output.amount (is_much e.0.output.amount) refl small) (thread_so look e shown) refl (law i e.1.state ((terms e).tree e.1.cont) h g m))
 
-pub nobody_else : NobodyElse
-nobody_else look i signers change none = ap (hinders_on (closing i signers change)) none
+pub no_thread_hinders : NoThreadHinders
+no_thread_hinders look i signers change none = ap (hinders_on (closing i signers change)) none

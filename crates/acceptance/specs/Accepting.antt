@@ -16,7 +16,7 @@ use Rattle.building.specs.Starts.{start_front, hinders_start, layout_start}
 use Rattle.building.specs.Claims.{claim_front, hinders_claim, layout_claim}
 use Rattle.history.specs.Laws.{marlowe}
 
--- ---- by itself
+-- ---- on what was handed in
 
 -- the outputs of what is spent, as they were handed in
 abbrev pub contents : List Unspent → List (Option Output)

@@ -32,5 +32,5 @@ AnyoneCloses = (look : Look) (e : Thread) (i : Interval) (signers : List (List �
     Closes (closing i signers change) e (hinders_step look (closing i signers change))
 
 -- where no thread stands, that hinders it
-abbrev pub NobodyElse : Type 0
-NobodyElse = (look : Look) (i : Interval) (signers : List (List ℕ)) (change : List ℕ) → thread look ≡ None → hinders_step look (closing i signers change) ≡ Some NoThread
+abbrev pub NoThreadHinders : Type 0
+NoThreadHinders = (look : Look) (i : Interval) (signers : List (List ℕ)) (change : List ℕ) → thread look ≡ None → hinders_step look (closing i signers change) ≡ Some NoThread

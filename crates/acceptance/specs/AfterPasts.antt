@@ -20,8 +20,7 @@ use Rattle.history.specs.Laws.{marlowe}
 abbrev pub IsAlone : Past → Tx → Type 0
 IsAlone past tx = (n : ℕ) (other : Tx) → slice_get past.accepted n ≡ Some other → id_of other ≡ id_of tx → other ≡ tx
 
--- none of other bytes has it; and that is the same, since bytes tell transactions apart, where all fit their spelling, as each does that
--- was spelled
+-- none of other bytes has it. That is the same where all fit their spelling, as each does that was spelled
 abbrev pub IsAloneByBytes : Past → Tx → Type 0
 IsAloneByBytes past tx = (n : ℕ) (other : Tx) → slice_get past.accepted n ≡ Some other → id_of other ≡ id_of tx → tx_bytes other ≡ tx_bytes tx
 

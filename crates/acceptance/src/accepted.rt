@@ -36,7 +36,7 @@ pub fn claims_are_accepted()
     found_is_enough::<Published>();
 }
 
-/// Where no accepted transaction of other bytes has the SHA-256 of a transaction's, and all fit their spelling, no other
+/// Where all fit their spelling, and no accepted transaction of other bytes has the SHA-256 of a transaction, no other
 /// accepted transaction has its id.
 pub fn bytes_tell_accepted_apart()
     ensures { BytesTellApart }

@@ -1,13 +1,13 @@
 //! Threads that are shown, and threads that are closed.
 ghost use Rattle.acceptance.specs.ShownThreads.{ShownThreadsStand};
-ghost use Rattle.acceptance.specs.AfterLast.{AnyoneCloses, NobodyElse};
+ghost use Rattle.acceptance.specs.AfterLast.{AnyoneCloses, NoThreadHinders};
 
 use history::contracts_are_funded;
 use semantics::contracts_close_after_the_last_timeout;
 
 /// A look that shows an unspent contract output of a ledger, with what is published there under its script, shows a
-/// thread: of that script, at a number of the table, with just the sums of its accounts. So only that the thread has
-/// no unspent output leaves a step without one.
+/// thread that stands: it is of that script, at a number of the table, and holds just the sums of its accounts. So such a
+/// look fails the first clause only where it shows no thread.
 pub fn shown_threads_stand()
     ensures { ShownThreadsStand }
 {
@@ -20,7 +20,7 @@ pub fn shown_threads_stand()
 /// accounts stands already.
 pub fn anyone_closes_after_the_last_timeout()
     ensures closes { AnyoneCloses }
-    ensures none { NobodyElse }
+    ensures none { NoThreadHinders }
 {
     contracts_close_after_the_last_timeout();
 }
