@@ -38,7 +38,7 @@ bundles_end w (y ∷ xs) x h k = (h.0, bundles_end w xs x h.1 k)
 one_more : (i : ℕ) → suc (i + 1) ≡ suc i + 1
 one_more i = omega arith
 
-up_to : {A : Type 0} (xs : List A) (i : ℕ) (x : A) → i < length xs → x ≡ get_or xs i x → take i xs ++ x ∷ [] ≡ take (i + 1) xs
+pub up_to : {A : Type 0} (xs : List A) (i : ℕ) (x : A) → i < length xs → x ≡ get_or xs i x → take i xs ++ x ∷ [] ≡ take (i + 1) xs
 up_to [] i x l is = absurd (omega (arith, l))
 up_to (y ∷ xs) zero x l is = ap (λ z. z ∷ []) is
 up_to (y ∷ xs) (suc i) x l is = ap (λ zs. y ∷ zs) (up_to xs i x (omega (arith, l)) is) ∙ ap (λ n. take n (y ∷ xs)) (one_more i)

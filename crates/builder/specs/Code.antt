@@ -2,11 +2,13 @@
 use Rattle.std.specs.Prelude.{◌≡◌, ◌≢◌, ℕ, List, [], ◌∷◌, Option, Some, None, Result, MatchResult}
 use Rattle.contract.specs.declared.input.Input.{Input}
 use Rattle.contract.specs.declared.interval.Interval.{Interval}
+use Rattle.states.specs.States.{StateMaps}
+use Rattle.roles.specs.declared.published.Published.{Published}
 use Rattle.looks.specs.declared.look.Unspent.{Unspent}
 use Rattle.building.specs.declared.fault.BuildFault.{BuildFault}
 use Rattle.building.specs.declared.fault.BuildFault.TheVariants.{Memory}
 use Rattle.eutxo.specs.Places.{first_of}
-use Rattle.building.specs.Requests.{StepRequest, ClaimRequest}
+use Rattle.building.specs.Requests.{StepRequest, StartRequest, ClaimRequest}
 use Rattle.building.specs.Clauses.{not_signed, no_funds, repeated}
 use Rattle.building.specs.Steps.{Thread, deposits, not_authorised, too_many_given, step_spent, own}
 
@@ -15,6 +17,9 @@ request interval inputs signers offered change = record { interval = interval; i
 
 abbrev pub claim_request : List Unspent → Interval → List (List ℕ) → List Unspent → List ℕ → List ℕ → ClaimRequest
 claim_request payouts interval signers offered to change = record { payouts = payouts; interval = interval; signers = signers; offered = offered; to = to; change = change }
+
+abbrev pub start_request : Published → StateMaps → Interval → List (List ℕ) → List Unspent → List ℕ → StartRequest
+start_request published state interval signers offered change = record { published = published; state = state; interval = interval; signers = signers; offered = offered; change = change }
 
 -- memory aside, a check is passed where its clause names nothing, and else answers the fault that it names
 abbrev pub Passes : {X : Type 0} → Result X BuildFault → Option BuildFault → Type 0

@@ -1,12 +1,13 @@
 //! Amounts of tokens that are wanted.
-ghost use Rattle.std.specs.Prelude.{◌≡◌, IfOk};
-ghost use Rattle.states.specs.States.{counted};
+ghost use Rattle.std.specs.Prelude.{◌≡◌, map, IfOk};
+ghost use Rattle.states.specs.States.{AllPositive, counted};
 ghost use Rattle.building.specs.Holding.{wanted};
+ghost use Rattle.building.specs.Starts.{accounts_of};
 ghost use Rattle.building.specs.Steps.{deposit_of, deposits};
 
 use bundle::WideSum;
 use collections::Memory;
-use contract::Input;
+use contract::{Account, Input, State};
 use names::{Token, compare_tokens};
 use std::alloc::Global;
 use std::marker::Model;
@@ -77,6 +78,27 @@ pub(crate) fn deposits(alloc: Global, inputs: &[Input]) -> Result<Vec<Amount<'_>
         }
     }
     Ok(amounts)
+}
+
+// What each of these accounts holds, in order.
+fn amounts_of(alloc: Global, accounts: &[(Account, i128)]) -> Result<Vec<Amount<'_>>, Memory>
+    requires { AllPositive accounts.now }
+    ensures { IfOk result (λ amounts. amounts.items ≡ map (λ e. (e.0.token, e.1)) accounts.now) }
+{
+    let mut amounts = Vec::new(alloc);
+    for account in accounts {
+        let token = &account.0.token;
+        let amount = &account.1;
+        amounts.push(Amount { token, amount })?;
+    }
+    Ok(amounts)
+}
+
+/// What the accounts of a state hold, in order.
+pub(crate) fn accounts_of(alloc: Global, state: &State) -> Result<Vec<Amount<'_>>, Memory>
+    ensures { IfOk result (λ amounts. amounts.items ≡ accounts_of state.now) }
+{
+    amounts_of(alloc, state.accounts())
 }
 
 /// How much of a token amounts come to.

@@ -1,8 +1,9 @@
 //! The front of what is offered.
-ghost use Rattle.std.specs.Prelude.{◌≡◌};
+ghost use Rattle.std.specs.Prelude.{◌≡◌, ◌<◌, ◌&&◌, [], not, length};
 ghost use Rattle.std.specs.List.{list_all};
+ghost use Rattle.eutxo.specs.Places.{is_empty};
 ghost use Rattle.building.specs.Holding.{held, holds_token};
-ghost use Rattle.building.specs.Fronts.{suffices, front};
+ghost use Rattle.building.specs.Fronts.{shortest, suffices, front};
 ghost use Rattle.building.specs.Serving.{AreBundles, IsShortest};
 
 use crate::amounts::Amount;
@@ -53,4 +54,17 @@ pub(crate) fn front_of<'a>(
 {
     let length = front_length(roles, amounts, offered);
     &offered[..length]
+}
+
+/// The shortest front that holds as much of each token as is wanted and has one output at least.
+pub(crate) fn start_front<'a>(amounts: &[Amount<'_>], offered: &'a [Unspent]) -> &'a [Unspent]
+    requires bundles { AreBundles held offered.now }
+    requires some { 0 < length offered.now }
+    ensures front { result.now ≡ shortest (λ us. not (is_empty us) && suffices [] amounts.now us) offered.now }
+    ensures bundles { AreBundles held result.now }
+{
+    let none: &[RoleToken<'_>] = &[];
+    let length = front_length(none, amounts, offered);
+    let some = if length == 0 { 1 } else { length };
+    &offered[..some]
 }

@@ -1,0 +1,42 @@
+//! The state with which a contract starts.
+ghost use Rattle.std.specs.Prelude.{◌≡◌, IfOk, OnOk};
+ghost use Rattle.std.proofs.Math.Dec.{T};
+ghost use Rattle.std.specs.FinMap.{is_sorted, put};
+ghost use Rattle.names.specs.Orders.{account_cmp};
+ghost use Rattle.building.specs.Starts.{fresh};
+
+use collections::{Entries, Memory};
+use contract::{Account, State};
+use std::alloc::Global;
+
+fn put_account(
+    entries: &mut Entries<Account, i128>,
+    account: &(Account, i128),
+) -> Result<(), Memory>
+    ensures { OnOk result (entries.new ≡ put account_cmp account.now.0 account.now.1 entries.old) }
+{
+    entries.set(&account.0, account.1)
+}
+
+// A map of these entries, which stand in the order of their keys.
+fn copy_of(alloc: Global, accounts: &[(Account, i128)]) -> Result<Entries<Account, i128>, Memory>
+    requires { T (is_sorted account_cmp accounts.now) }
+    ensures { IfOk result (λ entries. entries ≡ accounts.now) }
+{
+    let mut entries = Entries::new(alloc);
+    for account in accounts {
+        put_account(&mut entries, account)?;
+    }
+    Ok(entries)
+}
+
+/// The state with the accounts and the minimum time of another, in which nothing was chosen and nothing is bound.
+pub(crate) fn fresh(alloc: Global, state: &State) -> Result<State, Memory>
+    ensures { IfOk result (λ copy. copy ≡ fresh state.now) }
+{
+    let accounts = copy_of(alloc, state.accounts())?;
+    let choices = Entries::new(alloc);
+    let bound_values = Entries::new(alloc);
+    let min_time = state.min_time();
+    Ok(State::from_entries(accounts, choices, bound_values, min_time))
+}

@@ -1,0 +1,172 @@
+//! Starts of a contract.
+ghost use Rattle.std.specs.Prelude.{◌≡◌, ◌∷◌, [], Some, if◌then◌else◌, map, IfOk, IfErr};
+ghost use Rattle.collections.specs.Answers.{Aside};
+ghost use Rattle.names.specs.Equal.{ada};
+ghost use Rattle.bundle.specs.Bundles.{minus};
+ghost use Rattle.roles.specs.Steps.{continuation};
+ghost use Rattle.building.specs.Holding.{sums, held};
+ghost use Rattle.eutxo.specs.Places.{is_empty};
+ghost use Rattle.building.specs.declared.fault.BuildFault.TheVariants.{NoFunds};
+ghost use Rattle.building.specs.Clauses.{no_funds};
+ghost use Rattle.building.specs.Built.{built};
+ghost use Rattle.building.specs.Laying.{by_key, given_to};
+ghost use Rattle.building.specs.Starts.{fresh, start_front, start_output, hinders_start, layout_start};
+ghost use Rattle.builder.specs.Code.{start_request, Passes};
+
+use crate::amounts::{Amount, accounts_of};
+use crate::checks::{check_apart, check_funds, check_signed};
+use crate::fresh::fresh;
+use crate::front::start_front;
+use crate::inputs::{copies_of, put_keys};
+use crate::limits::{Shares, shares_within};
+use crate::outputs::{continuation, put_given, rest};
+use crate::payouts::are_none;
+use crate::sum::see_all;
+use building::BuildFault;
+use bundle::Bundle;
+use collections::{Bytes, Items, Text};
+use contract::{Interval, State};
+use eutxo_types::{Output, Tx};
+use looks::Unspent;
+use names::Token;
+use roles::Published;
+use std::alloc::Global;
+
+// What is asked for.
+#[derive(Clone, Copy)]
+struct Asked<'a> {
+    published: &'a Published,
+    state: &'a State,
+    interval: Interval,
+    signers: &'a [Text],
+    offered: &'a [Unspent],
+    change: &'a Text,
+}
+
+// What is spent, where nothing hinders the start.
+#[derive(Drop)]
+struct Funds<'a> {
+    all: Bundle,
+    front: &'a [Unspent],
+}
+
+fn ada(alloc: Global) -> Token
+    ensures { result ≡ ada }
+{
+    Token {
+        symbol: Bytes::from_vec(Vec::new(alloc)),
+        name: Text::from_string(String::new(alloc)),
+    }
+}
+
+// Something is offered, and as much of each token as the accounts hold.
+fn check_start_funds(
+    alloc: Global,
+    amounts: &[Amount<'_>],
+    offered: &[Unspent],
+) -> Result<(), BuildFault>
+    ensures { Passes result (if is_empty offered.now then Some (NoFunds ada) else no_funds amounts.now offered.now) }
+{
+    if are_none(offered) {
+        Err(BuildFault::NoFunds(ada(alloc)))
+    } else {
+        check_funds(amounts, offered)
+    }
+}
+
+// What is spent, or the first clause that fails.
+fn funds_of<'a>(alloc: Global, asked: Asked<'a>) -> Result<Funds<'a>, BuildFault>
+    ensures all { IfOk result (λ funds. funds.all ≡ sums held (start_front (start_request asked.entry.published.now asked.entry.state.now asked.entry.interval asked.entry.signers.now asked.entry.offered.now asked.entry.change.now))) }
+    ensures front { IfOk result (λ funds. funds.front.now ≡ start_front (start_request asked.entry.published.now asked.entry.state.now asked.entry.interval asked.entry.signers.now asked.entry.offered.now asked.entry.change.now)) }
+    ensures passes { Passes result (hinders_start (start_request asked.entry.published.now asked.entry.state.now asked.entry.interval asked.entry.signers.now asked.entry.offered.now asked.entry.change.now)) }
+{
+    let offered = asked.offered;
+    check_signed(asked.signers, offered)?;
+    let amounts = accounts_of(alloc, asked.state)?;
+    check_start_funds(alloc, &amounts, offered)?;
+    see_all(offered);
+    let front = start_front(&amounts, offered);
+    let none: &[Unspent] = &[];
+    match shares_within(alloc, none, front) {
+        Ok(shares) => match check_apart(alloc, none, offered) {
+            Ok(()) => {
+                let Shares { others, .. } = shares;
+                Ok(Funds { all: others, front })
+            }
+            Err(fault) => Err(fault),
+        },
+        Err(fault) => Err(fault),
+    }
+}
+
+// The contract's output.
+fn start_output(alloc: Global, published: &Published, state: &State) -> Result<Output, BuildFault>
+    ensures ok { IfOk result (λ output. output ≡ continuation published.now.id published.now.root (fresh state.now)) }
+    ensures err { IfErr result (λ fault. fault ≡ BuildFault.Memory) }
+{
+    let state = fresh(alloc, state)?;
+    match continuation(alloc, &published.id, published.root, state) {
+        Ok(output) => Ok(output),
+        Err(_) => Err(BuildFault::Memory),
+    }
+}
+
+// The transaction of a start, from what it spends.
+fn lay_out(alloc: Global, asked: Asked<'_>, funds: Funds<'_>) -> Result<Tx, BuildFault>
+    ensures ok { IfOk result (λ tx. tx ≡ record {
+      inputs = map by_key funds.entry.front.now;
+      outputs = start_output (start_request asked.entry.published.now asked.entry.state.now asked.entry.interval asked.entry.signers.now asked.entry.offered.now asked.entry.change.now) ∷ given_to asked.entry.change.now (minus funds.entry.all (sums (λ o. o.amount) (start_output (start_request asked.entry.published.now asked.entry.state.now asked.entry.interval asked.entry.signers.now asked.entry.offered.now asked.entry.change.now) ∷ [])));
+      interval = asked.entry.interval;
+      signers = asked.entry.signers.now;
+    }) }
+    ensures err { IfErr result (λ fault. fault ≡ BuildFault.Memory) }
+{
+    let Funds { all, front } = funds;
+    let mut outputs = Items::new(alloc);
+    outputs.push(start_output(alloc, asked.published, asked.state)?)?;
+    let change = rest(alloc, all, outputs.as_slice())?;
+    put_given(&mut outputs, asked.change, change)?;
+    let mut inputs = Items::new(alloc);
+    put_keys(&mut inputs, front)?;
+    let signers = copies_of(alloc, asked.signers)?;
+    Ok(Tx {
+        inputs,
+        outputs,
+        interval: asked.interval,
+        signers,
+    })
+}
+
+/// Builds the transaction that starts a published contract with the accounts and the minimum time of a state, in an
+/// interval in POSIX milliseconds, signed by these addresses. It spends the shortest front of the offered outputs that
+/// covers the accounts and has one output at least. The contract's output comes first, with what the accounts hold;
+/// what is left goes to the key of the address `change`.
+///
+/// Refused is a request of which an offered output isn't under the key of a signer (`NotSigned`), which isn't funded
+/// (`NoFunds`: of ada where nothing is offered), which leaves the limits (`TooMany`), or which names an output twice
+/// (`Repeated`): the first of these answers, and nothing else is refused but memory.
+pub fn build_start(
+    alloc: Global,
+    published: &Published,
+    state: &State,
+    interval: Interval,
+    signers: &[Text],
+    offered: &[Unspent],
+    change: &Text,
+) -> Result<Tx, BuildFault>
+    ensures { let r = start_request published.now state.now interval signers.now offered.now change.now in
+        Aside BuildFault.Memory result (built (hinders_start r) (layout_start r)) }
+{
+    let asked = Asked {
+        published,
+        state,
+        interval,
+        signers,
+        offered,
+        change,
+    };
+    match funds_of(alloc, asked) {
+        Ok(funds) => lay_out(alloc, asked, funds),
+        Err(fault) => Err(fault),
+    }
+}
