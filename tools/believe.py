@@ -67,6 +67,7 @@ CALLS = [
     ("`chain::Chain`", "chain/src/chain.rt: genesis step tick resolve steps_of"),
     ("`chain::Chain::history`, with its laws", "chain/src/chain.rt: history"),
     ("`builder::build_step`", "builder/src/step.rt: build_step"),
+    ("`builder::build_start` and `build_claim`", "builder/src/start.rt: build_start; builder/src/claim.rt: build_claim"),
     ("`acceptance::steps_are_accepted`", "acceptance/src/accepted.rt: steps_are_accepted"),
     ("the laws of `semantics`", "semantics/src/laws.rt: reductions_have_one_result contracts_settle_in_one_way transactions_have_one_answer "
      "turns_lead_to_the_remaining_contract transactions_end_quiet time_never_goes_back payments_are_natural accounts_stay_above_zero "
