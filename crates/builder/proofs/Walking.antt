@@ -1,0 +1,103 @@
+-- Walks over lists.
+use Rattle.std.proofs.Common.{◌≡◌, ℕ, zero, suc, ◌+◌, ◌-◌, ◌<◌, ◌≤◌, ℤ, pos, ◌+ℤ◌, ◌≤ℤ◌, Bool, true, false, ◌||◌, if◌then◌else◌, List, [], ◌∷◌, ◌++◌, length, take, drop, get_or, refl, sym, ◌∙◌, ap, subst, arith}
+use Rattle.std.proofs.lemmas.Int.{ints}
+use Rattle.std.proofs.lemmas.List.{drop_more, take_more}
+use Rattle.std.specs.List.{list_any}
+use Rattle.std.specs.FinMap.{entries}
+use Rattle.names.specs.declared.token.Token.{Token}
+use Rattle.states.specs.States.{counted}
+use Rattle.bundle.specs.Bundles.{Amounts, AllPositive, plus}
+use Rattle.eutxo_types.specs.declared.output_ref.OutputRef.{OutputRef}
+use Rattle.eutxo.specs.Parts.{same_ref}
+use Rattle.looks.specs.declared.look.Unspent.{Unspent}
+use Rattle.building.specs.Holding.{sums, held, wanted}
+use Rattle.building.specs.Fronts.{suffices}
+use Rattle.building.specs.Clauses.{is_much, has_repeat}
+use Rattle.building.specs.Serving.{AreBundles}
+use Rattle.building.proofs.Holdings.{much_right}
+use Rattle.building.proofs.Sufficing.{suffices_longer}
+
+-- what is left at a place is its item and what is left after it
+pub here : {A : Type 0} (xs : List A) (i : ℕ) (x : A) → i < length xs → x ≡ get_or xs i x → drop i xs ≡ x ∷ drop (i + 1) xs
+here xs i x l is = drop_more xs i x l ∙ ap (λ y. y ∷ drop (i + 1) xs) (sym is)
+
+one_back : (n : ℕ) → 0 < n → (n - 1) + 1 ≡ n
+one_back n h = omega arith
+
+pub back : {A : Type 0} (xs : List A) (n : ℕ) (x : A) → 0 < n → n ≤ length xs → x ≡ get_or xs (n - 1) x → drop (n - 1) xs ≡ x ∷ drop n xs
+back xs n x h l is = here xs (n - 1) x (omega arith) is ∙ ap (λ k. x ∷ drop k xs) (one_back n h)
+
+-- ---- sums
+
+bundles_end : {A : Type 0} (w : A → Amounts) (xs : List A) (x : A) → AreBundles w xs → AllPositive (entries (w x)) → AreBundles w (xs ++ x ∷ [])
+bundles_end w [] x h k = (k, tt)
+bundles_end w (y ∷ xs) x h k = (h.0, bundles_end w xs x h.1 k)
+
+one_more : (i : ℕ) → suc (i + 1) ≡ suc i + 1
+one_more i = omega arith
+
+up_to : {A : Type 0} (xs : List A) (i : ℕ) (x : A) → i < length xs → x ≡ get_or xs i x → take i xs ++ x ∷ [] ≡ take (i + 1) xs
+up_to [] i x l is = absurd (omega (arith, l))
+up_to (y ∷ xs) zero x l is = ap (λ z. z ∷ []) is
+up_to (y ∷ xs) (suc i) x l is = ap (λ zs. y ∷ zs) (up_to xs i x (omega (arith, l)) is) ∙ ap (λ n. take n (y ∷ xs)) (one_more i)
+
+pub bundles_more : {A : Type 0} (w : A → Amounts) (xs : List A) (i : ℕ) (x : A) → i < length xs → x ≡ get_or xs i x → AreBundles w (take i xs) → AllPositive (entries (w x)) → AreBundles w (take (i + 1) xs)
+bundles_more w xs i x l is h k = subst (AreBundles w) (up_to xs i x l is) (bundles_end w (take i xs) x h k)
+
+-- what is too much at the end is too much
+pub much_drop : {A : Type 0} (w : A → Amounts) (i : ℕ) (xs : List A) → AreBundles w xs → is_much (sums w (drop i xs)) ≡ true → is_much (sums w xs) ≡ true
+much_drop w zero xs b h = h
+much_drop w (suc i) [] b h = h
+much_drop w (suc i) (x ∷ xs) b h = much_right (w x) (sums w xs) b.0 (much_drop w i xs b.1 h)
+
+-- ---- what is wanted
+
+regroup : (s a b : ℤ) → s +ℤ (a +ℤ b) ≡ (s +ℤ a) +ℤ b
+regroup s a b = omega (arith, ints)
+
+pub wanted_more : (t : Token) (ns : List (Token × ℤ)) (i : ℕ) (n : Token × ℤ) (s : ℤ) → i < length ns → n ≡ get_or ns i n → wanted ns t ≡ s +ℤ wanted (drop i ns) t →
+    wanted ns t ≡ (s +ℤ counted t n.0 n.1) +ℤ wanted (drop (i + 1) ns) t
+wanted_more t ns i n s l is q =
+    q ∙ ap (λ (ms : List (Token × ℤ)). s +ℤ wanted ms t) (here ns i n l is) ∙ regroup s (counted t n.0 n.1) (wanted (drop (i + 1) ns) t)
+
+-- ---- fronts
+
+not_so : (b : Bool) → (b ≡ true → false ≡ true) → b ≡ false
+not_so true h = absurd (cc (h refl))
+not_so false h = refl
+
+-- where a beginning doesn't suffice, no shorter one does
+pub none_shorter : (roles : List Token) (ns : List (Token × ℤ)) (us : List Unspent) (k n : ℕ) → AreBundles held us → k ≤ n → suffices roles ns (take n us) ≡ false → suffices roles ns (take k us) ≡ false
+none_shorter roles ns us k n p l h = not_so (suffices roles ns (take k us)) (λ e. sym h ∙ suffices_longer roles ns us k n p l e)
+
+-- ---- references
+
+or_right : (a b : Bool) → b ≡ true → a || b ≡ true
+or_right true b h = refl
+or_right false b h = h
+
+pub repeat_drop : (i : ℕ) (rs : List OutputRef) → has_repeat (drop i rs) ≡ true → has_repeat rs ≡ true
+repeat_drop zero rs h = h
+repeat_drop (suc i) [] h = h
+repeat_drop (suc i) (r ∷ rs) h = or_right (list_any (λ s. same_ref s r) rs) (has_repeat rs) (repeat_drop i rs h)
+
+-- one that is among those that come later
+pub repeat_here : (rs : List OutputRef) (n : ℕ) (r : OutputRef) → 0 < n → n ≤ length rs → r ≡ get_or rs (n - 1) r → list_any (λ s. same_ref s r) (drop n rs) ≡ true → has_repeat rs ≡ true
+repeat_here rs n r h l is k =
+    repeat_drop (n - 1) rs (subst (λ ss. has_repeat ss ≡ true) (sym (back rs n r h l is)) (or_left (list_any (λ s. same_ref s r) (drop n rs)) (has_repeat (drop n rs)) k))
+  where
+    or_left : (a b : Bool) → a ≡ true → a || b ≡ true
+    or_left a b e = rw e refl
+
+none_here : (a b : Bool) → a ≡ false → b ≡ false → a || b ≡ false
+none_here a b h k = rw h k
+
+pub once_here : (rs : List OutputRef) (n : ℕ) (r : OutputRef) → 0 < n → n ≤ length rs → r ≡ get_or rs (n - 1) r → list_any (λ s. same_ref s r) (drop n rs) ≡ false → has_repeat (drop n rs) ≡ false → has_repeat (drop (n - 1) rs) ≡ false
+once_here rs n r h l is k o = subst (λ ss. has_repeat ss ≡ false) (sym (back rs n r h l is)) (none_here (list_any (λ s. same_ref s r) (drop n rs)) (has_repeat (drop n rs)) k o)
+
+pub among_here : (rs : List OutputRef) (n : ℕ) (r q : OutputRef) → 0 < n → n ≤ length rs → r ≡ get_or rs (n - 1) r → (if same_ref r q then true else list_any (λ s. same_ref s q) (drop n rs)) ≡ list_any (λ s. same_ref s q) (drop (n - 1) rs)
+among_here rs n r q h l is = either (same_ref r q) (list_any (λ s. same_ref s q) (drop n rs)) ∙ ap (list_any (λ s. same_ref s q)) (sym (back rs n r h l is))
+  where
+    either : (a b : Bool) → (if a then true else b) ≡ a || b
+    either true b = refl
+    either false b = refl

@@ -1,0 +1,46 @@
+//! The front of what is offered.
+ghost use Rattle.std.specs.Prelude.{◌≡◌};
+ghost use Rattle.std.specs.List.{list_all};
+ghost use Rattle.building.specs.Holding.{held, holds_token};
+ghost use Rattle.building.specs.Fronts.{suffices};
+ghost use Rattle.building.specs.Serving.{AreBundles, IsShortest};
+
+use crate::amounts::Amount;
+use crate::funds::least_lacking;
+use crate::roles_needed::RoleToken;
+use looks::Unspent;
+
+fn are_held(roles: &[RoleToken<'_>], outputs: &[Unspent]) -> bool
+    ensures { result ≡ list_all (holds_token outputs.now) roles.now }
+{
+    roles.iter().all(|role| role.is_held(outputs))
+}
+
+// Whether outputs hold each of these tokens of roles, and as much of each token as is wanted.
+fn suffices(roles: &[RoleToken<'_>], amounts: &[Amount<'_>], outputs: &[Unspent]) -> bool
+    ensures { result ≡ suffices roles.now amounts.now outputs.now }
+{
+    are_held(roles, outputs) && least_lacking(amounts, outputs).is_none()
+}
+
+/// How many offered outputs the shortest front has that suffices: it is found by halving.
+pub(crate) fn front_length(
+    roles: &[RoleToken<'_>],
+    amounts: &[Amount<'_>],
+    offered: &[Unspent],
+) -> usize
+    requires { AreBundles held offered.now }
+    ensures { IsShortest (suffices roles.now amounts.now) offered.now result }
+{
+    let mut low = 0;
+    let mut high = offered.len();
+    while low < high {
+        let middle = low + (high - low) / 2;
+        if suffices(roles, amounts, &offered[..middle]) {
+            high = middle;
+        } else {
+            low = middle + 1;
+        }
+    }
+    low
+}

@@ -1,0 +1,26 @@
+//! Transactions for a request: a step of a thread, a start of a contract, a claim of payouts (The Extended UTXO
+//! Model, "Extended UTXO model: EUTXO").
+//!
+//! What hinders a request, and how its transaction is laid out, is defined in `building`. Each call answers the
+//! fault of the first clause that the request fails, or its layout, unless memory is refused. None of them reads a
+//! ledger: they build on what was seen of one.
+#![tactic(auto)]
+
+mod accounts;
+mod amounts;
+mod authorise;
+mod checks;
+mod front;
+mod funds;
+mod inputs;
+mod limits;
+mod outputs;
+mod roles_needed;
+mod signed;
+mod step;
+mod sum;
+mod thread;
+
+pub use building::BuildFault;
+pub use looks::{Ask, Look, PayoutLock, ThreadOutput, Unspent};
+pub use step::build_step;

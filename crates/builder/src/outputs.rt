@@ -1,0 +1,150 @@
+//! The outputs of a layout.
+ghost use Rattle.std.specs.Prelude.{◌≡◌, ◌⊎◌, ◌++◌, ◌∷◌, [], true, pos, ◌<ℤ◌, if◌then◌else◌, IfOk, IfErr, OnOk};
+ghost use Rattle.std.specs.FinMap.{entries};
+ghost use Rattle.bundle.specs.Bundles.{minus};
+ghost use Rattle.eutxo.specs.Places.{is_empty};
+ghost use Rattle.roles.specs.Steps.{lock_for, owed, due, continuation};
+ghost use Rattle.roles.specs.Sums.{sums_of};
+ghost use Rattle.building.specs.Holding.{sums};
+ghost use Rattle.building.specs.Clauses.{is_much};
+ghost use Rattle.building.specs.Laying.{given_to};
+
+use crate::accounts::{only, sums_of};
+use crate::sum::{see_all, sum};
+use building::BuildFault;
+use bundle::{Bundle, BundleFault};
+use collections::{Bytes, Items, Memory, Text, TryClone};
+use contract::{Outcome, Party, Payment, State};
+use eutxo_types::{Cont, Datum, Lock, Output};
+use roles::{Published, due_to};
+use std::alloc::Global;
+
+fn lock_for(currency: &Bytes, party: &Party) -> Result<Lock, Memory>
+    ensures { IfOk result (λ lock. lock ≡ lock_for currency.now party.now) }
+{
+    match party {
+        Party::Address(address) => Ok(Lock::Key(address.try_clone()?)),
+        Party::Role(role) => Ok(Lock::Payout {
+            currency: currency.try_clone()?,
+            role: role.try_clone()?,
+        }),
+    }
+}
+
+// The output for a payment to a party.
+fn owed(alloc: Global, currency: &Bytes, party: &Party, payment: &Payment) -> Result<Output, Memory>
+    requires { pos 0 <ℤ payment.now.amount }
+    ensures { IfOk result (λ output. output ≡ owed currency.now party.now payment.now) }
+{
+    let lock = lock_for(currency, party)?;
+    let amount = only(alloc, &payment.token, payment.amount)?;
+    Ok(Output { lock, amount })
+}
+
+/// Puts the outputs that are due for payments behind others.
+pub(crate) fn put_due(
+    alloc: Global,
+    outputs: &mut Items<Output>,
+    currency: &Bytes,
+    payments: &[Payment],
+) -> Result<(), Memory>
+    ensures { OnOk result (outputs.new ≡ outputs.old ++ due currency.now payments.now) }
+{
+    for payment in payments {
+        if let Some(party) = due_to(payment) {
+            outputs.push(owed(alloc, currency, party, payment)?)?;
+        }
+    }
+    Ok(())
+}
+
+/// The output in which a contract goes on, with the sums of its accounts: refused with `TooLarge` only where the sum
+/// of a token is above 2^127 - 1, and otherwise only for memory.
+pub(crate) fn continuation(
+    alloc: Global,
+    script: &[u8; 32],
+    there: Cont,
+    state: State,
+) -> Result<Output, BundleFault>
+    ensures ok { IfOk result (λ output. output ≡ continuation script.now there state) }
+    ensures err { IfErr result (λ fault. (fault ≡ BundleFault.Memory) ⊎ ((fault ≡ BundleFault.TooLarge) × (is_much (sums_of state) ≡ true))) }
+{
+    match sums_of(alloc, &state) {
+        Ok(amount) => {
+            let datum = Datum { cont: there, state };
+            let lock = Lock::Contract {
+                script: *script,
+                datum,
+            };
+            Ok(Output { lock, amount })
+        }
+        Err(fault) => Err(fault),
+    }
+}
+
+fn is_nothing(amount: &Bundle) -> bool
+    ensures { result ≡ is_empty (entries amount.now) }
+{
+    match amount.entries() {
+        [] => true,
+        [_, ..] => false,
+    }
+}
+
+/// Puts an output to an address behind others, where there is anything for it.
+pub(crate) fn put_given(
+    outputs: &mut Items<Output>,
+    address: &Text,
+    amount: Bundle,
+) -> Result<(), Memory>
+    ensures { OnOk result (outputs.new ≡ outputs.old ++ given_to address.now amount) }
+{
+    if is_nothing(&amount) {
+        return Ok(());
+    }
+    let lock = Lock::Key(address.try_clone()?);
+    outputs.push(Output { lock, amount })
+}
+
+/// The output in which a published contract goes on, unless it is closed, and those that are due for the payments.
+pub(crate) fn made(
+    alloc: Global,
+    published: &Published,
+    closed: bool,
+    outcome: Outcome<Cont>,
+) -> Result<Items<Output>, BuildFault>
+    ensures ok { IfOk result (λ outputs. outputs ≡ (if closed then [] else continuation published.now.id outcome.place outcome.state ∷ []) ++ due published.now.currency outcome.payments) }
+    ensures err { IfErr result (λ fault. fault ≡ BuildFault.Memory) }
+{
+    let Outcome {
+        payments,
+        state,
+        place,
+        ..
+    } = outcome;
+    let mut outputs = Items::new(alloc);
+    if !closed {
+        match continuation(alloc, &published.id, place, state) {
+            Ok(output) => outputs.push(output)?,
+            Err(_) => return Err(BuildFault::Memory),
+        }
+    }
+    let currency = &published.currency;
+    put_due(alloc, &mut outputs, currency, payments.as_slice())?;
+    Ok(outputs)
+}
+
+/// What is spent and not made, of which there is enough.
+pub(crate) fn rest(alloc: Global, mut all: Bundle, made: &[Output]) -> Result<Bundle, BuildFault>
+    ensures ok { IfOk result (λ rest. rest ≡ minus all (sums (λ o. o.amount) made.now)) }
+    ensures err { IfErr result (λ fault. fault ≡ BuildFault.Memory) }
+{
+    see_all(made);
+    match sum(alloc, made) {
+        Ok(sum) => match all.subtract(&sum) {
+            Ok(()) => Ok(all),
+            Err(_) => Err(BuildFault::Memory),
+        },
+        Err(_) => Err(BuildFault::Memory),
+    }
+}

@@ -1,0 +1,221 @@
+//! Steps of a thread.
+ghost use Rattle.std.specs.Prelude.{◌≡◌, ◌∷◌, ◌++◌, [], Some, Ok, map, if◌then◌else◌, IfOk, IfErr};
+ghost use Rattle.collections.specs.Answers.{Aside};
+ghost use Rattle.table.specs.Flat.{Has, a_cont, cont_tree};
+ghost use Rattle.semantics.specs.Walk.{standing, answer_of};
+ghost use Rattle.bundle.specs.Bundles.{minus};
+ghost use Rattle.eutxo.specs.Parts.{contract_in};
+ghost use Rattle.roles.specs.Steps.{continuation, due};
+ghost use Rattle.building.specs.Holding.{sums, held};
+ghost use Rattle.building.specs.Fronts.{front};
+ghost use Rattle.building.specs.Serving.{AreBundles};
+ghost use Rattle.building.specs.Built.{built};
+ghost use Rattle.building.specs.Laying.{by_key, by_step, given_to};
+ghost use Rattle.building.specs.Steps.{thread_in, terms, walk, roles_of, step_front, step_spent, hinders_thread, layout_thread, hinders_on, layout_on, hinders_step, layout_step};
+ghost use Rattle.builder.specs.Code.{request, later, Passes};
+
+use crate::amounts::{Amount, deposits};
+use crate::checks::{check_authorised, check_funds, check_once, check_signed};
+use crate::front::front_length;
+use crate::inputs::{by_step, copies_of, put_keys};
+use crate::limits::within_limits;
+use crate::outputs::{made, put_given, rest};
+use crate::roles_needed::roles_of;
+use crate::sum::see_all;
+use crate::thread::{datum_of, is_closed};
+use building::BuildFault;
+use bundle::Bundle;
+use collections::{Bytes, Items, Memory, Text};
+use contract::{Input, Interval, Outcome, SemFault};
+use eutxo_types::{Cont, Datum, Output, Tx};
+use looks::{Look, ThreadOutput, Unspent};
+use machine::compute;
+use std::alloc::Global;
+
+// What is asked for.
+#[derive(Clone, Copy)]
+struct Asked<'a> {
+    interval: Interval,
+    inputs: &'a [Input],
+    signers: &'a [Text],
+    offered: &'a [Unspent],
+    change: &'a Text,
+}
+
+// What is spent of a thread's output and the offered outputs, where nothing after the contract's answer hinders the
+// step.
+#[derive(Drop)]
+struct Funds<'a> {
+    all: Bundle,
+    front: &'a [Unspent],
+}
+
+// The front of what is offered.
+fn front_of<'a>(
+    alloc: Global,
+    currency: &Bytes,
+    inputs: &[Input],
+    amounts: &[Amount<'_>],
+    offered: &'a [Unspent],
+) -> Result<&'a [Unspent], Memory>
+    requires { AreBundles held offered.now }
+    ensures front { IfOk result (λ part. part.now ≡ front (roles_of currency.now inputs.now) amounts.now offered.now) }
+    ensures bundles { IfOk result (λ part. AreBundles held part.now) }
+{
+    let roles = roles_of(alloc, currency, inputs)?;
+    let length = front_length(&roles, amounts, offered);
+    Ok(&offered[..length])
+}
+
+// What is spent, or the first of the clauses on signers, parties, funds, limits and repeats that fails.
+fn funds_of<'a>(
+    alloc: Global,
+    asked: Asked<'a>,
+    thread: &ThreadOutput,
+    datum: &Datum,
+) -> Result<Funds<'a>, BuildFault>
+    ensures all { IfOk result (λ funds. funds.all ≡ sums held (step_spent (request asked.entry.interval asked.entry.inputs.now asked.entry.signers.now asked.entry.offered.now asked.entry.change.now) (thread.now, datum.now))) }
+    ensures front { IfOk result (λ funds. funds.front.now ≡ step_front (request asked.entry.interval asked.entry.inputs.now asked.entry.signers.now asked.entry.offered.now asked.entry.change.now) (thread.now, datum.now)) }
+    ensures passes { Passes result (later (request asked.entry.interval asked.entry.inputs.now asked.entry.signers.now asked.entry.offered.now asked.entry.change.now) (thread.now, datum.now)) }
+{
+    let _ = datum;
+    let currency = &thread.published.get().currency;
+    let offered = asked.offered;
+    check_signed(asked.signers, offered)?;
+    check_authorised(currency, asked.signers, offered, asked.inputs)?;
+    let amounts = deposits(alloc, asked.inputs)?;
+    check_funds(&amounts, offered)?;
+    see_all(offered);
+    let front = front_of(alloc, currency, asked.inputs, &amounts, offered)?;
+    let all = within_limits(alloc, thread.reference, &thread.output, asked.inputs, front)?;
+    check_once(alloc, thread.reference, &thread.output, offered)?;
+    Ok(Funds { all, front })
+}
+
+// The transaction of a step, from what it spends and what it makes but for the change.
+fn lay_out(
+    alloc: Global,
+    asked: Asked<'_>,
+    thread: &ThreadOutput,
+    funds: Funds<'_>,
+    mut outputs: Items<Output>,
+) -> Result<Tx, BuildFault>
+    ensures ok { IfOk result (λ tx. tx ≡ record {
+      inputs = by_step asked.entry.inputs.now (record { reference = thread.now.reference; output = thread.now.output }) ∷ map by_key funds.entry.front.now;
+      outputs = outputs ++ given_to asked.entry.change.now (minus funds.entry.all (sums (λ o. o.amount) outputs));
+      interval = asked.entry.interval;
+      signers = asked.entry.signers.now;
+    }) }
+    ensures err { IfErr result (λ fault. fault ≡ BuildFault.Memory) }
+{
+    let Funds { all, front } = funds;
+    let change = rest(alloc, all, outputs.as_slice())?;
+    put_given(&mut outputs, asked.change, change)?;
+    let mut inputs = Items::new(alloc);
+    inputs.push(by_step(alloc, thread.reference, asked.inputs)?)?;
+    put_keys(&mut inputs, front)?;
+    let signers = copies_of(alloc, asked.signers)?;
+    Ok(Tx {
+        inputs,
+        outputs,
+        interval: asked.interval,
+        signers,
+    })
+}
+
+// The transaction of a step that nothing hinders.
+fn finish(
+    alloc: Global,
+    asked: Asked<'_>,
+    thread: &ThreadOutput,
+    datum: &Datum,
+    funds: Funds<'_>,
+    outcome: Outcome<Cont>,
+) -> Result<Tx, BuildFault>
+    requires ended { answer_of (walk (request asked.interval asked.inputs.now asked.signers.now asked.offered.now asked.change.now) (thread.now, datum.now)) ≡ Ok (standing outcome.state (cont_tree thread.now.published.table outcome.place.0)) }
+    requires paid { outcome.payments ≡ (walk (request asked.interval asked.inputs.now asked.signers.now asked.offered.now asked.change.now) (thread.now, datum.now)).payments }
+    requires led { (terms (thread.now, datum.now)).at datum.now.cont (walk (request asked.interval asked.inputs.now asked.signers.now asked.offered.now asked.change.now) (thread.now, datum.now)).turns ≡ outcome.place }
+    requires has { Has thread.now.published.table (a_cont outcome.place.0) }
+    requires all { funds.all ≡ sums held (step_spent (request asked.interval asked.inputs.now asked.signers.now asked.offered.now asked.change.now) (thread.now, datum.now)) }
+    requires front { funds.front.now ≡ step_front (request asked.interval asked.inputs.now asked.signers.now asked.offered.now asked.change.now) (thread.now, datum.now) }
+    ensures ok { IfOk result (λ tx. tx ≡ layout_thread (request asked.entry.interval asked.entry.inputs.now asked.entry.signers.now asked.entry.offered.now asked.entry.change.now) (thread.now, datum.now)) }
+    ensures err { IfErr result (λ fault. fault ≡ BuildFault.Memory) }
+{
+    let _ = datum;
+    let published = thread.published.get();
+    let closed = is_closed(&published.table, outcome.place);
+    match made(alloc, published, closed, outcome) {
+        Ok(made) => lay_out(alloc, asked, thread, funds, made),
+        Err(fault) => Err(fault),
+    }
+}
+
+// Builds on a thread that stands.
+fn build_at(
+    alloc: Global,
+    asked: Asked<'_>,
+    thread: &ThreadOutput,
+    datum: &Datum,
+) -> Result<Tx, BuildFault>
+    requires { thread_in thread.now (contract_in thread.now.output.lock) ≡ Some (thread.now, datum.now) }
+    ensures { Aside BuildFault.Memory result (built (hinders_thread (request asked.entry.interval asked.entry.inputs.now asked.entry.signers.now asked.entry.offered.now asked.entry.change.now) (thread.now, datum.now)) (layout_thread (request asked.entry.interval asked.entry.inputs.now asked.entry.signers.now asked.entry.offered.now asked.entry.change.now) (thread.now, datum.now))) }
+{
+    let table = &thread.published.get().table;
+    table.turns_lead();
+    match compute(alloc, table, datum, asked.interval, asked.inputs) {
+        Ok(outcome) => match funds_of(alloc, asked, thread, datum) {
+            Ok(funds) => finish(alloc, asked, thread, datum, funds, outcome),
+            Err(fault) => Err(fault),
+        },
+        Err(SemFault::Memory) => Err(BuildFault::Memory),
+        Err(fault) => Err(BuildFault::Semantics(fault)),
+    }
+}
+
+// Builds on a thread.
+fn build_on(alloc: Global, asked: Asked<'_>, thread: &ThreadOutput) -> Result<Tx, BuildFault>
+    ensures { let e = thread_in thread.now (contract_in thread.now.output.lock) in
+        Aside BuildFault.Memory result (built (hinders_on (request asked.entry.interval asked.entry.inputs.now asked.entry.signers.now asked.entry.offered.now asked.entry.change.now) e) (layout_on (request asked.entry.interval asked.entry.inputs.now asked.entry.signers.now asked.entry.offered.now asked.entry.change.now) e)) }
+{
+    match datum_of(alloc, thread) {
+        Ok(None) => Err(BuildFault::NoThread),
+        Ok(Some(datum)) => build_at(alloc, asked, thread, datum),
+        Err(_) => Err(BuildFault::Memory),
+    }
+}
+
+/// Builds the transaction that steps the thread which a look shows, with these inputs of the contract, in an
+/// interval in POSIX milliseconds, signed by these addresses. It spends the thread's output and the shortest front
+/// of the offered outputs that holds the tokens of the roles which the inputs need and covers the deposits. The
+/// contract goes on in output 0, unless it is Close; the payments follow that are due to parties; and what is left
+/// goes to the key of the address `change`.
+///
+/// Refused is a request for which there is no thread (`NoThread`), which the contract refuses (`Semantics`), of which
+/// an offered output isn't under the key of a signer (`NotSigned`), of which a party doesn't sign and has no role
+/// token among what is offered (`NotAuthorised`), which isn't funded (`NoFunds`), which leaves the limits (`TooMany`),
+/// or which names an output twice (`Repeated`): the first of these answers, and nothing else is refused but memory.
+/// The tick of the look isn't read.
+pub fn build_step(
+    alloc: Global,
+    look: &Look,
+    interval: Interval,
+    inputs: &[Input],
+    signers: &[Text],
+    offered: &[Unspent],
+    change: &Text,
+) -> Result<Tx, BuildFault>
+    ensures { let r = request interval inputs.now signers.now offered.now change.now in
+        Aside BuildFault.Memory result (built (hinders_step look.now r) (layout_step look.now r)) }
+{
+    let asked = Asked {
+        interval,
+        inputs,
+        signers,
+        offered,
+        change,
+    };
+    match &look.thread {
+        None => Err(BuildFault::NoThread),
+        Some(thread) => build_on(alloc, asked, thread),
+    }
+}

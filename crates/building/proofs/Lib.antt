@@ -1,0 +1,4 @@
+pub mod Shortest
+pub mod Holdings
+pub mod Sufficing
+pub mod Funding
