@@ -8,6 +8,7 @@ ghost use Rattle.std.specs.FinMap as maps;
 ghost use Rattle.chain.specs.Beginning.{fits_from, IsNoStart};
 ghost use Rattle.standing.specs.Standing.{past_of, world, standing, published, published_at, moment_of};
 ghost use Rattle.chain.specs.Legal.{reply_to, entry_of, with_entry, with_new, IsLegal};
+ghost use Rattle.records.specs.Recording.{AreSteps};
 
 use crate::answering::answer;
 use crate::genesis_fault::GenesisFault;
@@ -15,12 +16,13 @@ use bundle::{Bundle, BundleFault};
 use calls::{Call, Entry, Reply};
 use collections::{Items, Memory, TryClone};
 use eutxo::{Checked, Resolved, Shared};
-use eutxo_types::{Lock, Output, Tx};
+use eutxo_types::{Lock, Output, OutputRef, Tx};
 use history::{
     accepting_is_sound, contracts_are_funded, contracts_end_threads, publishing_is_sound,
     starting_is_sound, steps_stand_on_threads, threads_are_runs, tokens_are_preserved,
 };
 use judging::resolve;
+use records::{StepRecord, steps_of};
 use roles::{Published, published_are_tables};
 use standing::{World, count_of, last_tick, walk};
 use std::alloc::{AllocError, Global};
@@ -208,6 +210,23 @@ impl Chain {
     {
         let world = self.world(alloc)?;
         resolve(alloc, &world, tx)
+    }
+
+    /// The records of the thread that starts at an output, in order: the thread's one run (`history`), with as many
+    /// records as the thread has transactions; each record's number stands for what remained, in the table that
+    /// is published under the thread's script. Where no thread starts there are none. Answers `Memory` only where
+    /// a growth was refused.
+    pub fn steps_of(
+        &self,
+        alloc: Global,
+        reference: &OutputRef,
+    ) -> Result<Items<StepRecord>, Memory>
+        ensures { IfOk result (λ records. AreSteps (published_at (published self.now.entries)) (past_of (world self.now)) reference.now records) }
+    {
+        // To read it is to know that what it keeps is sound.
+        let _tick = self.tick;
+        let world = self.world(alloc)?;
+        steps_of(alloc, &world, reference)
     }
 
     /// A chain without entries, whose tick is the one given, in POSIX milliseconds. Refused are outputs of which

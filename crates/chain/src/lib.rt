@@ -14,3 +14,4 @@ mod genesis_fault;
 pub use calls::{Call, Entry, Reply, Ticketed};
 pub use chain::Chain;
 pub use genesis_fault::GenesisFault;
+pub use records::StepRecord;

@@ -1,0 +1,15 @@
+use Rattle.std.proofs.Common.{sym, subst}
+use Rattle.history.specs.Laws.{marlowe, AreTables}
+use Rattle.history.specs.Sound.{IsSound}
+use Rattle.standing.specs.Standing.{World, Course, world, past_of, published_at}
+use Rattle.chain.proofs.chain.Chain.steps_of.Goals as goal
+
+pub steps_of-requires : goal.steps_of-requires
+steps_of-requires c = record {
+  sound =
+      subst (λ (w : World). IsSound marlowe (published_at w.published) (past_of w)) (sym c.in_ok-world.ensures)
+      (subst (λ (v : Course). IsSound marlowe (published_at (world v).published) (past_of (world v))) c.self.view_is c.self.invariant.sound);
+  tables =
+      subst (λ (w : World). AreTables (published_at w.published)) (sym c.in_ok-world.ensures)
+      (subst (λ (v : Course). AreTables (published_at (world v).published)) c.self.view_is c.self.invariant.tables);
+}
