@@ -1,5 +1,5 @@
 //! The limits on what is spent.
-ghost use Rattle.std.specs.Prelude.{◌≡◌, ◌⊎◌, if◌then◌else◌, ◌++◌, ◌∷◌, true, not, map, IfOk, IfErr, OnOk};
+ghost use Rattle.std.specs.Prelude.{◌≡◌, ◌⊎◌, if◌then◌else◌, ◌++◌, ◌∷◌, true, not, ◌<◌, length, get_or, map, IfOk, IfErr, OnOk};
 ghost use Rattle.std.specs.HashSet.{contains};
 ghost use Rattle.eutxo.specs.Parts.{same_ref};
 ghost use Rattle.bundle.specs.Bundles.{plus};
@@ -43,14 +43,20 @@ fn put(set: &mut HashSet<OutputRef>, reference: OutputRef) -> Result<bool, Memor
     Ok(fresh)
 }
 
+fn reference_at(references: &[OutputRef], at: usize) -> OutputRef
+    requires { at < length references.now }
+    ensures { result ≡ get_or references.now at result }
+{
+    references[at]
+}
+
 /// Whether two references name one output, by a set of those that come later.
 pub(crate) fn has_repeat(alloc: Global, references: &[OutputRef]) -> Result<bool, Memory>
     ensures { IfOk result (λ answer. answer ≡ has_repeat references.now) }
 {
     let mut later = HashSet::new(alloc);
     for i in (0..references.len()).rev() {
-        let reference = references[i];
-        match put(&mut later, reference) {
+        match put(&mut later, reference_at(references, i)) {
             Ok(fresh) => {
                 if !fresh {
                     return Ok(true);

@@ -87,9 +87,13 @@ fn funds_of<'a>(
     check_funds(&amounts, offered)?;
     see_all(offered);
     let front = front_of(alloc, currency, asked.inputs, &amounts, offered)?;
-    let all = within_limits(alloc, thread.reference, &thread.output, asked.inputs, front)?;
-    check_once(alloc, thread.reference, &thread.output, offered)?;
-    Ok(Funds { all, front })
+    match within_limits(alloc, thread.reference, &thread.output, asked.inputs, front) {
+        Ok(all) => match check_once(alloc, thread.reference, &thread.output, offered) {
+            Ok(()) => Ok(Funds { all, front }),
+            Err(fault) => Err(fault),
+        },
+        Err(fault) => Err(fault),
+    }
 }
 
 // The transaction of a step, from what it spends and what it makes but for the change.

@@ -1,0 +1,14 @@
+use Rattle.std.proofs.Common.{◌≡◌, take, ◌∙◌, subst}
+use Rattle.building.specs.Holding.{held}
+use Rattle.building.specs.Fronts.{suffices, front}
+use Rattle.building.proofs.Shortest.{shortest_is}
+use Rattle.building.proofs.Sufficing.{bundles_take}
+use Rattle.builder.proofs.step.front_of.Goals as goal
+
+pub returns-clause-front : goal.returns-clause-front
+returns-clause-front c =
+    subst (λ roles. take c.front_length-length.result c.args.offered.now ≡ front roles c.args.amounts.now c.args.offered.now) (c.deref.ensures.value ∙ c.in_ok-roles.ensures)
+    (shortest_is (suffices c.deref.result.now c.args.amounts.now) c.args.offered.now c.front_length-length.result c.front_length-length.ensures)
+
+pub returns-clause-bundles : goal.returns-clause-bundles
+returns-clause-bundles c = bundles_take held c.front_length-length.result c.args.offered.now c.requires
