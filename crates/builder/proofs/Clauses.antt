@@ -19,7 +19,7 @@ fifth a b c d e x h k l m n = rw (h, k, l, m, n) refl
 pub no_clause : {A : Type 0} (a b c d e : Option A) → a ≡ None → b ≡ None → c ≡ None → d ≡ None → e ≡ None → first_of (a ∷ b ∷ c ∷ d ∷ e ∷ []) ≡ None
 no_clause a b c d e h k l m n = rw (h, k, l, m, n) refl
 
-datum_or : Datum → Option Thread → Datum
+abbrev datum_or : Datum → Option Thread → Datum
 datum_or d None = d
 datum_or d (Some e) = e.1
 
@@ -28,7 +28,7 @@ pub thread_has : (t : ThreadOutput) (o : Option (List ℕ × Datum)) (d : Datum)
 thread_has t None d h = absurd (cc)
 thread_has t (Some c) d h = by (stands t c) refl h
   where
-    by : (b : Bool) → stands t c ≡ b → (if b then Some (t, c.1) else None) ≡ Some (t, d) → (terms_of t.published).has d.cont ≡ true
+    by : (b : Bool) → stands t c ≡ b → if◌then◌else◌ {A = Option Thread} b (Some (t, c.1)) None ≡ Some (t, d) → (terms_of t.published).has d.cont ≡ true
     by false e k = absurd (cc)
     by true e k =
         let both = and_so (same_bytes c.0 t.published.id) _ e in

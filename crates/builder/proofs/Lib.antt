@@ -1,3 +1,4 @@
 pub mod Walking
 pub mod Singles
 pub mod Clauses
+pub mod Together

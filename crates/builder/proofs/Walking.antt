@@ -8,7 +8,9 @@ use Rattle.names.specs.declared.token.Token.{Token}
 use Rattle.states.specs.States.{counted}
 use Rattle.bundle.specs.Bundles.{Amounts, AllPositive, plus}
 use Rattle.eutxo_types.specs.declared.output_ref.OutputRef.{OutputRef}
-use Rattle.eutxo.specs.Parts.{same_ref}
+use Rattle.eutxo_types.specs.declared.output_ref.OutputRef.TheVariants.{Genesis, Made}
+use Rattle.std.specs.Prelude.{◌==◌, ◌&&◌}
+use Rattle.eutxo.specs.Parts.{same_bytes, same_ref}
 use Rattle.looks.specs.declared.look.Unspent.{Unspent}
 use Rattle.building.specs.Holding.{sums, held, wanted}
 use Rattle.building.specs.Fronts.{suffices}
@@ -101,3 +103,21 @@ among_here rs n r q h l is = either (same_ref r q) (list_any (λ s. same_ref s q
     either : (a b : Bool) → (if a then true else b) ≡ a || b
     either true b = refl
     either false b = refl
+
+-- ---- sets of references
+
+pub agree : (eq : OutputRef → OutputRef → Bool) → ((i j : ℕ) → eq (Genesis i) (Genesis j) ≡ (i == j)) → ((n m : List ℕ) (i j : ℕ) → eq (Made n i) (Made m j) ≡ same_bytes n m && (i == j)) →
+    ((i j : ℕ) (m : List ℕ) → eq (Genesis i) (Made m j) ≡ false) → ((i j : ℕ) (n : List ℕ) → eq (Made n i) (Genesis j) ≡ false) → (a b : OutputRef) → eq a b ≡ same_ref a b
+agree eq g m x y (Genesis i) (Genesis j) = g i j
+agree eq g m x y (Made n i) (Made k j) = m n k i j
+agree eq g m x y (Genesis i) (Made k j) = x i j k
+agree eq g m x y (Made n i) (Genesis j) = y i j n
+
+any_as : (p q : OutputRef → Bool) → ((a : OutputRef) → p a ≡ q a) → (rs : List OutputRef) → list_any p rs ≡ list_any q rs
+any_as p q f [] = refl
+any_as p q f (r ∷ rs) = ap (λ b. b || list_any p rs) (f r) ∙ ap (λ b. q r || b) (any_as p q f rs)
+
+pub moved : (eq : OutputRef → OutputRef → Bool) → ((a b : OutputRef) → eq a b ≡ same_ref a b) → (new old : List OutputRef) (k r : OutputRef) →
+    list_any (eq r) new ≡ (if eq k r then true else list_any (eq r) old) → list_any (same_ref r) new ≡ (if same_ref k r then true else list_any (same_ref r) old)
+moved eq f new old k r h =
+    sym (any_as (eq r) (same_ref r) (f r) new) ∙ h ∙ ap (λ b. if b then true else list_any (eq r) old) (f k r) ∙ ap (λ b. if same_ref k r then true else b) (any_as (eq r) (same_ref r) (f r) old)

@@ -6,12 +6,15 @@ use Rattle.looks.specs.declared.look.Unspent.{Unspent}
 use Rattle.building.specs.declared.fault.BuildFault.{BuildFault}
 use Rattle.building.specs.declared.fault.BuildFault.TheVariants.{Memory}
 use Rattle.eutxo.specs.Places.{first_of}
-use Rattle.building.specs.Requests.{StepRequest}
+use Rattle.building.specs.Requests.{StepRequest, ClaimRequest}
 use Rattle.building.specs.Clauses.{not_signed, no_funds, repeated}
 use Rattle.building.specs.Steps.{Thread, deposits, not_authorised, too_many_given, step_spent, own}
 
 abbrev pub request : Interval → List Input → List (List ℕ) → List Unspent → List ℕ → StepRequest
 request interval inputs signers offered change = record { interval = interval; inputs = inputs; signers = signers; offered = offered; change = change }
+
+abbrev pub claim_request : List Unspent → Interval → List (List ℕ) → List Unspent → List ℕ → List ℕ → ClaimRequest
+claim_request payouts interval signers offered to change = record { payouts = payouts; interval = interval; signers = signers; offered = offered; to = to; change = change }
 
 -- memory aside, a check is passed where its clause names nothing, and else answers the fault that it names
 abbrev pub Passes : {X : Type 0} → Result X BuildFault → Option BuildFault → Type 0

@@ -1,5 +1,5 @@
 //! The clauses of a request, each one function.
-ghost use Rattle.std.specs.Prelude.{◌∷◌};
+ghost use Rattle.std.specs.Prelude.{◌∷◌, ◌++◌};
 ghost use Rattle.building.specs.Clauses.{not_signed, no_funds, repeated};
 ghost use Rattle.building.specs.Steps.{not_authorised};
 ghost use Rattle.builder.specs.Code.{Passes};
@@ -70,6 +70,24 @@ pub(crate) fn check_once(
     let _ = output;
     let mut references = vec![in alloc; reference]?;
     put_references(&mut references, offered)?;
+    if has_repeat(alloc, &references)? {
+        Err(BuildFault::Repeated)
+    } else {
+        Ok(())
+    }
+}
+
+/// All of these are named once.
+pub(crate) fn check_apart(
+    alloc: Global,
+    first: &[Unspent],
+    others: &[Unspent],
+) -> Result<(), BuildFault>
+    ensures { Passes result (repeated (first.now ++ others.now)) }
+{
+    let mut references = Vec::new(alloc);
+    put_references(&mut references, first)?;
+    put_references(&mut references, others)?;
     if has_repeat(alloc, &references)? {
         Err(BuildFault::Repeated)
     } else {

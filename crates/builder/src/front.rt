@@ -2,7 +2,7 @@
 ghost use Rattle.std.specs.Prelude.{◌≡◌};
 ghost use Rattle.std.specs.List.{list_all};
 ghost use Rattle.building.specs.Holding.{held, holds_token};
-ghost use Rattle.building.specs.Fronts.{suffices};
+ghost use Rattle.building.specs.Fronts.{suffices, front};
 ghost use Rattle.building.specs.Serving.{AreBundles, IsShortest};
 
 use crate::amounts::Amount;
@@ -23,12 +23,8 @@ fn suffices(roles: &[RoleToken<'_>], amounts: &[Amount<'_>], outputs: &[Unspent]
     are_held(roles, outputs) && least_lacking(amounts, outputs).is_none()
 }
 
-/// How many offered outputs the shortest front has that suffices: it is found by halving.
-pub(crate) fn front_length(
-    roles: &[RoleToken<'_>],
-    amounts: &[Amount<'_>],
-    offered: &[Unspent],
-) -> usize
+// How many offered outputs the shortest front has that suffices: it is found by halving.
+fn front_length(roles: &[RoleToken<'_>], amounts: &[Amount<'_>], offered: &[Unspent]) -> usize
     requires { AreBundles held offered.now }
     ensures { IsShortest (suffices roles.now amounts.now) offered.now result }
 {
@@ -43,4 +39,18 @@ pub(crate) fn front_length(
         }
     }
     low
+}
+
+/// The shortest front that holds each of these tokens of roles, and as much of each token as is wanted.
+pub(crate) fn front_of<'a>(
+    roles: &[RoleToken<'_>],
+    amounts: &[Amount<'_>],
+    offered: &'a [Unspent],
+) -> &'a [Unspent]
+    requires { AreBundles held offered.now }
+    ensures front { result.now ≡ front roles.now amounts.now offered.now }
+    ensures bundles { AreBundles held result.now }
+{
+    let length = front_length(roles, amounts, offered);
+    &offered[..length]
 }

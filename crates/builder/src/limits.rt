@@ -1,10 +1,10 @@
 //! The limits on what is spent.
-ghost use Rattle.std.specs.Prelude.{◌≡◌, ◌⊎◌, if◌then◌else◌, ◌++◌, ◌∷◌, true, not, ◌<◌, length, get_or, map, IfOk, IfErr, OnOk};
+ghost use Rattle.std.specs.Prelude.{◌≡◌, ◌⊎◌, if◌then◌else◌, ◌++◌, ◌∷◌, true, false, not, ◌<◌, length, get_or, map, IfOk, IfErr, OnOk};
 ghost use Rattle.std.specs.HashSet.{contains};
 ghost use Rattle.eutxo.specs.Parts.{same_ref};
 ghost use Rattle.bundle.specs.Bundles.{plus};
 ghost use Rattle.building.specs.Holding.{sums, held};
-ghost use Rattle.building.specs.Clauses.{is_much, has_repeat};
+ghost use Rattle.building.specs.Clauses.{is_much, too_many, has_repeat};
 ghost use Rattle.building.specs.Steps.{too_many_given};
 ghost use Rattle.building.specs.Serving.{AreBundles};
 ghost use Rattle.builder.specs.Code.{Passes};
@@ -104,5 +104,80 @@ pub(crate) fn within_limits(
         }
         Err(BundleFault::Memory) => Err(BuildFault::Memory),
         Err(_) => Err(BuildFault::TooMany),
+    }
+}
+
+// What both hold together fits.
+fn fits(first: &Bundle, others: &Bundle) -> Result<(), BundleFault>
+    ensures ok { OnOk result (is_much (plus first.now others.now) ≡ false) }
+    ensures err { IfErr result (λ fault. (fault ≡ BundleFault.Memory) ⊎ ((fault ≡ BundleFault.TooLarge) × (is_much (plus first.now others.now) ≡ true))) }
+{
+    match with(first, others) {
+        Ok(all) => {
+            see_room(&all);
+            Ok(())
+        }
+        Err(fault) => Err(fault),
+    }
+}
+
+/// What is held by each of two lists of outputs that are spent together.
+#[derive(Drop)]
+pub(crate) struct Shares {
+    pub(crate) first: Bundle,
+    pub(crate) others: Bundle,
+}
+
+// What each list holds, where both together fit.
+fn shares_of(alloc: Global, first: &[Unspent], others: &[Unspent]) -> Result<Shares, BundleFault>
+    requires first { AreBundles held first.now }
+    requires others { AreBundles held others.now }
+    ensures first { IfOk result (λ shares. shares.first ≡ sums held first.now) }
+    ensures others { IfOk result (λ shares. shares.others ≡ sums held others.now) }
+    ensures fits { OnOk result (is_much (plus (sums held first.now) (sums held others.now)) ≡ false) }
+    ensures err { IfErr result (λ fault. (fault ≡ BundleFault.Memory) ⊎ ((fault ≡ BundleFault.TooLarge) × (is_much (plus (sums held first.now) (sums held others.now)) ≡ true))) }
+{
+    match sum(alloc, first) {
+        Err(fault) => Err(fault),
+        Ok(first) => match sum(alloc, others) {
+            Err(fault) => Err(fault),
+            Ok(others) => match fits(&first, &others) {
+                Err(fault) => Err(fault),
+                Ok(()) => Ok(Shares { first, others }),
+            },
+        },
+    }
+}
+
+// How a sum that is refused is told.
+fn build_fault(fault: BundleFault) -> BuildFault
+    ensures memory { fault ≡ BundleFault.Memory → result ≡ BuildFault.Memory }
+    ensures large { fault ≡ BundleFault.TooLarge → result ≡ BuildFault.TooMany }
+{
+    match fault {
+        BundleFault::Memory => BuildFault::Memory,
+        BundleFault::TooLarge => BuildFault::TooMany,
+        BundleFault::Short(_) => BuildFault::TooMany,
+    }
+}
+
+/// What each of two lists of outputs holds, where the limits hold of all that is spent.
+pub(crate) fn shares_within(
+    alloc: Global,
+    first: &[Unspent],
+    others: &[Unspent],
+) -> Result<Shares, BuildFault>
+    requires first { AreBundles held first.now }
+    requires others { AreBundles held others.now }
+    ensures first { IfOk result (λ shares. shares.first ≡ sums held first.now) }
+    ensures others { IfOk result (λ shares. shares.others ≡ sums held others.now) }
+    ensures passes { Passes result (too_many (first.now ++ others.now)) }
+{
+    if first.len() > MOST || others.len() > MOST - first.len() {
+        return Err(BuildFault::TooMany);
+    }
+    match shares_of(alloc, first, others) {
+        Ok(shares) => Ok(shares),
+        Err(fault) => Err(build_fault(fault)),
     }
 }

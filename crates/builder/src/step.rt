@@ -7,16 +7,14 @@ ghost use Rattle.bundle.specs.Bundles.{minus};
 ghost use Rattle.eutxo.specs.Parts.{contract_in};
 ghost use Rattle.roles.specs.Steps.{continuation, due};
 ghost use Rattle.building.specs.Holding.{sums, held};
-ghost use Rattle.building.specs.Fronts.{front};
-ghost use Rattle.building.specs.Serving.{AreBundles};
 ghost use Rattle.building.specs.Built.{built};
 ghost use Rattle.building.specs.Laying.{by_key, by_step, given_to};
-ghost use Rattle.building.specs.Steps.{thread_in, terms, walk, roles_of, step_front, step_spent, hinders_thread, layout_thread, hinders_on, layout_on, hinders_step, layout_step};
+ghost use Rattle.building.specs.Steps.{thread_in, terms, walk, step_front, step_spent, hinders_thread, layout_thread, hinders_on, layout_on, hinders_step, layout_step};
 ghost use Rattle.builder.specs.Code.{request, later, Passes};
 
-use crate::amounts::{Amount, deposits};
+use crate::amounts::deposits;
 use crate::checks::{check_authorised, check_funds, check_once, check_signed};
-use crate::front::front_length;
+use crate::front::front_of;
 use crate::inputs::{by_step, copies_of, put_keys};
 use crate::limits::within_limits;
 use crate::outputs::{made, put_given, rest};
@@ -25,7 +23,7 @@ use crate::sum::see_all;
 use crate::thread::{datum_of, is_closed};
 use building::BuildFault;
 use bundle::Bundle;
-use collections::{Bytes, Items, Memory, Text};
+use collections::{Items, Text};
 use contract::{Input, Interval, Outcome, SemFault};
 use eutxo_types::{Cont, Datum, Output, Tx};
 use looks::{Look, ThreadOutput, Unspent};
@@ -50,23 +48,6 @@ struct Funds<'a> {
     front: &'a [Unspent],
 }
 
-// The front of what is offered.
-fn front_of<'a>(
-    alloc: Global,
-    currency: &Bytes,
-    inputs: &[Input],
-    amounts: &[Amount<'_>],
-    offered: &'a [Unspent],
-) -> Result<&'a [Unspent], Memory>
-    requires { AreBundles held offered.now }
-    ensures front { IfOk result (λ part. part.now ≡ front (roles_of currency.now inputs.now) amounts.now offered.now) }
-    ensures bundles { IfOk result (λ part. AreBundles held part.now) }
-{
-    let roles = roles_of(alloc, currency, inputs)?;
-    let length = front_length(&roles, amounts, offered);
-    Ok(&offered[..length])
-}
-
 // What is spent, or the first of the clauses on signers, parties, funds, limits and repeats that fails.
 fn funds_of<'a>(
     alloc: Global,
@@ -86,7 +67,8 @@ fn funds_of<'a>(
     let amounts = deposits(alloc, asked.inputs)?;
     check_funds(&amounts, offered)?;
     see_all(offered);
-    let front = front_of(alloc, currency, asked.inputs, &amounts, offered)?;
+    let roles = roles_of(alloc, currency, asked.inputs)?;
+    let front = front_of(&roles, &amounts, offered);
     match within_limits(alloc, thread.reference, &thread.output, asked.inputs, front) {
         Ok(all) => match check_once(alloc, thread.reference, &thread.output, offered) {
             Ok(()) => Ok(Funds { all, front }),

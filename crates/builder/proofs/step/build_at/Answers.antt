@@ -1,5 +1,9 @@
-use Rattle.eutxo.specs.Parts.{contract_in}
+use Rattle.std.proofs.Common.{◌≡◌, true, sym, subst}
+use Rattle.table.specs.Flat.{Has, a_cont}
+use Rattle.table.specs.Along.{has_cont}
 use Rattle.table.specs.AlongLaws.{along_tree}
+use Rattle.eutxo.specs.Parts.{contract_in}
+use Rattle.roles.specs.declared.published.Published.{Published}
 use Rattle.builder.proofs.Clauses.{thread_has}
 use Rattle.builder.proofs.step.build_at.Goals as goal
 
@@ -7,4 +11,6 @@ pub finish-requires-clause-has : goal.finish-requires-clause-has
 finish-requires-clause-has c =
     let t = c.args.thread.now in
     let d = c.args.datum.now in
-    (along_tree t.published.table d.cont _ c.in-Ok.outcome.place ((c.turns_lead.ensures.test d.cont).0 (thread_has t (contract_in t.output.lock) d c.requires)) c.in-Ok.ensures.place).0
+    let there = c.in-Ok.outcome.place in
+    let has = (c.turns_lead.ensures.test d.cont).0 (subst (λ (p : Published). has_cont p.table d.cont ≡ true) (sym c.get.ensures) (thread_has t (contract_in t.output.lock) d c.requires)) in
+    subst (λ (p : Published). Has p.table (a_cont there.0)) c.get.ensures (along_tree c.get.result.now.table d.cont _ there has c.in-Ok.ensures.place).0

@@ -1,0 +1,129 @@
+//! Claims of payouts.
+ghost use Rattle.std.specs.Prelude.{◌≡◌, ◌++◌, map, IfOk, IfErr};
+ghost use Rattle.collections.specs.Answers.{Aside};
+ghost use Rattle.building.specs.Holding.{sums, held};
+ghost use Rattle.building.specs.Built.{built};
+ghost use Rattle.building.specs.Laying.{by_key, by_claim, given_to};
+ghost use Rattle.building.specs.Claims.{claim_front, hinders_claim, layout_claim};
+ghost use Rattle.builder.specs.Code.{claim_request, Passes};
+
+use crate::amounts::Amount;
+use crate::checks::{check_apart, check_signed};
+use crate::front::front_of;
+use crate::inputs::{copies_of, put_keys};
+use crate::limits::{Shares, shares_within};
+use crate::outputs::put_given;
+use crate::payouts::{check_held, check_payouts, put_claims, tokens_awaited};
+use crate::sum::see_all;
+use building::BuildFault;
+use collections::{Items, Text};
+use contract::Interval;
+use eutxo_types::Tx;
+use looks::Unspent;
+use std::alloc::Global;
+
+// What is asked for.
+#[derive(Clone, Copy)]
+struct Asked<'a> {
+    payouts: &'a [Unspent],
+    interval: Interval,
+    signers: &'a [Text],
+    offered: &'a [Unspent],
+    to: &'a Text,
+    change: &'a Text,
+}
+
+// What is spent, where nothing hinders the claim.
+#[derive(Drop)]
+struct Funds<'a> {
+    shares: Shares,
+    front: &'a [Unspent],
+}
+
+// What is spent, or the first clause that fails.
+fn funds_of<'a>(alloc: Global, asked: Asked<'a>) -> Result<Funds<'a>, BuildFault>
+    ensures first { IfOk result (λ funds. funds.shares.first ≡ sums held asked.entry.payouts.now) }
+    ensures others { IfOk result (λ funds. funds.shares.others ≡ sums held (claim_front (claim_request asked.entry.payouts.now asked.entry.interval asked.entry.signers.now asked.entry.offered.now asked.entry.to.now asked.entry.change.now))) }
+    ensures front { IfOk result (λ funds. funds.front.now ≡ claim_front (claim_request asked.entry.payouts.now asked.entry.interval asked.entry.signers.now asked.entry.offered.now asked.entry.to.now asked.entry.change.now)) }
+    ensures passes { Passes result (hinders_claim (claim_request asked.entry.payouts.now asked.entry.interval asked.entry.signers.now asked.entry.offered.now asked.entry.to.now asked.entry.change.now)) }
+{
+    let payouts = asked.payouts;
+    let offered = asked.offered;
+    check_payouts(payouts)?;
+    check_signed(asked.signers, offered)?;
+    let tokens = tokens_awaited(alloc, payouts)?;
+    check_held(&tokens, offered)?;
+    see_all(offered);
+    see_all(payouts);
+    let none: &[Amount<'_>] = &[];
+    let front = front_of(&tokens, none, offered);
+    match shares_within(alloc, payouts, front) {
+        Ok(shares) => match check_apart(alloc, payouts, offered) {
+            Ok(()) => Ok(Funds { shares, front }),
+            Err(fault) => Err(fault),
+        },
+        Err(fault) => Err(fault),
+    }
+}
+
+// The transaction of a claim that nothing hinders.
+fn lay_out(alloc: Global, asked: Asked<'_>, funds: Funds<'_>) -> Result<Tx, BuildFault>
+    ensures ok { IfOk result (λ tx. tx ≡ record {
+      inputs = map by_claim asked.entry.payouts.now ++ map by_key funds.entry.front.now;
+      outputs = given_to asked.entry.to.now funds.entry.shares.first ++ given_to asked.entry.change.now funds.entry.shares.others;
+      interval = asked.entry.interval;
+      signers = asked.entry.signers.now;
+    }) }
+    ensures err { IfErr result (λ fault. fault ≡ BuildFault.Memory) }
+{
+    let Funds { shares, front } = funds;
+    let Shares { first, others } = shares;
+    let mut inputs = Items::new(alloc);
+    put_claims(&mut inputs, asked.payouts)?;
+    put_keys(&mut inputs, front)?;
+    let mut outputs = Items::new(alloc);
+    put_given(&mut outputs, asked.to, first)?;
+    put_given(&mut outputs, asked.change, others)?;
+    let signers = copies_of(alloc, asked.signers)?;
+    Ok(Tx {
+        inputs,
+        outputs,
+        interval: asked.interval,
+        signers,
+    })
+}
+
+/// Builds the transaction that claims payouts, in an interval in POSIX milliseconds, signed by these addresses. It
+/// spends all the payouts, and then the shortest front of the offered outputs that holds the tokens of their roles.
+/// What the payouts hold goes to the key of the address `to`, and what the front holds to that of `change`, each in
+/// an output of its own where there is anything.
+///
+/// Refused is a request without payouts or with an output among them that isn't one (`NoThread`), of which an offered
+/// output isn't under the key of a signer (`NotSigned`), of which the token of a payout's role isn't offered
+/// (`NotAuthorised`), which leaves the limits (`TooMany`), or which names an output twice (`Repeated`): the first of
+/// these answers, and nothing else is refused but memory.
+pub fn build_claim(
+    alloc: Global,
+    payouts: &[Unspent],
+    interval: Interval,
+    signers: &[Text],
+    offered: &[Unspent],
+    to: &Text,
+    change: &Text,
+) -> Result<Tx, BuildFault>
+    ensures { let r = claim_request payouts.now interval signers.now offered.now to.now change.now in
+        Aside BuildFault.Memory result (built (hinders_claim r) (layout_claim r)) }
+{
+    let asked = Asked {
+        payouts,
+        interval,
+        signers,
+        offered,
+        to,
+        change,
+    };
+    match funds_of(alloc, asked) {
+        Ok(funds) => lay_out(alloc, asked, funds),
+        Err(fault) => Err(fault),
+    }
+}

@@ -1,0 +1,125 @@
+//! Payouts that are claimed.
+ghost use Rattle.std.specs.Prelude.{◌≡◌, ◌++◌, not, IfOk, OnOk, map, option_map, option_copied};
+ghost use Rattle.std.specs.List.{list_any, find};
+ghost use Rattle.names.specs.declared.party.Party.TheVariants.{Role};
+ghost use Rattle.eutxo.specs.Places.{is_empty};
+ghost use Rattle.building.specs.declared.fault.BuildFault.TheVariants.{NotAuthorised};
+ghost use Rattle.building.specs.Holding.{holds_token};
+ghost use Rattle.building.specs.Laying.{by_claim};
+ghost use Rattle.building.specs.Claims.{awaited, tokens_awaited, is_payout, no_payouts};
+ghost use Rattle.builder.specs.Code.{Passes};
+
+use crate::roles_needed::RoleToken;
+use building::BuildFault;
+use collections::{Items, Memory, Text, TryClone};
+use contract::Party;
+use eutxo_types::{Lock, Redeemer, Spend};
+use looks::Unspent;
+use std::alloc::Global;
+
+fn is_payout(lock: &Lock) -> bool
+    ensures { result ≡ is_payout lock.now }
+{
+    match lock {
+        Lock::Key(_) => false,
+        Lock::Payout { .. } => true,
+        Lock::Contract { .. } => false,
+    }
+}
+
+fn any_other(payouts: &[Unspent]) -> bool
+    ensures { result ≡ list_any (λ u. not (is_payout u.output.lock)) payouts.now }
+{
+    payouts.iter().any(|u| !is_payout(&u.output.lock))
+}
+
+/// Whether there are none of these.
+pub(crate) fn are_none(outputs: &[Unspent]) -> bool
+    ensures { result ≡ is_empty outputs.now }
+{
+    match outputs {
+        [] => true,
+        [_, ..] => false,
+    }
+}
+
+/// There are payouts, and they alone.
+pub(crate) fn check_payouts(payouts: &[Unspent]) -> Result<(), BuildFault>
+    ensures { Passes result (no_payouts payouts.now) }
+{
+    if are_none(payouts) || any_other(payouts) {
+        Err(BuildFault::NoThread)
+    } else {
+        Ok(())
+    }
+}
+
+fn awaited(lock: &Lock) -> Option<RoleToken<'_>>
+    ensures { result ≡ awaited lock.now }
+{
+    match lock {
+        Lock::Key(_) => None,
+        Lock::Payout { currency, role } => Some(RoleToken::new(currency, role)),
+        Lock::Contract { .. } => None,
+    }
+}
+
+/// The tokens for which payouts wait, in order.
+pub(crate) fn tokens_awaited(
+    alloc: Global,
+    payouts: &[Unspent],
+) -> Result<Vec<RoleToken<'_>>, Memory>
+    ensures { IfOk result (λ tokens. tokens.items ≡ tokens_awaited payouts.now) }
+{
+    let mut tokens = Vec::new(alloc);
+    for payout in payouts {
+        if let Some(token) = awaited(&payout.output.lock) {
+            tokens.push(token)?;
+        }
+    }
+    Ok(tokens)
+}
+
+// The role of the first of these tokens that no output holds.
+fn missing<'a>(tokens: &[RoleToken<'a>], outputs: &[Unspent]) -> Option<&'a Text>
+    ensures { option_copied result ≡ option_map (λ t. t.name) (find (λ t. not (holds_token outputs.now t)) tokens.now) }
+{
+    for token in tokens {
+        if !token.is_held(outputs) {
+            return Some(token.role());
+        }
+    }
+    None
+}
+
+/// Each of these tokens is held.
+pub(crate) fn check_held(tokens: &[RoleToken<'_>], outputs: &[Unspent]) -> Result<(), BuildFault>
+    ensures { Passes result (option_map (λ t. NotAuthorised (Role t.name)) (find (λ t. not (holds_token outputs.now t)) tokens.now)) }
+{
+    match missing(tokens, outputs) {
+        None => Ok(()),
+        Some(role) => match role.try_clone() {
+            Ok(role) => Err(BuildFault::NotAuthorised(Party::Role(role))),
+            Err(_) => Err(BuildFault::Memory),
+        },
+    }
+}
+
+fn by_claim(payout: &Unspent) -> Spend
+    ensures { result ≡ by_claim payout.now }
+{
+    Spend {
+        reference: payout.reference,
+        redeemer: Redeemer::Claim,
+    }
+}
+
+/// Puts the inputs that claim payouts behind others.
+pub(crate) fn put_claims(spends: &mut Items<Spend>, payouts: &[Unspent]) -> Result<(), Memory>
+    ensures { OnOk result (spends.new ≡ spends.old ++ map by_claim payouts.now) }
+{
+    for payout in payouts {
+        spends.push(by_claim(payout))?;
+    }
+    Ok(())
+}
