@@ -1,5 +1,7 @@
 //! A session: a chain, and what is written for it.
 use crate::asked::{history_lines, keep_check, resolved_lines};
+use crate::built::build;
+use crate::offers::{Handed, hand_in};
 use crate::played::played;
 use crate::recorded::steps_lines;
 use crate::started::started;
@@ -12,15 +14,17 @@ use roles::Published;
 use std::alloc::Global;
 use std::mem;
 use transaction_text::{
-    Answers, Known, RowFault, first, named_text_of, nothing, number, output_of, put, put_in,
-    replace, write,
+    Answers, Known, RowFault, first, named_text_of, nothing, number, output_of, parts, put, put_in,
+    reference_of, replace, write,
 };
 
-/// What is written so far: the outputs to begin with, a transaction, what has a name, the last look, and checks at hand.
+/// What is written so far: the outputs to begin with, a transaction, what is handed in to build one, what has a name, the last
+/// look, and checks at hand.
 #[derive(Drop)]
 pub struct Desk {
     pub genesis: Items<Output>,
     pub tx: Tx,
+    pub handed: Handed,
     pub known: Known,
     pub look: Option<Look>,
     pub checks: Vec<Checked<Published>>,
@@ -38,6 +42,7 @@ fn empty_desk(alloc: Global) -> Desk {
     Desk {
         genesis: Items::new(alloc),
         tx: nothing(alloc),
+        handed: Handed::new(alloc),
         known: Known::new(alloc),
         look: None,
         checks: Vec::new(alloc),
@@ -62,7 +67,17 @@ impl Answers for Session {
                 Ok(Some(String::from_str(alloc, line)?))
             }
             "begin" => Ok(Some(begun(alloc, &mut self.chain, &mut self.desk, rest)?)),
-            "let" | "genesis" | "in" | "keys" | "out" | "from" | "signer" => {
+            "let"
+            | "genesis"
+            | "geneses"
+            | "in"
+            | "keys"
+            | "out"
+            | "from"
+            | "signer"
+            | "offer"
+            | "offers"
+            | "claim" => {
                 written(alloc, &mut self.desk, word, rest)?;
                 Ok(None)
             }
@@ -93,13 +108,37 @@ fn begun(
     started(alloc, chain, Chain::genesis(alloc, outputs, tick))
 }
 
-// Writes a text with a name, a line of what the chain begins with, or of a transaction.
+// Writes a text with a name, a line of what the chain begins with, of a transaction, or of what is handed in.
 fn written(alloc: Global, desk: &mut Desk, word: &str, rest: &str) -> Result<(), RowFault> {
     match word {
         "let" => put_in(&mut desk.known.texts, named_text_of(alloc, rest)),
         "genesis" => put(&mut desk.genesis, output_of(alloc, &desk.known, rest)),
+        "geneses" => put_copies(alloc, &desk.known, &mut desk.genesis, rest),
+        "offer" | "offers" | "claim" => hand_in(
+            alloc,
+            &desk.known,
+            &desk.look,
+            &mut desk.handed,
+            word,
+            rest,
+        ),
         _ => write(alloc, &desk.known, &mut desk.tx, word, rest),
     }
+}
+
+// From `COUNT OUTPUT`: puts so many of it behind the others.
+fn put_copies(
+    alloc: Global,
+    known: &Known,
+    outputs: &mut Items<Output>,
+    rest: &str,
+) -> Result<(), RowFault> {
+    let (count, output) = parts(rest)?;
+    let count: u64 = number(count)?;
+    for _ in 0..count {
+        put(outputs, output_of(alloc, known, output))?;
+    }
+    Ok(())
 }
 
 // What is printed for a call or a question.
@@ -130,6 +169,7 @@ fn answered(
             &desk.tx,
             chain.resolve(alloc, &desk.tx),
         ),
+        "build" => build(alloc, desk, rest),
         _ => played(alloc, chain, desk, word, rest),
     }
 }

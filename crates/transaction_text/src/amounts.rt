@@ -29,8 +29,8 @@ fn entries_of(alloc: Global, words: &str) -> Result<Vec<Entry>, RowFault> {
     Ok(entries)
 }
 
-// A token, from `ada` or `SYMBOL.NAME`.
-fn token_of(alloc: Global, word: &str) -> Result<Token, RowFault> {
+/// A token, from `ada` or `SYMBOL.NAME`.
+pub fn token_of(alloc: Global, word: &str) -> Result<Token, RowFault> {
     let (symbol, name) = match word {
         "ada" => ("", ""),
         _ => word.split_once('.').ok_or(RowFault::NoSuchRow)?,

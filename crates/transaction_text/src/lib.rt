@@ -5,7 +5,8 @@
 //!
 //! - `in REFERENCE REDEEMER` puts an input behind the others. A reference is `ORIGIN.PLACE`: the origin is `genesis`, the
 //!   name of a transaction or an id. The redeemer is `none`, `claim`, `step` and inputs of the contract, each in JSON
-//!   without spaces or as the word `notify`, or `notifies` and their number;
+//!   without spaces, as the word `notify`, or as `deposit:PARTY:ACCOUNT:AMOUNT`, a deposit of ada by an address into the
+//!   account of an address, of any amount; or `notifies` and their number;
 //! - `keys COUNT` puts so many inputs behind the others, which give nothing: the first outputs that the ledger began with;
 //! - `out key ADDRESS AMOUNTS`, `out payout CURRENCY ROLE AMOUNTS` and `out contract SCRIPT CONTINUATION STATE AMOUNTS` put an
 //!   output behind the others. The script is an id, or `@` and the name of what is published, whose root `root` is. The
@@ -35,9 +36,9 @@ pub use answers::{Answers, print_rows};
 pub use drafts::{nothing, write};
 pub use fault::RowFault;
 pub use known::{Known, NamedText, named_text_of};
-pub use outputs::{locked, output_of};
+pub use outputs::{locked, output_of, state_of};
 pub use publications::{Named, named_of};
 pub use references::{Sent, reference_of, sent_of, word_of_id, word_of_reference};
-pub use spends::put_keys;
+pub use spends::{inputs_of, put_keys};
 pub use verdicts::{refusal_line, verdict_line};
 pub use words::{bytes, first, number, parts, put, put_in, replace, text};

@@ -41,7 +41,7 @@ fn contract(alloc: Global, known: &Known, rest: &str) -> Result<Output, RowFault
     let (cont, rest) = parts(rest)?;
     let (state, amounts) = first(rest);
     let (script, root) = script_of(known, script)?;
-    let datum = datum_of(alloc, root, cont, known.text_of(state)?)?;
+    let datum = datum_of(alloc, known, root, cont, state)?;
     locked(alloc, Lock::Contract { script, datum }, amounts)
 }
 
@@ -56,20 +56,26 @@ fn script_of(known: &Known, word: &str) -> Result<([u8; 32], Cont), RowFault> {
     }
 }
 
-fn datum_of(alloc: Global, root: Cont, cont: &str, state: &str) -> Result<Datum, RowFault> {
+fn datum_of(
+    alloc: Global,
+    known: &Known,
+    root: Cont,
+    cont: &str,
+    state: &str,
+) -> Result<Datum, RowFault> {
     let cont = match cont {
         "root" => root,
         _ => Cont(number(cont)?),
     };
-    let state = state_of(alloc, state)?;
+    let state = state_of(alloc, known, state)?;
     Ok(Datum { cont, state })
 }
 
-// From a state in JSON, or `empty` for the state without entries at time 0.
-fn state_of(alloc: Global, word: &str) -> Result<State, RowFault> {
-    match word {
+/// The state that a word stands for: JSON, or `empty` for the state without entries at time 0.
+pub fn state_of(alloc: Global, known: &Known, word: &str) -> Result<State, RowFault> {
+    match known.text_of(word)? {
         "empty" => Ok(State::new(alloc, 0)),
-        _ => Ok(read_state(alloc, word.as_bytes())?),
+        word => Ok(read_state(alloc, word.as_bytes())?),
     }
 }
 

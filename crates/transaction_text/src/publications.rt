@@ -25,14 +25,19 @@ impl Named {
         self.name.as_str()
     }
 
+    /// What is published.
+    pub fn published(&self) -> &Published {
+        self.published.get()
+    }
+
     /// The id of its script.
     pub fn id(&self) -> [u8; 32] {
-        self.published.get().id
+        self.published().id
     }
 
     /// The number of its root.
     pub fn root(&self) -> Cont {
-        self.published.get().root
+        self.published().root
     }
 
     /// Its validator, owned once more.

@@ -1,10 +1,11 @@
 //! Inputs of a transaction.
+use crate::amounts::token_of;
 use crate::fault::RowFault;
 use crate::known::Known;
 use crate::references::reference_of;
-use crate::words::{first, number, parts, put};
+use crate::words::{first, number, parts, put, text};
 use collections::Items;
-use contract::Input;
+use contract::{Input, Party};
 use contract_json::read_input;
 use eutxo_types::{OutputRef, Redeemer, Spend};
 use std::alloc::Global;
@@ -39,7 +40,8 @@ fn notifies(alloc: Global, count: u64) -> Result<Items<Input>, RowFault> {
     Ok(inputs)
 }
 
-fn inputs_of(alloc: Global, known: &Known, words: &str) -> Result<Items<Input>, RowFault> {
+/// The inputs of a contract that words stand for.
+pub fn inputs_of(alloc: Global, known: &Known, words: &str) -> Result<Items<Input>, RowFault> {
     let mut inputs = Items::new(alloc);
     for word in words.split_whitespace() {
         put_input(alloc, &mut inputs, known.text_of(word)?)?;
@@ -55,7 +57,21 @@ fn put_input(alloc: Global, inputs: &mut Items<Input>, word: &str) -> Result<(),
 }
 
 fn input_of(alloc: Global, word: &str) -> Result<Input, RowFault> {
-    Ok(read_input(alloc, word.as_bytes())?)
+    match word.strip_prefix("deposit:") {
+        Some(rest) => deposit_of(alloc, rest),
+        None => Ok(read_input(alloc, word.as_bytes())?),
+    }
+}
+
+// From `PARTY:ACCOUNT:AMOUNT`.
+fn deposit_of(alloc: Global, rest: &str) -> Result<Input, RowFault> {
+    let (party, rest) = rest.split_once(':').ok_or(RowFault::NoSuchRow)?;
+    let (account, amount) = rest.split_once(':').ok_or(RowFault::NoSuchRow)?;
+    let amount = number(amount)?;
+    let party = Party::Address(text(alloc, party)?);
+    let account = Party::Address(text(alloc, account)?);
+    let ada = token_of(alloc, "ada")?;
+    Ok(Input::Deposit(account, party, ada, amount))
 }
 
 /// Puts so many inputs behind the others, which give nothing: the first outputs that the ledger began with.
