@@ -200,8 +200,8 @@ funded money quiet natural r e a us sums_held ok above covered bundles u =
     record {
       rest = rest_is (states.total_of u e.1.state) (deposited u r.inputs) (states.total_of u a.state) (paid_out u w.payments) (total_of held u us) (total_of held u (own e ∷ us)) m (amount_of (rest (own e ∷ us) (made e w (Ok a))) u) kept all out
           (rests_are_of_each_token (sums held (own e ∷ us)) (sums amount (made e w (Ok a))) u
-            ∙ ap (λ n. n -ℤ amount_of (sums amount (made e w (Ok a))) u) (amount_of-sums held (own e ∷ us) u)
-            ∙ ap (λ n. total_of held u (own e ∷ us) -ℤ n) (amount_of-sums amount (made e w (Ok a)) u));
+          ∙ ap (λ n. n -ℤ amount_of (sums amount (made e w (Ok a))) u) (amount_of-sums held (own e ∷ us) u)
+          ∙ ap (λ n. total_of held u (own e ∷ us) -ℤ n) (amount_of-sums amount (made e w (Ok a)) u));
       there = enough_is (states.total_of u e.1.state) (deposited u r.inputs) (states.total_of u a.state) (paid_out u w.payments) (total_of held u us) (total_of held u (own e ∷ us)) m kept all out less;
       covered = less;
     }

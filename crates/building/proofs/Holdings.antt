@@ -88,10 +88,10 @@ sums_append held xs ys h k =
     (positive_plus (sums held xs) (sums held ys) (positive_sums held xs h) (positive_sums held ys k))
     (positive_sums held (xs ++ ys) (bundles_append held xs ys h k))
     (λ t. sums_are_of_each_token (sums held xs) (sums held ys) t
-      ∙ ap (λ n. n +ℤ amount_of (sums held ys) t) (amount_of-sums held xs t)
-      ∙ ap (λ n. total_of held t xs +ℤ n) (amount_of-sums held ys t)
-      ∙ sym (total_of-append held t xs ys)
-      ∙ sym (amount_of-sums held (xs ++ ys) t))
+    ∙ ap (λ n. n +ℤ amount_of (sums held ys) t) (amount_of-sums held xs t)
+    ∙ ap (λ n. total_of held t xs +ℤ n) (amount_of-sums held ys t)
+    ∙ sym (total_of-append held t xs ys)
+    ∙ sym (amount_of-sums held (xs ++ ys) t))
 
 -- ---- more than there is room for
 
