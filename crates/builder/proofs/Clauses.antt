@@ -1,5 +1,5 @@
 -- Which clause answers, and what is known of a thread that stands.
-use Rattle.std.proofs.Common.{◌≡◌, ℕ, Bool, true, false, if◌then◌else◌, List, [], ◌∷◌, Option, Some, None, refl, sym, ap, ◌∙◌, subst}
+use Rattle.std.proofs.Common.{◌≡◌, ℕ, Bool, true, false, if◌then◌else◌, List, [], ◌∷◌, Option, Some, None, refl, ap, subst}
 use Rattle.machine.specs.declared.datum.Datum.{Datum}
 use Rattle.eutxo.specs.Parts.{same_bytes}
 use Rattle.eutxo.specs.Places.{first_of}

@@ -1,5 +1,5 @@
 -- The shortest front that has one output at least.
-use Rattle.std.proofs.Common.{◌≡◌, ℤ, ℕ, zero, suc, ◌<◌, ◌≤◌, Bool, true, false, not, ◌&&◌, List, [], ◌∷◌, length, take, refl, sym, ◌∙◌, ap, subst, ◌⊎◌, inl, inr, arith}
+use Rattle.std.proofs.Common.{◌≡◌, ℤ, ℕ, zero, suc, ◌<◌, Bool, true, false, not, ◌&&◌, List, [], ◌∷◌, length, take, refl, sym, subst, ◌⊎◌, inl, inr, arith}
 use Rattle.eutxo.specs.Places.{is_empty}
 use Rattle.names.specs.declared.token.Token.{Token}
 use Rattle.looks.specs.declared.look.Unspent.{Unspent}

@@ -67,14 +67,6 @@ fn token_of<'a>(currency: &'a Bytes, party: &'a Party) -> Option<RoleToken<'a>>
     }
 }
 
-// The token of the role that an input needs.
-fn token_needed<'a>(currency: &'a Bytes, input: &'a Input) -> Option<RoleToken<'a>> {
-    match needed(input) {
-        None => None,
-        Some(party) => token_of(currency, party),
-    }
-}
-
 /// The tokens of the roles that inputs need, in order.
 pub(crate) fn roles_of<'a>(
     alloc: Global,

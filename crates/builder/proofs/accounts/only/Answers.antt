@@ -1,4 +1,4 @@
-use Rattle.std.proofs.Common.{◌≡◌, ◌∷◌, [], sym, ◌∙◌, ap, rules}
+use Rattle.std.proofs.Common.{◌≡◌, ◌∷◌, [], ◌∙◌, ap, rules}
 use Rattle.std.specs.FinMap.{from_sorted}
 use Rattle.std.specs.FinMap.Entries.{put}
 use Rattle.names.specs.Orders.{token_cmp}

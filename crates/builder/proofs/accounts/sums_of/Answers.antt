@@ -1,12 +1,11 @@
-use Rattle.std.proofs.Common.{◌≡◌, true, map, sym, ◌∙◌, ap, subst, ◌⊎◌}
+use Rattle.std.proofs.Common.{◌≡◌, true, sym, ◌∙◌, ap, subst, ◌⊎◌}
 use Rattle.std.specs.Prelude.{IfOk, IfErr}
-use Rattle.bundle.specs.Bundles.{Amounts}
 use Rattle.bundle.specs.declared.fault.BundleFault.TheVariants as faults
 use Rattle.states.specs.States.{AllPositive}
 use Rattle.roles.specs.Sums.{sums_in, sums_of}
 use Rattle.building.specs.Holding.{sums}
 use Rattle.building.specs.Clauses.{is_much}
-use Rattle.builder.proofs.Singles.{itself, single, sums-singles}
+use Rattle.builder.proofs.Singles.{itself, sums-singles}
 use Rattle.builder.proofs.accounts.sums_of.Goals as goal
 
 pub returns-in-Ok-clause-ok : goal.returns-in-Ok-clause-ok

@@ -1,5 +1,4 @@
-use Rattle.std.proofs.Common.{◌≡◌, false, take, sym, ◌∙◌, arith}
-use Rattle.building.specs.Fronts.{suffices}
+use Rattle.std.proofs.Common.{sym, ◌∙◌, arith}
 use Rattle.builder.proofs.Walking.{none_shorter}
 use Rattle.builder.proofs.front.front_length.Goals as goal
 

@@ -1,4 +1,4 @@
-use Rattle.std.proofs.Common.{◌≡◌, true, ◌⊎◌, inl, inr}
+use Rattle.std.proofs.Common.{◌⊎◌, inl, inr}
 use Rattle.building.specs.Holding.{sums, held}
 use Rattle.building.proofs.Holdings.{much_right}
 use Rattle.builder.proofs.limits.spent.Goals as goal

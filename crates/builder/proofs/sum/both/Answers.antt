@@ -1,9 +1,8 @@
-use Rattle.std.proofs.Common.{◌≡◌, Bool, true, false, Result, Ok, Err, refl, sym, ◌∙◌, ap, subst, ◌⊎◌, inl, inr}
+use Rattle.std.proofs.Common.{◌≡◌, Bool, true, false, Result, Err, refl, subst, ◌⊎◌, inl, inr}
 use Rattle.std.specs.Result.{IsOkUnless}
-use Rattle.bundle.specs.Bundles.{plus, too_large}
+use Rattle.bundle.specs.Bundles.{too_large}
 use Rattle.bundle.specs.declared.fault.BundleFault.{BundleFault}
 use Rattle.bundle.specs.declared.fault.BundleFault.TheVariants as faults
-use Rattle.building.specs.Clauses.{is_much}
 use Rattle.building.proofs.Holdings.{too_large_much}
 use Rattle.builder.proofs.sum.both.Goals as goal
 

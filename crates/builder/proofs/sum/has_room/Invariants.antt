@@ -1,4 +1,4 @@
-use Rattle.std.proofs.Common.{◌≡◌, false, pos, ◌-◌, ◌^◌, int_lt, drop}
+use Rattle.std.proofs.Common.{◌≡◌, pos, ◌-◌, ◌^◌, int_lt, drop}
 use Rattle.std.specs.List.{list_any}
 use Rattle.builder.proofs.sum.has_room.Given as goal
 

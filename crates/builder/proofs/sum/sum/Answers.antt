@@ -1,4 +1,4 @@
-use Rattle.std.proofs.Common.{◌≡◌, ◌-◌, true, drop, sym, ◌∙◌, ap, subst, ◌⊎◌, inl, inr, arith}
+use Rattle.std.proofs.Common.{◌≡◌, ◌-◌, true, sym, ◌∙◌, ap, subst, ◌⊎◌, inl, inr, arith}
 use Rattle.bundle.specs.Bundles.{plus}
 use Rattle.building.specs.Holding.{sums}
 use Rattle.building.specs.Clauses.{is_much}
