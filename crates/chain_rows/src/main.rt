@@ -3,8 +3,7 @@
 //!
 //! A paragraph is a session of its own. It begins with a line `# SUBJECT`, which is printed. Then `genesis` and an output, a
 //! line each, have the outputs that the chain begins with, `geneses COUNT` and an output has it so many times, and `begin TICK`
-//! begins it; from there on each line is a call, a
-//! question, or one that writes a transaction.
+//! begins it; from there on each line is a call, a question, or one that writes a transaction.
 //!
 //! `let NAME TEXT` names a text, for all paragraphs below it: `$NAME` then stands for it in place of a contract, a state or an
 //! input.
