@@ -2,15 +2,16 @@
 use crate::offers::Handed;
 use crate::session::Desk;
 use crate::shown::put_output;
-use builder::{BuildFault, build_claim, build_step};
+use builder::{BuildFault, build_claim, build_start, build_step};
 use collections::{Items, Text};
-use contract::Input;
+use contract::{Input, State};
 use eutxo_types::{Output, Spend, Tx, TxFault};
 use looks::Look;
+use roles::Published;
 use std::alloc::{AllocError, Global};
 use transaction_text::{
-    Known, RowFault, first, inputs_of, nothing, parts, refusal_line, replace, text, word_of,
-    word_of_reference,
+    Known, RowFault, first, inputs_of, nothing, parts, refusal_line, replace, state_of, text,
+    word_of, word_of_reference,
 };
 
 /// What is asked for, beside the interval and the signers that are written. The function that owns it is generic in it, so that
@@ -23,6 +24,13 @@ trait Request: Drop {
 struct StepRequest<'a> {
     look: &'a Look,
     inputs: Items<Input>,
+    change: Text,
+}
+
+#[derive(Drop)]
+struct StartRequest<'a> {
+    published: &'a Published,
+    state: State,
     change: Text,
 }
 
@@ -46,6 +54,20 @@ impl Request for StepRequest<'_> {
     }
 }
 
+impl Request for StartRequest<'_> {
+    fn build(&self, alloc: Global, tx: &Tx, handed: &Handed) -> Result<Tx, BuildFault> {
+        build_start(
+            alloc,
+            self.published,
+            &self.state,
+            tx.interval,
+            tx.signers.as_slice(),
+            handed.offered.as_slice(),
+            &self.change,
+        )
+    }
+}
+
 impl Request for ClaimRequest {
     fn build(&self, alloc: Global, tx: &Tx, handed: &Handed) -> Result<Tx, BuildFault> {
         build_claim(
@@ -60,13 +82,17 @@ impl Request for ClaimRequest {
     }
 }
 
-/// Builds from what is written and handed in, and from `step` or `claim` and what follows: what is printed. What was
+/// Builds from what is written and handed in, and from `step`, `start` or `claim` and what follows: what is printed. What was
 /// handed in is gone, and in place of what was written stands what is built, if anything.
 pub fn build(alloc: Global, desk: &mut Desk, rest: &str) -> Result<String, RowFault> {
     let (sort, rest) = first(rest);
     match sort {
         "step" => {
             let request = step_of(alloc, &desk.known, &desk.look, rest);
+            built(alloc, &desk.known, &mut desk.tx, &mut desk.handed, request)
+        }
+        "start" => {
+            let request = start_of(alloc, &desk.known, rest);
             built(alloc, &desk.known, &mut desk.tx, &mut desk.handed, request)
         }
         "claim" => {
@@ -97,6 +123,20 @@ fn step_of<'a>(
         }
         None => Err(RowFault::NoSuchRow),
     }
+}
+
+// From `NAME STATE CHANGE`.
+fn start_of<'a>(alloc: Global, known: &'a Known, rest: &str) -> Result<StartRequest<'a>, RowFault> {
+    let (name, rest) = parts(rest)?;
+    let (state, change) = parts(rest)?;
+    let published = known.by_name(name)?.published();
+    let change = text(alloc, change)?;
+    let state = state_of(alloc, known, state)?;
+    Ok(StartRequest {
+        published,
+        state,
+        change,
+    })
 }
 
 // From `TO CHANGE`.

@@ -3,8 +3,7 @@
 //!
 //! A paragraph is a session of its own. It begins with a line `# SUBJECT`, which is printed. Then `genesis` and an output, a
 //! line each, have the outputs that the chain begins with, `geneses COUNT` and an output has it so many times, and `begin TICK`
-//! begins it; from there on each line is a call, a
-//! question, or one that writes a transaction.
+//! begins it; from there on each line is a call, a question, or one that writes a transaction.
 //!
 //! `let NAME TEXT` names a text, for all paragraphs below it: `$NAME` then stands for it in place of a contract, a state or an
 //! input.
@@ -43,9 +42,9 @@
 //! - `check` prints the verdict on that transaction and what is found, and keeps both at hand for the calls below, as a cache;
 //! - `steps_of REFERENCE` prints the number of steps of the thread that starts there, and for each its interval and the number
 //!   where the contract went on, then a line for each input, warning and payment, and the state;
-//! - `build step CHANGE INPUT ..` builds a step of the thread that the last look shows, with inputs as `transaction_text` has them, and
-//!   `build claim TO CHANGE` a claim: `built from` and the references of the inputs, then a line for each output; or `refused
-//!   FAULT`;
+//! - `build step CHANGE INPUT ..` builds a step of the thread that the last look shows, with inputs as `transaction_text` has
+//!   them, `build start NAME STATE CHANGE` a start of what is published under the name, and `build claim TO CHANGE` a claim:
+//!   `built from` and the references of the inputs, then a line for each output; or `refused FAULT`;
 //! - `history` prints a line for each entry: its place, `SEAT.NUMBER`, the call, and the reply without what a look shows.
 //!
 //! A line that begins with `- ` says what follows, and is printed. An empty line is nothing. Any other line prints
