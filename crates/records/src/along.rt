@@ -35,12 +35,14 @@ impl<'a> Along<'a> {
         Along { spends, tx }
     }
 
+    /// The thread's output that the transaction spends.
     pub fn spends(&self) -> &OutputRef
         ensures { result.now ≡ self.now.spends }
     {
         &self.spends
     }
 
+    /// The transaction.
     pub fn tx(&self) -> &'a Tx
         ensures { result.now ≡ self.now.tx }
     {

@@ -69,12 +69,14 @@ impl<'a> Kept<'a> {
         Kept { id, tx }
     }
 
+    /// The transaction.
     pub fn tx(&self) -> &'a Tx
         ensures { result.now ≡ self.now }
     {
         self.tx
     }
 
+    /// Its id, which was hashed when it was accepted.
     pub fn id(&self) -> &[u8; 32]
         ensures { result.now ≡ id_of self.now }
     {
@@ -108,12 +110,14 @@ impl<'a> Waiting<'a> {
         Waiting { ticket, tx }
     }
 
+    /// The ticket that was given for it.
     pub fn ticket(&self) -> u64
         ensures { result ≡ self.now.0 }
     {
         self.ticket
     }
 
+    /// The transaction.
     pub fn tx(&self) -> &'a Tx
         ensures { result.now ≡ self.now.1 }
     {

@@ -17,4 +17,4 @@ pub use counting::{count_of, count_tickets};
 pub use kept::{Kept, Waiting, ids_of};
 pub use threads::{next_of, starts_in};
 pub use ticks::last_tick;
-pub use world::{World, is_same, is_spent, names, walk};
+pub use world::{World, is_same, names, walk};

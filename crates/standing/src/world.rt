@@ -104,7 +104,8 @@ fn output_of(outputs: &[Output], index: u64) -> Option<&Output>
     outputs.get(index as usize)
 }
 
-pub fn is_spent(accepted: &[Kept<'_>], reference: &OutputRef) -> bool
+// Whether an accepted transaction spends the output.
+fn is_spent(accepted: &[Kept<'_>], reference: &OutputRef) -> bool
     ensures { result ≡ is_spent accepted.now reference.now }
 {
     accepted.iter().any(|k| names(k.tx(), reference))
@@ -170,30 +171,35 @@ impl<'a> World<'a> {
         }
     }
 
+    /// The tick of the ledger.
     pub fn now(&self) -> i64
         ensures { result ≡ self.now.standing.tick }
     {
         self.tick
     }
 
+    /// The outputs that stood at the beginning, in order.
     pub fn genesis(&self) -> &'a [Output]
         ensures { result.now ≡ self.now.genesis }
     {
         self.genesis
     }
 
+    /// The accepted transactions, in order.
     pub fn accepted(&self) -> &[Kept<'a>]
         ensures { result.now ≡ self.now.standing.accepted }
     {
         &self.accepted
     }
 
+    /// The transactions that wait for a round, in order.
     pub fn pending(&self) -> &[Waiting<'a>]
         ensures { result.now ≡ self.now.standing.pending }
     {
         &self.pending
     }
 
+    /// How many tickets were given so far: the next one's number.
     pub fn tickets(&self) -> u64
         ensures { result ≡ self.now.tickets }
     {
