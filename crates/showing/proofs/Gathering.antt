@@ -8,8 +8,8 @@ use Rattle.eutxo_types.specs.declared.lock.Lock.{Lock}
 use Rattle.eutxo_types.specs.declared.tx.Tx.{Tx}
 use Rattle.looks.specs.declared.look.Unspent.{Unspent}
 use Rattle.looks.specs.declared.look.Look.{Look}
-use Rattle.history.specs.Past.{referred, made_by, made}
-use Rattle.showing.specs.Looking.{shown_so}
+use Rattle.history.specs.Past.{Past, referred, made_by, made, created, is_spent}
+use Rattle.showing.specs.Looking.{shown_so, under_locks}
 use Rattle.showing.specs.Showing.{under}
 
 under_cons : (asked : Lock → Bool) (spent : OutputRef → Bool) (e : OutputRef × Output) (es : List (OutputRef × Output)) → under asked spent (e ∷ es) ≡ under asked spent (e ∷ []) ++ under asked spent es
@@ -52,9 +52,10 @@ under_next_tx asked spent txs i tx h e =
     ∙ ap (λ (x : Tx). under asked spent (made x ++ made_by (drop (i + 1) txs))) (sym e)
     ∙ under_append asked spent (made tx) (made_by (drop (i + 1) txs))
 
--- equal tests of what is spent leave equal outputs
-pub under_same : (asked : Lock → Bool) (p q : OutputRef → Bool) → ((r : OutputRef) → p r ≡ q r) → (es : List (OutputRef × Output)) → under asked p es ≡ under asked q es
-under_same asked p q h es = λ i. under asked (λ r. h r i) es
+-- what isn't spent by these transactions, where they are those that were accepted
+pub under_unspent : (asked : Lock → Bool) (spent : OutputRef → Bool) (txs : List Tx) (past : Past) → ((r : OutputRef) → spent r ≡ is_spent txs r) → txs ≡ past.accepted →
+    under asked spent (created past) ≡ under_locks asked past
+under_unspent asked spent txs past h e = λ i. under asked (λ r. (h r ∙ ap (λ (l : List Tx). is_spent l r) e) i) (created past)
 
 pub same_look : (a b : Look) → a.tick ≡ b.tick → a.thread ≡ b.thread → a.keys ≡ b.keys → a.payouts ≡ b.payouts → a ≡ b
 same_look a b p q r s = λ i. record { tick = p i; thread = q i; keys = r i; payouts = s i }

@@ -22,17 +22,17 @@ impl Model for Spent {
     ghost use Rattle.std.specs.Prelude.{List};
     ghost use Rattle.std.specs.Coded.{coded_list};
     ghost use Rattle.eutxo_types.specs.declared.output_ref.OutputRef.{OutputRef};
-    ghost use Rattle.eutxo_types.specs.contracts.output_ref.OutputRef as references;
+    ghost use Rattle.eutxo_types.specs.contracts.output_ref.OutputRef as reference_rows;
 
     ghost Value = { List OutputRef };
 
-    ghost coded = { coded_list references.the_row.coded };
+    ghost coded = { coded_list reference_rows.the_row.coded };
 
     ghost view = { λ a. a.references.keys };
 }
 
 impl Spent {
-    /// The references that these transactions spend, in one pass over their inputs.
+    /// The references that these transactions spend, in one pass over their inputs; or Memory, where it is refused.
     pub(crate) fn of(alloc: Global, accepted: &[Kept<'_>]) -> Result<Spent, Memory>
         ensures { IfOk result (λ spent. (r : OutputRef) → is_among spent r ≡ is_spent accepted.now r) }
     {
