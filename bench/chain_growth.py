@@ -3,7 +3,8 @@
 
 Build the program first: (cd crates/chain_rows && rt run)
 Each entry accepts a transaction of one input and one output, so the history's inputs and outputs grow as its entries do.
-The cost of a call is what MORE of them add to the time of a run, each of which answers the same and adds an entry.
+The cost of a call is what MORE of them add to the time of a run, each of which answers the same and adds an entry. It has the
+program's own search for the name of what is spent or shown, one pass over the names.
 """
 import os
 import subprocess
@@ -38,7 +39,7 @@ def unspent(n):
 
 
 def looks(n):
-    """Looks at the one unspent output."""
+    """Looks at an address under which each transaction made an output; all but the last are spent."""
     return ["look 0 key bank"] * MORE
 
 

@@ -8,15 +8,15 @@ use Rattle.eutxo_types.specs.declared.lock.Lock.{Lock}
 use Rattle.eutxo_types.specs.declared.tx.Tx.{Tx}
 use Rattle.looks.specs.declared.look.Unspent.{Unspent}
 use Rattle.looks.specs.declared.look.Look.{Look}
-use Rattle.history.specs.Past.{referred, made_by, made, is_spent}
-use Rattle.showing.specs.Looking.{shown_so}
+use Rattle.history.specs.Past.{Past, referred, made_by, made, created, is_spent}
+use Rattle.showing.specs.Looking.{shown_so, under_locks}
 use Rattle.showing.specs.Showing.{under}
 
-under_cons : (asked : Lock → Bool) (txs : List Tx) (e : OutputRef × Output) (es : List (OutputRef × Output)) → under asked txs (e ∷ es) ≡ under asked txs (e ∷ []) ++ under asked txs es
-under_cons asked txs e es = by (not (is_spent txs e.0)) (asked e.1.lock) refl
+under_cons : (asked : Lock → Bool) (spent : OutputRef → Bool) (e : OutputRef × Output) (es : List (OutputRef × Output)) → under asked spent (e ∷ es) ≡ under asked spent (e ∷ []) ++ under asked spent es
+under_cons asked spent e es = by (not (spent e.0)) (asked e.1.lock) refl
   where
     rest : List (OutputRef × Output)
-    rest = filter (λ x. not (is_spent txs x.0)) es
+    rest = filter (λ x. not (spent x.0)) es
 
     by : (b c : Bool) → asked e.1.lock ≡ c →
         map shown_so (filter (λ x. asked x.1.lock) (cond b (e ∷ rest) rest)) ≡ map shown_so (filter (λ x. asked x.1.lock) (cond b (e ∷ []) [])) ++ map shown_so (filter (λ x. asked x.1.lock) rest)
@@ -28,29 +28,34 @@ under_cons asked txs e es = by (not (is_spent txs e.0)) (asked e.1.lock) refl
         ap (λ (b : Bool). map shown_so (cond b (e ∷ filter (λ x. asked x.1.lock) rest) (filter (λ x. asked x.1.lock) rest))) h
         ∙ sym (ap (λ (b : Bool). map shown_so (cond b (e ∷ []) []) ++ map shown_so (filter (λ x. asked x.1.lock) rest)) h)
 
-pub under_append : (asked : Lock → Bool) (txs : List Tx) (es fs : List (OutputRef × Output)) → under asked txs (es ++ fs) ≡ under asked txs es ++ under asked txs fs
-under_append asked txs [] fs = refl
-under_append asked txs (e ∷ es) fs =
-    under_cons asked txs e (es ++ fs)
-    ∙ ap (λ (l : List Unspent). under asked txs (e ∷ []) ++ l) (under_append asked txs es fs)
-    ∙ sym (append_assoc (under asked txs (e ∷ [])) (under asked txs es) (under asked txs fs))
-    ∙ ap (λ (l : List Unspent). l ++ under asked txs fs) (sym (under_cons asked txs e es))
+pub under_append : (asked : Lock → Bool) (spent : OutputRef → Bool) (es fs : List (OutputRef × Output)) → under asked spent (es ++ fs) ≡ under asked spent es ++ under asked spent fs
+under_append asked spent [] fs = refl
+under_append asked spent (e ∷ es) fs =
+    under_cons asked spent e (es ++ fs)
+    ∙ ap (λ (l : List Unspent). under asked spent (e ∷ []) ++ l) (under_append asked spent es fs)
+    ∙ sym (append_assoc (under asked spent (e ∷ [])) (under asked spent es) (under asked spent fs))
+    ∙ ap (λ (l : List Unspent). l ++ under asked spent fs) (sym (under_cons asked spent e es))
 
 -- the next of these outputs
-pub under_next : (asked : Lock → Bool) (txs : List Tx) (name : ℕ → OutputRef) (os : List Output) (i : ℕ) (o : Output) → i < length os → o ≡ get_or os i o →
-    under asked txs (referred name i (drop i os)) ≡ under asked txs ((name i, o) ∷ []) ++ under asked txs (referred name (i + 1) (drop (i + 1) os))
-under_next asked txs name os i o h e =
-    at_drop_more (λ l. under asked txs (referred name i l)) os i o h
-    ∙ ap (λ (x : Output). under asked txs ((name i, x) ∷ referred name (i + 1) (drop (i + 1) os))) (sym e)
-    ∙ under_cons asked txs (name i, o) (referred name (i + 1) (drop (i + 1) os))
+pub under_next : (asked : Lock → Bool) (spent : OutputRef → Bool) (name : ℕ → OutputRef) (os : List Output) (i : ℕ) (o : Output) → i < length os → o ≡ get_or os i o →
+    under asked spent (referred name i (drop i os)) ≡ under asked spent ((name i, o) ∷ []) ++ under asked spent (referred name (i + 1) (drop (i + 1) os))
+under_next asked spent name os i o h e =
+    at_drop_more (λ l. under asked spent (referred name i l)) os i o h
+    ∙ ap (λ (x : Output). under asked spent ((name i, x) ∷ referred name (i + 1) (drop (i + 1) os))) (sym e)
+    ∙ under_cons asked spent (name i, o) (referred name (i + 1) (drop (i + 1) os))
 
 -- the next of these transactions
-pub under_next_tx : (asked : Lock → Bool) (all txs : List Tx) (i : ℕ) (tx : Tx) → i < length txs → tx ≡ get_or txs i tx →
-    under asked all (made_by (drop i txs)) ≡ under asked all (made tx) ++ under asked all (made_by (drop (i + 1) txs))
-under_next_tx asked all txs i tx h e =
-    at_drop_more (λ l. under asked all (made_by l)) txs i tx h
-    ∙ ap (λ (x : Tx). under asked all (made x ++ made_by (drop (i + 1) txs))) (sym e)
-    ∙ under_append asked all (made tx) (made_by (drop (i + 1) txs))
+pub under_next_tx : (asked : Lock → Bool) (spent : OutputRef → Bool) (txs : List Tx) (i : ℕ) (tx : Tx) → i < length txs → tx ≡ get_or txs i tx →
+    under asked spent (made_by (drop i txs)) ≡ under asked spent (made tx) ++ under asked spent (made_by (drop (i + 1) txs))
+under_next_tx asked spent txs i tx h e =
+    at_drop_more (λ l. under asked spent (made_by l)) txs i tx h
+    ∙ ap (λ (x : Tx). under asked spent (made x ++ made_by (drop (i + 1) txs))) (sym e)
+    ∙ under_append asked spent (made tx) (made_by (drop (i + 1) txs))
+
+-- what isn't spent by these transactions, where they are those that were accepted
+pub under_unspent : (asked : Lock → Bool) (spent : OutputRef → Bool) (txs : List Tx) (past : Past) → ((r : OutputRef) → spent r ≡ is_spent txs r) → txs ≡ past.accepted →
+    under asked spent (created past) ≡ under_locks asked past
+under_unspent asked spent txs past h e = λ i. under asked (λ r. (h r ∙ ap (λ (l : List Tx). is_spent l r) e) i) (created past)
 
 pub same_look : (a b : Look) → a.tick ≡ b.tick → a.thread ≡ b.thread → a.keys ≡ b.keys → a.payouts ≡ b.payouts → a ≡ b
 same_look a b p q r s = λ i. record { tick = p i; thread = q i; keys = r i; payouts = s i }

@@ -1,12 +1,14 @@
--- Walks that gather what a look shows. No reader needs them: they are `under_locks` and `ends` from a place on.
+-- Walks that gather what a look shows. No reader needs them: they are `is_spent`, `under_locks` and `ends` from a place on.
 use Rattle.std.specs.Prelude.{ℕ, Bool, not, if◌then◌else◌, List, map, filter, Option, Some, None}
+use Rattle.std.specs.List.{list_any}
+use Rattle.eutxo.specs.Parts.{same_ref}
 use Rattle.eutxo_types.specs.declared.lock.Lock.{Lock}
 use Rattle.eutxo_types.specs.declared.output.Output.{Output}
 use Rattle.eutxo_types.specs.declared.output_ref.OutputRef.{OutputRef}
 use Rattle.eutxo_types.specs.declared.output_ref.OutputRef.TheVariants as ref
 use Rattle.eutxo_types.specs.declared.tx.Tx.{Tx}
 use Rattle.looks.specs.declared.look.Unspent.{Unspent}
-use Rattle.history.specs.Past.{names, is_spent}
+use Rattle.history.specs.Past.{names}
 use Rattle.history.specs.Threads.{next_of}
 use Rattle.showing.specs.declared.looking.Naming.{Naming}
 use Rattle.showing.specs.declared.looking.Naming.TheVariants.{Genesis, Made}
@@ -17,9 +19,13 @@ abbrev pub naming : Naming → ℕ → OutputRef
 naming Genesis i = ref.Genesis i
 naming (Made id) i = ref.Made id i
 
+-- whether one of these references names the output
+abbrev pub is_among : List OutputRef → OutputRef → Bool
+is_among rs r = list_any (same_ref r) rs
+
 -- of these outputs, those that aren't spent and are asked for
-abbrev pub under : (Lock → Bool) → List Tx → List (OutputRef × Output) → List Unspent
-under asked txs es = map shown_so (filter (λ e. asked e.1.lock) (filter (λ e. not (is_spent txs e.0)) es))
+abbrev pub under : (Lock → Bool) → (OutputRef → Bool) → List (OutputRef × Output) → List Unspent
+under asked spent es = map shown_so (filter (λ e. asked e.1.lock) (filter (λ e. not (spent e.0)) es))
 
 -- where a thread stands after a transaction
 abbrev pub moved : Tx → Option OutputRef → Option OutputRef

@@ -5,5 +5,6 @@
 #![tactic(auto)]
 
 mod looking;
+mod spent;
 
 pub use looking::show;

@@ -3,20 +3,21 @@ ghost use Rattle.std.specs.Prelude.{◌≡◌, ◌&&◌, ◌++◌, [], ◌∷◌
 ghost use Rattle.std.specs.List.{list_any};
 ghost use Rattle.eutxo_types.specs.declared.lock.Lock.{Lock};
 ghost use Rattle.eutxo.specs.Parts.{same_bytes, contract_in};
-ghost use Rattle.history.specs.Past.{referred, made};
+ghost use Rattle.history.specs.Past.{referred, made, created};
 ghost use Rattle.history.specs.Threads.{spine, ends};
 ghost use Rattle.standing.specs.Standing.{past_of, published_at};
 ghost use Rattle.standing.specs.Threads.{starts_in};
-ghost use Rattle.showing.specs.Looking.{is_key_of, is_payout_of, under_locks, end_of, with_published, under_script, output_at, shown_at, thread_shown, look};
-ghost use Rattle.showing.specs.Showing.{naming, under, moved};
+ghost use Rattle.showing.specs.Looking.{is_key_of, is_payout_of, end_of, with_published, under_script, output_at, shown_at, thread_shown, look};
+ghost use Rattle.showing.specs.Showing.{naming, is_among, under, moved};
 
+use crate::spent::Spent;
 use collections::{Bytes, Items, Memory, Text, TryClone};
 use eutxo::Shared;
 use eutxo_types::{Lock, Output, OutputRef};
 use judging::Ledger;
 use looks::{Ask, Look, PayoutLock, ThreadOutput, Unspent};
 use roles::Published;
-use standing::{Kept, World, is_spent, names, next_of, starts_in};
+use standing::{Kept, World, names, next_of, starts_in};
 use std::alloc::Global;
 
 /// Which locks are asked for.
@@ -98,15 +99,15 @@ fn name_at(whose: &Naming, index: u64) -> OutputRef
 }
 
 fn add_one<A: Asked>(
-    accepted: &[Kept<'_>],
+    spent: &Spent,
     asked: &A,
     reference: OutputRef,
     output: &Output,
     found: &mut Items<Unspent>,
 ) -> Result<(), Memory>
-    ensures { OnOk result (found.new ≡ found.old ++ under (A.asks asked.now) accepted.now ((reference, output.now) ∷ [])) }
+    ensures { OnOk result (found.new ≡ found.old ++ under (A.asks asked.now) (is_among spent.now) ((reference, output.now) ∷ [])) }
 {
-    if asked.asks(&output.lock) && !is_spent(accepted, &reference) {
+    if asked.asks(&output.lock) && !spent.holds(&reference) {
         let output = output.try_clone()?;
         found.push(Unspent { reference, output })?;
     }
@@ -114,57 +115,46 @@ fn add_one<A: Asked>(
 }
 
 fn add_all<A: Asked>(
-    accepted: &[Kept<'_>],
+    spent: &Spent,
     asked: &A,
     whose: &Naming,
     outputs: &[Output],
     found: &mut Items<Unspent>,
 ) -> Result<(), Memory>
-    ensures { OnOk result (found.new ≡ found.old ++ under (A.asks asked.now) accepted.now (referred (naming whose.now) 0 outputs.now)) }
+    ensures { OnOk result (found.new ≡ found.old ++ under (A.asks asked.now) (is_among spent.now) (referred (naming whose.now) 0 outputs.now)) }
 {
     for (i, o) in outputs.iter().enumerate() {
-        add_one(accepted, asked, name_at(whose, i as u64), o, found)?;
+        add_one(spent, asked, name_at(whose, i as u64), o, found)?;
     }
     Ok(())
 }
 
 fn add_made<A: Asked>(
-    accepted: &[Kept<'_>],
+    spent: &Spent,
     asked: &A,
     kept: &Kept<'_>,
     found: &mut Items<Unspent>,
 ) -> Result<(), Memory>
-    ensures { OnOk result (found.new ≡ found.old ++ under (A.asks asked.now) accepted.now (made kept.now)) }
+    ensures { OnOk result (found.new ≡ found.old ++ under (A.asks asked.now) (is_among spent.now) (made kept.now)) }
 {
     let naming = Naming::Made(*kept.id());
-    add_all(
-        accepted,
-        asked,
-        &naming,
-        kept.tx().outputs.as_slice(),
-        found,
-    )
+    add_all(spent, asked, &naming, kept.tx().outputs.as_slice(), found)
 }
 
-// The unspent outputs under the asked locks.
+// The outputs under the asked locks that aren't spent.
 fn outputs_under<A: Asked>(
     alloc: Global,
     world: &World<'_>,
+    spent: &Spent,
     asked: &A,
 ) -> Result<Items<Unspent>, Memory>
-    ensures { IfOk result (λ outputs. outputs ≡ under_locks (A.asks asked.now) (past_of world.now)) }
+    ensures { IfOk result (λ outputs. outputs ≡ under (A.asks asked.now) (is_among spent.now) (created (past_of world.now))) }
 {
     let accepted = world.accepted();
     let mut found = Items::new(alloc);
-    add_all(
-        accepted,
-        asked,
-        &Naming::Genesis,
-        world.genesis(),
-        &mut found,
-    )?;
+    add_all(spent, asked, &Naming::Genesis, world.genesis(), &mut found)?;
     for k in accepted {
-        add_made(accepted, asked, k, &mut found)?;
+        add_made(spent, asked, k, &mut found)?;
     }
     Ok(found)
 }
@@ -277,20 +267,26 @@ fn thread_shown(world: &World<'_>, asked: Option<OutputRef>) -> Result<Option<Th
 
 // ---- a look
 
-fn keys_shown(alloc: Global, world: &World<'_>, known: &[Text]) -> Result<Items<Unspent>, Memory>
-    ensures { IfOk result (λ outputs. outputs ≡ under_locks (is_key_of known.now) (past_of world.now)) }
+fn keys_shown(
+    alloc: Global,
+    world: &World<'_>,
+    spent: &Spent,
+    known: &[Text],
+) -> Result<Items<Unspent>, Memory>
+    ensures { IfOk result (λ outputs. outputs ≡ under (is_key_of known.now) (is_among spent.now) (created (past_of world.now))) }
 {
-    outputs_under(alloc, world, &Keys { known })
+    outputs_under(alloc, world, spent, &Keys { known })
 }
 
 fn payouts_shown(
     alloc: Global,
     world: &World<'_>,
+    spent: &Spent,
     known: &[PayoutLock],
 ) -> Result<Items<Unspent>, Memory>
-    ensures { IfOk result (λ outputs. outputs ≡ under_locks (is_payout_of known.now) (past_of world.now)) }
+    ensures { IfOk result (λ outputs. outputs ≡ under (is_payout_of known.now) (is_among spent.now) (created (past_of world.now))) }
 {
-    outputs_under(alloc, world, &Payouts { known })
+    outputs_under(alloc, world, spent, &Payouts { known })
 }
 
 /// What a look shows.
@@ -298,8 +294,9 @@ pub fn show(alloc: Global, world: &World<'_>, ask: &Ask) -> Result<Look, Memory>
     ensures { IfOk result (λ shown. shown ≡ look world.now ask.now) }
 {
     let thread = thread_shown(world, ask.thread)?;
-    let keys = keys_shown(alloc, world, ask.keys.as_slice())?;
-    let payouts = payouts_shown(alloc, world, ask.payouts.as_slice())?;
+    let spent = Spent::of(alloc, world.accepted())?;
+    let keys = keys_shown(alloc, world, &spent, ask.keys.as_slice())?;
+    let payouts = payouts_shown(alloc, world, &spent, ask.payouts.as_slice())?;
     Ok(Look {
         tick: world.now(),
         thread,

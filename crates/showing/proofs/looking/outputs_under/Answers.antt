@@ -1,7 +1,7 @@
 use Rattle.std.proofs.Common.{◌++◌, ◌∙◌, ap, sym, append_assoc, drop, ◌+◌, List}
 use Rattle.history.specs.Past.{made_by, made}
 use Rattle.looks.specs.declared.look.Unspent.{Unspent}
-use Rattle.showing.specs.Showing.{under}
+use Rattle.showing.specs.Showing.{is_among, under}
 use Rattle.showing.proofs.Gathering.{under_next_tx}
 use Rattle.showing.proofs.looking.outputs_under.Goals as goal
 
@@ -9,8 +9,9 @@ pub loop-k-preserved : goal.loop-k-preserved
 loop-k-preserved g c =
     let asks = g.A.Asked.asks c.args.asked.now in
     let all = c.accepted-accepted.result.now in
-    let rest = under asks all (made_by (drop (c.loop-k.k-index + 1) all)) in
+    let spent = is_among c.args.spent.now in
+    let rest = under asks spent (made_by (drop (c.loop-k.k-index + 1) all)) in
     c.loop-k.invariant
-    ∙ ap (λ (l : List Unspent). c.loop-k.found ++ l) (under_next_tx asks all all c.loop-k.k-index c.k-item.result c.loop-k-test.true c.k-item.is)
-    ∙ sym (append_assoc c.loop-k.found (under asks all (made c.k-item.result)) rest)
+    ∙ ap (λ (l : List Unspent). c.loop-k.found ++ l) (under_next_tx asks spent all c.loop-k.k-index c.k-item.result c.loop-k-test.true c.k-item.is)
+    ∙ sym (append_assoc c.loop-k.found (under asks spent (made c.k-item.result)) rest)
     ∙ ap (λ (l : List Unspent). l ++ rest) (sym c.in_ok-add_made.ensures)

@@ -1,10 +1,10 @@
 use Rattle.std.proofs.Common.{◌≡◌, ◌++◌, drop}
 use Rattle.history.specs.Past.{created, made_by}
 use Rattle.standing.specs.Standing.{past_of}
-use Rattle.showing.specs.Showing.{under}
+use Rattle.showing.specs.Showing.{is_among, under}
 use Rattle.showing.proofs.looking.outputs_under.Given as goal
 
 abbrev pub invariant-loop-k : goal.invariant-loop-k
 invariant-loop-k g l =
-    under (g.A.Asked.asks l.asked) l.accepted (created (past_of l.world))
-    ≡ l.found ++ under (g.A.Asked.asks l.asked) l.accepted (made_by (drop l.k-index l.accepted))
+    under (g.A.Asked.asks l.asked) (is_among l.spent) (created (past_of l.world))
+    ≡ l.found ++ under (g.A.Asked.asks l.asked) (is_among l.spent) (made_by (drop l.k-index l.accepted))
