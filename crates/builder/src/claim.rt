@@ -5,20 +5,17 @@ ghost use Rattle.building.specs.Holding.{sums, held};
 ghost use Rattle.building.specs.Built.{built};
 ghost use Rattle.building.specs.Laying.{by_key, by_claim, given_to};
 ghost use Rattle.building.specs.Claims.{claim_front, hinders_claim, layout_claim};
-ghost use Rattle.builder.specs.Code.{claim_request, Passes};
+ghost use Rattle.funding.specs.Passing.{Passes};
+ghost use Rattle.builder.specs.Code.{claim_request};
 
-use crate::amounts::Amount;
-use crate::checks::{check_apart, check_signed};
-use crate::front::front_of;
 use crate::inputs::{copies_of, put_keys};
-use crate::limits::{Shares, shares_within};
 use crate::outputs::put_given;
 use crate::payouts::{check_held, check_payouts, put_claims, tokens_awaited};
-use crate::sum::see_all;
 use building::BuildFault;
 use collections::{Items, Text};
 use contract::Interval;
 use eutxo_types::Tx;
+use funding::{Amount, Shares, check_apart, check_signed, front_of, see_all, shares_within};
 use looks::Unspent;
 use std::alloc::Global;
 

@@ -7,13 +7,13 @@ ghost use Rattle.building.specs.declared.fault.BuildFault.TheVariants.{NotAuthor
 ghost use Rattle.building.specs.Holding.{holds_token};
 ghost use Rattle.building.specs.Laying.{by_claim};
 ghost use Rattle.building.specs.Claims.{awaited, tokens_awaited, is_payout, no_payouts};
-ghost use Rattle.builder.specs.Code.{Passes};
+ghost use Rattle.funding.specs.Passing.{Passes};
 
-use crate::roles_needed::RoleToken;
 use building::BuildFault;
 use collections::{Items, Memory, Text, TryClone};
 use contract::Party;
 use eutxo_types::{Lock, Redeemer, Spend};
+use funding::RoleToken;
 use looks::Unspent;
 use std::alloc::Global;
 

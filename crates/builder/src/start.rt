@@ -11,22 +11,22 @@ ghost use Rattle.building.specs.Clauses.{no_funds};
 ghost use Rattle.building.specs.Built.{built};
 ghost use Rattle.building.specs.Laying.{by_key, given_to};
 ghost use Rattle.building.specs.Starts.{fresh, start_front, start_output, hinders_start, layout_start};
-ghost use Rattle.builder.specs.Code.{start_request, Passes};
+ghost use Rattle.funding.specs.Passing.{Passes};
+ghost use Rattle.builder.specs.Code.{start_request};
 
-use crate::amounts::{Amount, accounts_of};
-use crate::checks::{check_apart, check_funds, check_signed};
 use crate::fresh::fresh;
-use crate::front::start_front;
 use crate::inputs::{copies_of, put_keys};
-use crate::limits::{Shares, shares_within};
 use crate::outputs::{continuation, put_given, rest};
 use crate::payouts::are_none;
-use crate::sum::see_all;
 use building::BuildFault;
 use bundle::Bundle;
 use collections::{Bytes, Items, Text};
 use contract::{Interval, State};
 use eutxo_types::{Output, Tx};
+use funding::{
+    Amount, Shares, accounts_of, check_apart, check_funds, check_signed, see_all, shares_within,
+    start_front,
+};
 use looks::Unspent;
 use names::Token;
 use roles::Published;

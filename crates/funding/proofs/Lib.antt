@@ -1,0 +1,4 @@
+pub mod Walking
+pub mod Singles
+pub mod Together
+pub mod Some
