@@ -2,3 +2,4 @@ pub mod Walking
 pub mod Singles
 pub mod Together
 pub mod Some
+pub mod Halves

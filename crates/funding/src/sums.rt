@@ -85,18 +85,24 @@ pub(crate) fn with<A: Holds>(item: &A, others: &Bundle) -> Result<Bundle, Bundle
 }
 
 /// What all of these hold together: refused with `TooLarge` only where the sum of a token is above 2^127 - 1, and
-/// otherwise only for memory.
+/// otherwise only for memory. It adds the sums of both halves, so it takes n log n.
 pub fn sum<A: Holds>(alloc: Global, items: &[A]) -> Result<Bundle, BundleFault>
     requires { AreBundles A.held items.now }
     ensures ok { IfOk result (λ bundle. bundle ≡ sums A.held items.now) }
     ensures err { IfErr result (λ fault. (fault ≡ BundleFault.Memory) ⊎ ((fault ≡ BundleFault.TooLarge) × (is_much (sums A.held items.now) ≡ true))) }
 {
-    let mut all = Bundle::new(alloc);
-    for i in (0..items.len()).rev() {
-        match with(&items[i], &all) {
-            Ok(more) => all = more,
-            Err(fault) => return Err(fault),
+    match items {
+        [] => Ok(Bundle::new(alloc)),
+        [item] => copy_of(item),
+        _ => {
+            let (first, others) = items.split_at(items.len() / 2);
+            match sum(alloc, first) {
+                Err(fault) => Err(fault),
+                Ok(first) => match sum(alloc, others) {
+                    Err(fault) => Err(fault),
+                    Ok(others) => both(first, &others),
+                },
+            }
         }
     }
-    Ok(all)
 }
