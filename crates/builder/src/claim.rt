@@ -46,14 +46,14 @@ fn funds_of<'a>(alloc: Global, asked: Asked<'a>) -> Result<Funds<'a>, BuildFault
 {
     let payouts = asked.payouts;
     let offered = asked.offered;
+    see_all(offered);
+    see_all(payouts);
     check_payouts(payouts)?;
     check_signed(asked.signers, offered)?;
     let tokens = tokens_awaited(alloc, payouts)?;
-    check_held(&tokens, offered)?;
-    see_all(offered);
-    see_all(payouts);
+    check_held(alloc, &tokens, offered)?;
     let none: &[Amount<'_>] = &[];
-    let front = front_of(&tokens, none, offered);
+    let front = front_of(alloc, &tokens, none, offered)?;
     match shares_within(alloc, payouts, front) {
         Ok(shares) => match check_apart(alloc, payouts, offered) {
             Ok(()) => Ok(Funds { shares, front }),

@@ -61,13 +61,13 @@ fn funds_of<'a>(
     let _ = datum;
     let currency = &thread.published.get().currency;
     let offered = asked.offered;
-    check_signed(asked.signers, offered)?;
-    check_authorised(currency, asked.signers, offered, asked.inputs)?;
-    let amounts = deposits(alloc, asked.inputs)?;
-    check_funds(&amounts, offered)?;
     see_all(offered);
+    check_signed(asked.signers, offered)?;
+    check_authorised(alloc, currency, asked.signers, offered, asked.inputs)?;
+    let amounts = deposits(alloc, asked.inputs)?;
+    check_funds(alloc, &amounts, offered)?;
     let roles = roles_of(alloc, currency, asked.inputs)?;
-    let front = front_of(&roles, &amounts, offered);
+    let front = front_of(alloc, &roles, &amounts, offered)?;
     match within_limits(alloc, thread.reference, &thread.output, asked.inputs, front) {
         Ok(all) => match check_once(alloc, thread.reference, &thread.output, offered) {
             Ok(()) => Ok(Funds { all, front }),

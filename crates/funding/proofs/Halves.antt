@@ -1,11 +1,13 @@
 -- Sums of the halves of a list.
-use Rattle.std.proofs.Common.{◌≡◌, ℕ, ◌≤◌, ℤ, ◌+ℤ◌, true, List, [], ◌∷◌, ◌++◌, length, take, drop, get_or, sym, ◌∙◌, ap, subst, arith}
+use Rattle.std.proofs.Common.{◌≡◌, ℕ, ◌+◌, ◌<◌, ◌≤◌, ℤ, ◌+ℤ◌, true, List, [], ◌∷◌, ◌++◌, length, take, drop, get_or, sym, ◌∙◌, ap, subst, arith}
 use Rattle.std.proofs.lemmas.List.{take-append-drop}
-use Rattle.bundle.specs.Bundles.{Amounts, each, plus}
+use Rattle.std.specs.FinMap.{entries}
+use Rattle.bundle.specs.Bundles.{Amounts, AllPositive, each, plus}
 use Rattle.building.specs.Holding.{sums}
 use Rattle.building.specs.Clauses.{is_much}
 use Rattle.building.specs.Serving.{AreBundles}
 use Rattle.building.proofs.Holdings.{entries-empty, sums_append, positive_sums, much_left, much_right}
+use Rattle.funding.proofs.Walking.{here}
 
 -- one holds what it holds
 pub one_sum : {A : Type 0} (held : A → Amounts) (x : A) → sums held (x ∷ []) ≡ held x
@@ -44,3 +46,7 @@ pub single : {A : Type 0} (xs : List A) (x : A) → 1 ≤ length xs → length x
 single [] x h k e = absurd (omega (arith, h))
 single (y ∷ []) x h k e = ap (λ z. z ∷ []) (sym e)
 single (y ∷ z ∷ xs) x h k e = absurd (omega (arith, k))
+
+-- what each of them holds is above 0
+pub bundle_at : {A : Type 0} (held : A → Amounts) (xs : List A) (i : ℕ) (x : A) → i < length xs → x ≡ get_or xs i x → AreBundles held xs → AllPositive (entries (held x))
+bundle_at held xs i x l is h = (subst (AreBundles held) (here xs i x l is) (in_halves held i xs h).1).0

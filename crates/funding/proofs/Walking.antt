@@ -46,32 +46,6 @@ up_to (y ∷ xs) (suc i) x l is = ap (λ zs. y ∷ zs) (up_to xs i x (omega (ari
 pub bundles_more : {A : Type 0} (w : A → Amounts) (xs : List A) (i : ℕ) (x : A) → i < length xs → x ≡ get_or xs i x → AreBundles w (take i xs) → AllPositive (entries (w x)) → AreBundles w (take (i + 1) xs)
 bundles_more w xs i x l is h k = subst (AreBundles w) (up_to xs i x l is) (bundles_end w (take i xs) x h k)
 
--- what is too much at the end is too much
-pub much_drop : {A : Type 0} (w : A → Amounts) (i : ℕ) (xs : List A) → AreBundles w xs → is_much (sums w (drop i xs)) ≡ true → is_much (sums w xs) ≡ true
-much_drop w zero xs b h = h
-much_drop w (suc i) [] b h = h
-much_drop w (suc i) (x ∷ xs) b h = much_right (w x) (sums w xs) b.0 (much_drop w i xs b.1 h)
-
--- ---- what is wanted
-
-regroup : (s a b : ℤ) → s +ℤ (a +ℤ b) ≡ (s +ℤ a) +ℤ b
-regroup s a b = omega (arith, ints)
-
-pub wanted_more : (t : Token) (ns : List (Token × ℤ)) (i : ℕ) (n : Token × ℤ) (s : ℤ) → i < length ns → n ≡ get_or ns i n → wanted ns t ≡ s +ℤ wanted (drop i ns) t →
-    wanted ns t ≡ (s +ℤ counted t n.0 n.1) +ℤ wanted (drop (i + 1) ns) t
-wanted_more t ns i n s l is q =
-    q ∙ ap (λ (ms : List (Token × ℤ)). s +ℤ wanted ms t) (here ns i n l is) ∙ regroup s (counted t n.0 n.1) (wanted (drop (i + 1) ns) t)
-
--- ---- fronts
-
-not_so : (b : Bool) → (b ≡ true → false ≡ true) → b ≡ false
-not_so true h = absurd (cc (h refl))
-not_so false h = refl
-
--- where a beginning doesn't suffice, no shorter one does
-pub none_shorter : (roles : List Token) (ns : List (Token × ℤ)) (us : List Unspent) (k n : ℕ) → AreBundles held us → k ≤ n → suffices roles ns (take n us) ≡ false → suffices roles ns (take k us) ≡ false
-none_shorter roles ns us k n p l h = not_so (suffices roles ns (take k us)) (λ e. sym h ∙ suffices_longer roles ns us k n p l e)
-
 -- ---- references
 
 or_right : (a b : Bool) → b ≡ true → a || b ≡ true

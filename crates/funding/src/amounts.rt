@@ -1,14 +1,18 @@
 //! Amounts of tokens that are wanted.
-ghost use Rattle.std.specs.Prelude.{◌≡◌, map, IfOk};
-ghost use Rattle.states.specs.States.{AllPositive, counted};
-ghost use Rattle.building.specs.Holding.{wanted};
+ghost use Rattle.std.specs.Prelude.{◌≡◌, pos, ◌+ℤ◌, ◌<ℤ◌, ◌≤ℤ◌, ◌^◌, if◌then◌else◌, Some, map, IfOk, OnOk};
+ghost use Rattle.std.specs.FinMap.{get};
+ghost use Rattle.std.specs.Ordering.{eq_by_cmp};
+ghost use Rattle.names.specs.declared.token.Token.{Token as AToken};
+ghost use Rattle.names.specs.Orders.{token_cmp};
+ghost use Rattle.bundle.specs.Bundles.{amount_of};
+ghost use Rattle.states.specs.States.{AllPositive};
 ghost use Rattle.building.specs.Starts.{accounts_of};
 ghost use Rattle.building.specs.Steps.{deposit_of, deposits};
 
-use bundle::WideSum;
 use collections::Memory;
 use contract::{Account, Input, State};
-use names::{Token, compare_tokens};
+use names::Token;
+use needs::Needs;
 use std::alloc::Global;
 use std::marker::Model;
 
@@ -31,22 +35,13 @@ impl<'a> Model for Amount<'a> {
 }
 
 impl<'a> Amount<'a> {
-    /// Its token.
-    pub(crate) fn token(&self) -> &'a Token
-        ensures { result.now ≡ self.now.0 }
+    /// So much more of its token is needed.
+    pub(crate) fn add_to(&self, needs: &mut Needs) -> Result<(), Memory>
+        requires { amount_of needs.old self.now.0 ≤ℤ pos (2 ^ 199) }
+        ensures range { (pos 0 <ℤ self.now.1) × (self.now.1 ≤ℤ pos (2 ^ 127)) }
+        ensures added { OnOk result ((t : AToken) → get needs.new t ≡ (if eq_by_cmp token_cmp self.now.0 t then Some (amount_of needs.old self.now.0 +ℤ self.now.1) else get needs.old t)) }
     {
-        self.token
-    }
-
-    // What it counts for a token.
-    fn counted(&self, token: &Token) -> i128
-        ensures { result ≡ counted token.now self.now.0 self.now.1 }
-    {
-        if compare_tokens(token, self.token).is_eq() {
-            *self.amount
-        } else {
-            0
-        }
+        needs.add(self.token, *self.amount)
     }
 }
 
@@ -99,15 +94,4 @@ pub fn accounts_of(alloc: Global, state: &State) -> Result<Vec<Amount<'_>>, Memo
     ensures { IfOk result (λ amounts. amounts.items ≡ accounts_of state.now) }
 {
     amounts_of(alloc, state.accounts())
-}
-
-/// How much of a token amounts come to.
-pub(crate) fn wanted(amounts: &[Amount<'_>], token: &Token) -> WideSum
-    ensures { result ≡ wanted amounts.now token.now }
-{
-    let mut sum = WideSum::zero();
-    for amount in amounts {
-        sum.add(amount.counted(token));
-    }
-    sum
 }

@@ -1,5 +1,7 @@
 //! The clauses of a request, each one function.
 ghost use Rattle.std.specs.Prelude.{◌∷◌, ◌++◌};
+ghost use Rattle.building.specs.Holding.{held};
+ghost use Rattle.building.specs.Serving.{AreBundles};
 ghost use Rattle.building.specs.Clauses.{not_signed, no_funds, repeated};
 ghost use Rattle.building.specs.Steps.{not_authorised};
 ghost use Rattle.funding.specs.Passing.{Passes};
@@ -29,14 +31,16 @@ pub fn check_signed(signers: &[Text], offered: &[Unspent]) -> Result<(), BuildFa
 
 /// Each party that the inputs need may act.
 pub fn check_authorised(
+    alloc: Global,
     currency: &Bytes,
     signers: &[Text],
     offered: &[Unspent],
     inputs: &[Input],
 ) -> Result<(), BuildFault>
+    requires { AreBundles held offered.now }
     ensures { Passes result (not_authorised currency.now signers.now offered.now inputs.now) }
 {
-    match unauthorised(currency, signers, offered, inputs) {
+    match unauthorised(alloc, currency, signers, offered, inputs)? {
         None => Ok(()),
         Some(party) => match party.try_clone() {
             Ok(party) => Err(BuildFault::NotAuthorised(party)),
@@ -46,15 +50,17 @@ pub fn check_authorised(
 }
 
 /// As much of each token is offered as is wanted.
-pub fn check_funds(amounts: &[Amount<'_>], offered: &[Unspent]) -> Result<(), BuildFault>
+pub fn check_funds(
+    alloc: Global,
+    amounts: &[Amount<'_>],
+    offered: &[Unspent],
+) -> Result<(), BuildFault>
+    requires { AreBundles held offered.now }
     ensures { Passes result (no_funds amounts.now offered.now) }
 {
-    match least_lacking(amounts, offered) {
+    match least_lacking(alloc, amounts, offered)? {
         None => Ok(()),
-        Some(token) => match token.try_clone() {
-            Ok(token) => Err(BuildFault::NoFunds(token)),
-            Err(_) => Err(BuildFault::Memory),
-        },
+        Some(token) => Err(BuildFault::NoFunds(token)),
     }
 }
 

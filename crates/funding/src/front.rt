@@ -1,70 +1,67 @@
 //! The front of what is offered.
-ghost use Rattle.std.specs.Prelude.{◌≡◌, ◌<◌, ◌&&◌, [], not, length};
-ghost use Rattle.std.specs.List.{list_all};
+ghost use Rattle.std.specs.Prelude.{◌≡◌, ◌<◌, ◌&&◌, [], not, length, IfOk};
 ghost use Rattle.eutxo.specs.Places.{is_empty};
-ghost use Rattle.building.specs.Holding.{held, holds_token};
+ghost use Rattle.building.specs.Holding.{held};
 ghost use Rattle.building.specs.Fronts.{shortest, suffices, front};
 ghost use Rattle.building.specs.Serving.{AreBundles, IsShortest};
 
 use crate::amounts::Amount;
-use crate::funds::least_lacking;
+use crate::needed::{meet, needs_of};
 use crate::roles_needed::RoleToken;
+use collections::Memory;
 use looks::Unspent;
+use std::alloc::Global;
 
-fn are_held(roles: &[RoleToken<'_>], outputs: &[Unspent]) -> bool
-    ensures { result ≡ list_all (holds_token outputs.now) roles.now }
-{
-    roles.iter().all(|role| role.is_held(outputs))
-}
-
-// Whether outputs hold each of these tokens of roles, and as much of each token as is wanted.
-fn suffices(roles: &[RoleToken<'_>], amounts: &[Amount<'_>], outputs: &[Unspent]) -> bool
-    ensures { result ≡ suffices roles.now amounts.now outputs.now }
-{
-    are_held(roles, outputs) && least_lacking(amounts, outputs).is_none()
-}
-
-// How many offered outputs the shortest front has that suffices: it is found by halving.
-fn front_length(roles: &[RoleToken<'_>], amounts: &[Amount<'_>], offered: &[Unspent]) -> usize
+// How many offered outputs the shortest front has that suffices: what they hold is counted until nothing is needed.
+fn front_length(
+    alloc: Global,
+    roles: &[RoleToken<'_>],
+    amounts: &[Amount<'_>],
+    offered: &[Unspent],
+) -> Result<usize, Memory>
     requires { AreBundles held offered.now }
-    ensures { IsShortest (suffices roles.now amounts.now) offered.now result }
+    ensures { IfOk result (λ length. IsShortest (suffices roles.now amounts.now) offered.now length) }
 {
-    let mut low = 0;
-    let mut high = offered.len();
-    while low < high {
-        let middle = low + (high - low) / 2;
-        if suffices(roles, amounts, &offered[..middle]) {
-            high = middle;
-        } else {
-            low = middle + 1;
+    let mut needs = needs_of(alloc, roles, amounts)?;
+    for i in 0..offered.len() {
+        if needs.is_met() {
+            return Ok(i);
         }
+        meet(&mut needs, &offered[i]);
     }
-    low
+    Ok(offered.len())
 }
 
-/// The shortest front that holds each of these tokens of roles, and as much of each token as is wanted.
+/// The shortest front that holds each of these tokens of roles, and as much of each token as is wanted. It takes
+/// n log n, and is refused only for memory.
 pub fn front_of<'a>(
+    alloc: Global,
     roles: &[RoleToken<'_>],
     amounts: &[Amount<'_>],
     offered: &'a [Unspent],
-) -> &'a [Unspent]
+) -> Result<&'a [Unspent], Memory>
     requires { AreBundles held offered.now }
-    ensures front { result.now ≡ front roles.now amounts.now offered.now }
-    ensures bundles { AreBundles held result.now }
+    ensures front { IfOk result (λ taken. taken.now ≡ front roles.now amounts.now offered.now) }
+    ensures bundles { IfOk result (λ taken. AreBundles held taken.now) }
 {
-    let length = front_length(roles, amounts, offered);
-    &offered[..length]
+    let length = front_length(alloc, roles, amounts, offered)?;
+    Ok(&offered[..length])
 }
 
-/// The shortest front that holds as much of each token as is wanted and has one output at least.
-pub fn start_front<'a>(amounts: &[Amount<'_>], offered: &'a [Unspent]) -> &'a [Unspent]
+/// The shortest front that holds as much of each token as is wanted and has one output at least. It takes n log n, and
+/// is refused only for memory.
+pub fn start_front<'a>(
+    alloc: Global,
+    amounts: &[Amount<'_>],
+    offered: &'a [Unspent],
+) -> Result<&'a [Unspent], Memory>
     requires bundles { AreBundles held offered.now }
     requires some { 0 < length offered.now }
-    ensures front { result.now ≡ shortest (λ us. not (is_empty us) && suffices [] amounts.now us) offered.now }
-    ensures bundles { AreBundles held result.now }
+    ensures front { IfOk result (λ taken. taken.now ≡ shortest (λ us. not (is_empty us) && suffices [] amounts.now us) offered.now) }
+    ensures bundles { IfOk result (λ taken. AreBundles held taken.now) }
 {
     let none: &[RoleToken<'_>] = &[];
-    let length = front_length(none, amounts, offered);
+    let length = front_length(alloc, none, amounts, offered)?;
     let some = if length == 0 { 1 } else { length };
-    &offered[..some]
+    Ok(&offered[..some])
 }

@@ -13,12 +13,14 @@ mod checks;
 mod front;
 mod funds;
 mod limits;
+mod needed;
 mod roles_needed;
 mod signed;
 mod sums;
 
 pub use accounts::{only, sums_of};
 pub use amounts::{Amount, accounts_of, deposits};
+pub use authorise::first_unheld;
 pub use checks::{check_apart, check_authorised, check_funds, check_once, check_signed};
 pub use front::{front_of, start_front};
 pub use limits::{Shares, shares_within, within_limits};

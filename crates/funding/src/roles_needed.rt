@@ -1,13 +1,11 @@
 //! Tokens of roles.
-ghost use Rattle.std.specs.Prelude.{◌≡◌, pos, int_lt, IfOk};
-ghost use Rattle.bundle.specs.Bundles.{amount_of};
+ghost use Rattle.std.specs.Prelude.{◌≡◌, IfOk};
 ghost use Rattle.roles.specs.Steps.{role_token};
-ghost use Rattle.building.specs.Holding.{held, holds_token};
 ghost use Rattle.building.specs.Steps.{token_of, roles_of};
 
-use collections::{Bytes, Memory, Text};
+use collections::{Bytes, Memory, Text, TryClone};
 use contract::{Input, Party};
-use looks::Unspent;
+use names::Token;
 use roles::needed;
 use std::alloc::Global;
 use std::marker::Model;
@@ -36,24 +34,20 @@ impl<'a> RoleToken<'a> {
     }
 
     /// The role.
-    pub fn role(&self) -> &'a Text
+    pub(crate) fn role(&self) -> &'a Text
         ensures { result.now ≡ self.now.name }
     {
         self.role
     }
 
-    // Whether an output holds it.
-    fn is_in(&self, output: &Unspent) -> bool
-        ensures { result ≡ int_lt (pos 0) (amount_of (held output.now) self.now) }
+    /// A token of its own.
+    pub(crate) fn to_token(&self) -> Result<Token, Memory>
+        ensures { IfOk result (λ token. token ≡ self.now) }
     {
-        0 < output.output.amount.amount_by(self.currency, self.role)
-    }
-
-    /// Whether one of the outputs holds it.
-    pub fn is_held(&self, outputs: &[Unspent]) -> bool
-        ensures { result ≡ holds_token outputs.now self.now }
-    {
-        outputs.iter().any(|output| self.is_in(output))
+        Ok(Token {
+            symbol: self.currency.try_clone()?,
+            name: self.role.try_clone()?,
+        })
     }
 }
 

@@ -1,15 +1,12 @@
-use Rattle.std.proofs.Common.{◌≡◌, ℕ, ◌<◌, ◌≤◌, ◌-◌, true, false, length, take, ◌⊎◌}
+use Rattle.std.proofs.Common.{◌≡◌, ℕ, ◌<◌, ◌≤◌, false, take, length}
 use Rattle.building.specs.Fronts.{suffices}
+use Rattle.funding.specs.Needed.{Stands}
+use Rattle.funding.proofs.Enough.{lack_all}
 use Rattle.funding.proofs.front.front_length.Given as goal
 
--- no beginning below `low` suffices, and the one of `high` does, unless it is all
-abbrev pub invariant-loop-low : goal.invariant-loop-low
-invariant-loop-low l = record {
-  order : l.low ≤ l.high;
-  within : l.high ≤ length l.offered;
-  shorter : (k : ℕ) → k < l.low → suffices l.roles l.amounts (take k l.offered) ≡ false;
-  reached : (suffices l.roles l.amounts (take l.high l.offered) ≡ true) ⊎ (l.high ≡ length l.offered);
+-- the needs are what the outputs so far leave, and fewer of them don't suffice
+abbrev pub invariant-loop-i : goal.invariant-loop-i
+invariant-loop-i l = record {
+  left : Stands (lack_all l.roles l.amounts (take l.i l.offered)) l.needs;
+  shorter : (k : ℕ) → k < l.i → suffices l.roles l.amounts (take k l.offered) ≡ false;
 }
-
-abbrev pub decreases-loop-low : goal.decreases-loop-low
-decreases-loop-low l = l.high - l.low
