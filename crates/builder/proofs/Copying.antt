@@ -15,7 +15,7 @@ use Rattle.names.specs.Totals.{account_total}
 use Rattle.names.proofs.Exact.{account_exact}
 use Rattle.states.specs.States.{StateMaps}
 use Rattle.building.specs.Starts.{fresh}
-use Rattle.builder.proofs.Walking.{here, up_to}
+use Rattle.funding.proofs.Walking.{here, up_to}
 
 less : (r : Ordering) → T (is_lt r) → r ≡ Less
 less Less h = refl

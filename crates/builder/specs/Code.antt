@@ -1,12 +1,11 @@
 -- No reader needs this file: these are words of the code's own.
-use Rattle.std.specs.Prelude.{◌≡◌, ◌≢◌, ℕ, List, [], ◌∷◌, Option, Some, None, Result, MatchResult}
+use Rattle.std.specs.Prelude.{ℕ, List, [], ◌∷◌, Option}
 use Rattle.contract.specs.declared.input.Input.{Input}
 use Rattle.contract.specs.declared.interval.Interval.{Interval}
 use Rattle.states.specs.States.{StateMaps}
 use Rattle.roles.specs.declared.published.Published.{Published}
 use Rattle.looks.specs.declared.look.Unspent.{Unspent}
 use Rattle.building.specs.declared.fault.BuildFault.{BuildFault}
-use Rattle.building.specs.declared.fault.BuildFault.TheVariants.{Memory}
 use Rattle.eutxo.specs.Places.{first_of}
 use Rattle.building.specs.Requests.{StepRequest, StartRequest, ClaimRequest}
 use Rattle.building.specs.Clauses.{not_signed, no_funds, repeated}
@@ -20,10 +19,6 @@ claim_request payouts interval signers offered to change = record { payouts = pa
 
 abbrev pub start_request : Published → StateMaps → Interval → List (List ℕ) → List Unspent → List ℕ → StartRequest
 start_request published state interval signers offered change = record { published = published; state = state; interval = interval; signers = signers; offered = offered; change = change }
-
--- memory aside, a check is passed where its clause names nothing, and else answers the fault that it names
-abbrev pub Passes : {X : Type 0} → Result X BuildFault → Option BuildFault → Type 0
-Passes result clause = MatchResult result (λ x. clause ≡ None) (λ fault. fault ≢ Memory → clause ≡ Some fault)
 
 -- the clauses after the contract's answer
 abbrev pub later : StepRequest → Thread → Option BuildFault

@@ -5,20 +5,17 @@ ghost use Rattle.building.specs.Holding.{sums, held};
 ghost use Rattle.building.specs.Built.{built};
 ghost use Rattle.building.specs.Laying.{by_key, by_claim, given_to};
 ghost use Rattle.building.specs.Claims.{claim_front, hinders_claim, layout_claim};
-ghost use Rattle.builder.specs.Code.{claim_request, Passes};
+ghost use Rattle.funding.specs.Passing.{Passes};
+ghost use Rattle.builder.specs.Code.{claim_request};
 
-use crate::amounts::Amount;
-use crate::checks::{check_apart, check_signed};
-use crate::front::front_of;
 use crate::inputs::{copies_of, put_keys};
-use crate::limits::{Shares, shares_within};
 use crate::outputs::put_given;
 use crate::payouts::{check_held, check_payouts, put_claims, tokens_awaited};
-use crate::sum::see_all;
 use building::BuildFault;
 use collections::{Items, Text};
 use contract::Interval;
 use eutxo_types::Tx;
+use funding::{Amount, Shares, check_apart, check_signed, front_of, see_all, shares_within};
 use looks::Unspent;
 use std::alloc::Global;
 
@@ -49,14 +46,14 @@ fn funds_of<'a>(alloc: Global, asked: Asked<'a>) -> Result<Funds<'a>, BuildFault
 {
     let payouts = asked.payouts;
     let offered = asked.offered;
+    see_all(offered);
+    see_all(payouts);
     check_payouts(payouts)?;
     check_signed(asked.signers, offered)?;
     let tokens = tokens_awaited(alloc, payouts)?;
-    check_held(&tokens, offered)?;
-    see_all(offered);
-    see_all(payouts);
+    check_held(alloc, &tokens, offered)?;
     let none: &[Amount<'_>] = &[];
-    let front = front_of(&tokens, none, offered);
+    let front = front_of(alloc, &tokens, none, offered)?;
     match shares_within(alloc, payouts, front) {
         Ok(shares) => match check_apart(alloc, payouts, offered) {
             Ok(()) => Ok(Funds { shares, front }),

@@ -6,23 +6,13 @@
 //! ledger: they build on what was seen of one.
 #![tactic(auto)]
 
-mod accounts;
-mod amounts;
-mod authorise;
-mod checks;
 mod claim;
 mod fresh;
-mod front;
-mod funds;
 mod inputs;
-mod limits;
 mod outputs;
 mod payouts;
-mod roles_needed;
-mod signed;
 mod start;
 mod step;
-mod sum;
 mod thread;
 
 pub use building::BuildFault;

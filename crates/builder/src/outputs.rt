@@ -9,13 +9,12 @@ ghost use Rattle.building.specs.Holding.{sums};
 ghost use Rattle.building.specs.Clauses.{is_much};
 ghost use Rattle.building.specs.Laying.{given_to};
 
-use crate::accounts::{only, sums_of};
-use crate::sum::{see_all, sum};
 use building::BuildFault;
 use bundle::{Bundle, BundleFault};
 use collections::{Bytes, Items, Memory, Text, TryClone};
 use contract::{Outcome, Party, Payment, State};
 use eutxo_types::{Cont, Datum, Lock, Output};
+use funding::{only, see_all, sum, sums_of};
 use roles::{Published, due_to};
 use std::alloc::Global;
 

@@ -1,19 +1,20 @@
 //! Payouts that are claimed.
-ghost use Rattle.std.specs.Prelude.{◌≡◌, ◌++◌, not, IfOk, OnOk, map, option_map, option_copied};
+ghost use Rattle.std.specs.Prelude.{◌≡◌, ◌++◌, not, IfOk, OnOk, map, option_map};
 ghost use Rattle.std.specs.List.{list_any, find};
 ghost use Rattle.names.specs.declared.party.Party.TheVariants.{Role};
 ghost use Rattle.eutxo.specs.Places.{is_empty};
 ghost use Rattle.building.specs.declared.fault.BuildFault.TheVariants.{NotAuthorised};
-ghost use Rattle.building.specs.Holding.{holds_token};
+ghost use Rattle.building.specs.Holding.{held, holds_token};
+ghost use Rattle.building.specs.Serving.{AreBundles};
 ghost use Rattle.building.specs.Laying.{by_claim};
 ghost use Rattle.building.specs.Claims.{awaited, tokens_awaited, is_payout, no_payouts};
-ghost use Rattle.builder.specs.Code.{Passes};
+ghost use Rattle.funding.specs.Passing.{Passes};
 
-use crate::roles_needed::RoleToken;
 use building::BuildFault;
-use collections::{Items, Memory, Text, TryClone};
+use collections::{Items, Memory, TryClone};
 use contract::Party;
 use eutxo_types::{Lock, Redeemer, Spend};
+use funding::{RoleToken, first_unheld};
 use looks::Unspent;
 use std::alloc::Global;
 
@@ -80,23 +81,16 @@ pub(crate) fn tokens_awaited(
     Ok(tokens)
 }
 
-// The role of the first of these tokens that no output holds.
-fn missing<'a>(tokens: &[RoleToken<'a>], outputs: &[Unspent]) -> Option<&'a Text>
-    ensures { option_copied result ≡ option_map (λ t. t.name) (find (λ t. not (holds_token outputs.now t)) tokens.now) }
-{
-    for token in tokens {
-        if !token.is_held(outputs) {
-            return Some(token.role());
-        }
-    }
-    None
-}
-
 /// Each of these tokens is held.
-pub(crate) fn check_held(tokens: &[RoleToken<'_>], outputs: &[Unspent]) -> Result<(), BuildFault>
+pub(crate) fn check_held(
+    alloc: Global,
+    tokens: &[RoleToken<'_>],
+    outputs: &[Unspent],
+) -> Result<(), BuildFault>
+    requires { AreBundles held outputs.now }
     ensures { Passes result (option_map (λ t. NotAuthorised (Role t.name)) (find (λ t. not (holds_token outputs.now t)) tokens.now)) }
 {
-    match missing(tokens, outputs) {
+    match first_unheld(alloc, tokens, outputs)? {
         None => Ok(()),
         Some(role) => match role.try_clone() {
             Ok(role) => Err(BuildFault::NotAuthorised(Party::Role(role))),

@@ -8,25 +8,26 @@ ghost use Rattle.building.specs.Holding.{sums, held};
 ghost use Rattle.eutxo.specs.Places.{is_empty};
 ghost use Rattle.building.specs.declared.fault.BuildFault.TheVariants.{NoFunds};
 ghost use Rattle.building.specs.Clauses.{no_funds};
+ghost use Rattle.building.specs.Serving.{AreBundles};
 ghost use Rattle.building.specs.Built.{built};
 ghost use Rattle.building.specs.Laying.{by_key, given_to};
 ghost use Rattle.building.specs.Starts.{fresh, start_front, start_output, hinders_start, layout_start};
-ghost use Rattle.builder.specs.Code.{start_request, Passes};
+ghost use Rattle.funding.specs.Passing.{Passes};
+ghost use Rattle.builder.specs.Code.{start_request};
 
-use crate::amounts::{Amount, accounts_of};
-use crate::checks::{check_apart, check_funds, check_signed};
 use crate::fresh::fresh;
-use crate::front::start_front;
 use crate::inputs::{copies_of, put_keys};
-use crate::limits::{Shares, shares_within};
 use crate::outputs::{continuation, put_given, rest};
 use crate::payouts::are_none;
-use crate::sum::see_all;
 use building::BuildFault;
 use bundle::Bundle;
 use collections::{Bytes, Items, Text};
 use contract::{Interval, State};
 use eutxo_types::{Output, Tx};
+use funding::{
+    Amount, Shares, accounts_of, check_apart, check_funds, check_signed, see_all, shares_within,
+    start_front,
+};
 use looks::Unspent;
 use names::Token;
 use roles::Published;
@@ -65,12 +66,13 @@ fn check_start_funds(
     amounts: &[Amount<'_>],
     offered: &[Unspent],
 ) -> Result<(), BuildFault>
+    requires { AreBundles held offered.now }
     ensures { Passes result (if is_empty offered.now then Some (NoFunds ada) else no_funds amounts.now offered.now) }
 {
     if are_none(offered) {
         Err(BuildFault::NoFunds(ada(alloc)))
     } else {
-        check_funds(amounts, offered)
+        check_funds(alloc, amounts, offered)
     }
 }
 
@@ -81,11 +83,11 @@ fn funds_of<'a>(alloc: Global, asked: Asked<'a>) -> Result<Funds<'a>, BuildFault
     ensures passes { Passes result (hinders_start (start_request asked.entry.published.now asked.entry.state.now asked.entry.interval asked.entry.signers.now asked.entry.offered.now asked.entry.change.now)) }
 {
     let offered = asked.offered;
+    see_all(offered);
     check_signed(asked.signers, offered)?;
     let amounts = accounts_of(alloc, asked.state)?;
     check_start_funds(alloc, &amounts, offered)?;
-    see_all(offered);
-    let front = start_front(&amounts, offered);
+    let front = start_front(alloc, &amounts, offered)?;
     let none: &[Unspent] = &[];
     match shares_within(alloc, none, front) {
         Ok(shares) => match check_apart(alloc, none, offered) {

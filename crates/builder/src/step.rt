@@ -10,22 +10,21 @@ ghost use Rattle.building.specs.Holding.{sums, held};
 ghost use Rattle.building.specs.Built.{built};
 ghost use Rattle.building.specs.Laying.{by_key, by_step, given_to};
 ghost use Rattle.building.specs.Steps.{thread_in, terms, walk, step_front, step_spent, hinders_thread, layout_thread, hinders_on, layout_on, hinders_step, layout_step};
-ghost use Rattle.builder.specs.Code.{request, later, Passes};
+ghost use Rattle.funding.specs.Passing.{Passes};
+ghost use Rattle.builder.specs.Code.{request, later};
 
-use crate::amounts::deposits;
-use crate::checks::{check_authorised, check_funds, check_once, check_signed};
-use crate::front::front_of;
 use crate::inputs::{by_step, copies_of, put_keys};
-use crate::limits::within_limits;
 use crate::outputs::{made, put_given, rest};
-use crate::roles_needed::roles_of;
-use crate::sum::see_all;
 use crate::thread::{datum_of, is_closed};
 use building::BuildFault;
 use bundle::Bundle;
 use collections::{Items, Text};
 use contract::{Input, Interval, Outcome, SemFault};
 use eutxo_types::{Cont, Datum, Output, Tx};
+use funding::{
+    check_authorised, check_funds, check_once, check_signed, deposits, front_of, roles_of, see_all,
+    within_limits,
+};
 use looks::{Look, ThreadOutput, Unspent};
 use machine::compute;
 use std::alloc::Global;
@@ -62,13 +61,13 @@ fn funds_of<'a>(
     let _ = datum;
     let currency = &thread.published.get().currency;
     let offered = asked.offered;
-    check_signed(asked.signers, offered)?;
-    check_authorised(currency, asked.signers, offered, asked.inputs)?;
-    let amounts = deposits(alloc, asked.inputs)?;
-    check_funds(&amounts, offered)?;
     see_all(offered);
+    check_signed(asked.signers, offered)?;
+    check_authorised(alloc, currency, asked.signers, offered, asked.inputs)?;
+    let amounts = deposits(alloc, asked.inputs)?;
+    check_funds(alloc, &amounts, offered)?;
     let roles = roles_of(alloc, currency, asked.inputs)?;
-    let front = front_of(&roles, &amounts, offered);
+    let front = front_of(alloc, &roles, &amounts, offered)?;
     match within_limits(alloc, thread.reference, &thread.output, asked.inputs, front) {
         Ok(all) => match check_once(alloc, thread.reference, &thread.output, offered) {
             Ok(()) => Ok(Funds { all, front }),

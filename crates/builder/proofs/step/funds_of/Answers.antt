@@ -11,7 +11,7 @@ returns-clause-passes c = λ ne.
     let t = c.args.thread.now in
     let xs = c.args.asked.inputs.now in
     let us = c.args.asked.offered.now in
-    let part = c.front_of-front.ensures.front
+    let part = c.in_ok-front.ensures.front
     ∙ ap (λ roles. front roles c.deref-3.result.now us) (c.deref-2.ensures.value ∙ c.in_ok-roles.ensures ∙ ap (λ (p : Published). roles_of p.currency xs) c.get.ensures)
     ∙ ap (λ ns. front (roles_of t.published.currency xs) ns us) (c.deref-3.ensures.value ∙ c.in_ok-amounts.ensures) in
     fourth _ _ _ _ _ c.in-Err.fault c.in_ok-check_signed.ensures
@@ -24,7 +24,7 @@ returns-in-Ok-clause-passes c = λ ne.
     let t = c.args.thread.now in
     let xs = c.args.asked.inputs.now in
     let us = c.args.asked.offered.now in
-    let part = c.front_of-front.ensures.front
+    let part = c.in_ok-front.ensures.front
     ∙ ap (λ roles. front roles c.deref-3.result.now us) (c.deref-2.ensures.value ∙ c.in_ok-roles.ensures ∙ ap (λ (p : Published). roles_of p.currency xs) c.get.ensures)
     ∙ ap (λ ns. front (roles_of t.published.currency xs) ns us) (c.deref-3.ensures.value ∙ c.in_ok-amounts.ensures) in
     fifth _ _ _ _ _ c.in-Err-check_once.fault c.in_ok-check_signed.ensures
@@ -38,7 +38,7 @@ returns-in-Ok-check_once-clause-passes c =
     let t = c.args.thread.now in
     let xs = c.args.asked.inputs.now in
     let us = c.args.asked.offered.now in
-    let part = c.front_of-front.ensures.front
+    let part = c.in_ok-front.ensures.front
     ∙ ap (λ roles. front roles c.deref-3.result.now us) (c.deref-2.ensures.value ∙ c.in_ok-roles.ensures ∙ ap (λ (p : Published). roles_of p.currency xs) c.get.ensures)
     ∙ ap (λ ns. front (roles_of t.published.currency xs) ns us) (c.deref-3.ensures.value ∙ c.in_ok-amounts.ensures) in
     no_clause _ _ _ _ _ c.in_ok-check_signed.ensures

@@ -1,6 +1,0 @@
-use Rattle.std.proofs.Common.{◌≡◌, drop}
-use Rattle.building.specs.Holding.{sums}
-use Rattle.builder.proofs.sum.sum.Given as goal
-
-abbrev pub invariant-loop-i : goal.invariant-loop-i
-invariant-loop-i g l = l.all ≡ sums g.A.Holds.held (drop l.i l.items)
