@@ -3,18 +3,23 @@
 
 Build the program first: (cd crates/chain_rows && rt run)
 Each entry accepts a transaction of one input and one output, so the history's inputs and outputs grow as its entries do.
-The cost of a call is what MORE of them add to the time of a run, each of which answers the same and adds an entry. It has the
-program's own search for the name of what is spent or shown, one pass over the names.
+The cost of a call is what MORE of them add to the processor time of a run, each of which answers the same and adds an entry. It has
+the program's own search for the name of what is spent or shown, one pass over the names. Of RUNS runs the least time is taken. Times
+waver on a busy machine, and grow faster than the work once a history no longer fits a processor's cache; so where valgrind is
+there, the instructions are counted too.
 """
 import os
+import re
+import resource
+import shutil
 import subprocess
 import sys
 import tempfile
-import time
 
 HERE = os.path.dirname(os.path.abspath(__file__))
 PROGRAM = os.path.join(HERE, "..", "crates", "chain_rows", "out", "chain_rows")
 MORE = 200
+RUNS = 15
 
 
 def transaction(name, origin):
@@ -43,34 +48,65 @@ def looks(n):
     return ["look 0 key bank"] * MORE
 
 
-def seconds(lines):
-    """The least time of five runs over these lines."""
+def run(lines, before=()):
+    """Runs the program over these lines, behind the words of a command that measures it, and gives what that command wrote."""
     with tempfile.TemporaryDirectory() as folder:
-        path = os.path.join(folder, "rows.txt")
-        with open(path, "w") as file:
+        with open(os.path.join(folder, "rows.txt"), "w") as file:
             file.write("\n".join(lines) + "\n")
-        times = []
-        for _ in range(5):
-            begin = time.perf_counter()
-            run = subprocess.run([PROGRAM, "rows.txt"], cwd=folder, stdout=subprocess.PIPE, text=True)
-            times.append(time.perf_counter() - begin)
-            if run.returncode or "no such row" in run.stdout:
-                sys.exit("the program answered otherwise")
-    return min(times)
+        ended = subprocess.run([*before, PROGRAM, "rows.txt"], cwd=folder, capture_output=True, text=True)
+    if ended.returncode or "no such row" in ended.stdout:
+        sys.exit("the program answered otherwise")
+    return ended.stderr
+
+
+def spent():
+    """The processor time that the programs which have ended took, in seconds."""
+    used = resource.getrusage(resource.RUSAGE_CHILDREN)
+    return used.ru_utime + used.ru_stime
+
+
+def seconds(lines):
+    """The processor time of a run over these lines."""
+    before = spent()
+    run(lines)
+    return spent() - before
+
+
+def least_seconds(start, calls):
+    """What one of MORE calls takes after that start."""
+    times = [(seconds(start), seconds(start + calls)) for _ in range(RUNS)]
+    return (min(time for _, time in times) - min(time for time, _ in times)) / MORE
+
+
+def instructions(lines):
+    """How many instructions a run over these lines takes."""
+    said = run(lines, ["valgrind", "--tool=cachegrind", "--cache-sim=no", "--cachegrind-out-file=/dev/null"])
+    return int(re.search(r"I +refs: +([0-9,]+)", said)[1].replace(",", ""))
+
+
+def more_instructions(start, calls):
+    """How many instructions one of MORE calls takes after that start."""
+    return (instructions(start + calls) - instructions(start)) / MORE
+
+
+def print_growth(call, unit, cost_of):
+    """Prints a call's cost after 1,000, 2,000 and 4,000 entries."""
+    before = None
+    for n in (1000, 2000, 4000):
+        cost = cost_of(accepted(n), call(n))
+        line = f"  after {n:5}: {cost:10.1f} {unit}"
+        if before:
+            line += f", times {cost / before:.2f}"
+        print(line, flush=True)
+        before = cost
 
 
 def main():
     for call in (unspent, looks):
         print(call.__doc__)
-        before = None
-        for n in (1000, 2000, 4000):
-            start = accepted(n)
-            cost = (seconds(start + call(n)) - seconds(start)) / MORE
-            line = f"  after {n:5}: {cost * 1e6:8.1f} us"
-            if before:
-                line += f", times {cost / before:.2f}"
-            print(line)
-            before = cost
+        print_growth(call, "us", lambda start, calls: 1e6 * least_seconds(start, calls))
+        if shutil.which("valgrind"):
+            print_growth(call, "thousand instructions", lambda start, calls: more_instructions(start, calls) / 1e3)
 
 
 if __name__ == "__main__":
