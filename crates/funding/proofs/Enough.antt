@@ -1,10 +1,9 @@
 -- When nothing is needed any more, and which token is lacking.
-use Rattle.std.proofs.Common.{◌≡◌, ℕ, zero, suc, ◌+◌, ◌<◌, ◌≤◌, ℤ, pos, ◌+ℤ◌, ◌-ℤ◌, ◌<ℤ◌, ◌≤ℤ◌, int_lt, Bool, true, false, cond, not, ◌&&◌, ◌||◌, if◌then◌else◌, List, [], ◌∷◌, map, filter, is_none, Option, Some, None, refl, sym, ◌∙◌, ap, subst, arith}
+use Rattle.std.proofs.Common.{◌≡◌, ℕ, ◌+◌, ◌<◌, ◌≤◌, ℤ, pos, ◌+ℤ◌, ◌-ℤ◌, ◌<ℤ◌, ◌≤ℤ◌, int_lt, Bool, true, false, cond, not, ◌||◌, if◌then◌else◌, List, [], ◌∷◌, map, filter, is_none, Option, Some, None, refl, sym, ◌∙◌, ap, subst, arith}
 use Rattle.std.proofs.lemmas.Int.{ints}
 use Rattle.std.proofs.lemmas.Bool.Decides.{nat_tests}
 use Rattle.std.specs.Prelude.{is_some, nat_lt}
 use Rattle.std.specs.List.{list_all, list_any}
-use Rattle.std.specs.Option.{IsSome}
 use Rattle.std.specs.Ordering.{eq_by_cmp, is_eq, is_lt, ordering_reverse}
 use Rattle.std.specs.Cmp.{tied_itself}
 use Rattle.std.specs.declared.cmp.Ordering.{Ordering}
@@ -25,7 +24,7 @@ use Rattle.building.specs.Serving.{AreBundles}
 use Rattle.building.proofs.Holdings.{total_of-natural}
 use Rattle.building.proofs.Sufficing.{and_so, and_true}
 use Rattle.building.proofs.Funding.{all_covered}
-use Rattle.funding.specs.Needed.{above, one_at_least, need, Stands}
+use Rattle.funding.specs.Needed.{one_at_least, need, Stands}
 use Rattle.funding.proofs.Needing.{lt_true, lt_false, true_lt, false_lt, some_above, not_above, none_above, same_test}
 
 -- ---- tokens that are held

@@ -1,23 +1,15 @@
 -- Walks over lists.
-use Rattle.std.proofs.Common.{◌≡◌, ℕ, zero, suc, ◌+◌, ◌-◌, ◌<◌, ◌≤◌, ℤ, ◌+ℤ◌, Bool, true, false, ◌||◌, if◌then◌else◌, List, [], ◌∷◌, ◌++◌, length, take, drop, get_or, refl, sym, ◌∙◌, ap, subst, arith}
-use Rattle.std.proofs.lemmas.Int.{ints}
+use Rattle.std.proofs.Common.{◌≡◌, ℕ, zero, suc, ◌+◌, ◌-◌, ◌<◌, ◌≤◌, Bool, true, false, ◌||◌, if◌then◌else◌, List, [], ◌∷◌, ◌++◌, length, take, drop, get_or, refl, sym, ◌∙◌, ap, subst, arith}
 use Rattle.std.proofs.lemmas.List.{drop_more}
 use Rattle.std.specs.List.{list_any}
 use Rattle.std.specs.FinMap.{entries}
-use Rattle.names.specs.declared.token.Token.{Token}
-use Rattle.states.specs.States.{counted}
 use Rattle.bundle.specs.Bundles.{Amounts, AllPositive}
 use Rattle.eutxo_types.specs.declared.output_ref.OutputRef.{OutputRef}
 use Rattle.eutxo_types.specs.declared.output_ref.OutputRef.TheVariants.{Genesis, Made}
 use Rattle.std.specs.Prelude.{◌==◌, ◌&&◌}
 use Rattle.eutxo.specs.Parts.{same_bytes, same_ref}
-use Rattle.looks.specs.declared.look.Unspent.{Unspent}
-use Rattle.building.specs.Holding.{sums, held, wanted}
-use Rattle.building.specs.Fronts.{suffices}
-use Rattle.building.specs.Clauses.{is_much, has_repeat}
+use Rattle.building.specs.Clauses.{has_repeat}
 use Rattle.building.specs.Serving.{AreBundles}
-use Rattle.building.proofs.Holdings.{much_right}
-use Rattle.building.proofs.Sufficing.{suffices_longer}
 
 -- what is left at a place is its item and what is left after it
 pub here : {A : Type 0} (xs : List A) (i : ℕ) (x : A) → i < length xs → x ≡ get_or xs i x → drop i xs ≡ x ∷ drop (i + 1) xs

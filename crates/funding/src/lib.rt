@@ -25,4 +25,4 @@ pub use checks::{check_apart, check_authorised, check_funds, check_once, check_s
 pub use front::{front_of, start_front};
 pub use limits::{Shares, shares_within, within_limits};
 pub use roles_needed::{RoleToken, roles_of};
-pub use sums::{see_all, sum};
+pub use sums::{see_all, see_room, sum};

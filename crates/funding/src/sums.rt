@@ -43,7 +43,7 @@ fn has_room(entries: &[(Token, i128)])
 }
 
 /// No bundle has more of a token than an amount has room for. It does nothing.
-pub(crate) fn see_room(bundle: &Bundle)
+pub fn see_room(bundle: &Bundle)
     ensures { is_much bundle.now ≡ false }
 {
     has_room(bundle.entries());

@@ -1,4 +1,4 @@
-use Rattle.std.proofs.Common.{◌≡◌, ◌+◌, not, Some, if◌then◌else◌, drop, sym, ◌∙◌, ap}
+use Rattle.std.proofs.Common.{◌+◌, not, Some, if◌then◌else◌, drop, sym, ◌∙◌, ap}
 use Rattle.std.specs.List.{find}
 use Rattle.std.specs.Option.{option_map}
 use Rattle.names.specs.declared.token.Token.{Token}

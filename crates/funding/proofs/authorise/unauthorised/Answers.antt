@@ -1,4 +1,4 @@
-use Rattle.std.proofs.Common.{◌≡◌, ◌+◌, not, [], drop, sym, ◌∙◌, ap, subst}
+use Rattle.std.proofs.Common.{◌+◌, not, [], drop, sym, ◌∙◌, ap, subst}
 use Rattle.std.specs.List.{find, filter_map}
 use Rattle.std.specs.Option.{option_or}
 use Rattle.std.specs.Prelude.{option_copied}

@@ -1,4 +1,4 @@
-use Rattle.std.proofs.Common.{◌≡◌, ℕ, false, take, subst, inl, arith}
+use Rattle.std.proofs.Common.{◌≡◌, false, take, subst, inl, arith}
 use Rattle.building.specs.Holding.{held}
 use Rattle.building.specs.Fronts.{suffices}
 use Rattle.building.proofs.Sufficing.{bundles_take}

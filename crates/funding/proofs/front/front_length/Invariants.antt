@@ -1,4 +1,4 @@
-use Rattle.std.proofs.Common.{◌≡◌, ℕ, ◌<◌, ◌≤◌, false, take, length}
+use Rattle.std.proofs.Common.{◌≡◌, ℕ, ◌<◌, false, take}
 use Rattle.building.specs.Fronts.{suffices}
 use Rattle.funding.specs.Needed.{Stands}
 use Rattle.funding.proofs.Enough.{lack_all}

@@ -1,4 +1,4 @@
-use Rattle.std.proofs.Common.{◌≡◌, ℕ, ◌+◌, ◌-◌, ◌<◌, ◌≤◌, true, ◌∷◌, length, drop, sym, subst, arith}
+use Rattle.std.proofs.Common.{◌≡◌, ℕ, ◌+◌, ◌-◌, ◌<◌, ◌≤◌, ◌∷◌, length, drop, sym, subst, arith}
 use Rattle.building.specs.Holding.{wanted}
 use Rattle.funding.specs.Needed.{Stands}
 use Rattle.funding.proofs.Walking.{back}

@@ -1,4 +1,4 @@
-use Rattle.std.proofs.Common.{◌≡◌, ◌∷◌, true, drop, sym, ◌∙◌, ap, subst, arith}
+use Rattle.std.proofs.Common.{◌∷◌, drop, sym, ◌∙◌, ap, subst, arith}
 use Rattle.funding.specs.Needed.{need, Stands}
 use Rattle.funding.proofs.Walking.{back}
 use Rattle.funding.proofs.Needing.{add_role}
