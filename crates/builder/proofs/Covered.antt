@@ -35,13 +35,13 @@ use Rattle.roles.specs.Steps.{same_amounts, role_token, needed}
 use Rattle.roles.specs.Terms.{terms_of}
 use Rattle.looks.specs.declared.look.ThreadOutput.{ThreadOutput}
 use Rattle.looks.specs.declared.look.Unspent.{Unspent}
-use Rattle.building.specs.Requests.{StepRequest, StartRequest}
+use Rattle.building.specs.Requests.{StepRequest}
 use Rattle.building.specs.Holding.{sums, held, holds_token, wanted, least_lacking}
 use Rattle.building.specs.Fronts.{shortest, suffices, front}
 use Rattle.building.specs.Clauses.{is_much}
 use Rattle.building.specs.Serving.{AreBundles}
 use Rattle.building.specs.Steps.{Thread, terms, walk, token_of, roles_of, may_act, deposits, own, made, stands, thread_in}
-use Rattle.building.specs.Starts.{accounts_of, fresh, funds, start_output}
+use Rattle.building.specs.Starts.{accounts_of, fresh, funds}
 use Rattle.building.proofs.Holdings.{amount_of-sums, positive_sums, much_at, much_of, most}
 use Rattle.building.proofs.Sufficing.{and_so, and_true, front_suffices}
 use Rattle.building.proofs.Shortest.{shortest_passes}

@@ -1,4 +1,4 @@
-use Rattle.std.proofs.Common.{◌≡◌, true, not, ◌&&◌, [], None, is_none, if◌then◌else◌, sym, ◌∙◌, ap, subst}
+use Rattle.std.proofs.Common.{◌≡◌, true, not, ◌&&◌, [], None, is_none, sym, ◌∙◌, ap, subst}
 use Rattle.std.specs.Option.{option_map}
 use Rattle.eutxo.specs.Places.{is_empty}
 use Rattle.names.specs.Equal.{ada}
