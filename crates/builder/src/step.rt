@@ -1,11 +1,10 @@
 //! Steps of a thread.
-ghost use Rattle.std.specs.Prelude.{◌≡◌, ◌∷◌, ◌++◌, [], true, Some, Ok, map, is_none, if◌then◌else◌, IfOk, IfErr};
+ghost use Rattle.std.specs.Prelude.{◌≡◌, ◌∷◌, ◌++◌, true, Some, Ok, map, is_none, IfOk, IfErr};
 ghost use Rattle.collections.specs.Answers.{Aside};
 ghost use Rattle.table.specs.Flat.{Has, a_cont, cont_tree};
 ghost use Rattle.semantics.specs.Walk.{standing, answer_of};
 ghost use Rattle.bundle.specs.Bundles.{covers, minus};
 ghost use Rattle.eutxo.specs.Parts.{contract_in};
-ghost use Rattle.roles.specs.Steps.{continuation, due};
 ghost use Rattle.roles.specs.Sums.{sums_of};
 ghost use Rattle.building.specs.Holding.{sums, held, least_lacking};
 ghost use Rattle.building.specs.Serving.{AreBundles};
