@@ -1,7 +1,7 @@
 //! The outputs of a layout.
-ghost use Rattle.std.specs.Prelude.{◌≡◌, ◌⊎◌, ◌++◌, ◌∷◌, [], true, pos, ◌<ℤ◌, if◌then◌else◌, IfOk, IfErr, OnOk};
+ghost use Rattle.std.specs.Prelude.{◌≡◌, ◌++◌, ◌∷◌, [], true, false, pos, ◌<ℤ◌, if◌then◌else◌, IfOk, IfErr, OnOk};
 ghost use Rattle.std.specs.FinMap.{entries};
-ghost use Rattle.bundle.specs.Bundles.{minus};
+ghost use Rattle.bundle.specs.Bundles.{covers, minus};
 ghost use Rattle.eutxo.specs.Places.{is_empty};
 ghost use Rattle.roles.specs.Steps.{lock_for, owed, due, continuation};
 ghost use Rattle.roles.specs.Sums.{sums_of};
@@ -14,7 +14,7 @@ use bundle::{Bundle, BundleFault};
 use collections::{Bytes, Items, Memory, Text, TryClone};
 use contract::{Outcome, Party, Payment, State};
 use eutxo_types::{Cont, Datum, Lock, Output};
-use funding::{only, see_all, sum, sums_of};
+use funding::{only, see_all, see_room, sum, sums_of};
 use roles::{Published, due_to};
 use std::alloc::Global;
 
@@ -57,16 +57,17 @@ pub(crate) fn put_due(
     Ok(())
 }
 
-/// The output in which a contract goes on, with the sums of its accounts: refused with `TooLarge` only where the sum
-/// of a token is above 2^127 - 1, and otherwise only for memory.
+/// The output in which a contract goes on, with the sums of its accounts, none of which is too large for an amount. It
+/// is refused only for memory.
 pub(crate) fn continuation(
     alloc: Global,
     script: &[u8; 32],
     there: Cont,
     state: State,
-) -> Result<Output, BundleFault>
+) -> Result<Output, BuildFault>
+    requires { is_much (sums_of state) ≡ false }
     ensures ok { IfOk result (λ output. output ≡ continuation script.now there state) }
-    ensures err { IfErr result (λ fault. (fault ≡ BundleFault.Memory) ⊎ ((fault ≡ BundleFault.TooLarge) × (is_much (sums_of state) ≡ true))) }
+    ensures err { IfErr result (λ fault. fault ≡ BuildFault.Memory) }
 {
     match sums_of(alloc, &state) {
         Ok(amount) => {
@@ -77,7 +78,8 @@ pub(crate) fn continuation(
             };
             Ok(Output { lock, amount })
         }
-        Err(fault) => Err(fault),
+        Err(BundleFault::Memory) => Err(BuildFault::Memory),
+        Err(_) => unreachable!(),
     }
 }
 
@@ -105,13 +107,15 @@ pub(crate) fn put_given(
     outputs.push(Output { lock, amount })
 }
 
-/// The output in which a published contract goes on, unless it is closed, and those that are due for the payments.
+/// The output in which a published contract goes on, unless it is closed, and those that are due for the payments. No
+/// sum of its accounts is too large for an amount, and it is refused only for memory.
 pub(crate) fn made(
     alloc: Global,
     published: &Published,
     closed: bool,
     outcome: Outcome<Cont>,
 ) -> Result<Items<Output>, BuildFault>
+    requires { is_much (sums_of outcome.state) ≡ false }
     ensures ok { IfOk result (λ outputs. outputs ≡ (if closed then [] else continuation published.now.id outcome.place outcome.state ∷ []) ++ due published.now.currency outcome.payments) }
     ensures err { IfErr result (λ fault. fault ≡ BuildFault.Memory) }
 {
@@ -123,27 +127,36 @@ pub(crate) fn made(
     } = outcome;
     let mut outputs = Items::new(alloc);
     if !closed {
-        match continuation(alloc, &published.id, place, state) {
-            Ok(output) => outputs.push(output)?,
-            Err(_) => return Err(BuildFault::Memory),
-        }
+        outputs.push(continuation(alloc, &published.id, place, state)?)?;
     }
     let currency = &published.currency;
     put_due(alloc, &mut outputs, currency, payments.as_slice())?;
     Ok(outputs)
 }
 
-/// What is spent and not made, of which there is enough.
-pub(crate) fn rest(alloc: Global, mut all: Bundle, made: &[Output]) -> Result<Bundle, BuildFault>
+// What is left of a bundle that covers another.
+fn without(mut all: Bundle, taken: &Bundle) -> Bundle
+    requires { covers all taken.now ≡ true }
+    ensures { result ≡ minus all taken.now }
+{
+    match all.subtract(taken) {
+        Ok(()) => all,
+        Err(_) => unreachable!(),
+    }
+}
+
+/// What is spent and not made, where what is spent covers what is made. It is refused only for memory.
+pub(crate) fn rest(alloc: Global, all: Bundle, made: &[Output]) -> Result<Bundle, BuildFault>
+    requires { covers all (sums (λ o. o.amount) made.now) ≡ true }
     ensures ok { IfOk result (λ rest. rest ≡ minus all (sums (λ o. o.amount) made.now)) }
     ensures err { IfErr result (λ fault. fault ≡ BuildFault.Memory) }
 {
     see_all(made);
+    see_room(&all);
+    let _ = all.entries();
     match sum(alloc, made) {
-        Ok(sum) => match all.subtract(&sum) {
-            Ok(()) => Ok(all),
-            Err(_) => Err(BuildFault::Memory),
-        },
-        Err(_) => Err(BuildFault::Memory),
+        Ok(sum) => Ok(without(all, &sum)),
+        Err(BundleFault::Memory) => Err(BuildFault::Memory),
+        Err(_) => unreachable!(),
     }
 }

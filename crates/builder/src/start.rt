@@ -1,17 +1,18 @@
 //! Starts of a contract.
-ghost use Rattle.std.specs.Prelude.{◌≡◌, ◌∷◌, [], Some, if◌then◌else◌, map, IfOk, IfErr};
+ghost use Rattle.std.specs.Prelude.{◌≡◌, ◌∷◌, [], true, false, Some, is_none, if◌then◌else◌, map, IfOk, IfErr};
 ghost use Rattle.collections.specs.Answers.{Aside};
 ghost use Rattle.names.specs.Equal.{ada};
 ghost use Rattle.bundle.specs.Bundles.{minus};
 ghost use Rattle.roles.specs.Steps.{continuation};
-ghost use Rattle.building.specs.Holding.{sums, held};
+ghost use Rattle.roles.specs.Sums.{sums_of};
+ghost use Rattle.building.specs.Holding.{sums, held, least_lacking};
 ghost use Rattle.eutxo.specs.Places.{is_empty};
 ghost use Rattle.building.specs.declared.fault.BuildFault.TheVariants.{NoFunds};
-ghost use Rattle.building.specs.Clauses.{no_funds};
+ghost use Rattle.building.specs.Clauses.{no_funds, is_much};
 ghost use Rattle.building.specs.Serving.{AreBundles};
 ghost use Rattle.building.specs.Built.{built};
 ghost use Rattle.building.specs.Laying.{by_key, given_to};
-ghost use Rattle.building.specs.Starts.{fresh, start_front, start_output, hinders_start, layout_start};
+ghost use Rattle.building.specs.Starts.{accounts_of, fresh, start_front, start_output, hinders_start, layout_start};
 ghost use Rattle.funding.specs.Passing.{Passes};
 ghost use Rattle.builder.specs.Code.{start_request};
 
@@ -25,8 +26,8 @@ use collections::{Bytes, Items, Text};
 use contract::{Interval, State};
 use eutxo_types::{Output, Tx};
 use funding::{
-    Amount, Shares, accounts_of, check_apart, check_funds, check_signed, see_all, shares_within,
-    start_front,
+    Amount, Shares, accounts_of, check_apart, check_funds, check_signed, see_all, see_room,
+    shares_within, start_front,
 };
 use looks::Unspent;
 use names::Token;
@@ -80,6 +81,8 @@ fn check_start_funds(
 fn funds_of<'a>(alloc: Global, asked: Asked<'a>) -> Result<Funds<'a>, BuildFault>
     ensures all { IfOk result (λ funds. funds.all ≡ sums held (start_front (start_request asked.entry.published.now asked.entry.state.now asked.entry.interval asked.entry.signers.now asked.entry.offered.now asked.entry.change.now))) }
     ensures front { IfOk result (λ funds. funds.front.now ≡ start_front (start_request asked.entry.published.now asked.entry.state.now asked.entry.interval asked.entry.signers.now asked.entry.offered.now asked.entry.change.now)) }
+    ensures covered { IfOk result (λ funds. is_none (least_lacking (accounts_of asked.entry.state.now) funds.front.now) ≡ true) }
+    ensures bundles { IfOk result (λ funds. AreBundles held funds.front.now) }
     ensures passes { Passes result (hinders_start (start_request asked.entry.published.now asked.entry.state.now asked.entry.interval asked.entry.signers.now asked.entry.offered.now asked.entry.change.now)) }
 {
     let offered = asked.offered;
@@ -103,18 +106,19 @@ fn funds_of<'a>(alloc: Global, asked: Asked<'a>) -> Result<Funds<'a>, BuildFault
 
 // The contract's output.
 fn start_output(alloc: Global, published: &Published, state: &State) -> Result<Output, BuildFault>
+    requires { is_much (sums_of (fresh state.now)) ≡ false }
     ensures ok { IfOk result (λ output. output ≡ continuation published.now.id published.now.root (fresh state.now)) }
     ensures err { IfErr result (λ fault. fault ≡ BuildFault.Memory) }
 {
     let state = fresh(alloc, state)?;
-    match continuation(alloc, &published.id, published.root, state) {
-        Ok(output) => Ok(output),
-        Err(_) => Err(BuildFault::Memory),
-    }
+    continuation(alloc, &published.id, published.root, state)
 }
 
 // The transaction of a start, from what it spends.
 fn lay_out(alloc: Global, asked: Asked<'_>, funds: Funds<'_>) -> Result<Tx, BuildFault>
+    requires all { funds.all ≡ sums held funds.front.now }
+    requires covered { is_none (least_lacking (accounts_of asked.state.now) funds.front.now) ≡ true }
+    requires bundles { AreBundles held funds.front.now }
     ensures ok { IfOk result (λ tx. tx ≡ record {
       inputs = map by_key funds.entry.front.now;
       outputs = start_output (start_request asked.entry.published.now asked.entry.state.now asked.entry.interval asked.entry.signers.now asked.entry.offered.now asked.entry.change.now) ∷ given_to asked.entry.change.now (minus funds.entry.all (sums (λ o. o.amount) (start_output (start_request asked.entry.published.now asked.entry.state.now asked.entry.interval asked.entry.signers.now asked.entry.offered.now asked.entry.change.now) ∷ [])));
@@ -124,6 +128,7 @@ fn lay_out(alloc: Global, asked: Asked<'_>, funds: Funds<'_>) -> Result<Tx, Buil
     ensures err { IfErr result (λ fault. fault ≡ BuildFault.Memory) }
 {
     let Funds { all, front } = funds;
+    see_room(&all);
     let mut outputs = Items::new(alloc);
     outputs.push(start_output(alloc, asked.published, asked.state)?)?;
     let change = rest(alloc, all, outputs.as_slice())?;

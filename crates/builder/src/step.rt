@@ -1,15 +1,16 @@
 //! Steps of a thread.
-ghost use Rattle.std.specs.Prelude.{◌≡◌, ◌∷◌, ◌++◌, [], Some, Ok, map, if◌then◌else◌, IfOk, IfErr};
+ghost use Rattle.std.specs.Prelude.{◌≡◌, ◌∷◌, ◌++◌, true, Some, Ok, map, is_none, IfOk, IfErr};
 ghost use Rattle.collections.specs.Answers.{Aside};
 ghost use Rattle.table.specs.Flat.{Has, a_cont, cont_tree};
 ghost use Rattle.semantics.specs.Walk.{standing, answer_of};
-ghost use Rattle.bundle.specs.Bundles.{minus};
+ghost use Rattle.bundle.specs.Bundles.{covers, minus};
 ghost use Rattle.eutxo.specs.Parts.{contract_in};
-ghost use Rattle.roles.specs.Steps.{continuation, due};
-ghost use Rattle.building.specs.Holding.{sums, held};
+ghost use Rattle.roles.specs.Sums.{sums_of};
+ghost use Rattle.building.specs.Holding.{sums, held, least_lacking};
+ghost use Rattle.building.specs.Serving.{AreBundles};
 ghost use Rattle.building.specs.Built.{built};
 ghost use Rattle.building.specs.Laying.{by_key, by_step, given_to};
-ghost use Rattle.building.specs.Steps.{thread_in, terms, walk, step_front, step_spent, hinders_thread, layout_thread, hinders_on, layout_on, hinders_step, layout_step};
+ghost use Rattle.building.specs.Steps.{thread_in, terms, walk, deposits, step_front, step_spent, hinders_thread, layout_thread, hinders_on, layout_on, hinders_step, layout_step};
 ghost use Rattle.funding.specs.Passing.{Passes};
 ghost use Rattle.builder.specs.Code.{request, later};
 
@@ -23,10 +24,11 @@ use contract::{Input, Interval, Outcome, SemFault};
 use eutxo_types::{Cont, Datum, Output, Tx};
 use funding::{
     check_authorised, check_funds, check_once, check_signed, deposits, front_of, roles_of, see_all,
-    within_limits,
+    see_room, within_limits,
 };
 use looks::{Look, ThreadOutput, Unspent};
 use machine::compute;
+use semantics::{money_is_kept, payments_are_natural, transactions_end_quiet};
 use std::alloc::Global;
 
 // What is asked for.
@@ -56,6 +58,8 @@ fn funds_of<'a>(
 ) -> Result<Funds<'a>, BuildFault>
     ensures all { IfOk result (λ funds. funds.all ≡ sums held (step_spent (request asked.entry.interval asked.entry.inputs.now asked.entry.signers.now asked.entry.offered.now asked.entry.change.now) (thread.now, datum.now))) }
     ensures front { IfOk result (λ funds. funds.front.now ≡ step_front (request asked.entry.interval asked.entry.inputs.now asked.entry.signers.now asked.entry.offered.now asked.entry.change.now) (thread.now, datum.now)) }
+    ensures covered { IfOk result (λ funds. is_none (least_lacking (deposits asked.entry.inputs.now) funds.front.now) ≡ true) }
+    ensures bundles { IfOk result (λ funds. AreBundles held funds.front.now) }
     ensures passes { Passes result (later (request asked.entry.interval asked.entry.inputs.now asked.entry.signers.now asked.entry.offered.now asked.entry.change.now) (thread.now, datum.now)) }
 {
     let _ = datum;
@@ -85,6 +89,7 @@ fn lay_out(
     funds: Funds<'_>,
     mut outputs: Items<Output>,
 ) -> Result<Tx, BuildFault>
+    requires { covers funds.all (sums (λ o. o.amount) outputs) ≡ true }
     ensures ok { IfOk result (λ tx. tx ≡ record {
       inputs = by_step asked.entry.inputs.now (record { reference = thread.now.reference; output = thread.now.output }) ∷ map by_key funds.entry.front.now;
       outputs = outputs ++ given_to asked.entry.change.now (minus funds.entry.all (sums (λ o. o.amount) outputs));
@@ -123,10 +128,18 @@ fn finish(
     requires has { Has thread.now.published.table (a_cont outcome.place.0) }
     requires all { funds.all ≡ sums held (step_spent (request asked.interval asked.inputs.now asked.signers.now asked.offered.now asked.change.now) (thread.now, datum.now)) }
     requires front { funds.front.now ≡ step_front (request asked.interval asked.inputs.now asked.signers.now asked.offered.now asked.change.now) (thread.now, datum.now) }
+    requires sums { thread.now.output.amount ≡ sums_of datum.now.state }
+    requires covered { is_none (least_lacking (deposits asked.inputs.now) funds.front.now) ≡ true }
+    requires bundles { AreBundles held funds.front.now }
     ensures ok { IfOk result (λ tx. tx ≡ layout_thread (request asked.entry.interval asked.entry.inputs.now asked.entry.signers.now asked.entry.offered.now asked.entry.change.now) (thread.now, datum.now)) }
     ensures err { IfErr result (λ fault. fault ≡ BuildFault.Memory) }
 {
-    let _ = datum;
+    money_is_kept();
+    transactions_end_quiet();
+    payments_are_natural();
+    let _ = datum.state.accounts();
+    let _ = thread.output.amount.entries();
+    see_room(&funds.all);
     let published = thread.published.get();
     let closed = is_closed(&published.table, outcome.place);
     match made(alloc, published, closed, outcome) {

@@ -1,5 +1,5 @@
 //! The thread that a look shows.
-ghost use Rattle.std.specs.Prelude.{◌≡◌, true, IfOk, option_map, option_copied};
+ghost use Rattle.std.specs.Prelude.{◌≡◌, IfOk, option_map, option_copied};
 ghost use Rattle.table.specs.Flat.{Has, a_cont, cont_tree};
 ghost use Rattle.table.specs.Along.{has_cont};
 ghost use Rattle.eutxo.specs.Parts.{contract_in};

@@ -1,8 +1,8 @@
 //! What is needed of each token, and what outputs leave of it.
-ghost use Rattle.std.specs.Prelude.{◌≡◌, ℤ, List, pos, ◌+ℤ◌, ◌-ℤ◌, ◌≤ℤ◌, ◌^◌, None, IfOk, OnOk};
-ghost use Rattle.std.specs.FinMap.{get, entries};
+ghost use Rattle.std.specs.Prelude.{◌≡◌, ℤ, List, ◌-ℤ◌, None, IfOk, OnOk};
+ghost use Rattle.std.specs.FinMap.{get};
 ghost use Rattle.names.specs.declared.token.Token.{Token as AToken};
-ghost use Rattle.bundle.specs.Bundles.{amount_of, AllPositive};
+ghost use Rattle.bundle.specs.Bundles.{amount_of};
 ghost use Rattle.bundle.specs.Totals.{total_of};
 ghost use Rattle.needs.specs.Left.{left};
 ghost use Rattle.building.specs.Holding.{held, wanted};

@@ -1,9 +1,12 @@
-use Rattle.std.proofs.Common.{◌≡◌, ◌∷◌, None, Some, ap, ◌∙◌, subst}
+use Rattle.std.proofs.Common.{◌≡◌, ◌∷◌, true, None, Some, is_none, sym, ap, ◌∙◌, subst}
 use Rattle.roles.specs.declared.published.Published.{Published}
+use Rattle.building.specs.declared.fault.BuildFault.TheVariants.{NotAuthorised, NoFunds}
+use Rattle.building.specs.Holding.{least_lacking}
 use Rattle.building.specs.Fronts.{front}
 use Rattle.building.specs.Clauses.{no_funds}
-use Rattle.building.specs.Steps.{roles_of, not_authorised, own, too_many_given}
+use Rattle.building.specs.Steps.{roles_of, deposits, not_authorised, own, too_many_given}
 use Rattle.builder.proofs.Clauses.{fourth, fifth, no_clause}
+use Rattle.builder.proofs.Covered.{front_covers}
 use Rattle.builder.proofs.step.funds_of.Goals as goal
 
 pub returns-clause-passes : goal.returns-clause-passes
@@ -46,3 +49,16 @@ returns-in-Ok-check_once-clause-passes c =
     (subst (λ ns. no_funds ns us ≡ None) (c.deref.ensures.value ∙ c.in_ok-amounts.ensures) c.in_ok-check_funds.ensures)
     (subst (λ vs. too_many_given xs (own (t, c.args.datum.now) ∷ vs) ≡ None) part c.in-Ok.ensures.passes)
     c.in-Ok-check_once.ensures
+
+pub returns-in-Ok-check_once-clause-covered : goal.returns-in-Ok-check_once-clause-covered
+returns-in-Ok-check_once-clause-covered c =
+    let t = c.args.thread.now in
+    let xs = c.args.asked.inputs.now in
+    let us = c.args.asked.offered.now in
+    let part = c.in_ok-front.ensures.front
+    ∙ ap (λ roles. front roles c.deref-3.result.now us) (c.deref-2.ensures.value ∙ c.in_ok-roles.ensures ∙ ap (λ (p : Published). roles_of p.currency xs) c.get.ensures)
+    ∙ ap (λ ns. front (roles_of t.published.currency xs) ns us) (c.deref-3.ensures.value ∙ c.in_ok-amounts.ensures) in
+    subst (λ vs. is_none (least_lacking (deposits xs) vs) ≡ true) (sym part)
+    (front_covers NotAuthorised NoFunds t.published.currency c.args.asked.signers.now us xs
+    (subst (λ (p : Published). not_authorised p.currency c.args.asked.signers.now us xs ≡ None) c.get.ensures c.in_ok-check_authorised.ensures)
+    (subst (λ ns. no_funds ns us ≡ None) (c.deref.ensures.value ∙ c.in_ok-amounts.ensures) c.in_ok-check_funds.ensures))

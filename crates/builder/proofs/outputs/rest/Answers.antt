@@ -1,0 +1,11 @@
+use Rattle.std.proofs.Common.{rules, ◌≡◌, false}
+use Rattle.building.specs.Holding.{sums}
+use Rattle.building.specs.Clauses.{is_much}
+use Rattle.building.proofs.Funding.{amount}
+use Rattle.builder.proofs.Covered.{covered_room}
+use Rattle.builder.proofs.outputs.rest.Goals as goal
+
+pub unreachable-requires : goal.unreachable-requires
+unreachable-requires c =
+    let room : is_much (sums amount c.args.made.now) ≡ false = covered_room c.args.all (sums amount c.args.made.now) c.entries.ensures.positive c.see_room.ensures c.requires in
+    search (rules, room)

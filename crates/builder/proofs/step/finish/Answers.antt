@@ -1,0 +1,36 @@
+use Rattle.std.proofs.Common.{rules, ◌≡◌, true, false, ◌∷◌, Ok, sym, ◌∙◌, ap, subst}
+use Rattle.table.specs.Flat.{cont_tree}
+use Rattle.semantics.specs.Walk.{standing}
+use Rattle.bundle.specs.Bundles.{covers}
+use Rattle.building.specs.Holding.{sums, held}
+use Rattle.building.specs.Clauses.{is_much}
+use Rattle.building.specs.Steps.{Thread, walk, own, made}
+use Rattle.building.proofs.Funding.{amount}
+use Rattle.builder.specs.Code.{request}
+use Rattle.builder.proofs.Covered.{step_room, step_covers}
+use Rattle.builder.proofs.step.finish.Goals as goal
+
+pub made-requires : goal.made-requires
+made-requires c =
+    let asked = c.args.asked in
+    let r = request asked.interval asked.inputs.now asked.signers.now asked.offered.now asked.change.now in
+    let e : Thread = (c.args.thread.now, c.args.datum.now) in
+    let a = standing c.args.outcome.state (cont_tree c.args.thread.now.published.table c.args.outcome.place.0) in
+    let us = c.args.funds.front.now in
+    let all = c.requires.all ∙ ap (λ vs. sums held (own e ∷ vs)) (sym c.requires.front) in
+    step_room c.money_is_kept.ensures c.transactions_end_quiet.ensures c.payments_are_natural.ensures r e a us
+    (record { sums = c.requires.sums; ended = c.requires.ended; accounts = c.accounts.ensures.positive; covered = c.requires.covered; bundles = (c.entries.ensures.positive, c.requires.bundles) })
+    (subst (λ m. is_much m ≡ false) all c.see_room.ensures)
+
+pub lay_out-requires : goal.lay_out-requires
+lay_out-requires c =
+    let asked = c.args.asked in
+    let r = request asked.interval asked.inputs.now asked.signers.now asked.offered.now asked.change.now in
+    let e : Thread = (c.args.thread.now, c.args.datum.now) in
+    let a = standing c.args.outcome.state (cont_tree c.args.thread.now.published.table c.args.outcome.place.0) in
+    let us = c.args.funds.front.now in
+    let all = c.requires.all ∙ ap (λ vs. sums held (own e ∷ vs)) (sym c.requires.front) in
+    let is : c.in-Ok.made ≡ made e (walk r e) (Ok a) = search rules in
+    subst (λ m. covers m (sums amount c.in-Ok.made) ≡ true) (sym all) (subst (λ os. covers (sums held (own e ∷ us)) (sums amount os) ≡ true) (sym is)
+    (step_covers c.money_is_kept.ensures c.transactions_end_quiet.ensures c.payments_are_natural.ensures r e a us
+    (record { sums = c.requires.sums; ended = c.requires.ended; accounts = c.accounts.ensures.positive; covered = c.requires.covered; bundles = (c.entries.ensures.positive, c.requires.bundles) })))
