@@ -1,9 +1,8 @@
 -- What a call accepts.
-use Rattle.std.proofs.Common.{◌≡◌, ℕ, zero, suc, ℤ, ◌+◌, ◌-◌, ◌≤◌, Bool, true, false, List, [], ◌∷◌, ◌++◌, refl, sym, ◌∙◌, ap, subst, append_assoc, arith, Option, Some, None, map, take, drop, length}
+use Rattle.std.proofs.Common.{◌≡◌, ℕ, zero, suc, ℤ, ◌+◌, ◌≤◌, Bool, true, false, List, [], ◌∷◌, ◌++◌, refl, sym, ◌∙◌, ap, subst, append_assoc, arith, Option, Some, None, map, take, drop, length}
 use Rattle.std.specs.Prelude.{if◌then◌else◌, int_le, nat_lt}
 use Rattle.std.specs.List.{slice_get}
-use Rattle.std.proofs.lemmas.List.{map-append, length-append, length-drop}
-use Rattle.std.proofs.Math.Seq.{take-length}
+use Rattle.std.proofs.lemmas.List.{map-append, length-append}
 use Rattle.eutxo_types.specs.declared.tx.Tx.{Tx}
 use Rattle.eutxo_types.specs.declared.fault.TxFault.{TxFault}
 use Rattle.eutxo_types.specs.Ids.{id_of}
@@ -120,20 +119,16 @@ no_fewer s call r =
 
 -- ---- what was found for a call
 
-pub enough_found : (w next : World) (call : Call) (known now : List Tx) → known ≡ w.standing.accepted → next.standing.accepted ≡ (changed w.standing call (reply_to w call)).accepted → now ≡ next.standing.accepted →
-    length known ≤ length now
-enough_found w next call known now k n e =
+pub enough_found : (w next : World) (call : Call) (known : List Tx) → known ≡ w.standing.accepted → next.standing.accepted ≡ (changed w.standing call (reply_to w call)).accepted → length known ≤ length next.standing.accepted
+enough_found w next call known k n =
     let less = no_fewer w.standing call (reply_to w call) in
     let a = ap length k in
-    let b = ap length (e ∙ n) in
+    let b = ap length n in
     omega (arith, less, a, b)
 
-all_after : (xs : List Tx) (n : ℕ) → take (length xs - n) (drop n xs) ≡ drop n xs
-all_after xs n = ap (λ (m : ℕ). take m (drop n xs)) (sym (length-drop n xs)) ∙ take-length (drop n xs)
-
-pub ids_found : (w v next : World) (call : Call) (known now : List Tx) (ids : List (List ℕ)) → w ≡ v → known ≡ w.standing.accepted → next.standing.accepted ≡ (changed w.standing call (reply_to w call)).accepted → now ≡ next.standing.accepted →
-    ids ≡ map id_of (take (length now - length known) (drop (length known) now)) → map id_of v.standing.accepted ++ ids ≡ map id_of (changed v.standing call (reply_to v call)).accepted
-ids_found w v next call known now ids same k n e h =
+pub ids_found : (w v next : World) (call : Call) (known : List Tx) (ids : List (List ℕ)) → w ≡ v → known ≡ w.standing.accepted → next.standing.accepted ≡ (changed w.standing call (reply_to w call)).accepted →
+    ids ≡ map id_of (drop (length known) next.standing.accepted) → map id_of v.standing.accepted ++ ids ≡ map id_of (changed v.standing call (reply_to v call)).accepted
+ids_found w v next call known ids same k n h =
     subst (λ (x : World). map id_of x.standing.accepted ++ ids ≡ map id_of (changed x.standing call (reply_to x call)).accepted) same
-    (ap (λ (l : List (List ℕ)). map id_of w.standing.accepted ++ l) (h ∙ ap (map id_of) (all_after now (length known) ∙ ap (λ (l : List Tx). drop (length l) now) k ∙ ap (drop (length w.standing.accepted)) (e ∙ n)))
+    (ap (λ (l : List (List ℕ)). map id_of w.standing.accepted ++ l) (h ∙ ap (map id_of) (ap (λ (l : List Tx). drop (length l) next.standing.accepted) k ∙ ap (drop (length w.standing.accepted)) n))
     ∙ ids_more w.standing call (reply_to w call))

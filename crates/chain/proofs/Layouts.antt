@@ -1,13 +1,11 @@
 -- Layouts are accepted, and a thread that is shown stands.
 use Rattle.std.proofs.Common.{◌≡◌, ℕ, Bool, true, false, cond, List, [], ◌∷◌, refl, sym, ap, ◌∙◌, subst, Option, Some, None}
-use Rattle.std.specs.List.{find}
 use Rattle.std.specs.Cmp.Lexicographic.{bytes_decides}
 use Rattle.machine.specs.declared.datum.Datum.{Datum}
 use Rattle.eutxo_types.specs.declared.output.Output.{Output}
 use Rattle.eutxo_types.specs.declared.output_ref.OutputRef.{OutputRef}
 use Rattle.eutxo.specs.Parts.{same_bytes, contract_in}
 use Rattle.roles.specs.declared.published.Published.{Published}
-use Rattle.looks.specs.declared.ask.Ask.{Ask}
 use Rattle.looks.specs.declared.look.ThreadOutput.{ThreadOutput}
 use Rattle.history.specs.Past.{Past, unspent_at}
 use Rattle.building.specs.Steps.{layout_step}

@@ -1,5 +1,5 @@
 -- What a chain answers to the layout of a request that nothing hinders, and what it shows for one.
-use Rattle.std.specs.Prelude.{◌≡◌, List, ◌++◌, Option, Some, None}
+use Rattle.std.specs.Prelude.{◌≡◌, List, ◌++◌, Some, None}
 use Rattle.machine.specs.declared.datum.Datum.{Datum}
 use Rattle.eutxo_types.specs.declared.tx.Tx.{Tx}
 use Rattle.eutxo_types.specs.Ids.{id_of}
@@ -14,7 +14,7 @@ use Rattle.building.specs.Claims.{claim_front, hinders_claim, layout_claim}
 use Rattle.acceptance.specs.AfterPasts.{IsOpen}
 use Rattle.calls.specs.declared.call.Call.TheVariants as on
 use Rattle.calls.specs.declared.call.Reply.TheVariants as answer
-use Rattle.standing.specs.Standing.{Course, World, world, past_of, published_at}
+use Rattle.standing.specs.Standing.{Course, world, past_of, published_at}
 use Rattle.showing.specs.Looking.{thread_shown, look}
 use Rattle.chain.specs.Legal.{reply_to}
 

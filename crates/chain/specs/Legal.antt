@@ -49,7 +49,7 @@ submitted tx (Some fault) = answer.Refused fault
 abbrev pub accepting : World → Tx → World
 accepting w tx = record w { standing = record w.standing { accepted = w.standing.accepted ++ tx ∷ [] } }
 
-abbrev pub if_accepted : World → Tx → Option TxFault → World
+abbrev pub if_accepted : {F : Type 0} → World → Tx → Option F → World
 if_accepted w tx None = accepting w tx
 if_accepted w tx (Some fault) = w
 

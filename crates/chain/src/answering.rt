@@ -1,5 +1,5 @@
 //! What a call is answered.
-ghost use Rattle.std.specs.Prelude.{◌≡◌, ◌<◌, ◌≤◌, ◌++◌, ◌⊎◌, IfOk, IfErr, OnOk, Ok, Err, Some, length, take, slice_get, option_to_list};
+ghost use Rattle.std.specs.Prelude.{◌≡◌, ◌<◌, ◌≤◌, ◌++◌, ◌⊎◌, IfOk, IfErr, OnOk, Ok, Err, Some, None, if◌then◌else◌, length, take, slice_get, option_to_list};
 ghost use Rattle.compiler.specs.declared.fault.CompileFault.TheVariants as faults;
 ghost use Rattle.eutxo_types.specs.Ids.{id_of};
 ghost use Rattle.eutxo.specs.Local.{verdict_of};
@@ -23,6 +23,23 @@ const MOST_PENDING: usize = 1024;
 
 // ---- transactions
 
+// Accepts a transaction where no fault of it was found. Answers the fault.
+fn accept_unless<'a, F: Drop>(
+    world: &mut World<'a>,
+    tx: &'a Tx,
+    id: [u8; 32],
+    fault: Option<F>,
+) -> Result<Option<F>, Memory>
+    requires { id ≡ id_of tx.now }
+    ensures fault { IfOk result (λ f. f ≡ fault) }
+    ensures world { OnOk result (world.new ≡ if_accepted world.old tx.now fault) }
+{
+    if fault.is_none() {
+        world.accept(tx, id)?;
+    }
+    Ok(fault)
+}
+
 // Judges a transaction, and accepts it where no rule refuses it. Answers the fault and the transaction's id,
 // which is computed here alone.
 fn judge_and_accept<'a>(
@@ -35,13 +52,9 @@ fn judge_and_accept<'a>(
     ensures world { OnOk result (world.new ≡ if_accepted world.old tx.now (judged world.old tx.now)) }
 {
     let id = tx_id(alloc, tx)?;
-    match judge(alloc, world, tx, &id)? {
-        Some(fault) => Ok((Some(fault), id)),
-        None => {
-            world.accept(tx, id)?;
-            Ok((None, id))
-        }
-    }
+    let fault = judge(alloc, world, tx, &id)?;
+    let fault = accept_unless(world, tx, id, fault)?;
+    Ok((fault, id))
 }
 
 fn submit<'a>(alloc: Global, world: &mut World<'a>, tx: &'a Tx) -> Result<Reply, Memory>
@@ -141,33 +154,39 @@ fn publication(
     publish(alloc, contract, currency)
 }
 
-// What is published, and with what it is answered.
-fn publishing(world: &World<'_>, object: Published) -> (Reply, Option<Published>)
-    ensures reply { result.0 ≡ publishing world.now (Ok object) }
-    ensures object { world.now.published ++ option_to_list result.1 ≡ with_one world.now.published (Ok object) }
+// With what a publication is answered, and whether it is new.
+fn publishing(world: &World<'_>, object: &Published) -> (Reply, bool)
+    ensures reply { result.0 ≡ publishing world.now (Ok object.now) }
+    ensures object { world.now.published ++ option_to_list (if result.1 then Some object.now else None) ≡ with_one world.now.published (Ok object.now) }
 {
-    let id = object.id;
-    match world.published_at(&id) {
+    match world.published_at(&object.id) {
         Some(known) => {
-            if *known.get() == object {
-                (Reply::Published(id), None)
+            if *known.get() == *object {
+                (Reply::Published(object.id), false)
             } else {
-                (Reply::IdInUse, None)
+                (Reply::IdInUse, false)
             }
         }
-        None => (Reply::Published(id), Some(object)),
+        None => (Reply::Published(object.id), true),
     }
 }
 
-fn share(alloc: Global, object: Option<Published>) -> Result<Option<Shared<Published>>, Memory>
-    ensures { IfOk result (λ s. s ≡ object) }
+// Shares an object that is new, beside the reply.
+fn shared<R: Drop, T: Drop>(
+    alloc: Global,
+    reply: R,
+    object: T,
+    is_new: bool,
+) -> Result<(R, Option<Shared<T>>), Memory>
+    ensures reply { IfOk result (λ r. r.0 ≡ reply) }
+    ensures object { IfOk result (λ r. r.1 ≡ (if is_new then Some object else None)) }
 {
-    match object {
-        Some(object) => match Arc::new(alloc, object) {
-            Ok(arc) => Ok(Some(Shared::new(arc))),
-            Err(_) => Err(AllocError),
-        },
-        None => Ok(None),
+    if !is_new {
+        return Ok((reply, None));
+    }
+    match Arc::new(alloc, object) {
+        Ok(arc) => Ok((reply, Some(Shared::new(arc)))),
+        Err(_) => Err(AllocError),
     }
 }
 
@@ -183,9 +202,8 @@ fn publish_as(
     let currency = currency.try_clone()?;
     match publication(alloc, contract, currency) {
         Ok(object) => {
-            let (reply, object) = publishing(world, object);
-            let object = share(alloc, object)?;
-            Ok((reply, object))
+            let (reply, is_new) = publishing(world, &object);
+            shared(alloc, reply, object, is_new)
         }
         Err(CompileFault::Memory) => Err(AllocError),
         Err(fault) => Ok((Reply::NotCompiled(fault), None)),

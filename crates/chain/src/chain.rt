@@ -1,5 +1,5 @@
 //! The ledger of one thread.
-ghost use Rattle.std.specs.Prelude.{◌≡◌, ◌↔◌, ◌++◌, [], All, IfOk, IfErr, OnErr, OnOk, IsTrue, map, option_to_list};
+ghost use Rattle.std.specs.Prelude.{◌≡◌, ◌↔◌, ◌++◌, ◌≤◌, [], All, IfOk, IfErr, OnErr, OnOk, IsTrue, length, drop, map, option_to_list};
 ghost use Rattle.history.specs.Laws.{marlowe, EachIsARun, EndsWithItsRun, EachStepHasItsThread, ContractsAreStepped, EachContractEndsAThread, EachEndIsUnspent, AreFunded, AreOfTables, EachIsAuthorised, IsSpentOnce, IsPreserved};
 ghost use Rattle.history.specs.Sound.{AreKeys};
 ghost use Rattle.roles.specs.Steps.{is_key};
@@ -129,12 +129,42 @@ impl Model for Chain {
     ghost invariant = { λ a. IsKept a.published.items a.ids.items (record { genesis = a.genesis; first_tick = a.tick; entries = a.entries.items }) };
 }
 
-// What is found for one call: its reply, what it publishes, and the ids of the transactions that it accepts.
+// What is found for one call: its reply, that reply in two copies, what it publishes, and the ids of the
+// transactions that it accepts.
 #[derive(Drop)]
-struct Found {
-    reply: Reply,
-    object: Option<Shared<Published>>,
+struct Found<R, O> {
+    reply: R,
+    mine: R,
+    told: R,
+    object: O,
     ids: Vec<[u8; 32]>,
+}
+
+// With two copies of the reply, and the ids of what was accepted after the first so many.
+fn with_copies<R: TryClone + Drop, O: Drop>(
+    alloc: Global,
+    world: &World<'_>,
+    known: usize,
+    reply: R,
+    object: O,
+) -> Result<Found<R, O>, Memory>
+    requires { known ≤ length world.now.standing.accepted }
+    ensures reply { IfOk result (λ r. r.reply ≡ reply) }
+    ensures mine { IfOk result (λ r. r.mine ≡ reply) }
+    ensures told { IfOk result (λ r. r.told ≡ reply) }
+    ensures object { IfOk result (λ r. r.object ≡ object) }
+    ensures ids { IfOk result (λ r. r.ids.items ≡ map id_of (drop known world.now.standing.accepted)) }
+{
+    let ids = ids_of(alloc, &world.accepted()[known..])?;
+    let mine = reply.try_clone()?;
+    let told = reply.try_clone()?;
+    Ok(Found {
+        reply,
+        mine,
+        told,
+        object,
+        ids,
+    })
 }
 
 impl Chain {
@@ -168,16 +198,22 @@ impl Chain {
 
     // What a call is answered, what it publishes, and the ids of what it accepts.
     #[tactic(auto, using(crate::proofs::Accepting::enough_found))]
-    fn replies(&self, alloc: Global, call: &Call) -> Result<Found, Memory>
+    fn replies(
+        &self,
+        alloc: Global,
+        call: &Call,
+    ) -> Result<Found<Reply, Option<Shared<Published>>>, Memory>
         ensures reply { IfOk result (λ r. r.reply ≡ reply_to (world self.now) call.now) }
+        ensures mine { IfOk result (λ r. r.mine ≡ reply_to (world self.now) call.now) }
+        ensures told { IfOk result (λ r. r.told ≡ reply_to (world self.now) call.now) }
         ensures object { IfOk result (λ r. published self.now.entries ++ option_to_list r.object ≡ with_new (published self.now.entries) call.now) }
         ensures ids { IfOk result (λ r. map id_of (world self.now).standing.accepted ++ r.ids.items ≡ map id_of (changed (world self.now).standing call.now (reply_to (world self.now) call.now)).accepted) }
     {
         let mut world = self.world(alloc)?;
         let known = world.accepted().len();
         let (reply, object) = answer(alloc, &mut world, call)?;
-        let ids = ids_of(alloc, &world.accepted()[known..])?;
-        Ok(Found { reply, object, ids })
+        let found = with_copies(alloc, &world, known, reply, object)?;
+        Ok(found)
     }
 
     /// The layout of a request that nothing hinders is accepted next, for every look and request, where what it
@@ -227,9 +263,13 @@ impl Chain {
         accepting_is_sound::<Published>();
         publishing_is_sound::<Published>();
         published_are_tables();
-        let Found { reply, object, ids } = self.replies(alloc, &call)?;
-        let mine = reply.try_clone()?;
-        let told = reply.try_clone()?;
+        let Found {
+            reply,
+            mine,
+            told,
+            object,
+            ids,
+        } = self.replies(alloc, &call)?;
         let number = count_of(&self.entries, seat);
         self.entries.reserve(1)?;
         add_found(&mut self.published, object, &mut self.ids, ids)?;

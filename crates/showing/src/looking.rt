@@ -7,7 +7,7 @@ ghost use Rattle.history.specs.Past.{referred, made, created};
 ghost use Rattle.history.specs.Threads.{spine, ends};
 ghost use Rattle.standing.specs.Standing.{past_of, published_at};
 ghost use Rattle.standing.specs.Threads.{starts_in};
-ghost use Rattle.showing.specs.Looking.{is_key_of, is_payout_of, end_of, with_published, under_script, output_at, shown_at, thread_shown, look};
+ghost use Rattle.showing.specs.Looking.{is_key_of, is_payout_of, under_locks, end_of, with_published, under_script, output_at, shown_at, thread_shown, look};
 ghost use Rattle.showing.specs.Showing.{naming, is_among, under, moved};
 
 use crate::spent::Spent;
@@ -289,14 +289,27 @@ fn payouts_shown(
     outputs_under(alloc, world, spent, &Payouts { known })
 }
 
+// The outputs that are asked for: those of keys, and payouts.
+fn outputs_shown(
+    alloc: Global,
+    world: &World<'_>,
+    ask: &Ask,
+) -> Result<(Items<Unspent>, Items<Unspent>), Memory>
+    ensures keys { IfOk result (λ r. r.0 ≡ under_locks (is_key_of ask.now.keys) (past_of world.now)) }
+    ensures payouts { IfOk result (λ r. r.1 ≡ under_locks (is_payout_of ask.now.payouts) (past_of world.now)) }
+{
+    let spent = Spent::of(alloc, world.accepted())?;
+    let keys = keys_shown(alloc, world, &spent, ask.keys.as_slice())?;
+    let payouts = payouts_shown(alloc, world, &spent, ask.payouts.as_slice())?;
+    Ok((keys, payouts))
+}
+
 /// What a look shows.
 pub fn show(alloc: Global, world: &World<'_>, ask: &Ask) -> Result<Look, Memory>
     ensures { IfOk result (λ shown. shown ≡ look world.now ask.now) }
 {
+    let (keys, payouts) = outputs_shown(alloc, world, ask)?;
     let thread = thread_shown(world, ask.thread)?;
-    let spent = Spent::of(alloc, world.accepted())?;
-    let keys = keys_shown(alloc, world, &spent, ask.keys.as_slice())?;
-    let payouts = payouts_shown(alloc, world, &spent, ask.payouts.as_slice())?;
     Ok(Look {
         tick: world.now(),
         thread,

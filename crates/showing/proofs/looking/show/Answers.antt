@@ -1,20 +1,9 @@
-use Rattle.std.proofs.Common.{◌≡◌, ◌∙◌, ap, Bool, List, to_z, of_z, w64, arith}
+use Rattle.std.proofs.Common.{◌≡◌, ◌∙◌, to_z, of_z, w64, arith}
 use Rattle.std.proofs.lemmas.Int.{ints}
-use Rattle.eutxo_types.specs.declared.lock.Lock.{Lock}
-use Rattle.history.specs.Past.{created}
-use Rattle.standing.specs.Standing.{past_of}
-use Rattle.showing.specs.Looking.{under_locks, is_key_of, is_payout_of}
-use Rattle.showing.specs.Showing.{is_among, under}
-use Rattle.showing.proofs.Gathering.{under_unspent, same_look}
+use Rattle.showing.proofs.Gathering.{same_look}
 use Rattle.showing.proofs.looking.show.Goals as goal
 
 pub returns : goal.returns
 returns c =
     let now : to_z w64 (of_z w64 c.now.result) ≡ c.now.result = omega (arith, ints) in
-    let past = past_of c.args.world.now in
-    let spent = is_among c.in_ok-spent.spent in
-    let unspent : (asked : Lock → Bool) → under asked spent (created past) ≡ under_locks asked past =
-    λ asked. under_unspent asked spent c.accepted.result.now past c.in_ok-spent.ensures c.accepted.ensures in
-    same_look _ _ (now ∙ c.now.ensures) c.in_ok-thread.ensures
-    (c.in_ok-keys.ensures ∙ unspent (is_key_of c.as_slice.result.now) ∙ ap (λ (l : List _). under_locks (is_key_of l) past) c.as_slice.ensures)
-    (c.in_ok-payouts.ensures ∙ unspent (is_payout_of c.as_slice-2.result.now) ∙ ap (λ (l : List _). under_locks (is_payout_of l) past) c.as_slice-2.ensures)
+    same_look _ _ (now ∙ c.now.ensures) c.in_ok-thread.ensures c.in_ok-keys.ensures.keys c.in_ok-keys.ensures.payouts
