@@ -11,7 +11,7 @@ use collections::{Bytes, Items, Memory, TryClone};
 use contract::Contract;
 use eutxo::Shared;
 use eutxo_types::{Tx, TxFault, Verdict, tx_id};
-use judging::{Ledger, judge};
+use judging::Ledger;
 use roles::{CompileFault, Published, publish};
 use showing::show;
 use standing::{Waiting, World};
@@ -52,7 +52,7 @@ fn judge_and_accept<'a>(
     ensures world { OnOk result (world.new ≡ if_accepted world.old tx.now (judged world.old tx.now)) }
 {
     let id = tx_id(alloc, tx)?;
-    let fault = judge(alloc, world, tx, &id)?;
+    let fault = world.judge(alloc, tx, &id)?;
     let fault = accept_unless(world, tx, id, fault)?;
     Ok((fault, id))
 }
