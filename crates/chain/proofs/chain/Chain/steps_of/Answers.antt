@@ -1,7 +1,8 @@
-use Rattle.std.proofs.Common.{sym, subst}
+use Rattle.std.proofs.Common.{sym, subst, IfOk}
 use Rattle.history.specs.Laws.{marlowe, AreTables}
 use Rattle.history.specs.Sound.{IsSound}
 use Rattle.standing.specs.Standing.{World, Course, world, past_of, published_at}
+use Rattle.records.specs.Recording.{AreSteps}
 use Rattle.chain.proofs.chain.Chain.steps_of.Goals as goal
 
 pub steps_of-requires : goal.steps_of-requires
@@ -13,3 +14,7 @@ steps_of-requires c = record {
       subst (λ (w : World). AreTables (published_at w.published)) (sym c.in_ok-world.ensures)
       (subst (λ (v : Course). AreTables (published_at (world v).published)) c.self.view_is c.self.invariant.tables);
 }
+
+pub returns : goal.returns
+returns c =
+    subst (λ (w : World). IfOk c.steps_of.result (λ records. AreSteps (published_at w.published) (past_of w) c.args.reference.now records)) c.in_ok-world.ensures c.steps_of.ensures
