@@ -27,6 +27,7 @@ use history::{
     parties_are_authorised, publishing_is_sound, starting_is_sound, steps_stand_on_threads,
     threads_are_runs, tokens_are_preserved,
 };
+use judging::resolve;
 use records::{StepRecord, steps_of};
 use roles::{Published, published_are_tables};
 use standing::{World, count_of, ids_of, last_tick, walk};
@@ -329,7 +330,7 @@ impl Chain {
         ensures { IfOk result (λ resolved. resolved ≡ found (moment_of (world self.now)) tx.now) }
     {
         let world = self.world(alloc)?;
-        world.resolve(alloc, tx)
+        resolve(alloc, &world, tx)
     }
 
     /// The records of the thread that starts at an output, in order: the thread's one run (`history`), with as many

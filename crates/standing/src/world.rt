@@ -4,7 +4,7 @@ ghost use Rattle.std.specs.Map.{lookup};
 ghost use Rattle.eutxo_types.specs.declared.output_ref.OutputRef.TheVariants as OutputRef;
 ghost use Rattle.eutxo_types.specs.Ids.{id_of};
 ghost use Rattle.eutxo.specs.Parts.{same_ref};
-ghost use Rattle.eutxo.specs.Judgement.{judge, found};
+ghost use Rattle.eutxo.specs.Judgement.{judge};
 ghost use Rattle.history.specs.Laws.{marlowe};
 ghost use Rattle.history.specs.Past.{names, is_spent, is_used, referred, made, made_by, created, unspent_at};
 ghost use Rattle.standing.specs.Standing.{standing, tickets, published_at, past_of, moment_of};
@@ -14,9 +14,9 @@ use crate::kept::{Kept, Waiting, with_ids};
 use crate::walked::{Walked, gather};
 use calls::Entry;
 use collections::Memory;
-use eutxo::{Resolved, Shared};
+use eutxo::Shared;
 use eutxo_types::{Output, OutputRef, Tx, TxFault};
-use judging::{Ledger, judge, resolve};
+use judging::{Ledger, judge};
 use roles::Published;
 use std::alloc::Global;
 use std::marker::Model;
@@ -224,13 +224,6 @@ impl<'a> World<'a> {
         ensures { IfOk result (λ fault. fault ≡ judge marlowe (moment_of self.now) tx.now) }
     {
         judge(alloc, self, tx, id)
-    }
-
-    /// What is found here of what a transaction names (`judging`). Answers `Memory` only where a growth was refused.
-    pub fn resolve(&self, alloc: Global, tx: &Tx) -> Result<Resolved<Published>, Memory>
-        ensures { IfOk result (λ resolved. resolved ≡ found (moment_of self.now) tx.now) }
-    {
-        resolve(alloc, self, tx)
     }
 
     fn is_spent(&self, reference: &OutputRef) -> bool
