@@ -26,3 +26,6 @@ invariant_of-self-2 c =
     let entries = sym (c.push_reserved.ensures.items ∙ ap (λ (l : List Entry). l ++ made ∷ []) c.in_ok-reserve.ensures.items ∙ ap (λ (x : Entry). s.entries.items ++ x ∷ []) e) in
     subst (λ (l : List (List ℕ)). IsKept c.add_found.new.published.items l (let v : Course = record { genesis = s.genesis; first_tick = s.tick; entries = c.push_reserved.new.self.items } in v)) (sym c.in_ok-add_found.ensures.ids)
     (subst (λ (l : List Entry). IsKept c.add_found.new.published.items (s.ids.items ++ found.field-0.ids.items) (let v : Course = record { genesis = s.genesis; first_tick = s.tick; entries = l } in v)) entries kept)
+
+pub returns-clause-err : goal.returns-clause-err
+returns-clause-err c = tt
