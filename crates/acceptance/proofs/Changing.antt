@@ -13,7 +13,7 @@ use Rattle.bundle.specs.Bundles.{Amounts, amount_of}
 use Rattle.bundle.specs.Totals.{total_of}
 use Rattle.bundle.proofs.Amounts.{rests_are_of_each_token}
 use Rattle.eutxo_types.specs.declared.output.Output.{Output}
-use Rattle.looks.specs.declared.look.Unspent.{Unspent}
+use Rattle.calls.specs.declared.look.Unspent.{Unspent}
 use Rattle.roles.specs.Sums.{sums_of}
 use Rattle.building.specs.Requests.{StepRequest}
 use Rattle.building.specs.Holding.{sums, held}

@@ -20,7 +20,7 @@ use Rattle.eutxo.specs.Places.{is_empty}
 use Rattle.eutxo.specs.Rules.{lacks_role, opens, starts_wrong, stepped, of_step}
 use Rattle.roles.specs.declared.published.Published.{Published}
 use Rattle.roles.specs.Steps.{is_key, holds_role, role_token}
-use Rattle.looks.specs.declared.look.Unspent.{Unspent}
+use Rattle.calls.specs.declared.look.Unspent.{Unspent}
 use Rattle.building.specs.declared.fault.BuildFault.TheVariants.{NoThread, NotAuthorised}
 use Rattle.building.specs.Requests.{ClaimRequest}
 use Rattle.building.specs.Holding.{sums, held, holds_token, least_lacking}

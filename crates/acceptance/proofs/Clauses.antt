@@ -9,7 +9,7 @@ use Rattle.eutxo_types.specs.declared.spend.Spend.{Spend}
 use Rattle.eutxo.specs.Found.{is_known}
 use Rattle.eutxo.specs.Places.{first_of}
 use Rattle.roles.specs.declared.published.Published.{Published}
-use Rattle.looks.specs.declared.look.Unspent.{Unspent}
+use Rattle.calls.specs.declared.look.Unspent.{Unspent}
 use Rattle.building.specs.declared.fault.BuildFault.TheVariants.{NotSigned, TooMany, Repeated}
 use Rattle.building.specs.Holding.{sums, held}
 use Rattle.building.specs.Clauses.{is_signed, not_signed, is_much, is_over, too_many, has_repeat, repeated}

@@ -16,7 +16,7 @@ use Rattle.eutxo.specs.Laws.{FoundIsEnough}
 use Rattle.eutxo.specs.Local.{of_tx, of_spent, of_whole, local}
 use Rattle.eutxo.specs.Places.{or_else}
 use Rattle.roles.specs.declared.published.Published.{Published}
-use Rattle.looks.specs.declared.look.Unspent.{Unspent}
+use Rattle.calls.specs.declared.look.Unspent.{Unspent}
 use Rattle.history.specs.Laws.{marlowe}
 use Rattle.acceptance.specs.Accepting.{contents, Passes, Admits}
 use Rattle.acceptance.proofs.Tests.{Nowhere, both, by_recursion, all_everywhere, no_fault, none_of, if_not}

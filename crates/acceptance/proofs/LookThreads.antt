@@ -11,8 +11,8 @@ use Rattle.eutxo.specs.Parts.{same_bytes, contract_in}
 use Rattle.roles.specs.Sums.{sums_of}
 use Rattle.roles.specs.Terms.{terms_of}
 use Rattle.roles.specs.Steps.{same_amounts}
-use Rattle.looks.specs.declared.look.Look.{Look}
-use Rattle.looks.specs.declared.look.ThreadOutput.{ThreadOutput}
+use Rattle.calls.specs.declared.look.Look.{Look}
+use Rattle.calls.specs.declared.look.ThreadOutput.{ThreadOutput}
 use Rattle.building.specs.Steps.{Thread, terms, stands, thread_in, thread_of, thread}
 use Rattle.acceptance.proofs.Tests.{both}
 

@@ -19,7 +19,7 @@ use Rattle.eutxo.specs.Found.{with_outputs}
 use Rattle.eutxo.specs.Parts.{inputs_of, contract_in}
 use Rattle.eutxo.specs.Rules.{has_signed, or_contract, stepped}
 use Rattle.roles.specs.Steps.{is_key, role_token, holds_role}
-use Rattle.looks.specs.declared.look.Unspent.{Unspent}
+use Rattle.calls.specs.declared.look.Unspent.{Unspent}
 use Rattle.building.specs.Clauses.{is_signed}
 use Rattle.building.specs.Holding.{held, holds_token}
 use Rattle.building.specs.Laying.{spend_with, by_key}

@@ -20,7 +20,7 @@ use Rattle.eutxo.specs.Places.{is_empty}
 use Rattle.eutxo.specs.Rules.{no_inputs, too_many, has_too_many, repeated_input, lacks_signer, not_signed, opens, wrong_redeemer, lacks_role, role_missing, stepped, of_step}
 use Rattle.roles.specs.declared.published.Published.{Published}
 use Rattle.roles.specs.Steps.{is_key, holds_role}
-use Rattle.looks.specs.declared.look.Unspent.{Unspent}
+use Rattle.calls.specs.declared.look.Unspent.{Unspent}
 use Rattle.building.specs.Clauses.{has_repeat}
 use Rattle.building.specs.Holding.{held}
 use Rattle.building.specs.Laying.{spend_with, by_key}

@@ -23,7 +23,7 @@ use Rattle.eutxo.specs.Rules.{starts_wrong, starts_wrong_at, stepped, of_step}
 use Rattle.roles.specs.declared.published.Published.{Published}
 use Rattle.roles.specs.Sums.{sums_of}
 use Rattle.roles.specs.Steps.{same_cont, is_fresh, same_amounts, starts_from}
-use Rattle.looks.specs.declared.look.Unspent.{Unspent}
+use Rattle.calls.specs.declared.look.Unspent.{Unspent}
 use Rattle.building.specs.declared.fault.BuildFault.TheVariants.{NoFunds}
 use Rattle.building.specs.Requests.{StartRequest}
 use Rattle.building.specs.Holding.{least_lacking}

@@ -26,8 +26,8 @@ use Rattle.eutxo.specs.Rules.{lacks_role, or_contract, stepped, stepping, stray_
 use Rattle.roles.specs.declared.published.Published.{Published}
 use Rattle.roles.specs.Steps.{is_key, holds_role, role_token, needed, authorised, unauthorised, continuation, due, first_unpaid, is_first, is_close, continuing, by_answer, answer_by, outcome_answer, step_of}
 use Rattle.roles.specs.Steps as roles
-use Rattle.looks.specs.declared.look.Look.{Look}
-use Rattle.looks.specs.declared.look.Unspent.{Unspent}
+use Rattle.calls.specs.declared.look.Look.{Look}
+use Rattle.calls.specs.declared.look.Unspent.{Unspent}
 use Rattle.building.specs.declared.fault.BuildFault.TheVariants.{NotAuthorised, NoFunds, TooMany}
 use Rattle.building.specs.Requests.{StepRequest}
 use Rattle.building.specs.Holding.{holds_token, least_lacking}

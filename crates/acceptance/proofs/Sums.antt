@@ -19,7 +19,7 @@ use Rattle.eutxo_types.specs.declared.spend.Spend.{Spend}
 use Rattle.eutxo.specs.Differing.{tokens_of, differs, least}
 use Rattle.eutxo.specs.Places.{is_empty}
 use Rattle.eutxo.specs.Rules.{not_preserved}
-use Rattle.looks.specs.declared.look.Unspent.{Unspent}
+use Rattle.calls.specs.declared.look.Unspent.{Unspent}
 use Rattle.building.specs.Holding.{sums, held}
 use Rattle.building.specs.Laying.{given_to, rest}
 use Rattle.building.proofs.Holdings.{amount_of-sums, total_of-append}

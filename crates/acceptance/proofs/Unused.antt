@@ -16,7 +16,7 @@ use Rattle.eutxo.specs.Parts.{same_ref}
 use Rattle.eutxo.specs.Places.{is_empty}
 use Rattle.eutxo.specs.Rules.{no_inputs, too_many, repeated_input}
 use Rattle.roles.specs.declared.published.Published.{Published}
-use Rattle.looks.specs.declared.look.Unspent.{Unspent}
+use Rattle.calls.specs.declared.look.Unspent.{Unspent}
 use Rattle.history.specs.Past as past
 use Rattle.history.specs.Past.{Past, has_id, is_spent, is_used, unspent_at}
 use Rattle.history.specs.Sound.{moment}

@@ -8,8 +8,8 @@ use Rattle.eutxo.specs.Found.{script_at, whole}
 use Rattle.eutxo.specs.Judgement.{Moment, judge}
 use Rattle.eutxo.specs.Local.{local}
 use Rattle.roles.specs.declared.published.Published.{Published}
-use Rattle.looks.specs.declared.look.Look.{Look}
-use Rattle.looks.specs.declared.look.Unspent.{Unspent}
+use Rattle.calls.specs.declared.look.Look.{Look}
+use Rattle.calls.specs.declared.look.Unspent.{Unspent}
 use Rattle.building.specs.Requests.{StepRequest, StartRequest, ClaimRequest}
 use Rattle.building.specs.Steps.{Thread, thread, step_spent, hinders_step, layout_step}
 use Rattle.building.specs.Starts.{start_front, hinders_start, layout_start}

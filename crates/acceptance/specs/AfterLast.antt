@@ -8,7 +8,7 @@ use Rattle.semantics.specs.Walk.{Standing, answer_of}
 use Rattle.semantics.specs.Money.{paid_out}
 use Rattle.semantics.specs.Closing.{HasReached, IsSpent}
 use Rattle.bundle.specs.Bundles.{amount_of}
-use Rattle.looks.specs.declared.look.Look.{Look}
+use Rattle.calls.specs.declared.look.Look.{Look}
 use Rattle.building.specs.declared.fault.BuildFault.{BuildFault}
 use Rattle.building.specs.declared.fault.BuildFault.TheVariants.{NoThread, Semantics}
 use Rattle.building.specs.Requests.{StepRequest}

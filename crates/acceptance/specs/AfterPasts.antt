@@ -6,8 +6,8 @@ use Rattle.eutxo_types.specs.Ids.{id_of}
 use Rattle.eutxo_types.specs.Spelling.{tx_bytes}
 use Rattle.eutxo.specs.Judgement.{judge}
 use Rattle.roles.specs.declared.published.Published.{Published}
-use Rattle.looks.specs.declared.look.Look.{Look}
-use Rattle.looks.specs.declared.look.Unspent.{Unspent}
+use Rattle.calls.specs.declared.look.Look.{Look}
+use Rattle.calls.specs.declared.look.Unspent.{Unspent}
 use Rattle.building.specs.Requests.{StepRequest, StartRequest, ClaimRequest}
 use Rattle.building.specs.Steps.{Thread, thread, step_spent, hinders_step, layout_step}
 use Rattle.building.specs.Starts.{start_front, hinders_start, layout_start}

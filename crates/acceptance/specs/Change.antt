@@ -7,8 +7,8 @@ use Rattle.states.specs.States.{AllPositive}
 use Rattle.semantics.specs.Money.{deposited}
 use Rattle.bundle.specs.Bundles.{amount_of}
 use Rattle.bundle.specs.Totals.{total_of}
-use Rattle.looks.specs.declared.look.Look.{Look}
-use Rattle.looks.specs.declared.look.Unspent.{Unspent}
+use Rattle.calls.specs.declared.look.Look.{Look}
+use Rattle.calls.specs.declared.look.Unspent.{Unspent}
 use Rattle.building.specs.Requests.{StepRequest, StartRequest}
 use Rattle.building.specs.Holding.{held}
 use Rattle.building.specs.Laying.{rest}

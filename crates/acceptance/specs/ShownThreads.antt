@@ -3,8 +3,8 @@ use Rattle.std.specs.Prelude.{◌≡◌, ℕ, List, Option, Some}
 use Rattle.machine.specs.declared.datum.Datum.{Datum}
 use Rattle.eutxo.specs.Parts.{contract_in}
 use Rattle.roles.specs.declared.published.Published.{Published}
-use Rattle.looks.specs.declared.look.Look.{Look}
-use Rattle.looks.specs.declared.look.ThreadOutput.{ThreadOutput}
+use Rattle.calls.specs.declared.look.Look.{Look}
+use Rattle.calls.specs.declared.look.ThreadOutput.{ThreadOutput}
 use Rattle.building.specs.Steps.{Thread, thread}
 use Rattle.history.specs.Past.{Past, unspent_at}
 use Rattle.history.specs.Sound.{IsSound}

@@ -6,7 +6,7 @@ use Rattle.eutxo.specs.Places.{first_of}
 use Rattle.roles.specs.Sums.{sums_of}
 use Rattle.roles.specs.Steps.{same_amounts}
 use Rattle.roles.specs.Terms.{terms_of}
-use Rattle.looks.specs.declared.look.ThreadOutput.{ThreadOutput}
+use Rattle.calls.specs.declared.look.ThreadOutput.{ThreadOutput}
 use Rattle.building.specs.Steps.{Thread, stands, thread_in}
 use Rattle.building.proofs.Sufficing.{and_so}
 

@@ -33,8 +33,8 @@ use Rattle.eutxo.specs.Places.{is_empty}
 use Rattle.roles.specs.Sums.{sums_of}
 use Rattle.roles.specs.Steps.{same_amounts, role_token, needed}
 use Rattle.roles.specs.Terms.{terms_of}
-use Rattle.looks.specs.declared.look.ThreadOutput.{ThreadOutput}
-use Rattle.looks.specs.declared.look.Unspent.{Unspent}
+use Rattle.calls.specs.declared.look.ThreadOutput.{ThreadOutput}
+use Rattle.calls.specs.declared.look.Unspent.{Unspent}
 use Rattle.building.specs.Requests.{StepRequest}
 use Rattle.building.specs.Holding.{sums, held, holds_token, wanted, least_lacking}
 use Rattle.building.specs.Fronts.{shortest, suffices, front}

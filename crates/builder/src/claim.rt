@@ -12,11 +12,11 @@ use crate::inputs::{copies_of, put_keys};
 use crate::outputs::put_given;
 use crate::payouts::{check_held, check_payouts, put_claims, tokens_awaited};
 use building::BuildFault;
+use calls::Unspent;
 use collections::{Items, Text};
 use contract::Interval;
 use eutxo_types::Tx;
 use funding::{Amount, Shares, check_apart, check_signed, front_of, see_all, shares_within};
-use looks::Unspent;
 use std::alloc::Global;
 
 // What is asked for.

@@ -2,10 +2,10 @@
 ghost use Rattle.std.specs.Prelude.{◌≡◌, ◌++◌, map, IfOk, OnOk};
 ghost use Rattle.building.specs.Laying.{by_key};
 
+use calls::Unspent;
 use collections::{Items, Memory, TryClone};
 use contract::Input;
 use eutxo_types::{OutputRef, Redeemer, Spend};
-use looks::Unspent;
 use std::alloc::Global;
 
 fn by_key(unspent: &Unspent) -> Spend

@@ -16,7 +16,7 @@ mod step;
 mod thread;
 
 pub use building::BuildFault;
+pub use calls::{Ask, Look, PayoutLock, ThreadOutput, Unspent};
 pub use claim::build_claim;
-pub use looks::{Ask, Look, PayoutLock, ThreadOutput, Unspent};
 pub use start::build_start;
 pub use step::build_step;

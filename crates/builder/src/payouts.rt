@@ -11,11 +11,11 @@ ghost use Rattle.building.specs.Claims.{awaited, tokens_awaited, is_payout, no_p
 ghost use Rattle.funding.specs.Passing.{Passes};
 
 use building::BuildFault;
+use calls::Unspent;
 use collections::{Items, Memory, TryClone};
 use contract::Party;
 use eutxo_types::{Lock, Redeemer, Spend};
 use funding::{RoleToken, first_unheld};
-use looks::Unspent;
 use std::alloc::Global;
 
 fn is_payout(lock: &Lock) -> bool

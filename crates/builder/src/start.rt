@@ -22,6 +22,7 @@ use crate::outputs::{continuation, put_given, rest};
 use crate::payouts::are_none;
 use building::BuildFault;
 use bundle::Bundle;
+use calls::Unspent;
 use collections::{Bytes, Items, Text};
 use contract::{Interval, State};
 use eutxo_types::{Output, Tx};
@@ -29,7 +30,6 @@ use funding::{
     Amount, Shares, accounts_of, check_apart, check_funds, check_signed, see_all, see_room,
     shares_within, start_front,
 };
-use looks::Unspent;
 use names::Token;
 use roles::Published;
 use std::alloc::Global;

@@ -19,6 +19,7 @@ use crate::outputs::{made, put_given, rest};
 use crate::thread::{datum_of, is_closed};
 use building::BuildFault;
 use bundle::Bundle;
+use calls::{Look, ThreadOutput, Unspent};
 use collections::{Items, Text};
 use contract::{Input, Interval, Outcome, SemFault};
 use eutxo_types::{Cont, Datum, Output, Tx};
@@ -26,7 +27,6 @@ use funding::{
     check_authorised, check_funds, check_once, check_signed, deposits, front_of, roles_of, see_all,
     see_room, within_limits,
 };
-use looks::{Look, ThreadOutput, Unspent};
 use machine::compute;
 use semantics::{money_is_kept, payments_are_natural, transactions_end_quiet};
 use std::alloc::Global;

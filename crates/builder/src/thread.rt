@@ -6,9 +6,9 @@ ghost use Rattle.eutxo.specs.Parts.{contract_in};
 ghost use Rattle.roles.specs.Steps.{is_close};
 ghost use Rattle.building.specs.Steps.{stands, thread_in};
 
+use calls::ThreadOutput;
 use collections::Memory;
 use eutxo_types::{Cont, Datum, Lock};
-use looks::ThreadOutput;
 use roles::holds_sums;
 use semantics::Steps;
 use std::alloc::Global;

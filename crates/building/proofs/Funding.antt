@@ -34,7 +34,7 @@ use Rattle.bundle.proofs.Amounts.{amount_of-with_amount, sums_are_of_each_token,
 use Rattle.eutxo_types.specs.declared.output.Output.{Output}
 use Rattle.roles.specs.Steps.{only, owed, due_above, due_to, and_owed, due, is_close, continuation}
 use Rattle.roles.specs.Sums.{sums_in, sums_of}
-use Rattle.looks.specs.declared.look.Unspent.{Unspent}
+use Rattle.calls.specs.declared.look.Unspent.{Unspent}
 use Rattle.building.specs.Requests.{StepRequest}
 use Rattle.building.specs.Holding.{sums, held, wanted, lacks, least_lacking}
 use Rattle.building.specs.Laying.{rest}

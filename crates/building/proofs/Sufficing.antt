@@ -8,7 +8,7 @@ use Rattle.names.specs.Orders.{token_cmp}
 use Rattle.bundle.specs.Bundles.{Amounts, amount_of}
 use Rattle.bundle.specs.Totals.{total_of}
 use Rattle.eutxo.specs.Differing.{lesser, least}
-use Rattle.looks.specs.declared.look.Unspent.{Unspent}
+use Rattle.calls.specs.declared.look.Unspent.{Unspent}
 use Rattle.building.specs.Holding.{held, holds_token, wanted, lacks, least_lacking}
 use Rattle.building.specs.Fronts.{suffices, front}
 use Rattle.building.specs.Serving.{AreBundles}

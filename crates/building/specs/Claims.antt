@@ -8,7 +8,7 @@ use Rattle.eutxo_types.specs.declared.lock.Lock.TheVariants.{Key, Payout, Contra
 use Rattle.eutxo_types.specs.declared.tx.Tx.{Tx}
 use Rattle.eutxo.specs.Places.{first_of, is_empty}
 use Rattle.roles.specs.Steps.{role_token}
-use Rattle.looks.specs.declared.look.Unspent.{Unspent}
+use Rattle.calls.specs.declared.look.Unspent.{Unspent}
 use Rattle.building.specs.declared.fault.BuildFault.{BuildFault}
 use Rattle.building.specs.declared.fault.BuildFault.TheVariants.{NoThread, NotAuthorised}
 use Rattle.building.specs.Requests.{ClaimRequest}

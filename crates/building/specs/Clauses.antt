@@ -9,7 +9,7 @@ use Rattle.eutxo_types.specs.declared.lock.Lock.TheVariants.{Key, Payout, Contra
 use Rattle.eutxo_types.specs.declared.output_ref.OutputRef.{OutputRef}
 use Rattle.eutxo.specs.Parts.{same_ref}
 use Rattle.eutxo.specs.Rules.{has_signed}
-use Rattle.looks.specs.declared.look.Unspent.{Unspent}
+use Rattle.calls.specs.declared.look.Unspent.{Unspent}
 use Rattle.building.specs.declared.fault.BuildFault.{BuildFault}
 use Rattle.building.specs.declared.fault.BuildFault.TheVariants.{NotSigned, NoFunds, TooMany, Repeated}
 use Rattle.building.specs.Holding.{sums, held, least_lacking}

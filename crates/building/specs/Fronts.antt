@@ -2,7 +2,7 @@
 use Rattle.std.specs.Prelude.{ℤ, Bool, ◌&&◌, if◌then◌else◌, List, [], ◌∷◌, is_none}
 use Rattle.std.specs.List.{list_all}
 use Rattle.names.specs.declared.token.Token.{Token}
-use Rattle.looks.specs.declared.look.Unspent.{Unspent}
+use Rattle.calls.specs.declared.look.Unspent.{Unspent}
 use Rattle.building.specs.Holding.{holds_token, least_lacking}
 
 -- the shortest beginning that passes a test; all, where none does

@@ -8,7 +8,7 @@ use Rattle.states.specs.States.{counted}
 use Rattle.bundle.specs.Bundles.{Amounts, amount_of, plus}
 use Rattle.bundle.specs.Totals.{total_of}
 use Rattle.eutxo.specs.Differing.{least}
-use Rattle.looks.specs.declared.look.Unspent.{Unspent}
+use Rattle.calls.specs.declared.look.Unspent.{Unspent}
 
 -- what several hold together, token by token
 abbrev pub sums : {A : Type 0} → (A → Amounts) → List A → Amounts

@@ -9,7 +9,7 @@ use Rattle.eutxo_types.specs.declared.redeemer.Redeemer.{Redeemer}
 use Rattle.eutxo_types.specs.declared.redeemer.Redeemer.TheVariants as with
 use Rattle.eutxo_types.specs.declared.spend.Spend.{Spend}
 use Rattle.eutxo.specs.Places.{is_empty}
-use Rattle.looks.specs.declared.look.Unspent.{Unspent}
+use Rattle.calls.specs.declared.look.Unspent.{Unspent}
 use Rattle.building.specs.Holding.{sums, held}
 
 -- an input that spends an output

@@ -4,7 +4,7 @@ use Rattle.contract.specs.declared.input.Input.{Input}
 use Rattle.contract.specs.declared.interval.Interval.{Interval}
 use Rattle.states.specs.States.{StateMaps}
 use Rattle.roles.specs.declared.published.Published.{Published}
-use Rattle.looks.specs.declared.look.Unspent.{Unspent}
+use Rattle.calls.specs.declared.look.Unspent.{Unspent}
 
 -- a step of the thread that a look shows, with the outputs that are offered, and the address to which the change goes
 pub record StepRequest : Type 0 where

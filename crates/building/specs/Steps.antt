@@ -18,9 +18,9 @@ use Rattle.eutxo.specs.Rules.{has_signed}
 use Rattle.roles.specs.Sums.{sums_of}
 use Rattle.roles.specs.Terms.{Terms, terms_of}
 use Rattle.roles.specs.Steps.{same_amounts, role_token, needed, continuation, due, is_close}
-use Rattle.looks.specs.declared.look.Look.{Look}
-use Rattle.looks.specs.declared.look.ThreadOutput.{ThreadOutput}
-use Rattle.looks.specs.declared.look.Unspent.{Unspent}
+use Rattle.calls.specs.declared.look.Look.{Look}
+use Rattle.calls.specs.declared.look.ThreadOutput.{ThreadOutput}
+use Rattle.calls.specs.declared.look.Unspent.{Unspent}
 use Rattle.building.specs.declared.fault.BuildFault.{BuildFault}
 use Rattle.building.specs.declared.fault.BuildFault.TheVariants.{NoThread, Semantics, NotAuthorised, TooMany}
 use Rattle.building.specs.Requests.{StepRequest}

@@ -1,8 +1,9 @@
 //! Calls, replies and entries.
+use crate::ask::Ask;
+use crate::look::Look;
 use collections::{Bytes, Items, Memory, Same, TryClone};
 use contract::Contract;
 use eutxo_types::{Tx, TxFault, Verdict};
-use looks::{Ask, Look};
 use roles::CompileFault;
 
 /// What a caller asks of the chain.

@@ -1,6 +1,6 @@
 -- One more entry of a course.
 use Rattle.std.proofs.Common.{◌≡◌, ℕ, zero, suc, ℤ, Bool, true, false, List, [], ◌∷◌, ◌++◌, refl, sym, ◌∙◌, ap, subst, Option, Some, None, ◌⊎◌, inl, inr, map, take, Result, Ok, Err}
-use Rattle.std.specs.Prelude.{if◌then◌else◌, is_some}
+use Rattle.std.specs.Prelude.{if◌then◌else◌, is_some, OnErr}
 use Rattle.std.specs.List.{slice_get}
 use Rattle.compiler.specs.declared.fault.CompileFault.{CompileFault}
 use Rattle.eutxo_types.specs.declared.output.Output.{Output}
@@ -16,7 +16,8 @@ use Rattle.calls.specs.declared.call.Entry.{Entry}
 use Rattle.eutxo_types.specs.Ids.{id_of}
 use Rattle.standing.specs.Standing.{Standing, World, Course, changed, world, published_at, publication, with_one, publishes, published_from, published}
 use Rattle.calls.specs.Replies.{is_published}
-use Rattle.chain.specs.Legal.{is_same, if_same, publishing, reply_to, Follows, IsLegal, with_entry, entry_of, with_new}
+use Rattle.answering.specs.Answering.{is_same, if_same, publishing, reply_to, with_new}
+use Rattle.chain.specs.Legal.{Follows, IsLegal, with_entry, entry_of}
 use Rattle.chain.specs.Kept.{IsKept}
 use Rattle.standing.proofs.Walking.{standing_after}
 use Rattle.chain.proofs.Sound.{course_so, tables_so}
@@ -85,3 +86,8 @@ kept_start law genesis tick keys = record { objects = refl; used = refl; legal =
 
 pub same_entry : (a b : Entry) → a.seat ≡ b.seat → a.number ≡ b.number → a.call ≡ b.call → a.reply ≡ b.reply → a ≡ b
 same_entry a b p q r s = λ i. record { seat = p i; number = q i; call = r i; reply = s i }
+
+-- what holds, holds where there is an error
+pub on_err : {T E P : Type 0} (r : Result T E) → P → OnErr r P
+on_err (Ok v) p = tt
+on_err (Err e) p = p

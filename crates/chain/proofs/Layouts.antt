@@ -6,7 +6,7 @@ use Rattle.eutxo_types.specs.declared.output.Output.{Output}
 use Rattle.eutxo_types.specs.declared.output_ref.OutputRef.{OutputRef}
 use Rattle.eutxo.specs.Parts.{same_bytes, contract_in}
 use Rattle.roles.specs.declared.published.Published.{Published}
-use Rattle.looks.specs.declared.look.ThreadOutput.{ThreadOutput}
+use Rattle.calls.specs.declared.look.ThreadOutput.{ThreadOutput}
 use Rattle.history.specs.Past.{Past, unspent_at}
 use Rattle.building.specs.Steps.{layout_step}
 use Rattle.building.specs.Starts.{layout_start}
@@ -15,7 +15,7 @@ use Rattle.acceptance.specs.AfterPasts.{StepsAreAcceptedAfter, StartsAreAccepted
 use Rattle.acceptance.specs.ShownThreads.{AreUnderIds, IsShown, ShownThreadsStand}
 use Rattle.standing.specs.Standing.{Course, World, world, past_of, published, published_at}
 use Rattle.showing.specs.Looking.{with_published, under_script, output_at, shown_at, end_of, thread_shown, look}
-use Rattle.chain.specs.Legal.{submitted}
+use Rattle.answering.specs.Answering.{submitted}
 use Rattle.chain.specs.Kept.{IsKept}
 use Rattle.chain.specs.Layouts.{AcceptsSteps, AcceptsStarts, AcceptsClaims, ShowsStanding}
 

@@ -1,7 +1,5 @@
-mod Rounds
-mod Accepting
+mod Staying
 mod Publishing
 mod Sound
 mod Courses
-mod Fitting
 mod Layouts

@@ -11,9 +11,10 @@ use Rattle.calls.specs.declared.call.Call.{Call}
 use Rattle.calls.specs.declared.call.Call.TheVariants as on
 use Rattle.calls.specs.declared.call.Reply.{Reply}
 use Rattle.standing.specs.Standing.{Pending, Standing, World, Course, world, past_of, published_at, published, publication, with_one, changed, accepted_among, standing}
-use Rattle.chain.specs.Legal.{submitted, accepting, if_accepted, judged, verdicts, reply_to, with_entry, entry_of, with_new}
+use Rattle.answering.specs.Answering.{submitted, accepting, if_accepted, judged, verdicts, reply_to, with_new}
+use Rattle.chain.specs.Legal.{with_entry, entry_of}
 use Rattle.standing.proofs.Walking.{standing_after}
-use Rattle.chain.proofs.Accepting.{after_advance, after_enqueue, only_first, no_more, one_kept}
+use Rattle.answering.proofs.Accepting.{after_advance, after_enqueue, only_first, no_more, one_kept}
 use Rattle.chain.proofs.Publishing.{new_is_more, new_are_tables}
 
 abbrev SoundWith : List Published → List Output → List Tx → Type 0

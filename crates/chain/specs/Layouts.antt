@@ -3,10 +3,10 @@ use Rattle.std.specs.Prelude.{◌≡◌, List, ◌++◌, Some, None}
 use Rattle.machine.specs.declared.datum.Datum.{Datum}
 use Rattle.eutxo_types.specs.declared.tx.Tx.{Tx}
 use Rattle.eutxo_types.specs.Ids.{id_of}
-use Rattle.looks.specs.declared.ask.Ask.{Ask}
-use Rattle.looks.specs.declared.look.Look.{Look}
-use Rattle.looks.specs.declared.look.ThreadOutput.{ThreadOutput}
-use Rattle.looks.specs.declared.look.Unspent.{Unspent}
+use Rattle.calls.specs.declared.ask.Ask.{Ask}
+use Rattle.calls.specs.declared.look.Look.{Look}
+use Rattle.calls.specs.declared.look.ThreadOutput.{ThreadOutput}
+use Rattle.calls.specs.declared.look.Unspent.{Unspent}
 use Rattle.building.specs.Requests.{StepRequest, StartRequest, ClaimRequest}
 use Rattle.building.specs.Steps.{Thread, thread, step_spent, hinders_step, layout_step}
 use Rattle.building.specs.Starts.{start_front, hinders_start, layout_start}
@@ -16,7 +16,7 @@ use Rattle.calls.specs.declared.call.Call.TheVariants as on
 use Rattle.calls.specs.declared.call.Reply.TheVariants as answer
 use Rattle.standing.specs.Standing.{Course, world, past_of, published_at}
 use Rattle.showing.specs.Looking.{thread_shown, look}
-use Rattle.chain.specs.Legal.{reply_to}
+use Rattle.answering.specs.Answering.{reply_to}
 
 -- a Submit of this transaction is answered that it is accepted
 abbrev pub Accepts : Course → Tx → Type 0

@@ -1,4 +1,3 @@
 pub mod Legal
-pub mod Beginning
 pub mod Kept
 pub mod Layouts

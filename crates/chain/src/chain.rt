@@ -1,27 +1,24 @@
 //! The ledger of one thread.
-ghost use Rattle.std.specs.Prelude.{◌≡◌, ◌↔◌, ◌++◌, ◌≤◌, [], All, IfOk, IfErr, OnErr, OnOk, IsTrue, length, drop, map, option_to_list};
-ghost use Rattle.history.specs.Laws.{marlowe, EachIsARun, EndsWithItsRun, EachStepHasItsThread, ContractsAreStepped, EachContractEndsAThread, EachEndIsUnspent, AreFunded, AreOfTables, EachIsAuthorised, IsSpentOnce, IsPreserved};
+ghost use Rattle.std.specs.Prelude.{◌≡◌, ◌++◌, ◌≤◌, [], IfOk, IfErr, OnErr, OnOk, length, drop, map, option_to_list};
+ghost use Rattle.history.specs.Laws.{EachIsARun, EndsWithItsRun, EachStepHasItsThread, ContractsAreStepped, EachContractEndsAThread, EachEndIsUnspent, AreFunded, AreOfTables, EachIsAuthorised, IsSpentOnce, IsPreserved};
 ghost use Rattle.history.specs.Sound.{AreKeys};
-ghost use Rattle.roles.specs.Steps.{is_key};
 ghost use Rattle.eutxo.specs.Judgement.{found};
-ghost use Rattle.std.specs.Bool.{MatchBool};
-ghost use Rattle.chain.specs.Beginning.{IsNatural, SumsFit, HasLargeSum, IsNoStart};
+ghost use Rattle.standing.specs.Beginning.{SumsFit, IsNoStart};
 ghost use Rattle.eutxo_types.specs.Ids.{id_of};
 ghost use Rattle.standing.specs.Standing.{changed, past_of, world, standing, published, published_at, moment_of};
 ghost use Rattle.chain.specs.Layouts.{AcceptsSteps, AcceptsStarts, AcceptsClaims, ShowsStanding};
-ghost use Rattle.chain.specs.Legal.{reply_to, entry_of, with_entry, with_new, IsLegal};
+ghost use Rattle.answering.specs.Answering.{reply_to, with_new};
+ghost use Rattle.chain.specs.Legal.{entry_of, with_entry, IsLegal};
 ghost use Rattle.records.specs.Recording.{AreSteps};
 
-use crate::answering::answer;
-use crate::genesis_fault::GenesisFault;
 use acceptance::{
     claims_are_accepted, shown_threads_stand, starts_are_accepted, steps_are_accepted,
 };
-use bundle::{Bundle, BundleFault};
+use answering::answer;
 use calls::{Call, Entry, Reply};
 use collections::{Items, Memory, TryClone};
 use eutxo::{Checked, Resolved, Shared};
-use eutxo_types::{Lock, Output, OutputRef, Tx};
+use eutxo_types::{Output, OutputRef, Tx};
 use history::{
     accepting_is_sound, contracts_are_funded, contracts_end_threads, outputs_are_spent_once,
     parties_are_authorised, publishing_is_sound, starting_is_sound, steps_stand_on_threads,
@@ -30,8 +27,8 @@ use history::{
 use judging::resolve;
 use records::{StepRecord, steps_of};
 use roles::{Published, published_are_tables};
-use standing::{World, count_of, ids_of, last_tick, walk};
-use std::alloc::{AllocError, Global};
+use standing::{GenesisFault, World, check_genesis, count_of, ids_of, last_tick, walk};
+use std::alloc::Global;
 use std::marker::Model;
 
 // Adds what one call published, and the ids of what it accepted, or neither.
@@ -53,50 +50,6 @@ fn add_found(
     Ok(())
 }
 
-fn is_key(lock: &Lock) -> bool
-    ensures { result ≡ is_key lock.now }
-{
-    matches!(lock, Lock::Key(_))
-}
-
-fn are_keys(outputs: &[Output]) -> bool
-    ensures { IsTrue result ↔ AreKeys outputs.now }
-{
-    outputs.iter().all(|o| is_key(&o.lock))
-}
-
-fn is_natural(output: &Output)
-    ensures { IsNatural output.now }
-{
-    let _ = output.amount.entries();
-}
-
-// No amount is below 0, so what some outputs hold is never more than what all hold.
-fn are_natural(outputs: &[Output])
-    ensures { All IsNatural outputs.now }
-{
-    for o in outputs {
-        is_natural(o);
-    }
-}
-
-// Whether the sum of each token over these outputs is at most 2^127 - 1.
-#[tactic(auto, using(crate::proofs::Fitting::sums_start, crate::proofs::Fitting::amounts_start, crate::proofs::Fitting::sums_next, crate::proofs::Fitting::fitting_sum, crate::proofs::Fitting::sums_fit, crate::proofs::Fitting::sum_is_large))]
-fn sums_fit(alloc: Global, outputs: &[Output]) -> Result<bool, Memory>
-    ensures { IfOk result (λ fits. MatchBool fits (SumsFit outputs.now) (HasLargeSum outputs.now)) }
-{
-    are_natural(outputs);
-    let mut held = Bundle::new(alloc);
-    for o in outputs {
-        match held.add(&o.amount) {
-            Ok(()) => {}
-            Err(BundleFault::Memory) => return Err(AllocError),
-            Err(_) => return Ok(false),
-        }
-    }
-    Ok(true)
-}
-
 /// The ledger of one thread: what it began with, what was published, its history, and the ids of what was
 /// accepted, each of which is computed once. It finds everything else by walking over the entries. Clauses
 /// see the outputs and the tick that it began with, and the entries.
@@ -115,8 +68,8 @@ impl Model for Chain {
     ghost use Rattle.contract.specs.contracts.tree.Contract as trees;
     ghost use Rattle.eutxo_types.specs.contracts.output.Output as outputs;
     ghost use Rattle.eutxo_types.specs.contracts.tx.Tx as txs;
-    ghost use Rattle.looks.specs.contracts.ask.Ask as ask_rows;
-    ghost use Rattle.looks.specs.contracts.look.Look as look_rows;
+    ghost use Rattle.calls.specs.contracts.ask.Ask as ask_rows;
+    ghost use Rattle.calls.specs.contracts.look.Look as look_rows;
     ghost use Rattle.standing.specs.Standing.{Course};
     ghost use Rattle.chain.specs.Kept.{IsKept};
 
@@ -197,7 +150,7 @@ impl Chain {
     }
 
     // What a call is answered, what it publishes, and the ids of what it accepts.
-    #[tactic(auto, using(crate::proofs::Accepting::enough_found))]
+    #[tactic(auto, using(crate::proofs::Staying::enough_found))]
     fn replies(
         &self,
         alloc: Global,
@@ -357,12 +310,7 @@ impl Chain {
         ensures ok { IfOk result (λ chain. (chain ≡ record { genesis = outputs; first_tick = tick; entries = [] }) × AreKeys outputs × SumsFit outputs) }
         ensures err { IfErr result (λ fault. IsNoStart outputs fault) }
     {
-        if !are_keys(outputs.as_slice()) {
-            return Err(GenesisFault::NotKey);
-        }
-        if !sums_fit(alloc, outputs.as_slice())? {
-            return Err(GenesisFault::TooLarge);
-        }
+        check_genesis(alloc, outputs.as_slice())?;
         Ok(Chain::starting(alloc, outputs, tick))
     }
 }

@@ -3,10 +3,10 @@ use crate::offers::Handed;
 use crate::session::Desk;
 use crate::shown::put_output;
 use builder::{BuildFault, build_claim, build_start, build_step};
+use calls::Look;
 use collections::{Items, Text};
 use contract::{Input, State};
 use eutxo_types::{Output, Spend, Tx, TxFault};
-use looks::Look;
 use roles::Published;
 use std::alloc::{AllocError, Global};
 use transaction_text::{

@@ -1,7 +1,7 @@
 //! What is handed in beside a request.
+use calls::{Look, Unspent};
 use collections::{Items, TryClone};
 use eutxo_types::{Output, OutputRef};
-use looks::{Look, Unspent};
 use std::alloc::Global;
 use transaction_text::{Known, RowFault, first, number, output_of, parts, put, reference_of};
 

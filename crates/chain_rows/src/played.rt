@@ -1,11 +1,11 @@
 //! Calls.
 use crate::replies::reply_lines;
 use crate::session::Desk;
+use calls::{Ask, PayoutLock};
 use chain::{Call, Chain};
 use collections::{Items, TryClone};
 use contract_json::read_contract;
 use eutxo_types::Tx;
-use looks::{Ask, PayoutLock};
 use std::alloc::Global;
 use std::mem;
 use transaction_text::{

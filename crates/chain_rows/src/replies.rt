@@ -1,8 +1,8 @@
 //! Replies as they are printed.
 use crate::shown::put_look;
+use calls::Look;
 use chain::{Call, Reply, Ticketed};
 use collections::Memory;
-use looks::Look;
 use std::alloc::{AllocError, Global};
 use transaction_text::{Known, RowFault, refusal_line, replace, verdict_line, word_of_id};
 

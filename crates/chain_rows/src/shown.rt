@@ -1,9 +1,9 @@
 //! Outputs and looks as they are printed.
+use calls::{Look, ThreadOutput, Unspent};
 use collections::Memory;
 use contract::State;
 use contract_json::state_to_json;
 use eutxo_types::{Datum, Lock, Output, OutputRef};
-use looks::{Look, ThreadOutput, Unspent};
 use std::alloc::{AllocError, Global};
 use transaction_text::{Known, put_amounts, word_of_reference};
 

@@ -14,7 +14,7 @@ use Rattle.names.specs.Totals.{token_total}
 use Rattle.contract.specs.declared.input.Input.{Input}
 use Rattle.bundle.specs.Bundles.{Amounts}
 use Rattle.roles.specs.Steps.{role_token, needed}
-use Rattle.looks.specs.declared.look.Unspent.{Unspent}
+use Rattle.calls.specs.declared.look.Unspent.{Unspent}
 use Rattle.building.specs.Holding.{held, holds_token}
 use Rattle.building.specs.Serving.{AreBundles}
 use Rattle.building.specs.Steps.{token_of, roles_of, may_act}

@@ -2,7 +2,7 @@
 use Rattle.std.proofs.Common.{◌≡◌, ℤ, ℕ, zero, suc, ◌<◌, Bool, true, false, not, ◌&&◌, List, [], ◌∷◌, length, take, refl, sym, subst, ◌⊎◌, inl, inr, arith}
 use Rattle.eutxo.specs.Places.{is_empty}
 use Rattle.names.specs.declared.token.Token.{Token}
-use Rattle.looks.specs.declared.look.Unspent.{Unspent}
+use Rattle.calls.specs.declared.look.Unspent.{Unspent}
 use Rattle.building.specs.Holding.{held}
 use Rattle.building.specs.Fronts.{shortest, suffices}
 use Rattle.building.specs.Serving.{AreBundles, IsShortest}

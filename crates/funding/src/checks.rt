@@ -12,10 +12,10 @@ use crate::funds::least_lacking;
 use crate::limits::{has_repeat, put_references};
 use crate::signed::are_signed;
 use building::BuildFault;
+use calls::Unspent;
 use collections::{Bytes, Text, TryClone};
 use contract::Input;
 use eutxo_types::{Output, OutputRef};
-use looks::Unspent;
 use std::alloc::Global;
 
 /// Each offered output is under the key of a signer.

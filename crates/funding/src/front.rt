@@ -8,8 +8,8 @@ ghost use Rattle.building.specs.Serving.{AreBundles, IsShortest};
 use crate::amounts::Amount;
 use crate::needed::{meet, needs_of};
 use crate::roles_needed::RoleToken;
+use calls::Unspent;
 use collections::Memory;
-use looks::Unspent;
 use std::alloc::Global;
 
 // How many offered outputs the shortest front has that suffices: what they hold is counted until nothing is needed.

@@ -6,8 +6,8 @@ ghost use Rattle.building.specs.Serving.{AreBundles};
 use crate::amounts::Amount;
 use crate::needed::lacking;
 use crate::roles_needed::RoleToken;
+use calls::Unspent;
 use collections::{Memory, TryClone};
-use looks::Unspent;
 use names::Token;
 use std::alloc::Global;
 

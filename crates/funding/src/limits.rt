@@ -12,10 +12,10 @@ ghost use Rattle.funding.specs.Passing.{Passes};
 use crate::sums::{see, see_room, sum, with};
 use building::BuildFault;
 use bundle::{Bundle, BundleFault};
+use calls::Unspent;
 use collections::Memory;
 use contract::Input;
 use eutxo_types::{Output, OutputRef};
-use looks::Unspent;
 use std::alloc::Global;
 use std::collections::HashSet;
 

@@ -11,8 +11,8 @@ ghost use Rattle.funding.specs.Needed.{need, Stands};
 
 use crate::amounts::Amount;
 use crate::roles_needed::RoleToken;
+use calls::Unspent;
 use collections::Memory;
-use looks::Unspent;
 use needs::Needs;
 use std::alloc::Global;
 

@@ -3,10 +3,10 @@ ghost use Rattle.std.specs.Prelude.{◌≡◌};
 ghost use Rattle.std.specs.List.{list_all};
 ghost use Rattle.building.specs.Clauses.{is_signed};
 
+use calls::Unspent;
 use collections::Text;
 use eutxo::has_signed;
 use eutxo_types::Lock;
-use looks::Unspent;
 
 fn is_signed(signers: &[Text], lock: &Lock) -> bool
     ensures { result ≡ is_signed signers.now lock.now }

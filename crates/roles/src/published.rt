@@ -7,7 +7,6 @@ use table::{Cont, Table};
 /// "Participants, roles and public keys"), so the same contract under another currency is another
 /// script. What `publish` makes has the contract's table, the number in it that stands for the
 /// contract, and the id that follows from contract and currency.
-#[derive(Drop)]
 pub struct Published {
     /// By which contract outputs name it: 32 bytes.
     pub id: [u8; 32],
@@ -17,6 +16,18 @@ pub struct Published {
     pub root: Cont,
     /// The currency symbol of the roles' tokens.
     pub currency: Bytes,
+}
+
+// The drop is written, not derived: so it is proved here once, and not in each crate that drops such a value.
+impl Drop for Published {
+    fn drop(self) {
+        let Published {
+            id: _,
+            table: _,
+            root: _,
+            currency: _,
+        } = self;
+    }
 }
 
 impl TryClone for Published {

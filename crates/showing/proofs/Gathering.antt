@@ -6,8 +6,8 @@ use Rattle.eutxo_types.specs.declared.output.Output.{Output}
 use Rattle.eutxo_types.specs.declared.output_ref.OutputRef.{OutputRef}
 use Rattle.eutxo_types.specs.declared.lock.Lock.{Lock}
 use Rattle.eutxo_types.specs.declared.tx.Tx.{Tx}
-use Rattle.looks.specs.declared.look.Unspent.{Unspent}
-use Rattle.looks.specs.declared.look.Look.{Look}
+use Rattle.calls.specs.declared.look.Unspent.{Unspent}
+use Rattle.calls.specs.declared.look.Look.{Look}
 use Rattle.history.specs.Past.{Past, referred, made_by, made, created, is_spent}
 use Rattle.showing.specs.Looking.{shown_so, under_locks}
 use Rattle.showing.specs.Showing.{under}

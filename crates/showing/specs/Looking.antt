@@ -8,11 +8,11 @@ use Rattle.eutxo_types.specs.declared.output.Output.{Output}
 use Rattle.eutxo_types.specs.declared.output_ref.OutputRef.{OutputRef}
 use Rattle.eutxo.specs.Parts.{same_bytes, contract_in}
 use Rattle.roles.specs.declared.published.Published.{Published}
-use Rattle.looks.specs.declared.ask.Ask.{Ask}
-use Rattle.looks.specs.declared.ask.PayoutLock.{PayoutLock}
-use Rattle.looks.specs.declared.look.Look.{Look}
-use Rattle.looks.specs.declared.look.ThreadOutput.{ThreadOutput}
-use Rattle.looks.specs.declared.look.Unspent.{Unspent}
+use Rattle.calls.specs.declared.ask.Ask.{Ask}
+use Rattle.calls.specs.declared.ask.PayoutLock.{PayoutLock}
+use Rattle.calls.specs.declared.look.Look.{Look}
+use Rattle.calls.specs.declared.look.ThreadOutput.{ThreadOutput}
+use Rattle.calls.specs.declared.look.Unspent.{Unspent}
 use Rattle.history.specs.Past.{Past, unspent, unspent_at}
 use Rattle.history.specs.Threads.{thread, ends}
 use Rattle.standing.specs.Standing.{World, past_of, published_at}

@@ -7,7 +7,7 @@ use Rattle.eutxo_types.specs.declared.output.Output.{Output}
 use Rattle.eutxo_types.specs.declared.output_ref.OutputRef.{OutputRef}
 use Rattle.eutxo_types.specs.declared.output_ref.OutputRef.TheVariants as ref
 use Rattle.eutxo_types.specs.declared.tx.Tx.{Tx}
-use Rattle.looks.specs.declared.look.Unspent.{Unspent}
+use Rattle.calls.specs.declared.look.Unspent.{Unspent}
 use Rattle.history.specs.Past.{names}
 use Rattle.history.specs.Threads.{next_of}
 use Rattle.showing.specs.declared.looking.Naming.{Naming}

@@ -1,4 +1,5 @@
 mod Lists
 pub mod Walking
 mod Identified
-pub mod Finding
+mod Finding
+mod Fitting

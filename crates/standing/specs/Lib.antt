@@ -1,3 +1,4 @@
 pub mod Standing
 pub mod Ticks
 pub mod Threads
+pub mod Beginning

@@ -6,14 +6,18 @@
 //! keeps the entries keeps the ids.
 #![tactic(auto)]
 
+mod beginning;
 mod counting;
+mod genesis_fault;
 mod kept;
 mod threads;
 mod ticks;
 mod walked;
 mod world;
 
+pub use beginning::check_genesis;
 pub use counting::{count_of, count_tickets};
+pub use genesis_fault::GenesisFault;
 pub use kept::{Kept, Waiting, ids_of};
 pub use threads::{next_of, starts_in};
 pub use ticks::last_tick;

@@ -1,5 +1,5 @@
 use Rattle.std.proofs.Common.{◌≡◌, ◌++◌, drop, map}
-use Rattle.looks.specs.declared.look.Unspent.{Unspent}
+use Rattle.calls.specs.declared.look.Unspent.{Unspent}
 use Rattle.funding.proofs.limits.put_references.Given as goal
 
 abbrev pub invariant-loop-unspent : goal.invariant-loop-unspent

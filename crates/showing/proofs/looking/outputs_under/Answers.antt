@@ -1,6 +1,6 @@
 use Rattle.std.proofs.Common.{◌++◌, ◌∙◌, ap, sym, append_assoc, drop, ◌+◌, List}
 use Rattle.history.specs.Past.{made_by, made}
-use Rattle.looks.specs.declared.look.Unspent.{Unspent}
+use Rattle.calls.specs.declared.look.Unspent.{Unspent}
 use Rattle.showing.specs.Showing.{is_among, under}
 use Rattle.showing.proofs.Gathering.{under_next_tx}
 use Rattle.showing.proofs.looking.outputs_under.Goals as goal

@@ -1,7 +1,7 @@
 use Rattle.std.proofs.Common.{◌∙◌, ap}
 use Rattle.standing.specs.Standing.{World, world}
-use Rattle.chain.specs.Legal.{reply_to}
-use Rattle.chain.proofs.Accepting.{ids_found}
+use Rattle.answering.specs.Answering.{reply_to}
+use Rattle.chain.proofs.Staying.{ids_found}
 use Rattle.chain.proofs.chain.Chain.replies.Goals as goal
 
 pub returns-clause-reply : goal.returns-clause-reply

@@ -3,9 +3,10 @@ use Rattle.std.specs.Option.{option_to_list}
 use Rattle.eutxo_types.specs.Ids.{id_of}
 use Rattle.calls.specs.declared.call.Entry.{Entry}
 use Rattle.standing.specs.Standing.{Course, changed, count_of, published, world}
-use Rattle.chain.specs.Legal.{reply_to, entry_of, with_new}
+use Rattle.answering.specs.Answering.{reply_to, with_new}
+use Rattle.chain.specs.Legal.{entry_of}
 use Rattle.chain.specs.Kept.{IsKept}
-use Rattle.chain.proofs.Courses.{kept_more, same_entry}
+use Rattle.chain.proofs.Courses.{kept_more, same_entry, on_err}
 use Rattle.chain.proofs.chain.Chain.step.Goals as goal
 
 pub invariant_of-self-2 : goal.invariant_of-self-2
@@ -26,6 +27,11 @@ invariant_of-self-2 c =
     let entries = sym (c.push_reserved.ensures.items ∙ ap (λ (l : List Entry). l ++ made ∷ []) c.in_ok-reserve.ensures.items ∙ ap (λ (x : Entry). s.entries.items ++ x ∷ []) e) in
     subst (λ (l : List (List ℕ)). IsKept c.add_found.new.published.items l (let v : Course = record { genesis = s.genesis; first_tick = s.tick; entries = c.push_reserved.new.self.items } in v)) (sym c.in_ok-add_found.ensures.ids)
     (subst (λ (l : List Entry). IsKept c.add_found.new.published.items (s.ids.items ++ found.field-0.ids.items) (let v : Course = record { genesis = s.genesis; first_tick = s.tick; entries = l } in v)) entries kept)
+
+pub returns-in_err-add_found-clause-err : goal.returns-in_err-add_found-clause-err
+returns-in_err-add_found-clause-err c =
+    let s = c.self.inside in
+    on_err c.from_residual-in_err-add_found.result (ap (λ (l : List Entry). let v : Course = record { genesis = s.genesis; first_tick = s.tick; entries = l } in v) c.in_ok-reserve.ensures.items ∙ c.self.view_is)
 
 pub returns-clause-err : goal.returns-clause-err
 returns-clause-err c = tt

@@ -1,0 +1,3 @@
+mod Rounds
+pub mod Accepting
+mod Publishing
