@@ -3,10 +3,12 @@ ghost use Rattle.std.specs.Prelude.{◌≡◌, ◌<◌, ◌≤◌, ◌++◌, ◌
 ghost use Rattle.compiler.specs.declared.fault.CompileFault.TheVariants as faults;
 ghost use Rattle.eutxo_types.specs.Ids.{id_of};
 ghost use Rattle.eutxo.specs.Local.{verdict_of};
+ghost use Rattle.calls.specs.declared.call.Reply.TheVariants as replies;
 ghost use Rattle.standing.specs.Standing.{pended, accepted_among, changed, published_at, publication, with_one};
+ghost use Rattle.showing.specs.Looking.{look};
 ghost use Rattle.answering.specs.Answering.{publishing, judged, submitted, if_accepted, verdicts, if_later, if_room, reply_to, with_new};
 
-use calls::{Call, Reply, Ticketed};
+use calls::{Ask, Call, Reply, Ticketed};
 use collections::{Bytes, Items, Memory, TryClone};
 use contract::Contract;
 use eutxo::Shared;
@@ -210,6 +212,14 @@ fn publish_as(
     }
 }
 
+// ---- looks
+
+fn look(alloc: Global, world: &World<'_>, ask: &Ask) -> Result<Reply, Memory>
+    ensures { IfOk result (λ reply. reply ≡ replies.Look (look world.now ask.now)) }
+{
+    Ok(Reply::Look(show(alloc, world, ask)?))
+}
+
 /// What a call is answered after what stands, by the table of calls (`reply_to`), and what it adds to what is published.
 /// The world has then accepted what the call accepts; of its tick and its pending transactions nothing is told, since whoever
 /// keeps the entries reads them off calls and replies. Answers `Memory` only where a growth was refused.
@@ -226,7 +236,7 @@ pub fn answer<'a>(
     match call {
         Call::Publish { contract, currency } => publish_as(alloc, world, contract, currency),
         Call::Advance(tick) => Ok((advance(world, *tick), None)),
-        Call::Look(ask) => Ok((Reply::Look(show(alloc, world, ask)?), None)),
+        Call::Look(ask) => Ok((look(alloc, world, ask)?, None)),
         Call::Submit(tx) => Ok((submit(alloc, world, tx)?, None)),
         Call::Enqueue(_) => Ok((enqueue(world), None)),
         Call::Round(count) => Ok((Reply::Round(round(alloc, world, *count)?), None)),

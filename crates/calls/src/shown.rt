@@ -1,37 +1,23 @@
 //! What a look holds of a ledger.
 ghost use Rattle.std.specs.Prelude.{◌≡◌, IfOk, option_copied};
 ghost use Rattle.eutxo.specs.Judgement.{found};
-ghost use Rattle.eutxo.specs.Parts.{same_ref};
 ghost use Rattle.eutxo.specs.Places.{or_else};
 ghost use Rattle.roles.specs.declared.published.Published.{Published};
 ghost use Rattle.calls.specs.Shown.{output_among, thread_output, output_shown, script_shown, shown};
 
 use crate::look::{Look, ThreadOutput, Unspent};
 use collections::Memory;
-use eutxo::{Resolved, Shared};
+use eutxo::{Resolved, Shared, is_same};
 use eutxo_types::{Output, OutputRef, Tx};
 use judging::{Ledger, resolve};
 use roles::Published;
 use std::alloc::Global;
 
-fn is_same(a: &OutputRef, b: &OutputRef) -> bool
-    ensures { result ≡ same_ref a.now b.now }
-{
-    match (a, b) {
-        (OutputRef::Genesis { index: i }, OutputRef::Genesis { index: j }) => *i == *j,
-        (OutputRef::Made { id: n, index: i }, OutputRef::Made { id: m, index: j }) => {
-            *n == *m && *i == *j
-        }
-        (OutputRef::Genesis { .. }, OutputRef::Made { .. }) => false,
-        (OutputRef::Made { .. }, OutputRef::Genesis { .. }) => false,
-    }
-}
-
 fn output_among<'a>(outputs: &'a [Unspent], reference: &OutputRef) -> Option<&'a Output>
     ensures { option_copied result ≡ output_among outputs.now reference.now }
 {
     for x in outputs {
-        if is_same(&x.reference, reference) {
+        if is_same(x.reference, *reference) {
             return Some(&x.output);
         }
     }
@@ -43,7 +29,7 @@ fn thread_output<'a>(thread: &'a Option<ThreadOutput>, reference: &OutputRef) ->
 {
     match thread {
         Some(x) => {
-            if is_same(&x.reference, reference) {
+            if is_same(x.reference, *reference) {
                 Some(&x.output)
             } else {
                 None

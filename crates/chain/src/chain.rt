@@ -9,7 +9,7 @@ ghost use Rattle.standing.specs.Standing.{changed, past_of, world, standing, pub
 ghost use Rattle.chain.specs.Layouts.{AcceptsSteps, AcceptsStarts, AcceptsClaims, ShowsStanding};
 ghost use Rattle.answering.specs.Answering.{reply_to, with_new};
 ghost use Rattle.chain.specs.Legal.{entry_of, with_entry, IsLegal};
-ghost use Rattle.records.specs.Recording.{AreSteps};
+ghost use Rattle.showing.specs.Recording.{AreSteps};
 
 use acceptance::{
     claims_are_accepted, shown_threads_stand, starts_are_accepted, steps_are_accepted,
@@ -25,8 +25,8 @@ use history::{
     threads_are_runs, tokens_are_preserved,
 };
 use judging::resolve;
-use records::{StepRecord, steps_of};
 use roles::{Published, published_are_tables};
+use showing::{StepRecord, steps_of};
 use standing::{GenesisFault, World, check_genesis, count_of, ids_of, last_tick, walk};
 use std::alloc::Global;
 use std::marker::Model;

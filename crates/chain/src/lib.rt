@@ -12,5 +12,5 @@ mod chain;
 
 pub use calls::{Call, Entry, Reply, Ticketed};
 pub use chain::Chain;
-pub use records::StepRecord;
+pub use showing::StepRecord;
 pub use standing::GenesisFault;

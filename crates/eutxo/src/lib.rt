@@ -30,7 +30,7 @@ pub use laws::{
     worked_judgements,
 };
 pub use local::local as local_fault;
-pub use of_tx::{has_signed, of_tx as tx_fault};
+pub use of_tx::{has_signed, is_same, of_tx as tx_fault};
 pub use resolved::Resolved;
 pub use scripts::Scripts;
 pub use shared::Shared;

@@ -1,3 +1,7 @@
+mod Following
 mod Gathering
 mod Moving
 mod Spending
+mod Starting
+mod Stepping
+mod Telling

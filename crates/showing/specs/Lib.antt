@@ -1,2 +1,4 @@
 pub mod Looking
+pub mod Recording
 pub mod Showing
+pub mod Walking

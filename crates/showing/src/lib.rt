@@ -1,10 +1,19 @@
-//! What a look at a ledger shows.
+//! What is shown of what stands: a look at the ledger, and the records of a thread.
 //!
-//! The unspent output of the asked thread, with what is published under its script, and the unspent outputs
-//! under the asked locks in order of creation, as functions of what stands (`specs/Looking.antt`).
+//! A look has the unspent output of the asked thread, with what is published under its script, and the unspent
+//! outputs under the asked locks in order of creation, as functions of what stands (`specs/Looking.antt`). The
+//! records of a thread say what each of its transactions did to the contract (`specs/Recording.antt`): they are
+//! found by one walk over what was accepted, and by computing each step anew on the table that is published under
+//! the thread's script.
 #![tactic(auto)]
 
+mod along;
 mod looking;
+mod recording;
 mod spent;
+mod start;
+mod step_record;
 
 pub use looking::show;
+pub use recording::steps_of;
+pub use step_record::StepRecord;

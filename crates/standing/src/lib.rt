@@ -21,4 +21,4 @@ pub use genesis_fault::GenesisFault;
 pub use kept::{Kept, Waiting, ids_of};
 pub use threads::{next_of, starts_in};
 pub use ticks::last_tick;
-pub use world::{World, is_same, names, walk};
+pub use world::{World, names, walk};

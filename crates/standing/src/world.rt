@@ -14,7 +14,7 @@ use crate::kept::{Kept, Waiting, with_ids};
 use crate::walked::{Walked, gather};
 use calls::Entry;
 use collections::Memory;
-use eutxo::Shared;
+use eutxo::{Shared, is_same};
 use eutxo_types::{Output, OutputRef, Tx, TxFault};
 use judging::{Ledger, judge};
 use roles::Published;
@@ -76,20 +76,6 @@ pub fn walk<'a>(
 
 // ---- what the rules read
 
-/// Whether two references name one output.
-pub fn is_same(a: &OutputRef, b: &OutputRef) -> bool
-    ensures { result ≡ same_ref a.now b.now }
-{
-    match (a, b) {
-        (OutputRef::Genesis { index: i }, OutputRef::Genesis { index: j }) => *i == *j,
-        (OutputRef::Made { id: n, index: i }, OutputRef::Made { id: m, index: j }) => {
-            *n == *m && *i == *j
-        }
-        (OutputRef::Genesis { .. }, OutputRef::Made { .. }) => false,
-        (OutputRef::Made { .. }, OutputRef::Genesis { .. }) => false,
-    }
-}
-
 /// Whether an input of the transaction names the output.
 pub fn names(tx: &Tx, reference: &OutputRef) -> bool
     ensures { result ≡ names reference.now tx.now }
@@ -97,7 +83,7 @@ pub fn names(tx: &Tx, reference: &OutputRef) -> bool
     tx.inputs
         .as_slice()
         .iter()
-        .any(|x| is_same(&x.reference, reference))
+        .any(|x| is_same(x.reference, *reference))
 }
 
 fn output_of(outputs: &[Output], index: u64) -> Option<&Output>

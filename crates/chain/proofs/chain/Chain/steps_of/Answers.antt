@@ -2,7 +2,7 @@ use Rattle.std.proofs.Common.{sym, subst, IfOk}
 use Rattle.history.specs.Laws.{marlowe, AreTables}
 use Rattle.history.specs.Sound.{IsSound}
 use Rattle.standing.specs.Standing.{World, Course, world, past_of, published_at}
-use Rattle.records.specs.Recording.{AreSteps}
+use Rattle.showing.specs.Recording.{AreSteps}
 use Rattle.chain.proofs.chain.Chain.steps_of.Goals as goal
 
 pub steps_of-requires : goal.steps_of-requires

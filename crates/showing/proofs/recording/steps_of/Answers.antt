@@ -2,13 +2,13 @@ use Rattle.std.proofs.Common.{List, Option, sym, ◌∙◌, ap, subst}
 use Rattle.std.specs.Option.{option_map}
 use Rattle.eutxo_types.specs.declared.tx.Tx.{Tx}
 use Rattle.standing.specs.Standing.{past_of, published_at}
-use Rattle.records.specs.declared.start.Start.{Start}
-use Rattle.records.specs.declared.step_record.StepRecord.{StepRecord}
-use Rattle.records.specs.Recording.{TellTheRun, AreSteps}
-use Rattle.records.specs.Walking.{start_at}
-use Rattle.records.proofs.Starting.{start_so, of_start, of_none}
-use Rattle.records.proofs.Telling.{to_ok}
-use Rattle.records.proofs.recording.steps_of.Goals as goal
+use Rattle.showing.specs.declared.start.Start.{Start}
+use Rattle.showing.specs.declared.step_record.StepRecord.{StepRecord}
+use Rattle.showing.specs.Recording.{TellTheRun, AreSteps}
+use Rattle.showing.specs.Walking.{start_at}
+use Rattle.showing.proofs.Starting.{start_so, of_start, of_none}
+use Rattle.showing.proofs.Telling.{to_ok}
+use Rattle.showing.proofs.recording.steps_of.Goals as goal
 
 pub steps_from-requires-clause-start : goal.steps_from-requires-clause-start
 steps_from-requires-clause-start c =

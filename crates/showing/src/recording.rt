@@ -7,21 +7,21 @@ ghost use Rattle.history.specs.Laws.{marlowe, AreTables};
 ghost use Rattle.history.specs.Sound.{IsSound};
 ghost use Rattle.history.specs.Threads.{IsStart, Member, spine};
 ghost use Rattle.standing.specs.Standing.{past_of, published_at};
-ghost use Rattle.records.specs.Recording.{member_of, TellTheRun, AreSteps};
-ghost use Rattle.records.specs.Walking.{given, point, stands_after, IsStepOf, IsRunOf};
+ghost use Rattle.showing.specs.Recording.{member_of, TellTheRun, AreSteps};
+ghost use Rattle.showing.specs.Walking.{given, point, stands_after, IsStepOf, IsRunOf};
 
 use crate::along::{Along, thread};
 use crate::start::{Start, start_at};
 use crate::step_record::StepRecord;
 use collections::{Items, Memory, TryClone};
 use contract::{Input, SemFault, State};
-use eutxo::found_is_enough;
+use eutxo::{found_is_enough, is_same};
 use eutxo_types::{Cont, OutputRef, Redeemer, Spend};
 use history::threads_are_runs;
 use judging::Ledger;
 use roles::Published;
 use semantics::Steps;
-use standing::{World, is_same};
+use standing::World;
 use std::alloc::{AllocError, Global};
 
 // ---- a step
@@ -41,7 +41,7 @@ fn given(alloc: Global, reference: &OutputRef, inputs: &[Spend]) -> Result<Items
     ensures { IfOk result (λ xs. xs ≡ given reference.now inputs.now) }
 {
     for x in inputs {
-        if is_same(&x.reference, reference) {
+        if is_same(x.reference, *reference) {
             return inputs_of(alloc, &x.redeemer);
         }
     }

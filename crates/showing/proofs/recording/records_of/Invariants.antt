@@ -1,8 +1,8 @@
 use Rattle.std.proofs.Common.{◌≡◌, true, drop}
 use Rattle.std.specs.List.{All}
 use Rattle.roles.specs.Terms.{terms_of}
-use Rattle.records.specs.Walking.{point, stands_after, Goes}
-use Rattle.records.proofs.recording.records_of.Given as goal
+use Rattle.showing.specs.Walking.{point, stands_after, Goes}
+use Rattle.showing.proofs.recording.records_of.Given as goal
 
 abbrev pub invariant-loop-link : goal.invariant-loop-link
 invariant-loop-link l = record {

@@ -11,9 +11,9 @@ use Rattle.history.specs.Sound.{IsSound}
 use Rattle.history.specs.Laws.{marlowe, AreTables, ThreadsAreRuns}
 use Rattle.history.specs.Threads.{IsStart, Member, thread}
 use Rattle.history.proofs.Plain.{same_some}
-use Rattle.records.specs.declared.step_record.StepRecord.{StepRecord}
-use Rattle.records.specs.Recording.{member_of, TellTheRun}
-use Rattle.records.specs.Walking.{point, IsRunOf}
+use Rattle.showing.specs.declared.step_record.StepRecord.{StepRecord}
+use Rattle.showing.specs.Recording.{member_of, TellTheRun}
+use Rattle.showing.specs.Walking.{point, IsRunOf}
 
 module _ (law : ThreadsAreRuns) (named : List ℕ → Option Published) (past : Past) (tables : AreTables named) (sound : IsSound marlowe named past) where
   module _ (r : OutputRef) (script : List ℕ) (d : Datum) (start : IsStart past r script d) where

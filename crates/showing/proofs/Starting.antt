@@ -19,9 +19,9 @@ use Rattle.history.proofs.Plain.{and_true, both, same_some}
 use Rattle.history.proofs.References.{itself}
 use Rattle.history.proofs.Accepted.{one_place}
 use Rattle.standing.specs.Threads.{starts_in}
-use Rattle.records.specs.declared.step_record.StepRecord.{StepRecord}
-use Rattle.records.specs.Recording.{TellTheRun, AreSteps}
-use Rattle.records.specs.Walking.{contract_named, contract_by, start_at}
+use Rattle.showing.specs.declared.step_record.StepRecord.{StepRecord}
+use Rattle.showing.specs.Recording.{TellTheRun, AreSteps}
+use Rattle.showing.specs.Walking.{contract_named, contract_by, start_at}
 
 -- ---- the first that passes a test
 

@@ -6,7 +6,7 @@ use Rattle.roles.specs.declared.published.Published.{Published}
 use Rattle.roles.specs.Terms.{Terms, terms_of}
 use Rattle.history.specs.Past.{Past}
 use Rattle.history.specs.Threads.{IsStart, StartsThread, thread, Member, Run, Carries}
-use Rattle.records.specs.declared.step_record.StepRecord.{StepRecord}
+use Rattle.showing.specs.declared.step_record.StepRecord.{StepRecord}
 
 -- the member of a run that a record tells of: its number stands for the remaining contract
 abbrev pub member_of : Terms → StepRecord → Member

@@ -13,8 +13,8 @@ use Rattle.eutxo.specs.Parts.{contract_at, given_to}
 use Rattle.roles.specs.Terms.{Terms}
 use Rattle.history.specs.Threads.{Link, Member, Gives, Run, Carries}
 use Rattle.standing.specs.Threads.{starts_in}
-use Rattle.records.specs.declared.step_record.StepRecord.{StepRecord}
-use Rattle.records.specs.Recording.{member_of}
+use Rattle.showing.specs.declared.step_record.StepRecord.{StepRecord}
+use Rattle.showing.specs.Recording.{member_of}
 
 -- ---- the start
 

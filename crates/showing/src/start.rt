@@ -3,7 +3,7 @@ ghost use Rattle.std.specs.Prelude.{◌≡◌, ℕ, List, Option, find, option_m
 ghost use Rattle.machine.specs.declared.datum.Datum.{Datum};
 ghost use Rattle.eutxo.specs.Parts.{contract_in, contract_at};
 ghost use Rattle.standing.specs.Threads.{starts_in};
-ghost use Rattle.records.specs.Walking.{contract_named, start_at};
+ghost use Rattle.showing.specs.Walking.{contract_named, start_at};
 
 use eutxo_types::{Datum, Lock, OutputRef, Tx};
 use standing::{Kept, starts_in};

@@ -1,9 +1,9 @@
 use Rattle.std.proofs.Common.{◌≡◌, true, List, ◌∙◌, ap}
 use Rattle.roles.specs.Terms.{terms_of}
-use Rattle.records.specs.declared.step_record.StepRecord.{StepRecord}
-use Rattle.records.specs.Walking.{point, stands_after}
-use Rattle.records.proofs.Stepping.{step_next, goes_next, has_next, all_next}
-use Rattle.records.proofs.recording.records_of.Goals as goal
+use Rattle.showing.specs.declared.step_record.StepRecord.{StepRecord}
+use Rattle.showing.specs.Walking.{point, stands_after}
+use Rattle.showing.proofs.Stepping.{step_next, goes_next, has_next, all_next}
+use Rattle.showing.proofs.recording.records_of.Goals as goal
 
 pub recorded-requires-clause-step : goal.recorded-requires-clause-step
 recorded-requires-clause-step c =

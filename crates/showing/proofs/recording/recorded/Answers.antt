@@ -1,5 +1,5 @@
 use Rattle.table.specs.AlongLaws.{along_tree}
-use Rattle.records.proofs.recording.recorded.Goals as goal
+use Rattle.showing.proofs.recording.recorded.Goals as goal
 
 pub returns-in-Ok-clause-number : goal.returns-in-Ok-clause-number
 returns-in-Ok-clause-number c =

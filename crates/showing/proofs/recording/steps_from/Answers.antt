@@ -5,10 +5,10 @@ use Rattle.eutxo_types.specs.declared.tx.Tx.{Tx}
 use Rattle.roles.specs.Terms.{terms_of}
 use Rattle.history.specs.Threads.{Link, Member, spine}
 use Rattle.standing.specs.Standing.{past_of, published_at}
-use Rattle.records.specs.Recording.{member_of, TellTheRun}
-use Rattle.records.specs.Walking.{point, IsRunOf}
-use Rattle.records.proofs.Telling.{is_named, run_there, tells, both_ok}
-use Rattle.records.proofs.recording.steps_from.Goals as goal
+use Rattle.showing.specs.Recording.{member_of, TellTheRun}
+use Rattle.showing.specs.Walking.{point, IsRunOf}
+use Rattle.showing.proofs.Telling.{is_named, run_there, tells, both_ok}
+use Rattle.showing.proofs.recording.steps_from.Goals as goal
 
 pub unreachable-requires : goal.unreachable-requires
 unreachable-requires c =

@@ -5,9 +5,9 @@ use Rattle.std.proofs.lemmas.List.{at_drop_more, map-append}
 use Rattle.std.proofs.lemmas.List.Elements.{All-append}
 use Rattle.roles.specs.Terms.{Terms}
 use Rattle.history.specs.Threads.{Link, Member, Run, Carries}
-use Rattle.records.specs.declared.step_record.StepRecord.{StepRecord}
-use Rattle.records.specs.Recording.{member_of}
-use Rattle.records.specs.Walking.{Point, stands_after, left_by, IsStepOf, IsRunOf, Goes}
+use Rattle.showing.specs.declared.step_record.StepRecord.{StepRecord}
+use Rattle.showing.specs.Recording.{member_of}
+use Rattle.showing.specs.Walking.{Point, stands_after, left_by, IsStepOf, IsRunOf, Goes}
 
 -- ---- where a thread stands
 

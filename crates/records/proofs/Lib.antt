@@ -1,4 +1,0 @@
-pub mod Following
-pub mod Starting
-pub mod Stepping
-pub mod Telling

@@ -1,2 +1,0 @@
-pub mod Recording
-pub mod Walking
