@@ -63,8 +63,8 @@ impl Same for Unspent {
 
 impl TryClone for ThreadOutput {
     fn try_clone(&self) -> Result<ThreadOutput, Memory> {
-        let output = self.output.try_clone()?;
         let published = self.published.try_clone()?;
+        let output = self.output.try_clone()?;
         Ok(ThreadOutput {
             reference: self.reference,
             output,
@@ -92,9 +92,9 @@ fn copy_of(thread: &Option<ThreadOutput>) -> Result<Option<ThreadOutput>, Memory
 
 impl TryClone for Look {
     fn try_clone(&self) -> Result<Look, Memory> {
-        let thread = copy_of(&self.thread)?;
         let keys = self.keys.try_clone()?;
         let payouts = self.payouts.try_clone()?;
+        let thread = copy_of(&self.thread)?;
         Ok(Look {
             tick: self.tick,
             thread,
