@@ -8,7 +8,7 @@ use Rattle.eutxo_types.specs.declared.lock.Lock.{Lock}
 use Rattle.eutxo_types.specs.declared.tx.Tx.{Tx}
 use Rattle.calls.specs.declared.look.Unspent.{Unspent}
 use Rattle.calls.specs.declared.look.Look.{Look}
-use Rattle.history.specs.Past.{Past, referred, made_by, made, created, is_spent}
+use Rattle.history.specs.Past.{Past, made_by, made, created, is_spent}
 use Rattle.showing.specs.Looking.{shown_so, under_locks}
 use Rattle.showing.specs.Showing.{under}
 
@@ -35,14 +35,6 @@ under_append asked spent (e ∷ es) fs =
     ∙ ap (λ (l : List Unspent). under asked spent (e ∷ []) ++ l) (under_append asked spent es fs)
     ∙ sym (append_assoc (under asked spent (e ∷ [])) (under asked spent es) (under asked spent fs))
     ∙ ap (λ (l : List Unspent). l ++ under asked spent fs) (sym (under_cons asked spent e es))
-
--- the next of these outputs
-pub under_next : (asked : Lock → Bool) (spent : OutputRef → Bool) (name : ℕ → OutputRef) (os : List Output) (i : ℕ) (o : Output) → i < length os → o ≡ get_or os i o →
-    under asked spent (referred name i (drop i os)) ≡ under asked spent ((name i, o) ∷ []) ++ under asked spent (referred name (i + 1) (drop (i + 1) os))
-under_next asked spent name os i o h e =
-    at_drop_more (λ l. under asked spent (referred name i l)) os i o h
-    ∙ ap (λ (x : Output). under asked spent ((name i, x) ∷ referred name (i + 1) (drop (i + 1) os))) (sym e)
-    ∙ under_cons asked spent (name i, o) (referred name (i + 1) (drop (i + 1) os))
 
 -- the next of these transactions
 pub under_next_tx : (asked : Lock → Bool) (spent : OutputRef → Bool) (txs : List Tx) (i : ℕ) (tx : Tx) → i < length txs → tx ≡ get_or txs i tx →

@@ -1,28 +1,12 @@
--- Walks that gather what is spent.
-use Rattle.std.proofs.Common.{◌≡◌, ℕ, ◌+◌, ◌<◌, Bool, true, false, ◌||◌, if◌then◌else◌, List, refl, sym, ◌∙◌, ap, drop, length, get_or}
+-- What is spent, as a set of references.
+use Rattle.std.proofs.Common.{◌≡◌, ℕ, Bool, true, false, ◌||◌, if◌then◌else◌, List, refl, sym, ◌∙◌, ap}
 use Rattle.std.specs.Prelude.{◌==◌, ◌&&◌}
 use Rattle.std.specs.List.{list_any}
-use Rattle.std.proofs.lemmas.List.{at_drop_more}
 use Rattle.eutxo_types.specs.declared.output_ref.OutputRef.{OutputRef}
 use Rattle.eutxo_types.specs.declared.output_ref.OutputRef.TheVariants.{Genesis, Made}
 use Rattle.eutxo.specs.Parts.{same_bytes, same_ref}
 
--- the next item moves from what is left to what was found
-pub any_next : {A : Type 0} (p : A → Bool) (xs : List A) (i : ℕ) (x : A) (old new : Bool) → i < length xs → x ≡ get_or xs i x → new ≡ p x || old →
-    list_any p (drop i xs) || old ≡ list_any p (drop (i + 1) xs) || new
-any_next p xs i x old new h e q =
-    at_drop_more (λ l. list_any p l || old) xs i x h
-    ∙ ap (λ y. (p y || list_any p (drop (i + 1) xs)) || old) (sym e)
-    ∙ swap (p x) (list_any p (drop (i + 1) xs)) old
-    ∙ ap (λ b. list_any p (drop (i + 1) xs) || b) (sym q)
-  where
-    swap : (a b c : Bool) → (a || b) || c ≡ b || (a || c)
-    swap true true c = refl
-    swap true false c = refl
-    swap false b c = refl
-
--- ---- sets of references
-
+-- an equality of references that its cases tell is `same_ref`
 pub agree : (eq : OutputRef → OutputRef → Bool) → ((i j : ℕ) → eq (Genesis i) (Genesis j) ≡ (i == j)) → ((n m : List ℕ) (i j : ℕ) → eq (Made n i) (Made m j) ≡ same_bytes n m && (i == j)) →
     ((i j : ℕ) (m : List ℕ) → eq (Genesis i) (Made m j) ≡ false) → ((i j : ℕ) (n : List ℕ) → eq (Made n i) (Genesis j) ≡ false) → (a b : OutputRef) → eq a b ≡ same_ref a b
 agree eq g m x y (Genesis i) (Genesis j) = g i j

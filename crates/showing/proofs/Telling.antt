@@ -34,9 +34,6 @@ module _ (law : ThreadsAreRuns) (named : List ℕ → Option Published) (past : 
         All (λ x. (terms_of p).has x.number ≡ true) xs → TellTheRun named past r script d xs
     tells p h xs run numbers = record { object = p; named = h; run = run.runs; carried = run.carried; numbers = numbers }
 
-pub has_root : (named : List ℕ → Option Published) → AreTables named → (script : List ℕ) (p : Published) → named script ≡ Some p → (terms_of p).has p.root ≡ true
-has_root named tables script p h = (tables script p h).root
-
 pub both_ok : {A E : Type 0} (r : Result A E) (F G H : A → Type 0) → ((a : A) → F a → G a → H a) → IfOk r F → IfOk r G → IfOk r H
 both_ok (Ok a) F G H f h k = f a h k
 both_ok (Err e) F G H f h k = tt
