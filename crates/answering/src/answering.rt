@@ -223,7 +223,6 @@ fn look(alloc: Global, world: &World<'_>, ask: &Ask) -> Result<Reply, Memory>
 /// What a call is answered after what stands, by the table of calls (`reply_to`), and what it adds to what is published.
 /// The world has then accepted what the call accepts; of its tick and its pending transactions nothing is told, since whoever
 /// keeps the entries reads them off calls and replies. Answers `Memory` only where a growth was refused.
-#[tactic(auto, using(crate::proofs::Accepting::after_advance, crate::proofs::Accepting::after_enqueue, crate::proofs::Accepting::after_submit))]
 pub fn answer<'a>(
     alloc: Global,
     world: &mut World<'a>,

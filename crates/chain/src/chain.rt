@@ -87,8 +87,7 @@ impl Model for Chain {
 #[derive(Drop)]
 struct Found<R, O> {
     reply: R,
-    mine: R,
-    told: R,
+    copies: (R, R),
     object: O,
     ids: Vec<[u8; 32]>,
 }
@@ -103,8 +102,8 @@ fn with_copies<R: TryClone + Drop, O: Drop>(
 ) -> Result<Found<R, O>, Memory>
     requires { known ≤ length world.now.standing.accepted }
     ensures reply { IfOk result (λ r. r.reply ≡ reply) }
-    ensures mine { IfOk result (λ r. r.mine ≡ reply) }
-    ensures told { IfOk result (λ r. r.told ≡ reply) }
+    ensures mine { IfOk result (λ r. r.copies.0 ≡ reply) }
+    ensures told { IfOk result (λ r. r.copies.1 ≡ reply) }
     ensures object { IfOk result (λ r. r.object ≡ object) }
     ensures ids { IfOk result (λ r. r.ids.items ≡ map id_of (drop known world.now.standing.accepted)) }
 {
@@ -113,8 +112,7 @@ fn with_copies<R: TryClone + Drop, O: Drop>(
     let told = reply.try_clone()?;
     Ok(Found {
         reply,
-        mine,
-        told,
+        copies: (mine, told),
         object,
         ids,
     })
@@ -157,8 +155,8 @@ impl Chain {
         call: &Call,
     ) -> Result<Found<Reply, Option<Shared<Published>>>, Memory>
         ensures reply { IfOk result (λ r. r.reply ≡ reply_to (world self.now) call.now) }
-        ensures mine { IfOk result (λ r. r.mine ≡ reply_to (world self.now) call.now) }
-        ensures told { IfOk result (λ r. r.told ≡ reply_to (world self.now) call.now) }
+        ensures mine { IfOk result (λ r. r.copies.0 ≡ reply_to (world self.now) call.now) }
+        ensures told { IfOk result (λ r. r.copies.1 ≡ reply_to (world self.now) call.now) }
         ensures object { IfOk result (λ r. published self.now.entries ++ option_to_list r.object ≡ with_new (published self.now.entries) call.now) }
         ensures ids { IfOk result (λ r. map id_of (world self.now).standing.accepted ++ r.ids.items ≡ map id_of (changed (world self.now).standing call.now (reply_to (world self.now) call.now)).accepted) }
     {
@@ -218,8 +216,7 @@ impl Chain {
         published_are_tables();
         let Found {
             reply,
-            mine,
-            told,
+            copies,
             object,
             ids,
         } = self.replies(alloc, &call)?;
@@ -232,7 +229,7 @@ impl Chain {
             call,
             reply,
         });
-        Ok((mine, told))
+        Ok(copies)
     }
 
     /// The tick: the last that it was advanced to, else the first, in POSIX milliseconds. Takes no memory.

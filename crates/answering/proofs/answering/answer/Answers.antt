@@ -2,7 +2,7 @@ use Rattle.std.proofs.Common.{◌≡◌, sym, subst}
 use Rattle.calls.specs.declared.call.Call.{Call}
 use Rattle.standing.specs.Standing.{changed}
 use Rattle.answering.specs.Answering.{reply_to}
-use Rattle.answering.proofs.Accepting.{after_submit}
+use Rattle.answering.proofs.Accepting.{after_advance, after_enqueue, after_submit}
 use Rattle.answering.proofs.answering.answer.Goals as goal
 
 pub returns-in_ok-submit-in-Submit-clause-accepted : goal.returns-in_ok-submit-in-Submit-clause-accepted
@@ -10,3 +10,13 @@ returns-in_ok-submit-in-Submit-clause-accepted c =
     let w = c.args.world.now in
     let next = c.submit.new.world in
     subst (λ (k : Call). next.standing.accepted ≡ (changed w.standing k (reply_to w k)).accepted) (sym c.in-Submit.is) (after_submit w next c.in-Submit.tx c.in_ok-submit-in-Submit.ensures.world)
+
+pub returns-in-Advance-clause-accepted : goal.returns-in-Advance-clause-accepted
+returns-in-Advance-clause-accepted c =
+    let w = c.args.world.now in
+    subst (λ (k : Call). w.standing.accepted ≡ (changed w.standing k (reply_to w k)).accepted) (sym c.in-Advance.is) (after_advance w.standing c.in-Advance.tick)
+
+pub returns-in-Enqueue-clause-accepted : goal.returns-in-Enqueue-clause-accepted
+returns-in-Enqueue-clause-accepted c =
+    let w = c.args.world.now in
+    subst (λ (k : Call). w.standing.accepted ≡ (changed w.standing k (reply_to w k)).accepted) (sym c.in-Enqueue.is) (after_enqueue w c.in-Enqueue.field-0)
