@@ -62,7 +62,7 @@ CALLS = [
     ("`eutxo::Validator`", "eutxo/src/validator.rt: step start claim Validator"),
     ("`roles::publish`", "roles/src/publishing.rt: publish"),
     ("`roles::Published` as a `Validator`", "roles/src/step.rt: step_of; roles/src/script.rt: starts_from; roles/src/authorise.rt: holds_role"),
-    ("`judging::judge` and `resolve`", "judging/src/rules.rt: judge; judging/src/found.rt: resolve"),
+    ("`calls::judge` and `resolve`", "calls/src/rules.rt: judge; calls/src/found.rt: resolve"),
     ("`calls::Look::resolve`", "calls/src/shown.rt: resolve"),
     ("`chain::Chain`", "chain/src/chain.rt: genesis step tick resolve steps_of"),
     ("`chain::Chain::history`, with its laws", "chain/src/chain.rt: history"),

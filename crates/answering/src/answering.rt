@@ -8,12 +8,11 @@ ghost use Rattle.standing.specs.Standing.{pended, accepted_among, changed, publi
 ghost use Rattle.showing.specs.Looking.{look};
 ghost use Rattle.answering.specs.Answering.{publishing, judged, submitted, if_accepted, verdicts, if_later, if_room, reply_to, with_new};
 
-use calls::{Ask, Call, Reply, Ticketed};
+use calls::{Ask, Call, Ledger, Reply, Ticketed};
 use collections::{Bytes, Items, Memory, TryClone};
 use contract::Contract;
 use eutxo::Shared;
 use eutxo_types::{Tx, TxFault, Verdict, tx_id};
-use judging::Ledger;
 use roles::{CompileFault, Published, publish};
 use showing::show;
 use standing::{Waiting, World};

@@ -5,11 +5,12 @@ ghost use Rattle.eutxo.specs.Places.{or_else};
 ghost use Rattle.roles.specs.declared.published.Published.{Published};
 ghost use Rattle.calls.specs.Shown.{output_among, thread_output, output_shown, script_shown, shown};
 
+use crate::found::resolve;
+use crate::ledger::Ledger;
 use crate::look::{Look, ThreadOutput, Unspent};
 use collections::Memory;
 use eutxo::{Resolved, Shared, is_same};
 use eutxo_types::{Output, OutputRef, Tx};
-use judging::{Ledger, resolve};
 use roles::Published;
 use std::alloc::Global;
 

@@ -15,7 +15,7 @@ use acceptance::{
     claims_are_accepted, shown_threads_stand, starts_are_accepted, steps_are_accepted,
 };
 use answering::answer;
-use calls::{Call, Entry, Reply};
+use calls::{Call, Entry, Reply, resolve};
 use collections::{Items, Memory, TryClone};
 use eutxo::{Checked, Resolved, Shared};
 use eutxo_types::{Output, OutputRef, Tx};
@@ -24,7 +24,6 @@ use history::{
     parties_are_authorised, publishing_is_sound, starting_is_sound, steps_stand_on_threads,
     threads_are_runs, tokens_are_preserved,
 };
-use judging::resolve;
 use roles::{Published, published_are_tables};
 use showing::{StepRecord, steps_of};
 use standing::{GenesisFault, World, check_genesis, count_of, ids_of, last_tick, walk};

@@ -11,11 +11,10 @@ ghost use Rattle.showing.specs.Looking.{is_key_of, is_payout_of, under_locks, en
 ghost use Rattle.showing.specs.Showing.{naming, is_among, under, moved};
 
 use crate::spent::Spent;
-use calls::{Ask, Look, PayoutLock, ThreadOutput, Unspent};
+use calls::{Ask, Ledger, Look, PayoutLock, ThreadOutput, Unspent};
 use collections::{Bytes, Items, Memory, Text, TryClone};
 use eutxo::Shared;
 use eutxo_types::{Lock, Output, OutputRef};
-use judging::Ledger;
 use roles::Published;
 use standing::{Kept, World, names, next_of, starts_in};
 use std::alloc::Global;

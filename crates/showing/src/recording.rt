@@ -13,12 +13,12 @@ ghost use Rattle.showing.specs.Walking.{given, point, stands_after, IsStepOf, Is
 use crate::along::{Along, thread};
 use crate::start::{Start, start_at};
 use crate::step_record::StepRecord;
+use calls::Ledger;
 use collections::{Items, Memory, TryClone};
 use contract::{Input, SemFault, State};
 use eutxo::{found_is_enough, is_same};
 use eutxo_types::{Cont, OutputRef, Redeemer, Spend};
 use history::threads_are_runs;
-use judging::Ledger;
 use roles::Published;
 use semantics::Steps;
 use standing::World;

@@ -12,11 +12,10 @@ ghost use Rattle.standing.specs.Standing.{standing, tickets, published_at, past_
 use crate::counting::count_tickets;
 use crate::kept::{Kept, Waiting, with_ids};
 use crate::walked::{Walked, gather};
-use calls::Entry;
+use calls::{Entry, Ledger, judge};
 use collections::Memory;
 use eutxo::{Shared, is_same};
 use eutxo_types::{Output, OutputRef, Tx, TxFault};
-use judging::{Ledger, judge};
 use roles::Published;
 use std::alloc::Global;
 use std::marker::Model;
