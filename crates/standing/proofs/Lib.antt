@@ -1,5 +1,3 @@
-mod Lists
 pub mod Walking
-mod Identified
 mod Finding
 mod Fitting

@@ -126,7 +126,6 @@ impl<'a> Waiting<'a> {
 }
 
 // These transactions with their ids.
-#[tactic(auto, using(crate::proofs::Identified::id_there, crate::proofs::Identified::id_at, crate::proofs::Lists::take_next))]
 pub(crate) fn with_ids<'a>(
     alloc: Global,
     txs: &[Lent<'a>],
@@ -143,7 +142,6 @@ pub(crate) fn with_ids<'a>(
 }
 
 /// The ids of these transactions.
-#[tactic(auto, using(crate::proofs::Lists::map_more))]
 pub fn ids_of(alloc: Global, kept: &[Kept<'_>]) -> Result<Vec<[u8; 32]>, Memory>
     ensures { IfOk result (λ ids. ids.items ≡ map id_of kept.now) }
 {
