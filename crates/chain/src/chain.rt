@@ -14,8 +14,8 @@ ghost use Rattle.showing.specs.Recording.{AreSteps};
 use acceptance::{
     claims_are_accepted, shown_threads_stand, starts_are_accepted, steps_are_accepted,
 };
-use answering::answer;
-use calls::{Call, Entry, Reply, resolve};
+use answering::{answer, records, resolution};
+use calls::{Call, Entry, Reply};
 use collections::{Items, Memory, TryClone};
 use eutxo::{Checked, Resolved, Shared};
 use eutxo_types::{Output, OutputRef, Tx};
@@ -25,7 +25,7 @@ use history::{
     threads_are_runs, tokens_are_preserved,
 };
 use roles::{Published, published_are_tables};
-use showing::{StepRecord, steps_of};
+use showing::StepRecord;
 use standing::{GenesisFault, World, check_genesis, count_of, ids_of, last_tick, walk};
 use std::alloc::Global;
 use std::marker::Model;
@@ -279,7 +279,7 @@ impl Chain {
         ensures { IfOk result (λ resolved. resolved ≡ found (moment_of (world self.now)) tx.now) }
     {
         let world = self.world(alloc)?;
-        resolve(alloc, &world, tx)
+        resolution(alloc, &world, tx)
     }
 
     /// The records of the thread that starts at an output, in order: the thread's one run (`history`), with as many
@@ -296,7 +296,7 @@ impl Chain {
         // To read it is to know that what it keeps is sound.
         let _tick = self.tick;
         let world = self.world(alloc)?;
-        steps_of(alloc, &world, reference)
+        records(alloc, &world, reference)
     }
 
     /// A chain without entries, whose tick is the one given, in POSIX milliseconds. Refused are outputs of which

@@ -4,4 +4,4 @@ use Rattle.standing.specs.Standing.{World, moment_of}
 use Rattle.chain.proofs.chain.Chain.resolve.Goals as goal
 
 pub returns : goal.returns
-returns c = subst (λ (w : World). IfOk c.resolve.result (λ resolved. resolved ≡ found (moment_of w) c.args.tx.now)) c.in_ok-world.ensures c.resolve.ensures
+returns c = subst (λ (w : World). IfOk c.resolution.result (λ resolved. resolved ≡ found (moment_of w) c.args.tx.now)) c.in_ok-world.ensures c.resolution.ensures

@@ -5,8 +5,8 @@ use Rattle.standing.specs.Standing.{World, Course, world, past_of, published_at}
 use Rattle.showing.specs.Recording.{AreSteps}
 use Rattle.chain.proofs.chain.Chain.steps_of.Goals as goal
 
-pub steps_of-requires : goal.steps_of-requires
-steps_of-requires c = record {
+pub records-requires : goal.records-requires
+records-requires c = record {
   sound =
       subst (λ (w : World). IsSound marlowe (published_at w.published) (past_of w)) (sym c.in_ok-world.ensures)
       (subst (λ (v : Course). IsSound marlowe (published_at (world v).published) (past_of (world v))) c.self.view_is c.self.invariant.sound);
@@ -17,4 +17,4 @@ steps_of-requires c = record {
 
 pub returns : goal.returns
 returns c =
-    subst (λ (w : World). IfOk c.steps_of.result (λ records. AreSteps (published_at w.published) (past_of w) c.args.reference.now records)) c.in_ok-world.ensures c.steps_of.ensures
+    subst (λ (w : World). IfOk c.records.result (λ records. AreSteps (published_at w.published) (past_of w) c.args.reference.now records)) c.in_ok-world.ensures c.records.ensures
