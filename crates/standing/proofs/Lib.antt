@@ -1,3 +1,4 @@
+mod Lists
 pub mod Walking
 mod Finding
 mod Fitting

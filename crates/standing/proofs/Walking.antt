@@ -2,7 +2,7 @@
 use Rattle.std.proofs.Common.{◌≡◌, ℕ, ℤ, zero, suc, ◌+◌, ◌<◌, Bool, true, false, List, [], ◌∷◌, ◌++◌, refl, sym, ◌∙◌, ap, arith, Option, Some, None, take, drop, length, get_or}
 use Rattle.std.specs.Prelude.{if◌then◌else◌}
 use Rattle.std.specs.List.{slice_get}
-use Rattle.std.proofs.lemmas.List.{at_drop_more, take_more}
+use Rattle.std.proofs.lemmas.List.{at_drop_more}
 use Rattle.eutxo_types.specs.declared.tx.Tx.{Tx}
 use Rattle.calls.specs.declared.call.Call.{Call}
 use Rattle.calls.specs.declared.call.Call.TheVariants as on
@@ -12,6 +12,7 @@ use Rattle.calls.specs.declared.call.Entry.{Entry}
 use Rattle.calls.specs.declared.call.Ticketed.{Ticketed}
 use Rattle.calls.specs.Replies.{is_advanced, is_accepted, ticket_in}
 use Rattle.standing.specs.Standing.{Pending, Standing, kept_of, accepted_among, enqueued, changed, standing_from, standing}
+use Rattle.standing.proofs.Lists.{take_next}
 
 -- ---- the places of a round
 
@@ -40,9 +41,6 @@ among_next ps i p vs h e =
     ∙ ap (λ (n : ℕ). kept_of p (slice_get vs i) ++ accepted_among (drop (i + 1) ps) (drop n vs)) (one_more i)
 
 -- ---- the standing
-
-take_next : {A : Type 0} (xs : List A) (i : ℕ) (d : A) → i < length xs → d ≡ get_or xs i d → take (i + 1) xs ≡ take i xs ++ d ∷ []
-take_next xs i d h e = take_more xs i d h ∙ ap (λ (x : _). take i xs ++ x ∷ []) (sym e)
 
 pub standing_after : (s : Standing) (es : List Entry) (e : Entry) → standing_from s (es ++ e ∷ []) ≡ changed (standing_from s es) e.call e.reply
 standing_after s [] e = refl
