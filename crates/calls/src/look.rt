@@ -25,7 +25,6 @@ pub struct ThreadOutput {
 
 /// What is shown of a ledger at a moment. Nothing says that it still holds: outputs may have been spent since,
 /// and the tick may have gone on.
-#[derive(Drop)]
 pub struct Look {
     /// In POSIX milliseconds.
     pub tick: i64,
@@ -35,6 +34,18 @@ pub struct Look {
     pub keys: Items<Unspent>,
     /// The unspent payouts under the asked locks, in order of creation, each once.
     pub payouts: Items<Unspent>,
+}
+
+// The drop is written, not derived: so it is proved here once, and not in each crate that drops a look.
+impl Drop for Look {
+    fn drop(self) {
+        let Look {
+            tick: _,
+            thread: _,
+            keys: _,
+            payouts: _,
+        } = self;
+    }
 }
 
 impl Holds for Unspent {

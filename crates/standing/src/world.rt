@@ -6,8 +6,8 @@ ghost use Rattle.eutxo_types.specs.Ids.{id_of};
 ghost use Rattle.eutxo.specs.Parts.{same_ref};
 ghost use Rattle.eutxo.specs.Judgement.{judge};
 ghost use Rattle.history.specs.Laws.{marlowe};
-ghost use Rattle.history.specs.Past.{names, is_spent, is_used, referred, made, made_by, created, unspent_at};
-ghost use Rattle.standing.specs.Standing.{standing, tickets, published_at, past_of, moment_of};
+ghost use Rattle.history.specs.Past.{names, is_spent, referred, made, made_by, created};
+ghost use Rattle.standing.specs.Standing.{standing, tickets, past_of, moment_of};
 
 use crate::counting::count_tickets;
 use crate::kept::{Kept, Waiting, with_ids};
@@ -138,15 +138,6 @@ fn genesis_at<'a>(genesis: &'a [Output], reference: &OutputRef) -> Option<&'a Ou
     }
 }
 
-fn find_published<'a>(
-    published: &'a [Shared<Published>],
-    id: &[u8; 32],
-) -> Option<&'a Shared<Published>>
-    ensures { option_copied result ≡ published_at published.now id.now }
-{
-    published.iter().find(|p| p.get().id == *id)
-}
-
 impl<'a> World<'a> {
     #[tactic(auto, using(crate::proofs::Finding::found_front, crate::proofs::Finding::found_back))]
     fn output_at(&self, reference: &OutputRef) -> Option<&Output>
@@ -210,44 +201,25 @@ impl<'a> World<'a> {
     {
         judge(alloc, self, tx, id)
     }
-
-    fn is_spent(&self, reference: &OutputRef) -> bool
-        ensures { result ≡ is_spent self.now.standing.accepted reference.now }
-    {
-        is_spent(&self.accepted, reference)
-    }
-
-    // The output that a reference names, where it is unspent.
-    fn find(&self, reference: &OutputRef) -> Option<&Output>
-        ensures { option_copied result ≡ unspent_at (past_of self.now) reference.now }
-    {
-        if self.is_spent(reference) {
-            None
-        } else {
-            self.output_at(reference)
-        }
-    }
-
-    fn has_used(&self, id: &[u8; 32]) -> bool
-        ensures { result ≡ is_used self.now.standing.accepted id.now }
-    {
-        self.accepted.iter().any(|k| *id == *k.id())
-    }
 }
 
 impl<'a> Ledger<Published> for World<'a> {
     ghost moment = { λ w. moment_of w };
 
     fn unspent_at(&self, reference: &OutputRef) -> Option<&Output> {
-        self.find(reference)
+        if is_spent(&self.accepted, reference) {
+            None
+        } else {
+            self.output_at(reference)
+        }
     }
 
     fn published_at(&self, script: &[u8; 32]) -> Option<&Shared<Published>> {
-        find_published(self.published, script)
+        self.published.iter().find(|p| p.get().id == *script)
     }
 
     fn is_used(&self, id: &[u8; 32]) -> bool {
-        self.has_used(id)
+        self.accepted.iter().any(|k| *id == *k.id())
     }
 
     fn tick(&self) -> i64 {
