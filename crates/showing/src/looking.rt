@@ -42,7 +42,12 @@ struct Payouts<'a> {
 fn is_known_key(known: &[Text], address: &Text) -> bool
     ensures { result ≡ list_any (λ b. same_bytes b address.now) known.now }
 {
-    known.iter().any(|b| *b == *address)
+    for b in known {
+        if *b == *address {
+            return true;
+        }
+    }
+    false
 }
 
 fn is_payout(lock: &PayoutLock, currency: &Bytes, role: &Text) -> bool
@@ -54,7 +59,12 @@ fn is_payout(lock: &PayoutLock, currency: &Bytes, role: &Text) -> bool
 fn is_known_payout(known: &[PayoutLock], currency: &Bytes, role: &Text) -> bool
     ensures { result ≡ list_any (λ x. same_bytes x.currency currency.now && same_bytes x.role role.now) known.now }
 {
-    known.iter().any(|x| is_payout(x, currency, role))
+    for x in known {
+        if is_payout(x, currency, role) {
+            return true;
+        }
+    }
+    false
 }
 
 impl Asked for Keys<'_> {
@@ -163,7 +173,12 @@ fn outputs_under<A: Asked>(
 fn starts(accepted: &[Kept<'_>], reference: &OutputRef) -> bool
     ensures { result ≡ list_any (starts_in reference.now) accepted.now }
 {
-    accepted.iter().any(|k| starts_in(k, reference))
+    for k in accepted {
+        if starts_in(k, reference) {
+            return true;
+        }
+    }
+    false
 }
 
 fn moved(kept: &Kept<'_>, at: Option<OutputRef>) -> Option<OutputRef>

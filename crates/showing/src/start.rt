@@ -47,7 +47,12 @@ fn contract_named<'a>(tx: &'a Tx, reference: &OutputRef) -> Option<Start<'a>>
 fn maker<'k, 'a>(accepted: &'k [Kept<'a>], reference: &OutputRef) -> Option<&'k Kept<'a>>
     ensures { option_copied result ≡ find (starts_in reference.now) accepted.now }
 {
-    accepted.iter().find(|k| starts_in(k, reference))
+    for k in accepted {
+        if starts_in(k, reference) {
+            return Some(k);
+        }
+    }
+    None
 }
 
 /// The start output of this name, where there is one.

@@ -22,7 +22,12 @@ fn is_step(redeemer: &Redeemer) -> bool
 fn steps(tx: &Tx) -> bool
     ensures { result ≡ steps tx.now }
 {
-    tx.inputs.as_slice().iter().any(|x| is_step(&x.redeemer))
+    for x in tx.inputs.as_slice() {
+        if is_step(&x.redeemer) {
+            return true;
+        }
+    }
+    false
 }
 
 fn is_contract(output: &Output) -> bool

@@ -79,10 +79,12 @@ pub fn walk<'a>(
 pub fn names(tx: &Tx, reference: &OutputRef) -> bool
     ensures { result ≡ names reference.now tx.now }
 {
-    tx.inputs
-        .as_slice()
-        .iter()
-        .any(|x| is_same(x.reference, *reference))
+    for x in tx.inputs.as_slice() {
+        if is_same(x.reference, *reference) {
+            return true;
+        }
+    }
+    false
 }
 
 fn output_of(outputs: &[Output], index: u64) -> Option<&Output>
@@ -95,7 +97,12 @@ fn output_of(outputs: &[Output], index: u64) -> Option<&Output>
 fn is_spent(accepted: &[Kept<'_>], reference: &OutputRef) -> bool
     ensures { result ≡ is_spent accepted.now reference.now }
 {
-    accepted.iter().any(|k| names(k.tx(), reference))
+    for k in accepted {
+        if names(k.tx(), reference) {
+            return true;
+        }
+    }
+    false
 }
 
 // What a transaction made of that name.
@@ -215,11 +222,21 @@ impl<'a> Ledger<Published> for World<'a> {
     }
 
     fn published_at(&self, script: &[u8; 32]) -> Option<&Shared<Published>> {
-        self.published.iter().find(|p| p.get().id == *script)
+        for p in self.published {
+            if p.get().id == *script {
+                return Some(p);
+            }
+        }
+        None
     }
 
     fn is_used(&self, id: &[u8; 32]) -> bool {
-        self.accepted.iter().any(|k| *id == *k.id())
+        for k in &self.accepted {
+            if *id == *k.id() {
+                return true;
+            }
+        }
+        false
     }
 
     fn tick(&self) -> i64 {
