@@ -1,7 +1,7 @@
 #!/usr/bin/env python3
 """Builds on n, 2n and 4n offers and accounts by the program of rows, counts what a build costs by valgrind, and prints it with the ratios.
 
-Build the program first: (cd crates/chain_rows && rt run)
+Build the program first: (cd crates/rows_chain && rt run)
 The cost of a build is what MORE of them add to the instructions of a run. It has the program's own reading of what is offered.
 """
 import json

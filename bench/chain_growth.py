@@ -1,7 +1,7 @@
 #!/usr/bin/env python3
 """Makes chains of n, 2n and 4n entries by the program of rows, measures what a Submit and a look cost after them, and prints both with the ratios.
 
-Build the program first: (cd crates/chain_rows && rt run)
+Build the program first: (cd crates/rows_chain && rt run)
 Each entry accepts a transaction of one input and one output, so the history's inputs and outputs grow as its entries do.
 The cost of a call is what MORE of them add to the processor time of a run, each of which answers the same and adds an entry. It has
 the program's own search for the name of what is spent or shown, one pass over the names. Of RUNS runs the least time is taken. Times
@@ -17,7 +17,7 @@ import sys
 import tempfile
 
 HERE = os.path.dirname(os.path.abspath(__file__))
-PROGRAM = os.path.join(HERE, "..", "crates", "chain_rows", "out", "chain_rows")
+PROGRAM = os.path.join(HERE, "..", "crates", "rows_chain", "out", "rows_chain")
 MORE = 200
 RUNS = 15
 

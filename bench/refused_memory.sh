@@ -6,7 +6,7 @@ cd "$(dirname "$0")/.." || exit 2
 program=crates/marlowe/out/marlowe
 refused=0
 done=0
-for example in crates/rows/data/examples/*/; do
+for example in crates/rows_runs/data/examples/*/; do
   [ -f "$example/output.json" ] || continue
   limit=1600
   while [ "$limit" -le 8000 ]; do

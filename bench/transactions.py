@@ -2,14 +2,14 @@
 programs: prints what `transaction_rows` must print for its data without checks, in the order of its `args`. These are the
 first lines of its stdout.
 
-Call it: transactions.py | cmp -n $(transactions.py | wc -c) - ../crates/transaction_rows/stdout
+Call it: transactions.py | cmp -n $(transactions.py | wc -c) - ../crates/rows_transactions/stdout
 """
 import hashlib
 import json
 import os
 import re
 
-CRATE = os.path.join(os.path.dirname(os.path.abspath(__file__)), "..", "crates", "transaction_rows")
+CRATE = os.path.join(os.path.dirname(os.path.abspath(__file__)), "..", "crates", "rows_transactions")
 ADA = (b"", b"")
 LIMIT = 2**127
 

@@ -5,7 +5,7 @@
 cd "$(dirname "$0")/.." || exit 2
 program=crates/marlowe/out/marlowe
 failed=0
-for example in crates/rows/data/examples/*/; do
+for example in crates/rows_runs/data/examples/*/; do
   example=${example%/}
   name=${example##*/}
   out=$("$program" run "$example/contract.json" "$example/state.json" "$example/transaction.json" 2>&1)

@@ -62,21 +62,21 @@ CALLS = [
     ("`eutxo::Validator`", "eutxo/src/validator.rt: step start claim Validator"),
     ("`roles::publish`", "roles/src/publishing.rt: publish"),
     ("`roles::Published` as a `Validator`", "roles/src/step.rt: step_of; roles/src/script.rt: starts_from; roles/src/authorise.rt: holds_role"),
-    ("`calls::judge` and `resolve`", "calls/src/rules.rt: judge; calls/src/found.rt: resolve"),
-    ("`calls::Look::resolve`", "calls/src/shown.rt: resolve"),
+    ("`ledger::judge` and `resolve`", "ledger/src/rules.rt: judge; ledger/src/found.rt: resolve"),
+    ("`ledger::Look::resolve`", "ledger/src/shown.rt: resolve"),
     ("`chain::Chain`", "chain/src/chain.rt: genesis step tick resolve steps_of"),
     ("`chain::Chain::history`, with its laws", "chain/src/chain.rt: history"),
     ("`builder::build_step`", "builder/src/step.rt: build_step"),
     ("`builder::build_start` and `build_claim`", "builder/src/start.rt: build_start; builder/src/claim.rt: build_claim"),
-    ("`acceptance::steps_are_accepted`", "acceptance/src/accepted.rt: steps_are_accepted"),
+    ("`builder_laws::steps_are_accepted`", "builder_laws/src/accepted.rt: steps_are_accepted"),
     ("the laws of `semantics`", "semantics/src/laws.rt: reductions_have_one_result contracts_settle_in_one_way transactions_have_one_answer "
      "turns_lead_to_the_remaining_contract transactions_end_quiet time_never_goes_back payments_are_natural accounts_stay_above_zero "
      "contracts_close_after_the_last_timeout; semantics/src/money.rt: money_is_kept"),
     ("the laws of `eutxo`", "eutxo/src/laws.rt: equal_resolutions_decide_alike checks_decide found_is_enough sums_are_preserved"),
     ("the laws of `roles`", "roles/src/laws.rt: published_are_tables published_tell_contracts_apart"),
-    ("the laws of `history`, whatever the scripts", "history/src/ledger.rt: steps_stand_on_threads contracts_end_threads tokens_are_preserved "
+    ("the laws of `ledger_laws`, whatever the scripts", "ledger_laws/src/ledger.rt: steps_stand_on_threads contracts_end_threads tokens_are_preserved "
      "outputs_are_spent_once starting_is_sound accepting_is_sound publishing_is_sound"),
-    ("the laws of `history` on Marlowe's contracts", "history/src/threads.rt: threads_are_runs contracts_are_funded parties_are_authorised"),
+    ("the laws of `ledger_laws` on Marlowe's contracts", "ledger_laws/src/threads.rt: threads_are_runs contracts_are_funded parties_are_authorised"),
 ]
 
 # words of the language, and names that are there without an import

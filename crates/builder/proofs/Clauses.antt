@@ -6,9 +6,9 @@ use Rattle.eutxo.specs.Places.{first_of}
 use Rattle.roles.specs.Sums.{sums_of}
 use Rattle.roles.specs.Steps.{same_amounts}
 use Rattle.roles.specs.Terms.{terms_of}
-use Rattle.calls.specs.declared.look.ThreadOutput.{ThreadOutput}
-use Rattle.building.specs.Steps.{Thread, stands, thread_in}
-use Rattle.building.proofs.Sufficing.{and_so}
+use Rattle.ledger.specs.declared.look.ThreadOutput.{ThreadOutput}
+use Rattle.builder_spec.specs.Steps.{Thread, stands, thread_in}
+use Rattle.builder_spec.proofs.Sufficing.{and_so}
 
 pub fourth : {A : Type 0} (a b c d e : Option A) (x : A) → a ≡ None → b ≡ None → c ≡ None → d ≡ Some x → first_of (a ∷ b ∷ c ∷ d ∷ e ∷ []) ≡ Some x
 fourth a b c d e x h k l m = rw (h, k, l, m) refl

@@ -14,8 +14,8 @@ use Rattle.names.specs.Orders.{account_cmp, choice_id_cmp, bytes_cmp}
 use Rattle.names.specs.Totals.{account_total}
 use Rattle.names.proofs.Exact.{account_exact}
 use Rattle.states.specs.States.{StateMaps}
-use Rattle.building.specs.Starts.{fresh}
-use Rattle.funding.proofs.Walking.{here, up_to}
+use Rattle.builder_spec.specs.Starts.{fresh}
+use Rattle.coin_selection.proofs.Walking.{here, up_to}
 
 less : (r : Ordering) → T (is_lt r) → r ≡ Less
 less Less h = refl

@@ -33,19 +33,19 @@ use Rattle.eutxo.specs.Places.{is_empty}
 use Rattle.roles.specs.Sums.{sums_of}
 use Rattle.roles.specs.Steps.{same_amounts, role_token, needed}
 use Rattle.roles.specs.Terms.{terms_of}
-use Rattle.calls.specs.declared.look.ThreadOutput.{ThreadOutput}
-use Rattle.calls.specs.declared.look.Unspent.{Unspent}
-use Rattle.building.specs.Requests.{StepRequest}
-use Rattle.building.specs.Holding.{sums, held, holds_token, wanted, least_lacking}
-use Rattle.building.specs.Fronts.{shortest, suffices, front}
-use Rattle.building.specs.Clauses.{is_much}
-use Rattle.building.specs.Serving.{AreBundles}
-use Rattle.building.specs.Steps.{Thread, terms, walk, token_of, roles_of, may_act, deposits, own, made, stands, thread_in}
-use Rattle.building.specs.Starts.{accounts_of, fresh, funds}
-use Rattle.building.proofs.Holdings.{amount_of-sums, positive_sums, much_at, much_of, most}
-use Rattle.building.proofs.Sufficing.{and_so, and_true, front_suffices}
-use Rattle.building.proofs.Shortest.{shortest_passes}
-use Rattle.building.proofs.Funding.{amount, funded, all_covered, wanted-accounts, amount_of-sums_in}
+use Rattle.ledger.specs.declared.look.ThreadOutput.{ThreadOutput}
+use Rattle.ledger.specs.declared.look.Unspent.{Unspent}
+use Rattle.builder_spec.specs.Requests.{StepRequest}
+use Rattle.builder_spec.specs.Holding.{sums, held, holds_token, wanted, least_lacking}
+use Rattle.builder_spec.specs.Fronts.{shortest, suffices, front}
+use Rattle.builder_spec.specs.Clauses.{is_much}
+use Rattle.builder_spec.specs.Serving.{AreBundles}
+use Rattle.builder_spec.specs.Steps.{Thread, terms, walk, token_of, roles_of, may_act, deposits, own, made, stands, thread_in}
+use Rattle.builder_spec.specs.Starts.{accounts_of, fresh, funds}
+use Rattle.builder_spec.proofs.Holdings.{amount_of-sums, positive_sums, much_at, much_of, most}
+use Rattle.builder_spec.proofs.Sufficing.{and_so, and_true, front_suffices}
+use Rattle.builder_spec.proofs.Shortest.{shortest_passes}
+use Rattle.builder_spec.proofs.Funding.{amount, funded, all_covered, wanted-accounts, amount_of-sums_in}
 
 not_so : (b : Bool) → (b ≡ true → true ≡ false) → b ≡ false
 not_so true h = absurd (cc (h refl))

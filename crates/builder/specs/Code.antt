@@ -4,12 +4,12 @@ use Rattle.contract.specs.declared.input.Input.{Input}
 use Rattle.contract.specs.declared.interval.Interval.{Interval}
 use Rattle.states.specs.States.{StateMaps}
 use Rattle.roles.specs.declared.published.Published.{Published}
-use Rattle.calls.specs.declared.look.Unspent.{Unspent}
-use Rattle.building.specs.declared.fault.BuildFault.{BuildFault}
+use Rattle.ledger.specs.declared.look.Unspent.{Unspent}
+use Rattle.builder_spec.specs.declared.fault.BuildFault.{BuildFault}
 use Rattle.eutxo.specs.Places.{first_of}
-use Rattle.building.specs.Requests.{StepRequest, StartRequest, ClaimRequest}
-use Rattle.building.specs.Clauses.{not_signed, no_funds, repeated}
-use Rattle.building.specs.Steps.{Thread, deposits, not_authorised, too_many_given, step_spent, own}
+use Rattle.builder_spec.specs.Requests.{StepRequest, StartRequest, ClaimRequest}
+use Rattle.builder_spec.specs.Clauses.{not_signed, no_funds, repeated}
+use Rattle.builder_spec.specs.Steps.{Thread, deposits, not_authorised, too_many_given, step_spent, own}
 
 abbrev pub request : Interval → List Input → List (List ℕ) → List Unspent → List ℕ → StepRequest
 request interval inputs signers offered change = record { interval = interval; inputs = inputs; signers = signers; offered = offered; change = change }

@@ -1,22 +1,22 @@
 //! Claims of payouts.
 ghost use Rattle.std.specs.Prelude.{◌≡◌, ◌++◌, map, IfOk, IfErr};
 ghost use Rattle.collections.specs.Answers.{Aside};
-ghost use Rattle.building.specs.Holding.{sums, held};
-ghost use Rattle.building.specs.Built.{built};
-ghost use Rattle.building.specs.Laying.{by_key, by_claim, given_to};
-ghost use Rattle.building.specs.Claims.{claim_front, hinders_claim, layout_claim};
-ghost use Rattle.funding.specs.Passing.{Passes};
+ghost use Rattle.builder_spec.specs.Holding.{sums, held};
+ghost use Rattle.builder_spec.specs.Built.{built};
+ghost use Rattle.builder_spec.specs.Laying.{by_key, by_claim, given_to};
+ghost use Rattle.builder_spec.specs.Claims.{claim_front, hinders_claim, layout_claim};
+ghost use Rattle.coin_selection.specs.Passing.{Passes};
 ghost use Rattle.builder.specs.Code.{claim_request};
 
 use crate::inputs::{copies_of, put_keys};
 use crate::outputs::put_given;
 use crate::payouts::{check_held, check_payouts, put_claims, tokens_awaited};
-use building::BuildFault;
-use calls::Unspent;
+use builder_spec::BuildFault;
+use ledger::Unspent;
 use collections::{Items, Text};
 use contract::Interval;
 use eutxo_types::Tx;
-use funding::{Amount, Shares, check_apart, check_signed, front_of, see_all, shares_within};
+use coin_selection::{Amount, Shares, check_apart, check_signed, front_of, see_all, shares_within};
 use std::alloc::Global;
 
 // What is asked for.

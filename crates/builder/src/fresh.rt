@@ -3,7 +3,7 @@ ghost use Rattle.std.specs.Prelude.{◌≡◌, IfOk, OnOk};
 ghost use Rattle.std.proofs.Math.Dec.{T};
 ghost use Rattle.std.specs.FinMap.{is_sorted, put};
 ghost use Rattle.names.specs.Orders.{account_cmp};
-ghost use Rattle.building.specs.Starts.{fresh};
+ghost use Rattle.builder_spec.specs.Starts.{fresh};
 
 use collections::{Entries, Memory};
 use contract::{Account, State};

@@ -1,8 +1,8 @@
 //! The inputs of a layout.
 ghost use Rattle.std.specs.Prelude.{◌≡◌, ◌++◌, map, IfOk, OnOk};
-ghost use Rattle.building.specs.Laying.{by_key};
+ghost use Rattle.builder_spec.specs.Laying.{by_key};
 
-use calls::Unspent;
+use ledger::Unspent;
 use collections::{Items, Memory, TryClone};
 use contract::Input;
 use eutxo_types::{OutputRef, Redeemer, Spend};

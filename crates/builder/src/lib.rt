@@ -15,8 +15,8 @@ mod start;
 mod step;
 mod thread;
 
-pub use building::BuildFault;
-pub use calls::{Ask, Look, PayoutLock, ThreadOutput, Unspent};
+pub use builder_spec::BuildFault;
+pub use ledger::{Ask, Look, PayoutLock, ThreadOutput, Unspent};
 pub use claim::build_claim;
 pub use start::build_start;
 pub use step::build_step;

@@ -5,16 +5,16 @@ ghost use Rattle.bundle.specs.Bundles.{covers, minus};
 ghost use Rattle.eutxo.specs.Places.{is_empty};
 ghost use Rattle.roles.specs.Steps.{lock_for, owed, due, continuation};
 ghost use Rattle.roles.specs.Sums.{sums_of};
-ghost use Rattle.building.specs.Holding.{sums};
-ghost use Rattle.building.specs.Clauses.{is_much};
-ghost use Rattle.building.specs.Laying.{given_to};
+ghost use Rattle.builder_spec.specs.Holding.{sums};
+ghost use Rattle.builder_spec.specs.Clauses.{is_much};
+ghost use Rattle.builder_spec.specs.Laying.{given_to};
 
-use building::BuildFault;
+use builder_spec::BuildFault;
 use bundle::{Bundle, BundleFault};
 use collections::{Bytes, Items, Memory, Text, TryClone};
 use contract::{Outcome, Party, Payment, State};
 use eutxo_types::{Cont, Datum, Lock, Output};
-use funding::{only, see_all, see_room, sum, sums_of};
+use coin_selection::{only, see_all, see_room, sum, sums_of};
 use roles::{Published, due_to};
 use std::alloc::Global;
 

@@ -3,19 +3,19 @@ ghost use Rattle.std.specs.Prelude.{◌≡◌, ◌++◌, not, IfOk, OnOk, map, o
 ghost use Rattle.std.specs.List.{list_any, find};
 ghost use Rattle.names.specs.declared.party.Party.TheVariants.{Role};
 ghost use Rattle.eutxo.specs.Places.{is_empty};
-ghost use Rattle.building.specs.declared.fault.BuildFault.TheVariants.{NotAuthorised};
-ghost use Rattle.building.specs.Holding.{held, holds_token};
-ghost use Rattle.building.specs.Serving.{AreBundles};
-ghost use Rattle.building.specs.Laying.{by_claim};
-ghost use Rattle.building.specs.Claims.{awaited, tokens_awaited, is_payout, no_payouts};
-ghost use Rattle.funding.specs.Passing.{Passes};
+ghost use Rattle.builder_spec.specs.declared.fault.BuildFault.TheVariants.{NotAuthorised};
+ghost use Rattle.builder_spec.specs.Holding.{held, holds_token};
+ghost use Rattle.builder_spec.specs.Serving.{AreBundles};
+ghost use Rattle.builder_spec.specs.Laying.{by_claim};
+ghost use Rattle.builder_spec.specs.Claims.{awaited, tokens_awaited, is_payout, no_payouts};
+ghost use Rattle.coin_selection.specs.Passing.{Passes};
 
-use building::BuildFault;
-use calls::Unspent;
+use builder_spec::BuildFault;
+use ledger::Unspent;
 use collections::{Items, Memory, TryClone};
 use contract::Party;
 use eutxo_types::{Lock, Redeemer, Spend};
-use funding::{RoleToken, first_unheld};
+use coin_selection::{RoleToken, first_unheld};
 use std::alloc::Global;
 
 fn is_payout(lock: &Lock) -> bool

@@ -5,28 +5,28 @@ ghost use Rattle.names.specs.Equal.{ada};
 ghost use Rattle.bundle.specs.Bundles.{minus};
 ghost use Rattle.roles.specs.Steps.{continuation};
 ghost use Rattle.roles.specs.Sums.{sums_of};
-ghost use Rattle.building.specs.Holding.{sums, held, least_lacking};
+ghost use Rattle.builder_spec.specs.Holding.{sums, held, least_lacking};
 ghost use Rattle.eutxo.specs.Places.{is_empty};
-ghost use Rattle.building.specs.declared.fault.BuildFault.TheVariants.{NoFunds};
-ghost use Rattle.building.specs.Clauses.{no_funds, is_much};
-ghost use Rattle.building.specs.Serving.{AreBundles};
-ghost use Rattle.building.specs.Built.{built};
-ghost use Rattle.building.specs.Laying.{by_key, given_to};
-ghost use Rattle.building.specs.Starts.{accounts_of, fresh, start_front, start_output, hinders_start, layout_start};
-ghost use Rattle.funding.specs.Passing.{Passes};
+ghost use Rattle.builder_spec.specs.declared.fault.BuildFault.TheVariants.{NoFunds};
+ghost use Rattle.builder_spec.specs.Clauses.{no_funds, is_much};
+ghost use Rattle.builder_spec.specs.Serving.{AreBundles};
+ghost use Rattle.builder_spec.specs.Built.{built};
+ghost use Rattle.builder_spec.specs.Laying.{by_key, given_to};
+ghost use Rattle.builder_spec.specs.Starts.{accounts_of, fresh, start_front, start_output, hinders_start, layout_start};
+ghost use Rattle.coin_selection.specs.Passing.{Passes};
 ghost use Rattle.builder.specs.Code.{start_request};
 
 use crate::fresh::fresh;
 use crate::inputs::{copies_of, put_keys};
 use crate::outputs::{continuation, put_given, rest};
 use crate::payouts::are_none;
-use building::BuildFault;
+use builder_spec::BuildFault;
 use bundle::Bundle;
-use calls::Unspent;
+use ledger::Unspent;
 use collections::{Bytes, Items, Text};
 use contract::{Interval, State};
 use eutxo_types::{Output, Tx};
-use funding::{
+use coin_selection::{
     Amount, Shares, accounts_of, check_apart, check_funds, check_signed, see_all, see_room,
     shares_within, start_front,
 };

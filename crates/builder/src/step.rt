@@ -6,24 +6,24 @@ ghost use Rattle.semantics.specs.Walk.{standing, answer_of};
 ghost use Rattle.bundle.specs.Bundles.{covers, minus};
 ghost use Rattle.eutxo.specs.Parts.{contract_in};
 ghost use Rattle.roles.specs.Sums.{sums_of};
-ghost use Rattle.building.specs.Holding.{sums, held, least_lacking};
-ghost use Rattle.building.specs.Serving.{AreBundles};
-ghost use Rattle.building.specs.Built.{built};
-ghost use Rattle.building.specs.Laying.{by_key, by_step, given_to};
-ghost use Rattle.building.specs.Steps.{thread_in, terms, walk, deposits, step_front, step_spent, hinders_thread, layout_thread, hinders_on, layout_on, hinders_step, layout_step};
-ghost use Rattle.funding.specs.Passing.{Passes};
+ghost use Rattle.builder_spec.specs.Holding.{sums, held, least_lacking};
+ghost use Rattle.builder_spec.specs.Serving.{AreBundles};
+ghost use Rattle.builder_spec.specs.Built.{built};
+ghost use Rattle.builder_spec.specs.Laying.{by_key, by_step, given_to};
+ghost use Rattle.builder_spec.specs.Steps.{thread_in, terms, walk, deposits, step_front, step_spent, hinders_thread, layout_thread, hinders_on, layout_on, hinders_step, layout_step};
+ghost use Rattle.coin_selection.specs.Passing.{Passes};
 ghost use Rattle.builder.specs.Code.{request, later};
 
 use crate::inputs::{by_step, copies_of, put_keys};
 use crate::outputs::{made, put_given, rest};
 use crate::thread::{datum_of, is_closed};
-use building::BuildFault;
+use builder_spec::BuildFault;
 use bundle::Bundle;
-use calls::{Look, ThreadOutput, Unspent};
+use ledger::{Look, ThreadOutput, Unspent};
 use collections::{Items, Text};
 use contract::{Input, Interval, Outcome, SemFault};
 use eutxo_types::{Cont, Datum, Output, Tx};
-use funding::{
+use coin_selection::{
     check_authorised, check_funds, check_once, check_signed, deposits, front_of, roles_of, see_all,
     see_room, within_limits,
 };

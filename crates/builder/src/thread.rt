@@ -4,9 +4,9 @@ ghost use Rattle.table.specs.Flat.{Has, a_cont, cont_tree};
 ghost use Rattle.table.specs.Along.{has_cont};
 ghost use Rattle.eutxo.specs.Parts.{contract_in};
 ghost use Rattle.roles.specs.Steps.{is_close};
-ghost use Rattle.building.specs.Steps.{stands, thread_in};
+ghost use Rattle.builder_spec.specs.Steps.{stands, thread_in};
 
-use calls::ThreadOutput;
+use ledger::ThreadOutput;
 use collections::Memory;
 use eutxo_types::{Cont, Datum, Lock};
 use roles::holds_sums;

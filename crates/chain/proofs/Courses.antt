@@ -6,20 +6,20 @@ use Rattle.compiler.specs.declared.fault.CompileFault.{CompileFault}
 use Rattle.eutxo_types.specs.declared.output.Output.{Output}
 use Rattle.roles.specs.declared.published.Published.{Published}
 use Rattle.roles.specs.Publications.{PublishedAreTables}
-use Rattle.history.specs.Laws.{marlowe, AreTables, StartIsSound, AfterIsSound, LaterIsSound}
-use Rattle.history.specs.Sound.{AreKeys}
-use Rattle.calls.specs.declared.call.Call.{Call}
-use Rattle.calls.specs.declared.call.Call.TheVariants as on
-use Rattle.calls.specs.declared.call.Reply.{Reply}
-use Rattle.calls.specs.declared.call.Reply.TheVariants as answer
-use Rattle.calls.specs.declared.call.Entry.{Entry}
+use Rattle.ledger_laws.specs.Laws.{marlowe, AreTables, StartIsSound, AfterIsSound, LaterIsSound}
+use Rattle.ledger_laws.specs.Sound.{AreKeys}
+use Rattle.ledger.specs.declared.call.Call.{Call}
+use Rattle.ledger.specs.declared.call.Call.TheVariants as on
+use Rattle.ledger.specs.declared.call.Reply.{Reply}
+use Rattle.ledger.specs.declared.call.Reply.TheVariants as answer
+use Rattle.ledger.specs.declared.call.Entry.{Entry}
 use Rattle.eutxo_types.specs.Ids.{id_of}
-use Rattle.standing.specs.Standing.{Standing, World, Course, changed, world, published_at, publication, with_one, publishes, published_from, published}
-use Rattle.calls.specs.Replies.{is_published}
-use Rattle.answering.specs.Answering.{is_same, if_same, publishing, reply_to, with_new}
+use Rattle.ledger_replay.specs.Standing.{Standing, World, Course, changed, world, published_at, publication, with_one, publishes, published_from, published}
+use Rattle.ledger.specs.Replies.{is_published}
+use Rattle.ledger_dispatch.specs.Answering.{is_same, if_same, publishing, reply_to, with_new}
 use Rattle.chain.specs.Legal.{Follows, IsLegal, with_entry, entry_of}
 use Rattle.chain.specs.Kept.{IsKept}
-use Rattle.standing.proofs.Walking.{standing_after}
+use Rattle.ledger_replay.proofs.Walking.{standing_after}
 use Rattle.chain.proofs.Sound.{course_so, tables_so}
 
 -- the element at n of a list that grew

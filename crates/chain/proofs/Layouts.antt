@@ -6,16 +6,16 @@ use Rattle.eutxo_types.specs.declared.output.Output.{Output}
 use Rattle.eutxo_types.specs.declared.output_ref.OutputRef.{OutputRef}
 use Rattle.eutxo.specs.Parts.{same_bytes, contract_in}
 use Rattle.roles.specs.declared.published.Published.{Published}
-use Rattle.calls.specs.declared.look.ThreadOutput.{ThreadOutput}
-use Rattle.history.specs.Past.{Past, unspent_at}
-use Rattle.building.specs.Steps.{layout_step}
-use Rattle.building.specs.Starts.{layout_start}
-use Rattle.building.specs.Claims.{layout_claim}
-use Rattle.acceptance.specs.AfterPasts.{StepsAreAcceptedAfter, StartsAreAcceptedAfter, ClaimsAreAcceptedAfter}
-use Rattle.acceptance.specs.ShownThreads.{AreUnderIds, IsShown, ShownThreadsStand}
-use Rattle.standing.specs.Standing.{Course, World, world, past_of, published, published_at}
-use Rattle.showing.specs.Looking.{with_published, under_script, output_at, shown_at, end_of, thread_shown, look}
-use Rattle.answering.specs.Answering.{submitted}
+use Rattle.ledger.specs.declared.look.ThreadOutput.{ThreadOutput}
+use Rattle.ledger_laws.specs.Past.{Past, unspent_at}
+use Rattle.builder_spec.specs.Steps.{layout_step}
+use Rattle.builder_spec.specs.Starts.{layout_start}
+use Rattle.builder_spec.specs.Claims.{layout_claim}
+use Rattle.builder_laws.specs.AfterPasts.{StepsAreAcceptedAfter, StartsAreAcceptedAfter, ClaimsAreAcceptedAfter}
+use Rattle.builder_laws.specs.ShownThreads.{AreUnderIds, IsShown, ShownThreadsStand}
+use Rattle.ledger_replay.specs.Standing.{Course, World, world, past_of, published, published_at}
+use Rattle.ledger_views.specs.Looking.{with_published, under_script, output_at, shown_at, end_of, thread_shown, look}
+use Rattle.ledger_dispatch.specs.Answering.{submitted}
 use Rattle.chain.specs.Kept.{IsKept}
 use Rattle.chain.specs.Layouts.{AcceptsSteps, AcceptsStarts, AcceptsClaims, ShowsStanding}
 

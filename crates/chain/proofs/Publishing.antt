@@ -10,9 +10,9 @@ use Rattle.eutxo.specs.Parts.{same_bytes}
 use Rattle.roles.specs.declared.published.Published.{Published}
 use Rattle.roles.specs.Publications.{published_of, PublishedAreTables}
 use Rattle.roles.specs.Terms.{IsTable, terms_of}
-use Rattle.history.specs.Laws.{AreTables}
-use Rattle.history.specs.Sound.{IsMore}
-use Rattle.standing.specs.Standing.{published_at, if_compiled, publication, with_one}
+use Rattle.ledger_laws.specs.Laws.{AreTables}
+use Rattle.ledger_laws.specs.Sound.{IsMore}
+use Rattle.ledger_replay.specs.Standing.{published_at, if_compiled, publication, with_one}
 
 found_front : {A : Type 0} (test : A → Bool) (xs ys : List A) (x : A) → find test xs ≡ Some x → find test (xs ++ ys) ≡ Some x
 found_front test [] ys x h = cc

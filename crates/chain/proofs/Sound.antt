@@ -5,16 +5,16 @@ use Rattle.eutxo_types.specs.declared.tx.Tx.{Tx}
 use Rattle.eutxo_types.specs.declared.fault.TxFault.{TxFault}
 use Rattle.roles.specs.declared.published.Published.{Published}
 use Rattle.roles.specs.Publications.{PublishedAreTables}
-use Rattle.history.specs.Laws.{marlowe, AreTables, AfterIsSound, LaterIsSound}
-use Rattle.history.specs.Sound.{IsSound}
-use Rattle.calls.specs.declared.call.Call.{Call}
-use Rattle.calls.specs.declared.call.Call.TheVariants as on
-use Rattle.calls.specs.declared.call.Reply.{Reply}
-use Rattle.standing.specs.Standing.{Pending, Standing, World, Course, world, past_of, published_at, published, publication, with_one, changed, accepted_among, standing}
-use Rattle.answering.specs.Answering.{submitted, accepting, if_accepted, judged, verdicts, reply_to, with_new}
+use Rattle.ledger_laws.specs.Laws.{marlowe, AreTables, AfterIsSound, LaterIsSound}
+use Rattle.ledger_laws.specs.Sound.{IsSound}
+use Rattle.ledger.specs.declared.call.Call.{Call}
+use Rattle.ledger.specs.declared.call.Call.TheVariants as on
+use Rattle.ledger.specs.declared.call.Reply.{Reply}
+use Rattle.ledger_replay.specs.Standing.{Pending, Standing, World, Course, world, past_of, published_at, published, publication, with_one, changed, accepted_among, standing}
+use Rattle.ledger_dispatch.specs.Answering.{submitted, accepting, if_accepted, judged, verdicts, reply_to, with_new}
 use Rattle.chain.specs.Legal.{with_entry, entry_of}
-use Rattle.standing.proofs.Walking.{standing_after}
-use Rattle.answering.proofs.Accepting.{after_advance, after_enqueue, only_first, no_more, one_kept}
+use Rattle.ledger_replay.proofs.Walking.{standing_after}
+use Rattle.ledger_dispatch.proofs.Accepting.{after_advance, after_enqueue, only_first, no_more, one_kept}
 use Rattle.chain.proofs.Publishing.{new_is_more, new_are_tables}
 
 abbrev SoundWith : List Published → List Output → List Tx → Type 0

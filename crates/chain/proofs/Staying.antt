@@ -4,12 +4,12 @@ use Rattle.std.specs.Prelude.{if◌then◌else◌}
 use Rattle.std.proofs.lemmas.List.{map-append, length-append}
 use Rattle.eutxo_types.specs.declared.tx.Tx.{Tx}
 use Rattle.eutxo_types.specs.Ids.{id_of}
-use Rattle.calls.specs.declared.call.Call.{Call}
-use Rattle.calls.specs.declared.call.Call.TheVariants as on
-use Rattle.calls.specs.declared.call.Reply.{Reply}
-use Rattle.calls.specs.Replies.{is_advanced, is_accepted, ticket_in, places_in}
-use Rattle.standing.specs.Standing.{Standing, World, enqueued, changed, accepted_among}
-use Rattle.answering.specs.Answering.{reply_to}
+use Rattle.ledger.specs.declared.call.Call.{Call}
+use Rattle.ledger.specs.declared.call.Call.TheVariants as on
+use Rattle.ledger.specs.declared.call.Reply.{Reply}
+use Rattle.ledger.specs.Replies.{is_advanced, is_accepted, ticket_in, places_in}
+use Rattle.ledger_replay.specs.Standing.{Standing, World, enqueued, changed, accepted_among}
+use Rattle.ledger_dispatch.specs.Answering.{reply_to}
 
 -- ---- what was accepted stays
 

@@ -2,9 +2,9 @@
 use Rattle.std.specs.Prelude.{◌≡◌, ℕ, List, map}
 use Rattle.eutxo_types.specs.Ids.{id_of}
 use Rattle.roles.specs.declared.published.Published.{Published}
-use Rattle.history.specs.Laws.{marlowe, AreTables}
-use Rattle.history.specs.Sound.{IsSound}
-use Rattle.standing.specs.Standing.{Course, published_at, published, world, past_of}
+use Rattle.ledger_laws.specs.Laws.{marlowe, AreTables}
+use Rattle.ledger_laws.specs.Sound.{IsSound}
+use Rattle.ledger_replay.specs.Standing.{Course, published_at, published, world, past_of}
 use Rattle.chain.specs.Legal.{IsLegal}
 
 -- what was published, the ids of what was accepted, and a legal history whose accepted transactions are sound

@@ -3,20 +3,20 @@ use Rattle.std.specs.Prelude.{◌≡◌, List, ◌++◌, Some, None}
 use Rattle.machine.specs.declared.datum.Datum.{Datum}
 use Rattle.eutxo_types.specs.declared.tx.Tx.{Tx}
 use Rattle.eutxo_types.specs.Ids.{id_of}
-use Rattle.calls.specs.declared.ask.Ask.{Ask}
-use Rattle.calls.specs.declared.look.Look.{Look}
-use Rattle.calls.specs.declared.look.ThreadOutput.{ThreadOutput}
-use Rattle.calls.specs.declared.look.Unspent.{Unspent}
-use Rattle.building.specs.Requests.{StepRequest, StartRequest, ClaimRequest}
-use Rattle.building.specs.Steps.{Thread, thread, step_spent, hinders_step, layout_step}
-use Rattle.building.specs.Starts.{start_front, hinders_start, layout_start}
-use Rattle.building.specs.Claims.{claim_front, hinders_claim, layout_claim}
-use Rattle.acceptance.specs.AfterPasts.{IsOpen}
-use Rattle.calls.specs.declared.call.Call.TheVariants as on
-use Rattle.calls.specs.declared.call.Reply.TheVariants as answer
-use Rattle.standing.specs.Standing.{Course, world, past_of, published_at}
-use Rattle.showing.specs.Looking.{thread_shown, look}
-use Rattle.answering.specs.Answering.{reply_to}
+use Rattle.ledger.specs.declared.ask.Ask.{Ask}
+use Rattle.ledger.specs.declared.look.Look.{Look}
+use Rattle.ledger.specs.declared.look.ThreadOutput.{ThreadOutput}
+use Rattle.ledger.specs.declared.look.Unspent.{Unspent}
+use Rattle.builder_spec.specs.Requests.{StepRequest, StartRequest, ClaimRequest}
+use Rattle.builder_spec.specs.Steps.{Thread, thread, step_spent, hinders_step, layout_step}
+use Rattle.builder_spec.specs.Starts.{start_front, hinders_start, layout_start}
+use Rattle.builder_spec.specs.Claims.{claim_front, hinders_claim, layout_claim}
+use Rattle.builder_laws.specs.AfterPasts.{IsOpen}
+use Rattle.ledger.specs.declared.call.Call.TheVariants as on
+use Rattle.ledger.specs.declared.call.Reply.TheVariants as answer
+use Rattle.ledger_replay.specs.Standing.{Course, world, past_of, published_at}
+use Rattle.ledger_views.specs.Looking.{thread_shown, look}
+use Rattle.ledger_dispatch.specs.Answering.{reply_to}
 
 -- a Submit of this transaction is answered that it is accepted
 abbrev pub Accepts : Course → Tx → Type 0

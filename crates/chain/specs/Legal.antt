@@ -1,9 +1,9 @@
 -- Which histories are legal: what ties entries to the table of calls.
 use Rattle.std.specs.Prelude.{◌≡◌, ℕ, [], ◌∷◌, ◌++◌, take, slice_get, Some}
-use Rattle.calls.specs.declared.call.Call.{Call}
-use Rattle.calls.specs.declared.call.Entry.{Entry}
-use Rattle.standing.specs.Standing.{Course, count_of, world}
-use Rattle.answering.specs.Answering.{reply_to}
+use Rattle.ledger.specs.declared.call.Call.{Call}
+use Rattle.ledger.specs.declared.call.Entry.{Entry}
+use Rattle.ledger_replay.specs.Standing.{Course, count_of, world}
+use Rattle.ledger_dispatch.specs.Answering.{reply_to}
 
 -- the course before its n-th entry
 abbrev pub before_entry : Course → ℕ → Course

@@ -1,32 +1,32 @@
 //! The ledger of one thread.
 ghost use Rattle.std.specs.Prelude.{◌≡◌, ◌++◌, ◌≤◌, [], IfOk, IfErr, OnErr, OnOk, length, drop, map, option_to_list};
-ghost use Rattle.history.specs.Laws.{EachIsARun, EndsWithItsRun, EachStepHasItsThread, ContractsAreStepped, EachContractEndsAThread, EachEndIsUnspent, AreFunded, AreOfTables, EachIsAuthorised, IsSpentOnce, IsPreserved};
-ghost use Rattle.history.specs.Sound.{AreKeys};
+ghost use Rattle.ledger_laws.specs.Laws.{EachIsARun, EndsWithItsRun, EachStepHasItsThread, ContractsAreStepped, EachContractEndsAThread, EachEndIsUnspent, AreFunded, AreOfTables, EachIsAuthorised, IsSpentOnce, IsPreserved};
+ghost use Rattle.ledger_laws.specs.Sound.{AreKeys};
 ghost use Rattle.eutxo.specs.Judgement.{found};
-ghost use Rattle.standing.specs.Beginning.{SumsFit, IsNoStart};
+ghost use Rattle.ledger_replay.specs.Beginning.{SumsFit, IsNoStart};
 ghost use Rattle.eutxo_types.specs.Ids.{id_of};
-ghost use Rattle.standing.specs.Standing.{changed, past_of, world, standing, published, published_at, moment_of};
+ghost use Rattle.ledger_replay.specs.Standing.{changed, past_of, world, standing, published, published_at, moment_of};
 ghost use Rattle.chain.specs.Layouts.{AcceptsSteps, AcceptsStarts, AcceptsClaims, ShowsStanding};
-ghost use Rattle.answering.specs.Answering.{reply_to, with_new};
+ghost use Rattle.ledger_dispatch.specs.Answering.{reply_to, with_new};
 ghost use Rattle.chain.specs.Legal.{entry_of, with_entry, IsLegal};
-ghost use Rattle.showing.specs.Recording.{AreSteps};
+ghost use Rattle.ledger_views.specs.Recording.{AreSteps};
 
-use acceptance::{
+use builder_laws::{
     claims_are_accepted, shown_threads_stand, starts_are_accepted, steps_are_accepted,
 };
-use answering::{answer, records, resolution};
-use calls::{Call, Entry, Reply};
+use ledger_dispatch::{answer, records, resolution};
+use ledger::{Call, Entry, Reply};
 use collections::{Items, Memory, TryClone};
 use eutxo::{Checked, Resolved, Shared};
 use eutxo_types::{Output, OutputRef, Tx};
-use history::{
+use ledger_laws::{
     accepting_is_sound, contracts_are_funded, contracts_end_threads, outputs_are_spent_once,
     parties_are_authorised, publishing_is_sound, starting_is_sound, steps_stand_on_threads,
     threads_are_runs, tokens_are_preserved,
 };
 use roles::{Published, published_are_tables};
-use showing::StepRecord;
-use standing::{GenesisFault, World, check_genesis, count_of, ids_of, last_tick, walk};
+use ledger_views::StepRecord;
+use ledger_replay::{GenesisFault, World, check_genesis, count_of, ids_of, last_tick, walk};
 use std::alloc::Global;
 use std::marker::Model;
 
@@ -67,9 +67,9 @@ impl Model for Chain {
     ghost use Rattle.contract.specs.contracts.tree.Contract as trees;
     ghost use Rattle.eutxo_types.specs.contracts.output.Output as outputs;
     ghost use Rattle.eutxo_types.specs.contracts.tx.Tx as txs;
-    ghost use Rattle.calls.specs.contracts.ask.Ask as ask_rows;
-    ghost use Rattle.calls.specs.contracts.look.Look as look_rows;
-    ghost use Rattle.standing.specs.Standing.{Course};
+    ghost use Rattle.ledger.specs.contracts.ask.Ask as ask_rows;
+    ghost use Rattle.ledger.specs.contracts.look.Look as look_rows;
+    ghost use Rattle.ledger_replay.specs.Standing.{Course};
     ghost use Rattle.chain.specs.Kept.{IsKept};
 
     ghost Value = { Course };

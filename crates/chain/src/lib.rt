@@ -10,7 +10,7 @@
 
 mod chain;
 
-pub use calls::{Call, Entry, Reply, Ticketed};
+pub use ledger::{Call, Entry, Reply, Ticketed};
 pub use chain::Chain;
-pub use showing::StepRecord;
-pub use standing::GenesisFault;
+pub use ledger_views::StepRecord;
+pub use ledger_replay::GenesisFault;

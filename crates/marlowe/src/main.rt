@@ -7,7 +7,7 @@
 
 use clap::Error;
 use clap::error::ErrorKind;
-use command_line::{LoadFault, Task, WordsFault, line, load, words};
+use marlowe_cli::{LoadFault, Task, WordsFault, line, load, words};
 use marlowe_run::{Fault, RunFault, refusal, run, table_text};
 use std::alloc::Global;
 use std::process::ExitCode;

@@ -1,5 +1,5 @@
 //! Command lines whose words are no text, or don't fit into memory.
-use command_line::{WordsFault, words};
+use marlowe_cli::{WordsFault, words};
 use std::alloc::Global;
 use std::env::FillError;
 use std::rt::Env;

@@ -1,5 +1,5 @@
 use Rattle.std.proofs.Common.{◌≡◌, ◌++◌, drop, map}
-use Rattle.building.specs.Laying.{by_key}
+use Rattle.builder_spec.specs.Laying.{by_key}
 use Rattle.builder.proofs.inputs.put_keys.Given as goal
 
 abbrev pub invariant-loop-unspent : goal.invariant-loop-unspent

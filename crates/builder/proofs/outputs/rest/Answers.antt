@@ -1,7 +1,7 @@
 use Rattle.std.proofs.Common.{rules, ◌≡◌, false}
-use Rattle.building.specs.Holding.{sums}
-use Rattle.building.specs.Clauses.{is_much}
-use Rattle.building.proofs.Funding.{amount}
+use Rattle.builder_spec.specs.Holding.{sums}
+use Rattle.builder_spec.specs.Clauses.{is_much}
+use Rattle.builder_spec.proofs.Funding.{amount}
 use Rattle.builder.proofs.Covered.{covered_room}
 use Rattle.builder.proofs.outputs.rest.Goals as goal
 

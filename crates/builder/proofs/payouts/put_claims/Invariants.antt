@@ -1,5 +1,5 @@
 use Rattle.std.proofs.Common.{◌≡◌, ◌++◌, drop, map}
-use Rattle.building.specs.Laying.{by_claim}
+use Rattle.builder_spec.specs.Laying.{by_claim}
 use Rattle.builder.proofs.payouts.put_claims.Given as goal
 
 abbrev pub invariant-loop-payout : goal.invariant-loop-payout

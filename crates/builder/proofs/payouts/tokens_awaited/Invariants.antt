@@ -1,5 +1,5 @@
 use Rattle.std.proofs.Common.{◌≡◌, ◌++◌, drop}
-use Rattle.building.specs.Claims.{tokens_awaited}
+use Rattle.builder_spec.specs.Claims.{tokens_awaited}
 use Rattle.builder.proofs.payouts.tokens_awaited.Given as goal
 
 abbrev pub invariant-loop-payout : goal.invariant-loop-payout

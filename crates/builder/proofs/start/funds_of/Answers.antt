@@ -2,11 +2,11 @@ use Rattle.std.proofs.Common.{◌≡◌, true, not, ◌&&◌, [], None, is_none,
 use Rattle.std.specs.Option.{option_map}
 use Rattle.eutxo.specs.Places.{is_empty}
 use Rattle.names.specs.Equal.{ada}
-use Rattle.building.specs.declared.fault.BuildFault.TheVariants.{NoFunds}
-use Rattle.building.specs.Holding.{least_lacking}
-use Rattle.building.specs.Fronts.{shortest, suffices}
-use Rattle.building.specs.Clauses.{no_funds}
-use Rattle.building.specs.Starts.{accounts_of}
+use Rattle.builder_spec.specs.declared.fault.BuildFault.TheVariants.{NoFunds}
+use Rattle.builder_spec.specs.Holding.{least_lacking}
+use Rattle.builder_spec.specs.Fronts.{shortest, suffices}
+use Rattle.builder_spec.specs.Clauses.{no_funds}
+use Rattle.builder_spec.specs.Starts.{accounts_of}
 use Rattle.builder.proofs.Covered.{start_clear, start_covered}
 use Rattle.builder.proofs.start.funds_of.Goals as goal
 

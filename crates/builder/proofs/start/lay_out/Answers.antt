@@ -1,9 +1,9 @@
 use Rattle.std.proofs.Common.{rules, ◌≡◌, true, false, [], ◌∷◌, sym, ap, subst}
 use Rattle.bundle.specs.Bundles.{covers}
 use Rattle.eutxo_types.specs.declared.output.Output.{Output}
-use Rattle.building.specs.Holding.{sums, held}
-use Rattle.building.specs.Clauses.{is_much}
-use Rattle.building.proofs.Funding.{amount}
+use Rattle.builder_spec.specs.Holding.{sums, held}
+use Rattle.builder_spec.specs.Clauses.{is_much}
+use Rattle.builder_spec.proofs.Funding.{amount}
 use Rattle.builder.proofs.Covered.{start_room, start_covers}
 use Rattle.builder.proofs.start.lay_out.Goals as goal
 

@@ -2,10 +2,10 @@ use Rattle.std.proofs.Common.{rules, ◌≡◌, true, false, ◌∷◌, Ok, sym,
 use Rattle.table.specs.Flat.{cont_tree}
 use Rattle.semantics.specs.Walk.{standing}
 use Rattle.bundle.specs.Bundles.{covers}
-use Rattle.building.specs.Holding.{sums, held}
-use Rattle.building.specs.Clauses.{is_much}
-use Rattle.building.specs.Steps.{Thread, walk, own, made}
-use Rattle.building.proofs.Funding.{amount}
+use Rattle.builder_spec.specs.Holding.{sums, held}
+use Rattle.builder_spec.specs.Clauses.{is_much}
+use Rattle.builder_spec.specs.Steps.{Thread, walk, own, made}
+use Rattle.builder_spec.proofs.Funding.{amount}
 use Rattle.builder.specs.Code.{request}
 use Rattle.builder.proofs.Covered.{step_room, step_covers}
 use Rattle.builder.proofs.step.finish.Goals as goal

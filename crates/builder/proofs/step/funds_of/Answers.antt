@@ -1,10 +1,10 @@
 use Rattle.std.proofs.Common.{◌≡◌, ◌∷◌, true, None, Some, is_none, sym, ap, ◌∙◌, subst}
 use Rattle.roles.specs.declared.published.Published.{Published}
-use Rattle.building.specs.declared.fault.BuildFault.TheVariants.{NotAuthorised, NoFunds}
-use Rattle.building.specs.Holding.{least_lacking}
-use Rattle.building.specs.Fronts.{front}
-use Rattle.building.specs.Clauses.{no_funds}
-use Rattle.building.specs.Steps.{roles_of, deposits, not_authorised, own, too_many_given}
+use Rattle.builder_spec.specs.declared.fault.BuildFault.TheVariants.{NotAuthorised, NoFunds}
+use Rattle.builder_spec.specs.Holding.{least_lacking}
+use Rattle.builder_spec.specs.Fronts.{front}
+use Rattle.builder_spec.specs.Clauses.{no_funds}
+use Rattle.builder_spec.specs.Steps.{roles_of, deposits, not_authorised, own, too_many_given}
 use Rattle.builder.proofs.Clauses.{fourth, fifth, no_clause}
 use Rattle.builder.proofs.Covered.{front_covers}
 use Rattle.builder.proofs.step.funds_of.Goals as goal

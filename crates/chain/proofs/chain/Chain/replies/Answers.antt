@@ -1,6 +1,6 @@
 use Rattle.std.proofs.Common.{◌∙◌, ap}
-use Rattle.standing.specs.Standing.{World, world}
-use Rattle.answering.specs.Answering.{reply_to}
+use Rattle.ledger_replay.specs.Standing.{World, world}
+use Rattle.ledger_dispatch.specs.Answering.{reply_to}
 use Rattle.chain.proofs.Staying.{ids_found}
 use Rattle.chain.proofs.chain.Chain.replies.Goals as goal
 

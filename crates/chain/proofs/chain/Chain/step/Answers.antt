@@ -1,9 +1,9 @@
 use Rattle.std.proofs.Common.{rules, ◌≡◌, ◌++◌, ◌∷◌, [], refl, sym, ◌∙◌, ap, subst, List, ℕ, map}
 use Rattle.std.specs.Option.{option_to_list}
 use Rattle.eutxo_types.specs.Ids.{id_of}
-use Rattle.calls.specs.declared.call.Entry.{Entry}
-use Rattle.standing.specs.Standing.{Course, changed, count_of, published, world}
-use Rattle.answering.specs.Answering.{reply_to, with_new}
+use Rattle.ledger.specs.declared.call.Entry.{Entry}
+use Rattle.ledger_replay.specs.Standing.{Course, changed, count_of, published, world}
+use Rattle.ledger_dispatch.specs.Answering.{reply_to, with_new}
 use Rattle.chain.specs.Legal.{entry_of}
 use Rattle.chain.specs.Kept.{IsKept}
 use Rattle.chain.proofs.Courses.{kept_more, same_entry, on_err}

@@ -1,0 +1,11 @@
+use Rattle.builder_laws.proofs.Starting.{starts_pass, starts_are_accepted, starts_are_accepted_after}
+use Rattle.builder_laws.proofs.accepted.starts_are_accepted.Goals as goal
+
+pub returns-clause-passes : goal.returns-clause-passes
+returns-clause-passes c = starts_pass
+
+pub returns-clause-accepted : goal.returns-clause-accepted
+returns-clause-accepted c = starts_are_accepted c.found_is_enough.ensures
+
+pub returns-clause-after : goal.returns-clause-after
+returns-clause-after c = starts_are_accepted_after c.found_is_enough.ensures

@@ -1,0 +1,68 @@
+-- When the layout of a request is accepted.
+use Rattle.std.specs.Prelude.{◌≡◌, ◌≤ℤ◌, true, false, List, ◌++◌, map, All, Option, Some, None, is_some}
+use Rattle.eutxo_types.specs.declared.output.Output.{Output}
+use Rattle.eutxo_types.specs.declared.tx.Tx.{Tx}
+use Rattle.eutxo_types.specs.Ids.{id_of}
+use Rattle.eutxo.specs.declared.resolved.Resolved.{Resolved}
+use Rattle.eutxo.specs.Found.{script_at, whole}
+use Rattle.eutxo.specs.Judgement.{Moment, judge}
+use Rattle.eutxo.specs.Local.{local}
+use Rattle.roles.specs.declared.published.Published.{Published}
+use Rattle.ledger.specs.declared.look.Look.{Look}
+use Rattle.ledger.specs.declared.look.Unspent.{Unspent}
+use Rattle.builder_spec.specs.Requests.{StepRequest, StartRequest, ClaimRequest}
+use Rattle.builder_spec.specs.Steps.{Thread, thread, step_spent, hinders_step, layout_step}
+use Rattle.builder_spec.specs.Starts.{start_front, hinders_start, layout_start}
+use Rattle.builder_spec.specs.Claims.{claim_front, hinders_claim, layout_claim}
+use Rattle.ledger_laws.specs.Laws.{marlowe}
+
+-- ---- on what was handed in
+
+-- the outputs of what is spent, as they were handed in
+abbrev pub contents : List Unspent → List (Option Output)
+contents spent = map (λ u. Some u.output) spent
+
+-- of a transaction and a resolution of it nothing is missing, and no rule refuses
+abbrev pub Passes : Tx → Resolved Published → Type 0
+Passes tx found = (is_some (whole tx found) ≡ true) × (local marlowe tx found ≡ None)
+
+-- a step that nothing hinders passes on what was handed in: the outputs that it spends, and the thread's script
+abbrev pub StepsPass : Type 0
+StepsPass = (look : Look) (r : StepRequest) (e : Thread) (found : Resolved Published) → thread look ≡ Some e → hinders_step look r ≡ None →
+    found.outputs ≡ contents (step_spent r e) → script_at found.scripts e.0.published.id ≡ Some e.0.published → Passes (layout_step look r) found
+
+-- so does a start, with the script that is started
+abbrev pub StartsPass : Type 0
+StartsPass = (r : StartRequest) (found : Resolved Published) → hinders_start r ≡ None →
+    found.outputs ≡ contents (start_front r) → script_at found.scripts r.published.id ≡ Some r.published → Passes (layout_start r) found
+
+-- and a claim
+abbrev pub ClaimsPass : Type 0
+ClaimsPass = (r : ClaimRequest) (found : Resolved Published) → hinders_claim r ≡ None → found.outputs ≡ contents (r.payouts ++ claim_front r) → Passes (layout_claim r) found
+
+-- ---- on a ledger
+
+-- at a moment these outputs are unspent, with the contents that were handed in
+abbrev pub AreUnspent : {V : Type 0} → Moment V → List Unspent → Type 0
+AreUnspent m us = All (λ u. m.unspent u.reference ≡ Some u.output) us
+
+-- what a transaction spends is unspent as it was handed in, its id is unused, and the tick lies in its interval
+pub record Admits {V : Type 0} (m : Moment V) (spent : List Unspent) (tx : Tx) : Type 0 where
+  pub unspent : AreUnspent m spent
+  pub unused : m.is_used (id_of tx) ≡ false
+  pub from : tx.interval.from ≤ℤ m.tick
+  pub to : m.tick ≤ℤ tx.interval.to
+
+-- A STEP THAT NOTHING HINDERS IS ACCEPTED at every such moment at which the thread's script is published as the look shows it
+abbrev pub StepsAreAccepted : Type 0
+StepsAreAccepted = (look : Look) (r : StepRequest) (e : Thread) (m : Moment Published) → thread look ≡ Some e → hinders_step look r ≡ None →
+    m.published e.0.published.id ≡ Some e.0.published → Admits m (step_spent r e) (layout_step look r) → judge marlowe m (layout_step look r) ≡ None
+
+-- SO IS A START, where what is started is published under its id
+abbrev pub StartsAreAccepted : Type 0
+StartsAreAccepted = (r : StartRequest) (m : Moment Published) → hinders_start r ≡ None →
+    m.published r.published.id ≡ Some r.published → Admits m (start_front r) (layout_start r) → judge marlowe m (layout_start r) ≡ None
+
+-- AND A CLAIM
+abbrev pub ClaimsAreAccepted : Type 0
+ClaimsAreAccepted = (r : ClaimRequest) (m : Moment Published) → hinders_claim r ≡ None → Admits m (r.payouts ++ claim_front r) (layout_claim r) → judge marlowe m (layout_claim r) ≡ None

@@ -1,0 +1,27 @@
+-- A thread that a ledger shows meets the first clause of what hinders a step.
+use Rattle.std.specs.Prelude.{◌≡◌, ℕ, List, Option, Some}
+use Rattle.machine.specs.declared.datum.Datum.{Datum}
+use Rattle.eutxo.specs.Parts.{contract_in}
+use Rattle.roles.specs.declared.published.Published.{Published}
+use Rattle.ledger.specs.declared.look.Look.{Look}
+use Rattle.ledger.specs.declared.look.ThreadOutput.{ThreadOutput}
+use Rattle.builder_spec.specs.Steps.{Thread, thread}
+use Rattle.ledger_laws.specs.Past.{Past, unspent_at}
+use Rattle.ledger_laws.specs.Sound.{IsSound}
+use Rattle.ledger_laws.specs.Laws.{marlowe, AreTables}
+
+-- what is published under an id has that id
+abbrev pub AreUnderIds : (List ℕ → Option Published) → Type 0
+AreUnderIds published = (id : List ℕ) (p : Published) → published id ≡ Some p → p.id ≡ id
+
+-- a contract output that is unspent after a past, with what is published under its script
+pub record IsShown (published : List ℕ → Option Published) (past : Past) (t : ThreadOutput) (d : Datum) : Type 0 where
+  pub script : List ℕ
+  pub unspent : unspent_at past t.reference ≡ Some t.output
+  pub contract : contract_in t.output.lock ≡ Some (script, d)
+  pub named : published script ≡ Some t.published
+
+-- the thread of a look that shows one so is that output, with its datum
+abbrev pub ShownThreadsStand : Type 0
+ShownThreadsStand = (published : List ℕ → Option Published) (past : Past) (look : Look) (t : ThreadOutput) (d : Datum) → AreTables published → AreUnderIds published → IsSound marlowe published past →
+    look.thread ≡ Some t → IsShown published past t d → (let e : Thread = (t, d) in thread look ≡ Some e)

@@ -1,0 +1,45 @@
+//! That layouts are accepted.
+ghost use Rattle.builder_laws.specs.Accepting.{StepsPass, StartsPass, ClaimsPass, StepsAreAccepted, StartsAreAccepted, ClaimsAreAccepted};
+ghost use Rattle.builder_laws.specs.AfterPasts.{StepsAreAcceptedAfter, StartsAreAcceptedAfter, ClaimsAreAcceptedAfter, BytesTellApart};
+
+use eutxo::found_is_enough;
+use eutxo_types::no_transaction_begins_another;
+use roles::Published;
+
+/// The layout of a step that nothing hinders is accepted by every ledger at every moment at which what it spends is
+/// unspent with the contents that were handed in, the thread's script is published as the look shows it, no accepted
+/// transaction has its id and the tick lies in its interval. And no rule refuses it on any resolution that has what was
+/// handed in.
+pub fn steps_are_accepted()
+    ensures passes { StepsPass }
+    ensures accepted { StepsAreAccepted }
+    ensures after { StepsAreAcceptedAfter }
+{
+    found_is_enough::<Published>();
+}
+
+/// So is the layout of a start that nothing hinders, where what is started is published under its id.
+pub fn starts_are_accepted()
+    ensures passes { StartsPass }
+    ensures accepted { StartsAreAccepted }
+    ensures after { StartsAreAcceptedAfter }
+{
+    found_is_enough::<Published>();
+}
+
+/// And the layout of a claim that nothing hinders.
+pub fn claims_are_accepted()
+    ensures passes { ClaimsPass }
+    ensures accepted { ClaimsAreAccepted }
+    ensures after { ClaimsAreAcceptedAfter }
+{
+    found_is_enough::<Published>();
+}
+
+/// Where all fit their spelling, and no accepted transaction of other bytes has the SHA-256 of a transaction, no other
+/// accepted transaction has its id.
+pub fn bytes_tell_accepted_apart()
+    ensures { BytesTellApart }
+{
+    no_transaction_begins_another();
+}

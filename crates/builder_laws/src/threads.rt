@@ -1,0 +1,26 @@
+//! Threads that are shown, and threads that are closed.
+ghost use Rattle.builder_laws.specs.ShownThreads.{ShownThreadsStand};
+ghost use Rattle.builder_laws.specs.AfterLast.{AnyoneCloses, NoThreadHinders};
+
+use ledger_laws::contracts_are_funded;
+use semantics::contracts_close_after_the_last_timeout;
+
+/// A look that shows an unspent contract output of a ledger, with what is published there under its script, shows a
+/// thread that stands: it is of that script, at a number of the table, and holds just the sums of its accounts. So such a
+/// look fails the first clause only where it shows no thread.
+pub fn shown_threads_stand()
+    ensures { ShownThreadsStand }
+{
+    contracts_are_funded();
+}
+
+/// After the last timeout anyone can close a thread, without inputs and with nothing offered, in an interval that
+/// ends neither before its start nor before the minimum time: Close without accounts remains, and the parties are
+/// paid all that the thread's output held. Only that a number leaves 128 bits hinders it, or that Close without
+/// accounts stands already.
+pub fn anyone_closes_after_the_last_timeout()
+    ensures closes { AnyoneCloses }
+    ensures none { NoThreadHinders }
+{
+    contracts_close_after_the_last_timeout();
+}

@@ -1,0 +1,34 @@
+-- How inputs and change are laid out.
+use Rattle.std.specs.Prelude.{ℕ, if◌then◌else◌, List, [], ◌∷◌}
+use Rattle.std.specs.FinMap.{entries}
+use Rattle.contract.specs.declared.input.Input.{Input}
+use Rattle.bundle.specs.Bundles.{Amounts, minus}
+use Rattle.eutxo_types.specs.declared.lock.Lock.TheVariants.{Key}
+use Rattle.eutxo_types.specs.declared.output.Output.{Output}
+use Rattle.eutxo_types.specs.declared.redeemer.Redeemer.{Redeemer}
+use Rattle.eutxo_types.specs.declared.redeemer.Redeemer.TheVariants as with
+use Rattle.eutxo_types.specs.declared.spend.Spend.{Spend}
+use Rattle.eutxo.specs.Places.{is_empty}
+use Rattle.ledger.specs.declared.look.Unspent.{Unspent}
+use Rattle.builder_spec.specs.Holding.{sums, held}
+
+-- an input that spends an output
+abbrev pub spend_with : Redeemer → Unspent → Spend
+spend_with redeemer u = record { reference = u.reference; redeemer = redeemer }
+
+abbrev pub by_key : Unspent → Spend
+by_key = spend_with with.None
+
+abbrev pub by_claim : Unspent → Spend
+by_claim = spend_with with.Claim
+
+abbrev pub by_step : List Input → Unspent → Spend
+by_step xs = spend_with (with.Step xs)
+
+-- an output to an address, where there is anything for it
+abbrev pub given_to : List ℕ → Amounts → List Output
+given_to address m = if is_empty (entries m) then [] else record { lock = Key address; amount = m } ∷ []
+
+-- what is spent and not made: the change
+abbrev pub rest : List Unspent → List Output → Amounts
+rest spent made = minus (sums held spent) (sums (λ o. o.amount) made)

@@ -1,0 +1,33 @@
+-- What is asked of a builder.
+use Rattle.std.specs.Prelude.{ℕ, List}
+use Rattle.contract.specs.declared.input.Input.{Input}
+use Rattle.contract.specs.declared.interval.Interval.{Interval}
+use Rattle.states.specs.States.{StateMaps}
+use Rattle.roles.specs.declared.published.Published.{Published}
+use Rattle.ledger.specs.declared.look.Unspent.{Unspent}
+
+-- a step of the thread that a look shows, with the outputs that are offered, and the address to which the change goes
+pub record StepRequest : Type 0 where
+  pub interval : Interval
+  pub inputs : List Input
+  pub signers : List (List ℕ)
+  pub offered : List Unspent
+  pub change : List ℕ
+
+-- a start of what is published, with the accounts and the minimum time of a state
+pub record StartRequest : Type 0 where
+  pub published : Published
+  pub state : StateMaps
+  pub interval : Interval
+  pub signers : List (List ℕ)
+  pub offered : List Unspent
+  pub change : List ℕ
+
+-- a claim of payouts, and the address to which they go
+pub record ClaimRequest : Type 0 where
+  pub payouts : List Unspent
+  pub interval : Interval
+  pub signers : List (List ℕ)
+  pub offered : List Unspent
+  pub to : List ℕ
+  pub change : List ℕ

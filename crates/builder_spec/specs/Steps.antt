@@ -1,0 +1,157 @@
+-- Steps of a thread: what hinders one, and how it is laid out.
+use Rattle.std.specs.Prelude.{ℕ, ℤ, pos, int_lt, nat_lt, Bool, not, ◌&&◌, ◌||◌, if◌then◌else◌, List, [], ◌∷◌, ◌++◌, map, length, Option, Some, None, option_map, Result, Ok, Err}
+use Rattle.std.specs.List.{filter_map, find}
+use Rattle.names.specs.declared.party.Party.{Party}
+use Rattle.names.specs.declared.party.Party.TheVariants.{Address, Role}
+use Rattle.names.specs.declared.token.Token.{Token}
+use Rattle.contract.specs.declared.fault.SemFault.{SemFault}
+use Rattle.contract.specs.declared.input.Input.{Input}
+use Rattle.contract.specs.declared.input.Input.TheVariants.{Deposit}
+use Rattle.semantics.specs.Walk.{Standing, Walk, answer_of}
+use Rattle.semantics.specs.Computed.{computed}
+use Rattle.machine.specs.declared.datum.Datum.{Datum}
+use Rattle.eutxo_types.specs.declared.output.Output.{Output}
+use Rattle.eutxo_types.specs.declared.tx.Tx.{Tx}
+use Rattle.eutxo.specs.Parts.{same_bytes, contract_in}
+use Rattle.eutxo.specs.Places.{first_of}
+use Rattle.eutxo.specs.Rules.{has_signed}
+use Rattle.roles.specs.Sums.{sums_of}
+use Rattle.roles.specs.Terms.{Terms, terms_of}
+use Rattle.roles.specs.Steps.{same_amounts, role_token, needed, continuation, due, is_close}
+use Rattle.ledger.specs.declared.look.Look.{Look}
+use Rattle.ledger.specs.declared.look.ThreadOutput.{ThreadOutput}
+use Rattle.ledger.specs.declared.look.Unspent.{Unspent}
+use Rattle.builder_spec.specs.declared.fault.BuildFault.{BuildFault}
+use Rattle.builder_spec.specs.declared.fault.BuildFault.TheVariants.{NoThread, Semantics, NotAuthorised, TooMany}
+use Rattle.builder_spec.specs.Requests.{StepRequest}
+use Rattle.builder_spec.specs.Holding.{holds_token}
+use Rattle.builder_spec.specs.Fronts.{front}
+use Rattle.builder_spec.specs.Clauses.{not_signed, no_funds, too_many, repeated}
+use Rattle.builder_spec.specs.Laying.{by_key, by_step, given_to, rest}
+
+-- ---- the thread
+
+-- a thread's output with its datum
+abbrev pub Thread : Type 0
+Thread = ThreadOutput × Datum
+
+abbrev pub terms : Thread → Terms
+terms e = terms_of e.0.published
+
+-- its script is what is published there, its number is in the table, and it holds exactly the sums of its accounts
+abbrev pub stands : ThreadOutput → List ℕ × Datum → Bool
+stands t c = same_bytes c.0 t.published.id && ((terms_of t.published).has c.1.cont && same_amounts t.output.amount (sums_of c.1.state))
+
+abbrev pub thread_in : ThreadOutput → Option (List ℕ × Datum) → Option Thread
+thread_in t None = None
+thread_in t (Some c) = if stands t c then Some (t, c.1) else None
+
+abbrev pub thread_of : Option ThreadOutput → Option Thread
+thread_of None = None
+thread_of (Some t) = thread_in t (contract_in t.output.lock)
+
+-- the thread that a look shows, where it stands so
+abbrev pub thread : Look → Option Thread
+thread look = thread_of look.thread
+
+-- ---- what the contract makes of the request
+
+abbrev pub walk : StepRequest → Thread → Walk
+walk r e = computed r.interval e.1.state ((terms e).tree e.1.cont) r.inputs
+
+-- 2: the transaction function refuses
+abbrev pub refused : Result Standing SemFault → Option BuildFault
+refused (Ok a) = None
+refused (Err f) = Some (Semantics f)
+
+-- ---- what the inputs need
+
+-- the token of a role; an address has none
+abbrev pub token_of : List ℕ → Party → Option Token
+token_of currency (Address a) = None
+token_of currency (Role r) = Some (role_token currency r)
+
+abbrev pub roles_of : List ℕ → List Input → List Token
+roles_of currency xs = filter_map (token_of currency) (filter_map needed xs)
+
+-- what an input deposits, where that is above 0
+abbrev pub deposit_of : Input → Option (Token × ℤ)
+deposit_of (Deposit account party token amount) = if int_lt (pos 0) amount then Some (token, amount) else None
+deposit_of _ = None
+
+abbrev pub deposits : List Input → List (Token × ℤ)
+deposits xs = filter_map deposit_of xs
+
+-- an address acts by its signature, a role by its token in what is offered
+abbrev pub may_act : List ℕ → List (List ℕ) → List Unspent → Party → Bool
+may_act currency signers offered (Address a) = has_signed signers a
+may_act currency signers offered (Role r) = holds_token offered (role_token currency r)
+
+-- 4: of the parties that the inputs need, in order, the first that may not act
+abbrev pub not_authorised : List ℕ → List (List ℕ) → List Unspent → List Input → Option BuildFault
+not_authorised currency signers offered xs = option_map NotAuthorised (find (λ p. not (may_act currency signers offered p)) (filter_map needed xs))
+
+-- ---- what is spent
+
+abbrev pub step_front : StepRequest → Thread → List Unspent
+step_front r e = front (roles_of e.0.published.currency r.inputs) (deposits r.inputs) r.offered
+
+-- the thread's output
+abbrev pub own : Thread → Unspent
+own e = record { reference = e.0.reference; output = e.0.output }
+
+abbrev pub step_spent : StepRequest → Thread → List Unspent
+step_spent r e = own e ∷ step_front r e
+
+-- 6, with the limit on the contract's inputs
+abbrev pub too_many_given : List Input → List Unspent → Option BuildFault
+too_many_given xs spent = if nat_lt 256 (length xs) then Some TooMany else too_many spent
+
+-- ---- WHAT HINDERS A STEP: the first of seven clauses that fails
+
+abbrev pub hinders_thread : StepRequest → Thread → Option BuildFault
+hinders_thread r e =
+    first_of
+    (refused (answer_of (walk r e))
+    ∷ not_signed r.signers r.offered
+    ∷ not_authorised e.0.published.currency r.signers r.offered r.inputs
+    ∷ no_funds (deposits r.inputs) r.offered
+    ∷ too_many_given r.inputs (step_spent r e)
+    ∷ repeated (own e ∷ r.offered)
+    ∷ [])
+
+abbrev pub hinders_on : StepRequest → Option Thread → Option BuildFault
+hinders_on r None = Some NoThread
+hinders_on r (Some e) = hinders_thread r e
+
+abbrev pub hinders_step : Look → StepRequest → Option BuildFault
+hinders_step look r = hinders_on r (thread look)
+
+-- ---- ITS LAYOUT: the thread's output and the front are spent; the contract goes on, unless it is Close, the payments
+-- that are due follow, and then the change
+
+abbrev pub goes_on : Thread → Walk → Standing → List Output
+goes_on e w a = if is_close a.contract then [] else continuation e.0.published.id ((terms e).at e.1.cont w.turns) a.state ∷ []
+
+abbrev pub made : Thread → Walk → Result Standing SemFault → List Output
+made e w (Ok a) = goes_on e w a ++ due e.0.published.currency w.payments
+made e w (Err f) = []
+
+abbrev pub step_made : StepRequest → Thread → List Output
+step_made r e = made e (walk r e) (answer_of (walk r e))
+
+abbrev pub layout_thread : StepRequest → Thread → Tx
+layout_thread r e = record {
+  inputs = by_step r.inputs (own e) ∷ map by_key (step_front r e);
+  outputs = step_made r e ++ given_to r.change (rest (step_spent r e) (step_made r e));
+  interval = r.interval;
+  signers = r.signers;
+}
+
+-- where there is no thread, nothing is laid out
+abbrev pub layout_on : StepRequest → Option Thread → Tx
+layout_on r None = record { inputs = []; outputs = []; interval = r.interval; signers = r.signers }
+layout_on r (Some e) = layout_thread r e
+
+abbrev pub layout_step : Look → StepRequest → Tx
+layout_step look r = layout_on r (thread look)

@@ -1,6 +1,0 @@
-use Rattle.collections.proofs.SameLaws.{same_by_from}
-use Rattle.calls.specs.contracts.call.Call as it
-use Rattle.calls.proofs.equal.CallPartialEq.eq.Goals as goal
-
-pub returns : goal.returns
-returns c = same_by_from it.the_row.coded _ _ _ c.same.ensures

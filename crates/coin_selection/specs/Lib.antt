@@ -1,0 +1,4 @@
+pub mod Passing
+pub mod Needed
+pub mod Left
+pub mod Serving

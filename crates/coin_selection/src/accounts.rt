@@ -1,0 +1,50 @@
+//! Amounts of one token, and what the accounts of a state hold together.
+ghost use Rattle.std.specs.Prelude.{◌≡◌, ◌⊎◌, true, pos, ◌<ℤ◌, map, IfOk, IfErr};
+ghost use Rattle.states.specs.States.{AllPositive};
+ghost use Rattle.roles.specs.Steps.{only};
+ghost use Rattle.roles.specs.Sums.{sums_of};
+ghost use Rattle.builder_spec.specs.Clauses.{is_much};
+
+use crate::sums::{see_all, sum};
+use bundle::{Bundle, BundleFault};
+use collections::{Entries, Memory};
+use contract::{Account, State};
+use names::Token;
+use std::alloc::Global;
+
+/// Just this much of one token.
+pub fn only(alloc: Global, token: &Token, amount: i128) -> Result<Bundle, Memory>
+    requires { pos 0 <ℤ amount }
+    ensures { IfOk result (λ bundle. bundle ≡ only token.now amount) }
+{
+    let mut entries = Entries::new(alloc);
+    entries.set(token, amount)?;
+    Ok(Bundle::from_entries(entries))
+}
+
+// What each account holds.
+fn bundles_of(alloc: Global, accounts: &[(Account, i128)]) -> Result<Vec<Bundle>, Memory>
+    requires { AllPositive accounts.now }
+    ensures { IfOk result (λ bundles. bundles.items ≡ map (λ e. only e.0.token e.1) accounts.now) }
+{
+    let mut bundles = Vec::new(alloc);
+    for account in accounts {
+        bundles.push(only(alloc, &account.0.token, account.1)?)?;
+    }
+    Ok(bundles)
+}
+
+/// What the accounts hold together: refused with `TooLarge` only where the sum of a token is above 2^127 - 1, and
+/// otherwise only for memory.
+pub fn sums_of(alloc: Global, state: &State) -> Result<Bundle, BundleFault>
+    ensures ok { IfOk result (λ bundle. bundle ≡ sums_of state.now) }
+    ensures err { IfErr result (λ fault. (fault ≡ BundleFault.Memory) ⊎ ((fault ≡ BundleFault.TooLarge) × (is_much (sums_of state.now) ≡ true))) }
+{
+    match bundles_of(alloc, state.accounts()) {
+        Ok(bundles) => {
+            see_all(&bundles);
+            sum(alloc, &bundles)
+        }
+        Err(_) => Err(BundleFault::Memory),
+    }
+}

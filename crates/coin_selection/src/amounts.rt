@@ -1,0 +1,97 @@
+//! Amounts of tokens that are wanted.
+ghost use Rattle.std.specs.Prelude.{◌≡◌, pos, ◌+ℤ◌, ◌<ℤ◌, ◌≤ℤ◌, ◌^◌, if◌then◌else◌, Some, map, IfOk, OnOk};
+ghost use Rattle.std.specs.FinMap.{get};
+ghost use Rattle.std.specs.Ordering.{eq_by_cmp};
+ghost use Rattle.names.specs.declared.token.Token.{Token as AToken};
+ghost use Rattle.names.specs.Orders.{token_cmp};
+ghost use Rattle.bundle.specs.Bundles.{amount_of};
+ghost use Rattle.states.specs.States.{AllPositive};
+ghost use Rattle.builder_spec.specs.Starts.{accounts_of};
+ghost use Rattle.builder_spec.specs.Steps.{deposit_of, deposits};
+
+use collections::Memory;
+use contract::{Account, Input, State};
+use names::Token;
+use crate::needs::Needs;
+use std::alloc::Global;
+use std::marker::Model;
+
+/// An amount of a token, above 0. Clauses see the pair of token and amount.
+#[derive(Drop)]
+pub struct Amount<'a> {
+    token: &'a Token,
+    amount: &'a i128,
+}
+
+impl<'a> Model for Amount<'a> {
+    ghost use Rattle.std.specs.Prelude.{ℤ, pos, ◌<ℤ◌};
+    ghost use Rattle.names.specs.declared.token.Token.{Token};
+
+    ghost Value = { Token × ℤ };
+
+    ghost view = { λ a. (a.token.now, a.amount.now) };
+
+    ghost invariant = { λ a. pos 0 <ℤ a.amount.now };
+}
+
+impl<'a> Amount<'a> {
+    /// So much more of its token is needed.
+    pub(crate) fn add_to(&self, needs: &mut Needs) -> Result<(), Memory>
+        requires { amount_of needs.old self.now.0 ≤ℤ pos (2 ^ 199) }
+        ensures range { (pos 0 <ℤ self.now.1) × (self.now.1 ≤ℤ pos (2 ^ 127)) }
+        ensures added { OnOk result ((t : AToken) → get needs.new t ≡ (if eq_by_cmp token_cmp self.now.0 t then Some (amount_of needs.old self.now.0 +ℤ self.now.1) else get needs.old t)) }
+    {
+        needs.add(self.token, *self.amount)
+    }
+}
+
+// What an input deposits, where that is above 0.
+fn deposit_of(input: &Input) -> Option<Amount<'_>>
+    ensures { result ≡ deposit_of input.now }
+{
+    match input {
+        Input::Deposit(_, _, token, amount) => {
+            if 0 < *amount {
+                Some(Amount { token, amount })
+            } else {
+                None
+            }
+        }
+        Input::Choice(_, _) => None,
+        Input::Notify => None,
+    }
+}
+
+/// What inputs deposit, in order.
+pub fn deposits(alloc: Global, inputs: &[Input]) -> Result<Vec<Amount<'_>>, Memory>
+    ensures { IfOk result (λ amounts. amounts.items ≡ deposits inputs.now) }
+{
+    let mut amounts = Vec::new(alloc);
+    for input in inputs {
+        if let Some(amount) = deposit_of(input) {
+            amounts.push(amount)?;
+        }
+    }
+    Ok(amounts)
+}
+
+// What each of these accounts holds, in order.
+fn amounts_of(alloc: Global, accounts: &[(Account, i128)]) -> Result<Vec<Amount<'_>>, Memory>
+    requires { AllPositive accounts.now }
+    ensures { IfOk result (λ amounts. amounts.items ≡ map (λ e. (e.0.token, e.1)) accounts.now) }
+{
+    let mut amounts = Vec::new(alloc);
+    for account in accounts {
+        let token = &account.0.token;
+        let amount = &account.1;
+        amounts.push(Amount { token, amount })?;
+    }
+    Ok(amounts)
+}
+
+/// What the accounts of a state hold, in order.
+pub fn accounts_of(alloc: Global, state: &State) -> Result<Vec<Amount<'_>>, Memory>
+    ensures { IfOk result (λ amounts. amounts.items ≡ accounts_of state.now) }
+{
+    amounts_of(alloc, state.accounts())
+}

@@ -1,0 +1,109 @@
+//! Who may act.
+ghost use Rattle.std.specs.Prelude.{◌≡◌, ◌∷◌, [], not, option_copied, is_some, IfOk};
+ghost use Rattle.std.specs.FinMap.{get};
+ghost use Rattle.std.specs.List.{find, filter_map};
+ghost use Rattle.std.specs.Option.{option_map};
+ghost use Rattle.roles.specs.Steps.{needed};
+ghost use Rattle.builder_spec.specs.Holding.{held, holds_token};
+ghost use Rattle.builder_spec.specs.Serving.{AreBundles};
+ghost use Rattle.builder_spec.specs.Steps.{may_act};
+ghost use Rattle.coin_selection.specs.Needed.{may_act_but};
+
+use crate::amounts::Amount;
+use crate::needed::lacking;
+use crate::roles_needed::{RoleToken, roles_of};
+use ledger::Unspent;
+use collections::{Bytes, Memory, Text};
+use contract::{Input, Party};
+use eutxo::has_signed;
+use crate::needs::Needs;
+use roles::needed;
+use std::alloc::Global;
+
+// Whether a role's token is among those that are needed.
+fn is_unheld(unheld: &Needs, role: &RoleToken<'_>) -> Result<bool, Memory>
+    ensures { IfOk result (λ answer. answer ≡ is_some (get unheld.now role.now)) }
+{
+    let token = role.to_token()?;
+    Ok(unheld.needs(&token))
+}
+
+// An address acts by its signature, and a role unless its token is needed.
+fn may_act(
+    currency: &Bytes,
+    signers: &[Text],
+    unheld: &Needs,
+    party: &Party,
+) -> Result<bool, Memory>
+    ensures { IfOk result (λ answer. answer ≡ may_act_but currency.now signers.now unheld.now party.now) }
+{
+    match party {
+        Party::Address(address) => Ok(has_signed(signers, address)),
+        Party::Role(role) => {
+            let is_unheld = is_unheld(unheld, &RoleToken::new(currency, role))?;
+            Ok(!is_unheld)
+        }
+    }
+}
+
+// The party that an input needs, where it may not act.
+fn barred<'a>(
+    currency: &Bytes,
+    signers: &[Text],
+    unheld: &Needs,
+    input: &'a Input,
+) -> Result<Option<&'a Party>, Memory>
+    ensures { IfOk result (λ party. option_copied party ≡ find (λ p. not (may_act_but currency.now signers.now unheld.now p)) (filter_map needed (input.now ∷ []))) }
+{
+    match needed(input) {
+        None => Ok(None),
+        Some(party) => {
+            if may_act(currency, signers, unheld, party)? {
+                Ok(None)
+            } else {
+                Ok(Some(party))
+            }
+        }
+    }
+}
+
+/// Of the parties that the inputs need, in order, the first that may not act.
+pub(crate) fn unauthorised<'a>(
+    alloc: Global,
+    currency: &Bytes,
+    signers: &[Text],
+    offered: &[Unspent],
+    inputs: &'a [Input],
+) -> Result<Option<&'a Party>, Memory>
+    requires { AreBundles held offered.now }
+    ensures { IfOk result (λ party. option_copied party ≡ find (λ p. not (may_act currency.now signers.now offered.now p)) (filter_map needed inputs.now)) }
+{
+    let roles = roles_of(alloc, currency, inputs)?;
+    let none: &[Amount<'_>] = &[];
+    let unheld = lacking(alloc, &roles, none, offered)?;
+    for input in inputs {
+        if let Some(party) = barred(currency, signers, &unheld, input)? {
+            return Ok(Some(party));
+        }
+    }
+    Ok(None)
+}
+
+/// The role of the first of these tokens that no output holds.
+pub fn first_unheld<'a>(
+    alloc: Global,
+    tokens: &[RoleToken<'a>],
+    outputs: &[Unspent],
+) -> Result<Option<&'a Text>, Memory>
+    requires { AreBundles held outputs.now }
+    ensures { IfOk result (λ role. option_copied role ≡ option_map (λ t. t.name) (find (λ t. not (holds_token outputs.now t)) tokens.now)) }
+{
+    let none: &[Amount<'_>] = &[];
+    let unheld = lacking(alloc, tokens, none, outputs)?;
+    for token in tokens {
+        if is_unheld(&unheld, token)? {
+            return Ok(Some(token.role()));
+        }
+    }
+    Ok(None)
+}

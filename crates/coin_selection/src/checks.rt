@@ -1,0 +1,98 @@
+//! The clauses of a request, each one function.
+ghost use Rattle.std.specs.Prelude.{◌∷◌, ◌++◌};
+ghost use Rattle.builder_spec.specs.Holding.{held};
+ghost use Rattle.builder_spec.specs.Serving.{AreBundles};
+ghost use Rattle.builder_spec.specs.Clauses.{not_signed, no_funds, repeated};
+ghost use Rattle.builder_spec.specs.Steps.{not_authorised};
+ghost use Rattle.coin_selection.specs.Passing.{Passes};
+
+use crate::amounts::Amount;
+use crate::authorise::unauthorised;
+use crate::funds::least_lacking;
+use crate::limits::{has_repeat, put_references};
+use crate::signed::are_signed;
+use builder_spec::BuildFault;
+use ledger::Unspent;
+use collections::{Bytes, Text, TryClone};
+use contract::Input;
+use eutxo_types::{Output, OutputRef};
+use std::alloc::Global;
+
+/// Each offered output is under the key of a signer.
+pub fn check_signed(signers: &[Text], offered: &[Unspent]) -> Result<(), BuildFault>
+    ensures { Passes result (not_signed signers.now offered.now) }
+{
+    if are_signed(signers, offered) {
+        Ok(())
+    } else {
+        Err(BuildFault::NotSigned)
+    }
+}
+
+/// Each party that the inputs need may act.
+pub fn check_authorised(
+    alloc: Global,
+    currency: &Bytes,
+    signers: &[Text],
+    offered: &[Unspent],
+    inputs: &[Input],
+) -> Result<(), BuildFault>
+    requires { AreBundles held offered.now }
+    ensures { Passes result (not_authorised currency.now signers.now offered.now inputs.now) }
+{
+    match unauthorised(alloc, currency, signers, offered, inputs)? {
+        None => Ok(()),
+        Some(party) => match party.try_clone() {
+            Ok(party) => Err(BuildFault::NotAuthorised(party)),
+            Err(_) => Err(BuildFault::Memory),
+        },
+    }
+}
+
+/// As much of each token is offered as is wanted.
+pub fn check_funds(
+    alloc: Global,
+    amounts: &[Amount<'_>],
+    offered: &[Unspent],
+) -> Result<(), BuildFault>
+    requires { AreBundles held offered.now }
+    ensures { Passes result (no_funds amounts.now offered.now) }
+{
+    match least_lacking(alloc, amounts, offered)? {
+        None => Ok(()),
+        Some(token) => Err(BuildFault::NoFunds(token)),
+    }
+}
+
+/// A thread's output and the offered outputs are named once.
+pub fn check_once(
+    alloc: Global,
+    reference: OutputRef,
+    output: &Output,
+    offered: &[Unspent],
+) -> Result<(), BuildFault>
+    ensures { Passes result (repeated (record { reference = reference; output = output.now } ∷ offered.now)) }
+{
+    let _ = output;
+    let mut references = vec![in alloc; reference]?;
+    put_references(&mut references, offered)?;
+    if has_repeat(alloc, &references)? {
+        Err(BuildFault::Repeated)
+    } else {
+        Ok(())
+    }
+}
+
+/// All of these are named once.
+pub fn check_apart(alloc: Global, first: &[Unspent], others: &[Unspent]) -> Result<(), BuildFault>
+    ensures { Passes result (repeated (first.now ++ others.now)) }
+{
+    let mut references = Vec::new(alloc);
+    put_references(&mut references, first)?;
+    put_references(&mut references, others)?;
+    if has_repeat(alloc, &references)? {
+        Err(BuildFault::Repeated)
+    } else {
+        Ok(())
+    }
+}

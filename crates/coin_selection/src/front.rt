@@ -1,0 +1,67 @@
+//! The front of what is offered.
+ghost use Rattle.std.specs.Prelude.{◌≡◌, ◌<◌, ◌&&◌, [], not, length, IfOk};
+ghost use Rattle.eutxo.specs.Places.{is_empty};
+ghost use Rattle.builder_spec.specs.Holding.{held};
+ghost use Rattle.builder_spec.specs.Fronts.{shortest, suffices, front};
+ghost use Rattle.builder_spec.specs.Serving.{AreBundles, IsShortest};
+
+use crate::amounts::Amount;
+use crate::needed::{meet, needs_of};
+use crate::roles_needed::RoleToken;
+use ledger::Unspent;
+use collections::Memory;
+use std::alloc::Global;
+
+// How many offered outputs the shortest front has that suffices: what they hold is counted until nothing is needed.
+fn front_length(
+    alloc: Global,
+    roles: &[RoleToken<'_>],
+    amounts: &[Amount<'_>],
+    offered: &[Unspent],
+) -> Result<usize, Memory>
+    requires { AreBundles held offered.now }
+    ensures { IfOk result (λ length. IsShortest (suffices roles.now amounts.now) offered.now length) }
+{
+    let mut needs = needs_of(alloc, roles, amounts)?;
+    for i in 0..offered.len() {
+        if needs.is_met() {
+            return Ok(i);
+        }
+        meet(&mut needs, &offered[i]);
+    }
+    Ok(offered.len())
+}
+
+/// The shortest front that holds each of these tokens of roles, and as much of each token as is wanted. It takes
+/// n log n, and is refused only for memory.
+pub fn front_of<'a>(
+    alloc: Global,
+    roles: &[RoleToken<'_>],
+    amounts: &[Amount<'_>],
+    offered: &'a [Unspent],
+) -> Result<&'a [Unspent], Memory>
+    requires { AreBundles held offered.now }
+    ensures front { IfOk result (λ taken. taken.now ≡ front roles.now amounts.now offered.now) }
+    ensures bundles { IfOk result (λ taken. AreBundles held taken.now) }
+{
+    let length = front_length(alloc, roles, amounts, offered)?;
+    Ok(&offered[..length])
+}
+
+/// The shortest front that holds as much of each token as is wanted and has one output at least. It takes n log n, and
+/// is refused only for memory.
+pub fn start_front<'a>(
+    alloc: Global,
+    amounts: &[Amount<'_>],
+    offered: &'a [Unspent],
+) -> Result<&'a [Unspent], Memory>
+    requires bundles { AreBundles held offered.now }
+    requires some { 0 < length offered.now }
+    ensures front { IfOk result (λ taken. taken.now ≡ shortest (λ us. not (is_empty us) && suffices [] amounts.now us) offered.now) }
+    ensures bundles { IfOk result (λ taken. AreBundles held taken.now) }
+{
+    let none: &[RoleToken<'_>] = &[];
+    let length = front_length(alloc, none, amounts, offered)?;
+    let some = if length == 0 { 1 } else { length };
+    Ok(&offered[..some])
+}

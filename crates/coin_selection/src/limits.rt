@@ -1,0 +1,183 @@
+//! The limits on what is spent.
+ghost use Rattle.std.specs.Prelude.{◌≡◌, ◌⊎◌, if◌then◌else◌, ◌++◌, ◌∷◌, true, false, not, ◌<◌, length, get_or, map, IfOk, IfErr, OnOk};
+ghost use Rattle.std.specs.HashSet.{contains};
+ghost use Rattle.eutxo.specs.Parts.{same_ref};
+ghost use Rattle.bundle.specs.Bundles.{plus};
+ghost use Rattle.builder_spec.specs.Holding.{sums, held};
+ghost use Rattle.builder_spec.specs.Clauses.{is_much, too_many, has_repeat};
+ghost use Rattle.builder_spec.specs.Steps.{too_many_given};
+ghost use Rattle.builder_spec.specs.Serving.{AreBundles};
+ghost use Rattle.coin_selection.specs.Passing.{Passes};
+
+use crate::sums::{see, see_room, sum, with};
+use builder_spec::BuildFault;
+use bundle::{Bundle, BundleFault};
+use ledger::Unspent;
+use collections::Memory;
+use contract::Input;
+use eutxo_types::{Output, OutputRef};
+use std::alloc::Global;
+use std::collections::HashSet;
+
+const MOST: usize = 256;
+
+/// Puts the references of outputs behind others.
+pub(crate) fn put_references(
+    references: &mut Vec<OutputRef>,
+    outputs: &[Unspent],
+) -> Result<(), Memory>
+    ensures { OnOk result (references.new.items ≡ references.old.items ++ map (λ u. u.reference) outputs.now) }
+{
+    for unspent in outputs {
+        references.push(unspent.reference)?;
+    }
+    Ok(())
+}
+
+// Puts a reference into a set, and answers whether it is new there.
+fn put(set: &mut HashSet<OutputRef>, reference: OutputRef) -> Result<bool, Memory>
+    ensures fresh { IfOk result (λ fresh. fresh ≡ not (contains same_ref set.old reference)) }
+    ensures put { OnOk result ((r : OutputRef) → contains same_ref set.new r ≡ (if same_ref reference r then true else contains same_ref set.old r)) }
+{
+    let fresh = set.insert(reference)?;
+    Ok(fresh)
+}
+
+fn reference_at(references: &[OutputRef], at: usize) -> OutputRef
+    requires { at < length references.now }
+    ensures { result ≡ get_or references.now at result }
+{
+    references[at]
+}
+
+/// Whether two references name one output, by a set of those that come later.
+pub(crate) fn has_repeat(alloc: Global, references: &[OutputRef]) -> Result<bool, Memory>
+    ensures { IfOk result (λ answer. answer ≡ has_repeat references.now) }
+{
+    let mut later = HashSet::new(alloc);
+    for i in (0..references.len()).rev() {
+        match put(&mut later, reference_at(references, i)) {
+            Ok(fresh) => {
+                if !fresh {
+                    return Ok(true);
+                }
+            }
+            Err(refused) => return Err(refused),
+        }
+    }
+    Ok(false)
+}
+
+// What a thread's output and others hold together.
+fn spent(alloc: Global, output: &Output, front: &[Unspent]) -> Result<Bundle, BundleFault>
+    requires { AreBundles held front.now }
+    ensures ok { IfOk result (λ all. all ≡ plus output.now.amount (sums held front.now)) }
+    ensures err { IfErr result (λ fault. (fault ≡ BundleFault.Memory) ⊎ ((fault ≡ BundleFault.TooLarge) × (is_much (plus output.now.amount (sums held front.now)) ≡ true))) }
+{
+    see(output);
+    match sum(alloc, front) {
+        Ok(others) => with(output, &others),
+        Err(fault) => Err(fault),
+    }
+}
+
+/// What a thread's output and the front hold together, where the limits hold.
+pub fn within_limits(
+    alloc: Global,
+    reference: OutputRef,
+    output: &Output,
+    inputs: &[Input],
+    front: &[Unspent],
+) -> Result<Bundle, BuildFault>
+    requires { AreBundles held front.now }
+    ensures all { IfOk result (λ all. all ≡ sums held (record { reference = reference; output = output.now } ∷ front.now)) }
+    ensures passes { Passes result (too_many_given inputs.now (record { reference = reference; output = output.now } ∷ front.now)) }
+{
+    let _ = reference;
+    if inputs.len() > MOST || front.len() >= MOST {
+        return Err(BuildFault::TooMany);
+    }
+    match spent(alloc, output, front) {
+        Ok(all) => {
+            see_room(&all);
+            Ok(all)
+        }
+        Err(BundleFault::Memory) => Err(BuildFault::Memory),
+        Err(_) => Err(BuildFault::TooMany),
+    }
+}
+
+// What both hold together fits.
+fn fits(first: &Bundle, others: &Bundle) -> Result<(), BundleFault>
+    ensures ok { OnOk result (is_much (plus first.now others.now) ≡ false) }
+    ensures err { IfErr result (λ fault. (fault ≡ BundleFault.Memory) ⊎ ((fault ≡ BundleFault.TooLarge) × (is_much (plus first.now others.now) ≡ true))) }
+{
+    match with(first, others) {
+        Ok(all) => {
+            see_room(&all);
+            Ok(())
+        }
+        Err(fault) => Err(fault),
+    }
+}
+
+/// What is held by each of two lists of outputs that are spent together.
+#[derive(Drop)]
+pub struct Shares {
+    pub first: Bundle,
+    pub others: Bundle,
+}
+
+// What each list holds, where both together fit.
+fn shares_of(alloc: Global, first: &[Unspent], others: &[Unspent]) -> Result<Shares, BundleFault>
+    requires first { AreBundles held first.now }
+    requires others { AreBundles held others.now }
+    ensures first { IfOk result (λ shares. shares.first ≡ sums held first.now) }
+    ensures others { IfOk result (λ shares. shares.others ≡ sums held others.now) }
+    ensures fits { OnOk result (is_much (plus (sums held first.now) (sums held others.now)) ≡ false) }
+    ensures err { IfErr result (λ fault. (fault ≡ BundleFault.Memory) ⊎ ((fault ≡ BundleFault.TooLarge) × (is_much (plus (sums held first.now) (sums held others.now)) ≡ true))) }
+{
+    match sum(alloc, first) {
+        Err(fault) => Err(fault),
+        Ok(first) => match sum(alloc, others) {
+            Err(fault) => Err(fault),
+            Ok(others) => match fits(&first, &others) {
+                Err(fault) => Err(fault),
+                Ok(()) => Ok(Shares { first, others }),
+            },
+        },
+    }
+}
+
+// How a sum that is refused is told.
+fn build_fault(fault: BundleFault) -> BuildFault
+    ensures memory { fault ≡ BundleFault.Memory → result ≡ BuildFault.Memory }
+    ensures large { fault ≡ BundleFault.TooLarge → result ≡ BuildFault.TooMany }
+{
+    match fault {
+        BundleFault::Memory => BuildFault::Memory,
+        BundleFault::TooLarge => BuildFault::TooMany,
+        BundleFault::Short(_) => BuildFault::TooMany,
+    }
+}
+
+/// What each of two lists of outputs holds, where the limits hold of all that is spent.
+pub fn shares_within(
+    alloc: Global,
+    first: &[Unspent],
+    others: &[Unspent],
+) -> Result<Shares, BuildFault>
+    requires first { AreBundles held first.now }
+    requires others { AreBundles held others.now }
+    ensures first { IfOk result (λ shares. shares.first ≡ sums held first.now) }
+    ensures others { IfOk result (λ shares. shares.others ≡ sums held others.now) }
+    ensures passes { Passes result (too_many (first.now ++ others.now)) }
+{
+    if first.len() > MOST || others.len() > MOST - first.len() {
+        return Err(BuildFault::TooMany);
+    }
+    match shares_of(alloc, first, others) {
+        Ok(shares) => Ok(shares),
+        Err(fault) => Err(build_fault(fault)),
+    }
+}

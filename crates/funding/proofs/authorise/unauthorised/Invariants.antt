@@ -1,9 +1,0 @@
-use Rattle.std.proofs.Common.{◌≡◌, not, drop}
-use Rattle.std.specs.List.{find, filter_map}
-use Rattle.roles.specs.Steps.{needed}
-use Rattle.building.specs.Steps.{may_act}
-use Rattle.funding.proofs.authorise.unauthorised.Given as goal
-
-abbrev pub invariant-loop-input : goal.invariant-loop-input
-invariant-loop-input l =
-    find (λ p. not (may_act l.currency l.signers l.offered p)) (filter_map needed l.inputs) ≡ find (λ p. not (may_act l.currency l.signers l.offered p)) (filter_map needed (drop l.input-index l.inputs))

@@ -1,6 +1,0 @@
-use Rattle.std.proofs.Common.{take}
-use Rattle.building.specs.Serving.{AreBundles}
-use Rattle.funding.proofs.sums.see_all.Given as goal
-
-abbrev pub invariant-loop-item : goal.invariant-loop-item
-invariant-loop-item g l = AreBundles g.A.Holds.held (take l.item-index l.items)

@@ -1,6 +1,0 @@
-use Rattle.eutxo.specs.Asked.{judges_of}
-use Rattle.history.proofs.Growth.{after_is_sound}
-use Rattle.history.proofs.ledger.accepting_is_sound.Goals as goal
-
-pub returns : goal.returns
-returns g c = after_is_sound (judges_of g.V.Validator.step_gives g.V.Validator.starts g.V.Validator.claims)

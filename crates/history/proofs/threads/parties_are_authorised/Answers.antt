@@ -1,5 +1,0 @@
-use Rattle.history.proofs.Allowed.{parties_are_authorised}
-use Rattle.history.proofs.threads.parties_are_authorised.Goals as goal
-
-pub returns : goal.returns
-returns c = parties_are_authorised c.found_is_enough.ensures

@@ -1,8 +1,0 @@
-use Rattle.history.proofs.Runs.{threads_are_runs, threads_end_with_runs}
-use Rattle.history.proofs.threads.threads_are_runs.Goals as goal
-
-pub returns-clause-run : goal.returns-clause-run
-returns-clause-run c = threads_are_runs c.turns_lead_to_the_remaining_contract.ensures c.found_is_enough.ensures
-
-pub returns-clause-end : goal.returns-clause-end
-returns-clause-end c = threads_end_with_runs c.turns_lead_to_the_remaining_contract.ensures c.found_is_enough.ensures

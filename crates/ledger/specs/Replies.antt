@@ -1,0 +1,31 @@
+-- What a reply says.
+use Rattle.std.specs.Prelude.{ℕ, Bool, true, false, List, [], Option, Some, None}
+use Rattle.eutxo_types.specs.declared.verdict.Verdict.{Verdict}
+use Rattle.eutxo_types.specs.declared.verdict.Verdict.TheVariants as told
+use Rattle.ledger.specs.declared.call.Reply.{Reply}
+use Rattle.ledger.specs.declared.call.Reply.TheVariants as answer
+use Rattle.ledger.specs.declared.call.Ticketed.{Ticketed}
+
+abbrev pub is_advanced : Reply → Bool
+is_advanced answer.Advanced = true
+is_advanced r = false
+
+abbrev pub is_accepted : Reply → Bool
+is_accepted (answer.Accepted id) = true
+is_accepted r = false
+
+abbrev pub is_published : Reply → Bool
+is_published (answer.Published id) = true
+is_published r = false
+
+abbrev pub ticket_in : Reply → Option ℕ
+ticket_in (answer.Ticket n) = Some n
+ticket_in r = None
+
+abbrev pub places_in : Reply → List Ticketed
+places_in (answer.Round vs) = vs
+places_in r = []
+
+abbrev pub accepts : Verdict → Bool
+accepts told.Accepted = true
+accepts (told.Refused f) = false

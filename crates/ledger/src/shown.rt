@@ -1,0 +1,112 @@
+//! What a look holds of a ledger.
+ghost use Rattle.std.specs.Prelude.{◌≡◌, IfOk, option_copied};
+ghost use Rattle.eutxo.specs.Judgement.{found};
+ghost use Rattle.eutxo.specs.Places.{or_else};
+ghost use Rattle.roles.specs.declared.published.Published.{Published};
+ghost use Rattle.ledger.specs.Shown.{output_among, thread_output, output_shown, script_shown, shown};
+
+use crate::found::resolve;
+use crate::ledger::Ledger;
+use crate::look::{Look, ThreadOutput, Unspent};
+use collections::Memory;
+use eutxo::{Resolved, Shared, is_same};
+use eutxo_types::{Output, OutputRef, Tx};
+use roles::Published;
+use std::alloc::Global;
+
+fn output_among<'a>(outputs: &'a [Unspent], reference: &OutputRef) -> Option<&'a Output>
+    ensures { option_copied result ≡ output_among outputs.now reference.now }
+{
+    for x in outputs {
+        if is_same(x.reference, *reference) {
+            return Some(&x.output);
+        }
+    }
+    None
+}
+
+fn thread_output<'a>(thread: &'a Option<ThreadOutput>, reference: &OutputRef) -> Option<&'a Output>
+    ensures { option_copied result ≡ thread_output thread.now reference.now }
+{
+    match thread {
+        Some(x) => {
+            if is_same(x.reference, *reference) {
+                Some(&x.output)
+            } else {
+                None
+            }
+        }
+        None => None,
+    }
+}
+
+fn either<'a>(x: Option<&'a Output>, y: Option<&'a Output>) -> Option<&'a Output>
+    ensures { option_copied result ≡ or_else (option_copied x.entry) (option_copied y.entry) }
+{
+    match x {
+        Some(output) => Some(output),
+        None => y,
+    }
+}
+
+fn output_shown<'a>(look: &'a Look, reference: &OutputRef) -> Option<&'a Output>
+    ensures { option_copied result ≡ output_shown look.now reference.now }
+{
+    either(
+        thread_output(&look.thread, reference),
+        either(
+            output_among(look.keys.as_slice(), reference),
+            output_among(look.payouts.as_slice(), reference),
+        ),
+    )
+}
+
+fn script_shown<'a>(
+    thread: &'a Option<ThreadOutput>,
+    id: &[u8; 32],
+) -> Option<&'a Shared<Published>>
+    ensures { option_copied result ≡ script_shown thread.now id.now }
+{
+    match thread {
+        Some(x) => {
+            if x.published.get().id == *id {
+                Some(&x.published)
+            } else {
+                None
+            }
+        }
+        None => None,
+    }
+}
+
+impl Ledger<Published> for Look {
+    ghost moment = { λ look. shown look };
+
+    fn unspent_at(&self, reference: &OutputRef) -> Option<&Output> {
+        output_shown(self, reference)
+    }
+
+    fn published_at(&self, script: &[u8; 32]) -> Option<&Shared<Published>> {
+        script_shown(&self.thread, script)
+    }
+
+    fn is_used(&self, id: &[u8; 32]) -> bool {
+        let _ = id;
+        false
+    }
+
+    fn tick(&self) -> i64 {
+        self.tick
+    }
+}
+
+impl Look {
+    /// All that the look holds of what is found of what a transaction names: the outputs of its inputs
+    /// that are shown, and what is published under the thread's script where the transaction's outputs
+    /// or those outputs name it. Answers `Memory` only where a growth was refused.
+    pub fn resolve(&self, alloc: Global, tx: &Tx) -> Result<Resolved<Published>, Memory>
+        ensures { IfOk result (λ resolved. resolved ≡ found (shown self.now) tx.now) }
+    {
+        resolve(alloc, self, tx)
+    }
+}

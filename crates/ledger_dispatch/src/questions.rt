@@ -1,0 +1,39 @@
+//! What a question is answered.
+ghost use Rattle.std.specs.Prelude.{◌≡◌, IfOk};
+ghost use Rattle.eutxo.specs.Judgement.{found};
+ghost use Rattle.ledger_laws.specs.Laws.{marlowe, AreTables};
+ghost use Rattle.ledger_laws.specs.Sound.{IsSound};
+ghost use Rattle.ledger_replay.specs.Standing.{past_of, published_at, moment_of};
+ghost use Rattle.ledger_views.specs.Recording.{AreSteps};
+
+use ledger::resolve;
+use collections::{Items, Memory};
+use eutxo::Resolved;
+use eutxo_types::{OutputRef, Tx};
+use roles::Published;
+use ledger_views::{StepRecord, steps_of};
+use ledger_replay::World;
+use std::alloc::Global;
+
+/// What is found of what a transaction names, by what stands: the unspent outputs of its inputs, and of the scripts
+/// that its outputs and those name the ones that are published. Answers `Memory` only where a growth was refused.
+pub fn resolution(alloc: Global, world: &World<'_>, tx: &Tx) -> Result<Resolved<Published>, Memory>
+    ensures { IfOk result (λ resolved. resolved ≡ found (moment_of world.now) tx.now) }
+{
+    resolve(alloc, world, tx)
+}
+
+/// The records of the thread that starts at an output, in order: the thread's one run, with as many records as the
+/// thread has transactions. Where no thread starts there are none. Answers `Memory` only where a growth was
+/// refused.
+pub fn records(
+    alloc: Global,
+    world: &World<'_>,
+    start: &OutputRef,
+) -> Result<Items<StepRecord>, Memory>
+    requires sound { IsSound marlowe (published_at world.now.published) (past_of world.now) }
+    requires tables { AreTables (published_at world.now.published) }
+    ensures { IfOk result (λ records. AreSteps (published_at world.now.published) (past_of world.now) start.now records) }
+{
+    steps_of(alloc, world, start)
+}

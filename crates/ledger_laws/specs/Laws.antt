@@ -1,0 +1,164 @@
+-- What holds of every sound past, however a ledger came by it.
+use Rattle.std.specs.Prelude.{◌≡◌, ℕ, ℤ, true, List, [], map, slice_get, All, Option, Some, None}
+use Rattle.std.specs.List.{filter_map}
+use Rattle.names.specs.declared.token.Token.{Token}
+use Rattle.bundle.specs.Totals.{total_of}
+use Rattle.machine.specs.declared.datum.Datum.{Datum}
+use Rattle.eutxo_types.specs.declared.output.Output.{Output}
+use Rattle.eutxo_types.specs.declared.output_ref.OutputRef.{OutputRef}
+use Rattle.eutxo_types.specs.declared.spend.Spend.{Spend}
+use Rattle.eutxo_types.specs.declared.tx.Tx.{Tx}
+use Rattle.eutxo.specs.Asked.{Judges, judges_of}
+use Rattle.eutxo.specs.Found.{with_outputs}
+use Rattle.eutxo.specs.Judgement.{judge}
+use Rattle.eutxo.specs.Parts.{is_contract, contract_in, inputs_of}
+use Rattle.roles.specs.declared.published.Published.{Published}
+use Rattle.roles.specs.Terms.{IsTable, terms_of}
+use Rattle.roles.specs.Steps.{step_of, starts_from, holds_role, needed, authorised}
+use Rattle.roles.specs.Sums.{sums_of}
+use Rattle.ledger_laws.specs.Past.{Past, before, after, unspent, unspent_at}
+use Rattle.ledger_laws.specs.Threads.{thread, ends, is_step, steps, IsStart, StartsThread, Member, Run, contract_after, state_after, Carries}
+use Rattle.ledger_laws.specs.Sound.{moment, AreKeys, IsSound, IsMore}
+
+-- one, and no other
+abbrev pub ExactlyOne : {A : Type 0} → (A → Type 0) → Type 0
+ExactlyOne {A} F = (x : A) × F x × ((y : A) → F y → y ≡ x)
+
+-- ---- whatever the scripts
+
+-- a transaction is a member of a thread
+abbrev pub IsMember : Past → OutputRef → Tx → Type 0
+IsMember past r tx = (i : ℕ) × (q : OutputRef) × (slice_get (thread past r) i ≡ Some (record { spends = q; tx = tx }))
+
+-- EVERY ACCEPTED STEP STANDS ON EXACTLY ONE THREAD
+abbrev pub EachStepHasItsThread : Past → Type 0
+EachStepHasItsThread past =
+    (n : ℕ) (tx : Tx) → slice_get past.accepted n ≡ Some tx → steps tx ≡ true → ExactlyOne (λ r. StartsThread past r × IsMember past r tx)
+
+abbrev pub StepsStandOnThreads : {V : Type 0} → Judges V → Type 0
+StepsStandOnThreads {V} j = (published : List ℕ → Option V) (past : Past) → IsSound j published past → EachStepHasItsThread past
+
+-- and a contract output is spent by a step alone: the input that names it brings one
+abbrev pub ContractsAreStepped : Past → Type 0
+ContractsAreStepped past =
+    (n i : ℕ) (tx : Tx) (x : Spend) (o : Output) → slice_get past.accepted n ≡ Some tx → slice_get tx.inputs i ≡ Some x →
+    unspent_at (before past n) x.reference ≡ Some o → is_contract o.lock ≡ true → is_step x.redeemer ≡ true
+
+abbrev pub StepsSpendContracts : {V : Type 0} → Judges V → Type 0
+StepsSpendContracts {V} j = (published : List ℕ → Option V) (past : Past) → IsSound j published past → ContractsAreStepped past
+
+-- what holds of each unspent contract output, with its script and its datum
+abbrev pub OfUnspentContracts : Past → (OutputRef → Output → List ℕ → Datum → Type 0) → Type 0
+OfUnspentContracts past F = (q : OutputRef) (o : Output) (script : List ℕ) (d : Datum) → unspent_at past q ≡ Some o → contract_in o.lock ≡ Some (script, d) → F q o script d
+
+-- each is the end of exactly one thread: a start output, or the next output of a thread's last transaction
+abbrev pub EachContractEndsAThread : Past → Type 0
+EachContractEndsAThread past = OfUnspentContracts past (λ q o script d. ExactlyOne (λ r. StartsThread past r × (ends (Some r) (thread past r) ≡ Some q)))
+
+-- and where a thread has an end, that is an unspent contract output
+abbrev pub EachEndIsUnspent : Past → Type 0
+EachEndIsUnspent past = (r q : OutputRef) → StartsThread past r → ends (Some r) (thread past r) ≡ Some q → (o : Output) × (unspent_at past q ≡ Some o) × (is_contract o.lock ≡ true)
+
+abbrev pub EndsAreUnspent : {V : Type 0} → Judges V → Type 0
+EndsAreUnspent {V} j = (published : List ℕ → Option V) (past : Past) → IsSound j published past → EachEndIsUnspent past
+
+abbrev pub ContractsEndThreads : {V : Type 0} → Judges V → Type 0
+ContractsEndThreads {V} j = (published : List ℕ → Option V) (past : Past) → IsSound j published past → EachContractEndsAThread past
+
+-- of each token the unspent outputs hold together what the first outputs held
+abbrev pub IsPreserved : Past → Type 0
+IsPreserved past = (t : Token) → total_of (λ e. e.1.amount) t (unspent past) ≡ total_of (λ o. o.amount) t past.genesis
+
+abbrev pub TokensArePreserved : {V : Type 0} → Judges V → Type 0
+TokensArePreserved {V} j = (published : List ℕ → Option V) (past : Past) → IsSound j published past → IsPreserved past
+
+-- no two inputs, of one accepted transaction or of two, name one output
+abbrev pub IsSpentOnce : Past → Type 0
+IsSpentOnce past =
+    (n m i k : ℕ) (s t : Tx) (x y : Spend) → slice_get past.accepted n ≡ Some s → slice_get past.accepted m ≡ Some t →
+    slice_get s.inputs i ≡ Some x → slice_get t.inputs k ≡ Some y → x.reference ≡ y.reference → (n ≡ m) × (i ≡ k)
+
+abbrev pub OutputsAreSpentOnce : {V : Type 0} → Judges V → Type 0
+OutputsAreSpentOnce {V} j = (published : List ℕ → Option V) (past : Past) → IsSound j published past → IsSpentOnce past
+
+-- a ledger begins sound where it begins with key outputs, stays sound where it accepts what is judged without fault, and where
+-- more is published
+abbrev pub StartIsSound : {V : Type 0} → Judges V → Type 0
+StartIsSound {V} j = (published : List ℕ → Option V) (genesis : List Output) → AreKeys genesis → IsSound j published (record { genesis = genesis; accepted = [] })
+
+abbrev pub AfterIsSound : {V : Type 0} → Judges V → Type 0
+AfterIsSound {V} j =
+    (published : List ℕ → Option V) (past : Past) (tick : ℤ) (tx : Tx) → IsSound j published past → judge j (moment published past tick) tx ≡ None → IsSound j published (after past tx)
+
+abbrev pub LaterIsSound : {V : Type 0} → Judges V → Type 0
+LaterIsSound {V} j = (published later : List ℕ → Option V) (past : Past) → IsMore published later → IsSound j published past → IsSound j later past
+
+-- ---- of Marlowe's contracts
+
+-- published contracts judge so
+abbrev pub marlowe : Judges Published
+marlowe = judges_of (λ p. step_of (terms_of p)) (λ p. starts_from p.root) holds_role
+
+-- the numbers of what is published are a table's
+abbrev pub AreTables : (List ℕ → Option Published) → Type 0
+AreTables published = (script : List ℕ) (p : Published) → published script ≡ Some p → IsTable (terms_of p)
+
+-- THE THREAD OF EACH START OUTPUT IS EXACTLY ONE RUN of the contract that was published under its script, from the state in
+-- the start's datum
+abbrev pub EachIsARun : (List ℕ → Option Published) → Past → Type 0
+EachIsARun published past =
+    (r : OutputRef) (script : List ℕ) (d : Datum) → IsStart past r script d →
+    (p : Published) × (published script ≡ Some p) × ExactlyOne (λ run. Run ((terms_of p).tree p.root) d.state run × Carries (terms_of p) script (thread past r) run)
+
+abbrev pub ThreadsAreRuns : Type 0
+ThreadsAreRuns = (published : List ℕ → Option Published) (past : Past) → AreTables published → IsSound marlowe published past → EachIsARun published past
+
+-- and where the thread has an end, that is where the run stands: of the thread's script, at a number that stands for what
+-- remains, in the run's state
+abbrev pub EndsWithItsRun : (List ℕ → Option Published) → Past → Type 0
+EndsWithItsRun published past =
+    (r : OutputRef) (script : List ℕ) (d : Datum) → IsStart past r script d → (p : Published) → published script ≡ Some p →
+    (run : List Member) → Run ((terms_of p).tree p.root) d.state run → Carries (terms_of p) script (thread past r) run →
+    (q : OutputRef) (o : Output) (other : List ℕ) (e : Datum) → ends (Some r) (thread past r) ≡ Some q → unspent_at past q ≡ Some o → contract_in o.lock ≡ Some (other, e) →
+    (other ≡ script) × ((terms_of p).tree e.cont ≡ contract_after ((terms_of p).tree p.root) run) × (e.state ≡ state_after d.state run)
+
+abbrev pub ThreadsEndWithRuns : Type 0
+ThreadsEndWithRuns = (published : List ℕ → Option Published) (past : Past) → AreTables published → IsSound marlowe published past → EndsWithItsRun published past
+
+-- each unspent contract output holds exactly the sums of its accounts
+abbrev pub AreFunded : Past → Type 0
+AreFunded past = OfUnspentContracts past (λ q o script d. o.amount ≡ sums_of d.state)
+
+abbrev pub ContractsAreFunded : Type 0
+ContractsAreFunded = (published : List ℕ → Option Published) (past : Past) → IsSound marlowe published past → AreFunded past
+
+-- and stands at a number of what was published under its script
+abbrev pub AreOfTables : (List ℕ → Option Published) → Past → Type 0
+AreOfTables published past = OfUnspentContracts past (λ q o script d. (p : Published) × (published script ≡ Some p) × ((terms_of p).has d.cont ≡ true))
+
+abbrev pub ContractsAreOfTables : Type 0
+ContractsAreOfTables = (published : List ℕ → Option Published) (past : Past) → AreTables published → IsSound marlowe published past → AreOfTables published past
+
+-- each party that the inputs of a step need is an address among the signers, or a role whose token, of the contract's currency,
+-- the output of a key input holds
+pub record IsAuthorised (published : List ℕ → Option Published) (tx : Tx) (spent : List (Spend × Output)) (x : Spend × Output) : Type 0 where
+  pub script : List ℕ
+  pub datum : Datum
+  pub contract : contract_in x.1.lock ≡ Some (script, datum)
+  pub object : Published
+  pub named : published script ≡ Some object
+  pub parties : All (λ party. authorised object.currency tx.signers spent party ≡ true) (filter_map needed (inputs_of x.0.redeemer))
+
+-- the inputs of the n-th accepted transaction with the outputs that they spend
+abbrev pub SpendsThere : Past → ℕ → Tx → List (Spend × Output) → Type 0
+SpendsThere past n tx spent = with_outputs tx.inputs (map (λ x. unspent_at (before past n) x.reference) tx.inputs) ≡ Some spent
+
+-- so is each step of an accepted transaction
+abbrev pub EachIsAuthorised : (List ℕ → Option Published) → Past → Type 0
+EachIsAuthorised published past =
+    (n : ℕ) (tx : Tx) → slice_get past.accepted n ≡ Some tx →
+    (spent : List (Spend × Output)) × SpendsThere past n tx spent
+    × ((i : ℕ) (x : Spend × Output) → slice_get spent i ≡ Some x → is_step x.0.redeemer ≡ true → IsAuthorised published tx spent x)
+
+abbrev pub PartiesAreAuthorised : Type 0
+PartiesAreAuthorised = (published : List ℕ → Option Published) (past : Past) → IsSound marlowe published past → EachIsAuthorised published past

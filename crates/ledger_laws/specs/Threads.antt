@@ -1,0 +1,139 @@
+-- Threads of contracts in a list of accepted transactions, runs of a contract, and what it means that a thread carries a run.
+use Rattle.std.specs.Prelude.{◌≡◌, ℕ, Bool, true, false, if◌then◌else◌, List, [], ◌∷◌, ◌++◌, slice_get, Option, Some, None, option_map, Ok}
+use Rattle.std.specs.List.{list_any}
+use Rattle.contract.specs.declared.interval.Interval.{Interval}
+use Rattle.contract.specs.declared.input.Input.{Input}
+use Rattle.contract.specs.declared.payment.Payment.{Payment}
+use Rattle.contract.specs.declared.warning.Warning.{Warning}
+use Rattle.states.specs.States.{StateMaps}
+use Rattle.contract.specs.Tree.{ContractTree, close}
+use Rattle.semantics.specs.Walk.{standing, answer_of}
+use Rattle.semantics.specs.Computed.{computed}
+use Rattle.nodes.specs.declared.cont.Cont.{Cont}
+use Rattle.machine.specs.declared.datum.Datum.{Datum}
+use Rattle.eutxo_types.specs.declared.output.Output.{Output}
+use Rattle.eutxo_types.specs.declared.output_ref.OutputRef.{OutputRef}
+use Rattle.eutxo_types.specs.declared.output_ref.OutputRef.TheVariants.{Made}
+use Rattle.eutxo_types.specs.declared.redeemer.Redeemer.{Redeemer}
+use Rattle.eutxo_types.specs.declared.redeemer.Redeemer.TheVariants as with
+use Rattle.eutxo_types.specs.declared.tx.Tx.{Tx}
+use Rattle.eutxo_types.specs.Ids.{id_of}
+use Rattle.eutxo.specs.Parts.{contract_at, given_to}
+use Rattle.roles.specs.Terms.{Terms}
+use Rattle.roles.specs.Steps.{continuation, due}
+use Rattle.ledger_laws.specs.Past.{Past, names}
+
+-- ---- threads
+
+-- the next output of a thread that a transaction steps: its output 0, where that is a contract's
+abbrev pub next_of : Tx → Option OutputRef
+next_of tx = option_map (λ c. Made (id_of tx) 0) (contract_at tx 0)
+
+-- a transaction of a thread, with the thread's output that it spends
+pub record Link : Type 0 where
+  pub spends : OutputRef
+  pub tx : Tx
+
+-- the thread from an output: of these transactions, the one that spends it, and then the thread from the next output
+abbrev pub spine : Option OutputRef → List Tx → List Link
+spine None txs = []
+spine (Some r) [] = []
+spine (Some r) (tx ∷ txs) = if names r tx then record { spends = r; tx = tx } ∷ spine (next_of tx) txs else spine (Some r) txs
+
+-- where a thread from an output ends: at that output, or at the next output of its last transaction
+abbrev pub ends : Option OutputRef → List Link → Option OutputRef
+ends s [] = s
+ends s (x ∷ xs) = ends (next_of x.tx) xs
+
+-- whether a transaction steps a contract
+abbrev pub is_step : Redeemer → Bool
+is_step with.None = false
+is_step with.Claim = false
+is_step (with.Step xs) = true
+
+abbrev pub steps : Tx → Bool
+steps tx = list_any (λ x. is_step x.redeemer) tx.inputs
+
+-- a start output: a contract output of an accepted transaction that steps no contract (and so spends none: a contract is opened
+-- by a step alone)
+pub record IsStart (past : Past) (r : OutputRef) (script : List ℕ) (d : Datum) : Type 0 where
+  pub number : ℕ
+  pub tx : Tx
+  pub accepted : slice_get past.accepted number ≡ Some tx
+  pub bare : steps tx ≡ false
+  pub index : ℕ
+  pub name : r ≡ Made (id_of tx) index
+  pub contract : contract_at tx index ≡ Some (script, d)
+
+abbrev pub StartsThread : Past → OutputRef → Type 0
+StartsThread past r = (script : List ℕ) × (d : Datum) × IsStart past r script d
+
+-- its thread
+abbrev pub thread : Past → OutputRef → List Link
+thread past r = spine (Some r) past.accepted
+
+-- ---- runs
+
+-- what a transaction of a contract leaves: warnings, payments, state and remaining contract
+pub record Effect : Type 0 where
+  pub warnings : List Warning
+  pub payments : List Payment
+  pub state : StateMaps
+  pub contract : ContractTree
+
+-- one transaction of a run
+pub record Member : Type 0 where
+  pub interval : Interval
+  pub inputs : List Input
+  pub outcome : Effect
+
+-- the outcome is the transaction function's (Marlowe specification version 3, "Compute transaction"), and all its numbers
+-- lie within 128 bits
+abbrev pub Gives : ContractTree → StateMaps → Member → Type 0
+Gives c s x =
+    let w = computed x.interval s c x.inputs in
+    (answer_of w ≡ Ok (standing x.outcome.state x.outcome.contract)) × (w.warnings ≡ x.outcome.warnings) × (w.payments ≡ x.outcome.payments)
+
+-- each member is computed from where the member before ended
+abbrev pub Run : ContractTree → StateMaps → List Member → Type 0
+Run c s [] = Unit {0}
+Run c s (x ∷ xs) = Gives c s x × Run x.outcome.contract x.outcome.state xs
+
+-- what remains after a run, and in which state
+abbrev pub contract_after : ContractTree → List Member → ContractTree
+contract_after c [] = c
+contract_after c (x ∷ xs) = contract_after x.outcome.contract xs
+
+abbrev pub state_after : StateMaps → List Member → StateMaps
+state_after s [] = s
+state_after s (x ∷ xs) = state_after x.outcome.state xs
+
+-- ---- what carries a run
+
+-- the outputs that are due for its payments come first
+abbrev pub PaysFirst : Terms → Effect → List Output → Type 0
+PaysFirst t e os = (rest : List Output) × (os ≡ due t.currency e.payments ++ rest)
+
+-- output 0 goes on with a number that stands for the remaining contract, unless that is Close; then the payments
+abbrev pub LaidOutAfter : Terms → List ℕ → Effect → ContractTree → List Output → Type 0
+LaidOutAfter t script e close os = PaysFirst t e os
+LaidOutAfter t script e c os = (there : Cont) × (rest : List Output) × (t.tree there ≡ c) × (os ≡ continuation script there e.state ∷ rest) × PaysFirst t e rest
+
+abbrev pub LaidOut : Terms → List ℕ → Effect → List Output → Type 0
+LaidOut t script e os = LaidOutAfter t script e e.contract os
+
+-- a transaction of a thread and a member of a run agree
+pub record CarriesOne (t : Terms) (script : List ℕ) (l : Link) (later : List Link) (x : Member) : Type 0 where
+  pub interval : l.tx.interval ≡ x.interval
+  pub inputs : given_to l.spends l.tx.inputs ≡ Some x.inputs
+  pub outputs : LaidOut t script x.outcome l.tx.outputs
+  -- where the contract is Close, the thread is over: nothing follows, and no output goes on
+  pub over : x.outcome.contract ≡ close → later ≡ []
+  pub gone : x.outcome.contract ≡ close → next_of l.tx ≡ None
+
+-- thread and run agree place by place
+abbrev pub Carries : Terms → List ℕ → List Link → List Member → Type 0
+Carries t script [] [] = Unit {0}
+Carries t script (l ∷ ls) (x ∷ xs) = CarriesOne t script l ls x × Carries t script ls xs
+Carries t script [] (x ∷ xs) = ⊥
+Carries t script (l ∷ ls) [] = ⊥

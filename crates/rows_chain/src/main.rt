@@ -1,0 +1,73 @@
+//! `chain_rows`: worked rows of a chain as data. It reads the files that its arguments name, line by line, and prints what the
+//! chain answers; `stdout` has what it must print.
+//!
+//! A paragraph is a session of its own. It begins with a line `# SUBJECT`, which is printed. Then `genesis` and an output, a
+//! line each, have the outputs that the chain begins with, `geneses COUNT` and an output has it so many times, and `begin TICK`
+//! begins it; from there on each line is a call, a question, or one that writes a transaction.
+//!
+//! `let NAME TEXT` names a text, for all paragraphs below it: `$NAME` then stands for it in place of a contract, a state or an
+//! input.
+//!
+//! Transactions and outputs are written as `transaction_text` says. A transaction has the name that it was handed in under,
+//! as the origin of what it made, and a script that of its first publishing.
+//!
+//! A request for a transaction has the interval and the signers that are written, and what these lines put behind the others:
+//!
+//! - `offer REFERENCE` offers what the last look shows under the reference, and `offer REFERENCE OUTPUT` that output, whether it
+//!   is there or not;
+//! - `offers COUNT OUTPUT` offers the first outputs that the chain began with, each as that output;
+//! - `claim REFERENCE` and `claim REFERENCE OUTPUT` hand in a payout so.
+//!
+//! What is built stands in place of what was written, and can be submitted; where nothing is built, nothing is written, and in
+//! both cases nothing is offered or claimed any more.
+//!
+//! These are calls. Each begins with its word and the number of the seat, and prints the reply:
+//!
+//! - `publish SEAT NAME CURRENCY CONTRACT`: the contract in JSON. Prints `published @NAME`, or `in use`;
+//! - `advance SEAT TICK`: `advanced` or `backward`;
+//! - `look SEAT`, and in any number `thread REFERENCE`, `key ADDRESS` and `payout CURRENCY.ROLE`: prints `tick TICK`, then a
+//!   line for each output that is shown, with its reference: the thread's and what is published under its script, or
+//!   `no thread`, then those of keys, then payouts;
+//! - `submit SEAT NAME` hands in the transaction that is written, under this name: `accepted NAME`, or `refused FAULT`;
+//! - `enqueue SEAT NAME` enqueues it: `ticket N` or `full`. `enqueues SEAT COUNT` enqueues so many copies of it, and prints the
+//!   last reply;
+//! - `round SEAT COUNT`: the tickets that are taken out, each with its verdict, or `none`.
+//!
+//! These are questions:
+//!
+//! - `tick` prints it;
+//! - `resolve` prints what is found of what the transaction names that is written: a line for each input, and one for each
+//!   script; it leaves the transaction as it is;
+//! - `seen` prints, of the same, what the last look holds;
+//! - `check` prints the verdict on that transaction and what is found, and keeps both at hand for the calls below, as a cache;
+//! - `steps_of REFERENCE` prints the number of steps of the thread that starts there, and for each its interval and the number
+//!   where the contract went on, then a line for each input, warning and payment, and the state;
+//! - `build step CHANGE INPUT ..` builds a step of the thread that the last look shows, with inputs as `transaction_text` has
+//!   them, `build start NAME STATE CHANGE` a start of what is published under the name, and `build claim TO CHANGE` a claim:
+//!   `built from` and the references of the inputs, then a line for each output; or `refused FAULT`;
+//! - `history` prints a line for each entry: its place, `SEAT.NUMBER`, the call, and the reply without what a look shows.
+//!
+//! A line that begins with `- ` says what follows, and is printed. An empty line is nothing. Any other line prints
+//! `no such row`.
+#![tactic(auto)]
+
+mod asked;
+mod built;
+mod offers;
+mod played;
+mod recorded;
+mod replies;
+mod session;
+mod shown;
+mod started;
+
+use crate::session::Session;
+use std::process::ExitCode;
+use rows_text::print_rows;
+
+fn main(rt: HostRuntime) -> ExitCode {
+    match print_rows::<Session, HostRuntime>(&rt) {
+        Ok(()) => ExitCode::SUCCESS,
+        Err(_) => ExitCode::from(2),
+    }
+}

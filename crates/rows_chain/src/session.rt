@@ -1,0 +1,191 @@
+//! A session: a chain, and what is written for it.
+use crate::asked::{history_lines, keep_check, resolved_lines};
+use crate::built::build;
+use crate::offers::{Handed, hand_in};
+use crate::played::played;
+use crate::recorded::steps_lines;
+use crate::started::started;
+use ledger::Look;
+use chain::Chain;
+use collections::Items;
+use eutxo::Checked;
+use eutxo_types::{Output, Tx};
+use roles::Published;
+use std::alloc::Global;
+use std::mem;
+use rows_text::{
+    Answers, Known, RowFault, first, named_text_of, nothing, number, output_of, parts, put, put_in,
+    reference_of, replace, write,
+};
+
+/// What is written so far: the outputs to begin with, a transaction, what is handed in to build one, what has a name, the last
+/// look, and checks at hand.
+#[derive(Drop)]
+pub struct Desk {
+    pub genesis: Items<Output>,
+    pub tx: Tx,
+    pub handed: Handed,
+    pub known: Known,
+    pub look: Option<Look>,
+    pub checks: Vec<Checked<Published>>,
+}
+
+/// A chain, once it is begun, and what is written for it.
+#[derive(Drop)]
+pub struct Session {
+    chain: Option<Chain>,
+    desk: Desk,
+}
+
+// A desk with nothing on it. Takes no memory.
+fn empty_desk(alloc: Global) -> Desk {
+    Desk {
+        genesis: Items::new(alloc),
+        tx: nothing(alloc),
+        handed: Handed::new(alloc),
+        known: Known::new(alloc),
+        look: None,
+        checks: Vec::new(alloc),
+    }
+}
+
+impl Answers for Session {
+    fn begin(alloc: Global) -> Session {
+        Session {
+            chain: None,
+            desk: empty_desk(alloc),
+        }
+    }
+
+    fn take(&mut self, alloc: Global, line: &str) -> Result<Option<String>, RowFault> {
+        let (word, rest) = first(line);
+        match word {
+            "" => Ok(None),
+            "-" => Ok(Some(String::from_str(alloc, line)?)),
+            "#" => {
+                begin_anew(alloc, self);
+                Ok(Some(String::from_str(alloc, line)?))
+            }
+            "begin" => Ok(Some(begun(alloc, &mut self.chain, &mut self.desk, rest)?)),
+            "let"
+            | "genesis"
+            | "geneses"
+            | "in"
+            | "keys"
+            | "out"
+            | "from"
+            | "signer"
+            | "offer"
+            | "offers"
+            | "claim" => {
+                written(alloc, &mut self.desk, word, rest)?;
+                Ok(None)
+            }
+            _ => match &mut self.chain {
+                Some(chain) => Ok(Some(answered(alloc, chain, &mut self.desk, word, rest)?)),
+                None => Err(RowFault::NoSuchRow),
+            },
+        }
+    }
+}
+
+// Leaves nothing but the texts that have a name.
+fn begin_anew(alloc: Global, session: &mut Session) {
+    let texts = mem::replace(&mut session.desk.known.texts, Vec::new(alloc));
+    replace(session, Session::begin(alloc));
+    replace(&mut session.desk.known.texts, texts);
+}
+
+// Begins the chain at a tick.
+fn begun(
+    alloc: Global,
+    chain: &mut Option<Chain>,
+    desk: &mut Desk,
+    rest: &str,
+) -> Result<String, RowFault> {
+    let tick = number(rest)?;
+    let outputs = mem::replace(&mut desk.genesis, Items::new(alloc));
+    started(alloc, chain, Chain::genesis(alloc, outputs, tick))
+}
+
+// Writes a text with a name, a line of what the chain begins with, of a transaction, or of what is handed in.
+fn written(alloc: Global, desk: &mut Desk, word: &str, rest: &str) -> Result<(), RowFault> {
+    match word {
+        "let" => put_in(&mut desk.known.texts, named_text_of(alloc, rest)),
+        "genesis" => put(&mut desk.genesis, output_of(alloc, &desk.known, rest)),
+        "geneses" => put_copies(alloc, &desk.known, &mut desk.genesis, rest),
+        "offer" | "offers" | "claim" => hand_in(
+            alloc,
+            &desk.known,
+            &desk.look,
+            &mut desk.handed,
+            word,
+            rest,
+        ),
+        _ => write(alloc, &desk.known, &mut desk.tx, word, rest),
+    }
+}
+
+// From `COUNT OUTPUT`: puts so many of it behind the others.
+fn put_copies(
+    alloc: Global,
+    known: &Known,
+    outputs: &mut Items<Output>,
+    rest: &str,
+) -> Result<(), RowFault> {
+    let (count, output) = parts(rest)?;
+    let count: u64 = number(count)?;
+    for _ in 0..count {
+        put(outputs, output_of(alloc, known, output))?;
+    }
+    Ok(())
+}
+
+// What is printed for a call or a question.
+fn answered(
+    alloc: Global,
+    chain: &mut Chain,
+    desk: &mut Desk,
+    word: &str,
+    rest: &str,
+) -> Result<String, RowFault> {
+    match word {
+        "tick" => tick_line(alloc, chain),
+        "history" => Ok(history_lines(alloc, &desk.known, chain.history())?),
+        "steps_of" => {
+            let start = reference_of(&desk.known.sent, rest)?;
+            Ok(steps_lines(alloc, chain.steps_of(alloc, &start))?)
+        }
+        "resolve" => Ok(resolved_lines(
+            alloc,
+            &desk.known,
+            &desk.tx,
+            chain.resolve(alloc, &desk.tx),
+        )?),
+        "seen" => seen_lines(alloc, desk),
+        "check" => keep_check(
+            alloc,
+            &mut desk.checks,
+            &desk.tx,
+            chain.resolve(alloc, &desk.tx),
+        ),
+        "build" => build(alloc, desk, rest),
+        _ => played(alloc, chain, desk, word, rest),
+    }
+}
+
+fn tick_line(alloc: Global, chain: &Chain) -> Result<String, RowFault> {
+    let tick = chain.tick();
+    Ok(format!(in alloc; "tick {tick}")?)
+}
+
+// What the last look holds of what the transaction names.
+fn seen_lines(alloc: Global, desk: &Desk) -> Result<String, RowFault> {
+    match &desk.look {
+        Some(look) => {
+            let found = look.resolve(alloc, &desk.tx);
+            Ok(resolved_lines(alloc, &desk.known, &desk.tx, found)?)
+        }
+        None => Err(RowFault::NoSuchRow),
+    }
+}

@@ -1,0 +1,114 @@
+//! Outputs and looks as they are printed.
+use ledger::{Look, ThreadOutput, Unspent};
+use collections::Memory;
+use contract::State;
+use contract_json::state_to_json;
+use eutxo_types::{Datum, Lock, Output, OutputRef};
+use std::alloc::{AllocError, Global};
+use rows_text::{Known, put_amounts, word_of_reference};
+
+/// Puts a line for each output that a look shows at the end.
+pub fn put_look(
+    alloc: Global,
+    lines: &mut String,
+    known: &Known,
+    look: &Look,
+) -> Result<(), AllocError> {
+    put_thread(alloc, lines, known, &look.thread)?;
+    put_unspent(alloc, lines, known, look.keys.as_slice())?;
+    put_unspent(alloc, lines, known, look.payouts.as_slice())
+}
+
+fn put_thread(
+    alloc: Global,
+    lines: &mut String,
+    known: &Known,
+    thread: &Option<ThreadOutput>,
+) -> Result<(), AllocError> {
+    match thread {
+        Some(thread) => {
+            lines.push_str("\n thread")?;
+            put_one(alloc, lines, known, &thread.reference, &thread.output)?;
+            let script = known.word_of_script(alloc, &thread.published.get().id)?;
+            lines.push_str("\n published ")?;
+            lines.push_str(script.as_str())
+        }
+        None => lines.push_str("\n no thread"),
+    }
+}
+
+fn put_unspent(
+    alloc: Global,
+    lines: &mut String,
+    known: &Known,
+    outputs: &[Unspent],
+) -> Result<(), AllocError> {
+    for unspent in outputs {
+        lines.push('\n')?;
+        put_one(alloc, lines, known, &unspent.reference, &unspent.output)?;
+    }
+    Ok(())
+}
+
+fn put_one(
+    alloc: Global,
+    line: &mut String,
+    known: &Known,
+    reference: &OutputRef,
+    output: &Output,
+) -> Result<(), AllocError> {
+    let reference = word_of_reference(alloc, &known.sent, reference)?;
+    line.push(' ')?;
+    line.push_str(reference.as_str())?;
+    line.push(' ')?;
+    put_output(alloc, line, known, output)
+}
+
+/// Puts an output at the end, as it is written.
+pub fn put_output(
+    alloc: Global,
+    line: &mut String,
+    known: &Known,
+    output: &Output,
+) -> Result<(), AllocError> {
+    let lock = lock_words(alloc, known, &output.lock)?;
+    line.push_str(lock.as_str())?;
+    put_amounts(alloc, line, &output.amount)
+}
+
+fn lock_words(alloc: Global, known: &Known, lock: &Lock) -> Result<String, AllocError> {
+    match lock {
+        Lock::Key(address) => format!(in alloc; "key {}", address.as_str()),
+        Lock::Payout { currency, role } => {
+            let currency = hex::encode(alloc, currency.as_slice())?;
+            format!(in alloc; "payout {currency} {}", role.as_str())
+        }
+        Lock::Contract { script, datum } => contract_words(alloc, known, script, datum),
+    }
+}
+
+fn contract_words(
+    alloc: Global,
+    known: &Known,
+    script: &[u8; 32],
+    datum: &Datum,
+) -> Result<String, AllocError> {
+    let script = known.word_of_script(alloc, script)?;
+    let state = state_word(alloc, &datum.state)?;
+    format!(in alloc; "contract {script} {} {state}", datum.cont.0)
+}
+
+/// The word for a state: `empty` for the one without entries at time 0, else JSON.
+pub fn state_word(alloc: Global, state: &State) -> Result<String, Memory> {
+    if is_empty(state) {
+        return String::from_str(alloc, "empty");
+    }
+    state_to_json(alloc, state)?.to_string(alloc)
+}
+
+fn is_empty(state: &State) -> bool {
+    state.min_time() == 0
+        && state.accounts().is_empty()
+        && state.choices().is_empty()
+        && state.bound_values().is_empty()
+}

@@ -1,0 +1,91 @@
+//! What is written for the next row, and what is printed for lines.
+use crate::checks::check_line;
+use crate::finds::{found_of, put_found};
+use crate::sums::{added, subtracted};
+use collections::Items;
+use eutxo_types::{Output, Tx, encode_tx, tx_id};
+use std::alloc::{AllocError, Global};
+use std::mem;
+use rows_text::{
+    Answers, Known, RowFault, first, named_of, nothing, number, parts, put, put_in, put_keys,
+    replace, write,
+};
+
+/// What is written so far: a transaction, what its inputs find, and what is published.
+#[derive(Drop)]
+pub struct Desk {
+    tx: Tx,
+    finds: Items<Option<Output>>,
+    known: Known,
+}
+
+impl Answers for Desk {
+    fn begin(alloc: Global) -> Desk {
+        Desk {
+            tx: nothing(alloc),
+            finds: Items::new(alloc),
+            known: Known::new(alloc),
+        }
+    }
+
+    fn take(&mut self, alloc: Global, line: &str) -> Result<Option<String>, RowFault> {
+        let (word, rest) = first(line);
+        match word {
+            "" => Ok(None),
+            "#" => Ok(Some(String::from_str(alloc, line)?)),
+            "transaction" => Ok(Some(finished(alloc, &mut self.tx)?)),
+            "check" => Ok(Some(checked(alloc, self, rest)?)),
+            "add" => Ok(Some(added(alloc, rest)?)),
+            "subtract" => Ok(Some(subtracted(alloc, rest)?)),
+            _ => {
+                written(alloc, self, word, rest)?;
+                Ok(None)
+            }
+        }
+    }
+}
+
+// The bytes of a transaction and its id, after which the next one begins.
+fn finished(alloc: Global, tx: &mut Tx) -> Result<String, AllocError> {
+    let lines = spelled(alloc, tx)?;
+    replace(tx, nothing(alloc));
+    Ok(lines)
+}
+
+// The verdict on the transaction, after which the next one begins.
+fn checked(alloc: Global, desk: &mut Desk, word: &str) -> Result<String, RowFault> {
+    let finds = mem::replace(&mut desk.finds, Items::new(alloc));
+    let line = check_line(alloc, &desk.tx, finds, &desk.known.published, word);
+    replace(&mut desk.tx, nothing(alloc));
+    line
+}
+
+// The bytes of a transaction and its id, a line for each.
+fn spelled(alloc: Global, tx: &Tx) -> Result<String, AllocError> {
+    let bytes = encode_tx(alloc, tx)?;
+    let id = tx_id(alloc, tx)?;
+    let bytes = hex::encode(alloc, bytes.as_slice())?;
+    let id = hex::encode(alloc, id.as_slice())?;
+    format!(in alloc; "{bytes}\n{id}")
+}
+
+// Writes a line of the transaction, of what it finds, or of what is published.
+fn written(alloc: Global, desk: &mut Desk, word: &str, rest: &str) -> Result<(), RowFault> {
+    match word {
+        "publish" => {
+            let named = named_of(alloc, &desk.known, rest);
+            put_in(&mut desk.known.published, named)
+        }
+        "finds" => put(&mut desk.finds, found_of(alloc, &desk.known, rest)),
+        "many" => many(alloc, desk, rest),
+        _ => write(alloc, &desk.known, &mut desk.tx, word, rest),
+    }
+}
+
+// So many inputs of keys, each finding one lovelace, from `COUNT ADDRESS`.
+fn many(alloc: Global, desk: &mut Desk, rest: &str) -> Result<(), RowFault> {
+    let (count, address) = parts(rest)?;
+    let count: u64 = number(count)?;
+    put_keys(&mut desk.tx.inputs, count)?;
+    put_found(alloc, &mut desk.finds, count, address)
+}

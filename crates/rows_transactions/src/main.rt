@@ -1,0 +1,38 @@
+//! `transaction_rows`: worked rows of transactions, of their checks and of amounts as data. It reads the files that its
+//! arguments name, line by line, and prints a line or two for each row; `stdout` has what it must print.
+//!
+//! A transaction is written as `transaction_text` says, and begins without anything, from 0 to 0. These lines print nothing
+//! either:
+//!
+//! - `finds` and an output, or `finds nothing`, says what the next input spends, for a check;
+//! - `many COUNT ADDRESS` puts so many inputs behind the others, each of which finds 1 lovelace under the key of the address;
+//! - `publish NAME CURRENCY CONTRACT` publishes a contract, in JSON, which all checks below it in the file find.
+//!
+//! These are rows:
+//!
+//! - `transaction` prints the bytes of the transaction and below them its id, in hexadecimal, and begins the next one;
+//! - `check` prints the verdict on the transaction and what its inputs find, and begins the next one. `check stubborn` does so
+//!   by a validator that refuses each step, under the ids of what is published;
+//! - `add AMOUNTS / AMOUNTS` and `subtract AMOUNTS / AMOUNTS` print `done` or the fault with its token, and then what is in the
+//!   first bundle afterwards, in the order of the tokens;
+//! - `#` prints the line.
+//!
+//! An empty line is nothing. Any other line prints `no such row`.
+#![tactic(auto)]
+
+mod checks;
+mod desk;
+mod finds;
+mod stubborn;
+mod sums;
+
+use crate::desk::Desk;
+use std::process::ExitCode;
+use rows_text::print_rows;
+
+fn main(rt: HostRuntime) -> ExitCode {
+    match print_rows::<Desk, HostRuntime>(&rt) {
+        Ok(()) => ExitCode::SUCCESS,
+        Err(_) => ExitCode::from(2),
+    }
+}

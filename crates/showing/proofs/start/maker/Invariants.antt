@@ -1,7 +1,0 @@
-use Rattle.std.proofs.Common.{◌≡◌, drop}
-use Rattle.std.specs.Prelude.{find}
-use Rattle.standing.specs.Threads.{starts_in}
-use Rattle.showing.proofs.start.maker.Given as goal
-
-abbrev pub invariant-loop-k : goal.invariant-loop-k
-invariant-loop-k l = find (starts_in l.reference) l.accepted ≡ find (starts_in l.reference) (drop l.k-index l.accepted)

@@ -1,6 +1,0 @@
-use Rattle.std.proofs.Common.{◌≡◌, drop}
-use Rattle.history.specs.Past.{is_used}
-use Rattle.standing.proofs.world.WorldLedgerPublished.is_used.Given as goal
-
-abbrev pub invariant-loop-k : goal.invariant-loop-k
-invariant-loop-k l = is_used l.self.standing.accepted l.id ≡ is_used (drop l.k-index l.self.standing.accepted) l.id

@@ -1,8 +1,0 @@
-use Rattle.std.proofs.Common.{◌≡◌, drop}
-use Rattle.std.specs.Map.{lookup}
-use Rattle.history.specs.Past.{made_by}
-use Rattle.eutxo.specs.Parts.{same_ref}
-use Rattle.standing.proofs.world.made_at.Given as goal
-
-abbrev pub invariant-loop-k : goal.invariant-loop-k
-invariant-loop-k l = lookup (same_ref l.reference) (made_by l.accepted) ≡ lookup (same_ref l.reference) (made_by (drop l.k-index l.accepted))
