@@ -56,7 +56,7 @@ CALLS = [
     ("`bundle::WideSum` and `total_of`", "bundle/src/wide_sum.rt: zero add is_at_most; bundle/src/total.rt: total_of"),
     ("`eutxo_types::encode_tx` and `tx_id`", "eutxo_types/src/encode.rt: encode_tx; eutxo_types/src/id.rt: tx_id"),
     ("`eutxo::check`", "eutxo/src/checked.rt: check"),
-    ("`eutxo::local_fault`, `tx_fault` and `has_signed`", "eutxo/src/local.rt: local; eutxo/src/of_tx.rt: of_tx has_signed"),
+    ("`eutxo::local_fault`, `tx_fault` and `has_signed`", "eutxo/src/local.rt: local_fault; eutxo/src/tx_rules.rt: tx_fault has_signed"),
     ("`eutxo::Resolved`, `Scripts`, `Shared`, `Spent` and `Checked`", "eutxo/src/resolved.rt: equals; eutxo/src/scripts.rt: new from_entries get insert equals; "
      "eutxo/src/shared.rt: new get; eutxo/src/spent.rt: new spend output; eutxo/src/checked.rt: tx id found verdict"),
     ("`eutxo::Validator`", "eutxo/src/validator.rt: step start claim Validator"),

@@ -1,3 +1,3 @@
-pub mod Clauses
-pub mod Copying
-pub mod Covered
+pub mod CausesLemmas
+pub mod CopyLemmas
+pub mod CoveredLemmas

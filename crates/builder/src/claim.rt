@@ -1,27 +1,27 @@
 //! Claims of payouts.
 ghost use Rattle.std.specs.Prelude.{◌≡◌, ◌++◌, map, IfOk, IfErr};
 ghost use Rattle.collections.specs.Answers.{Aside};
-ghost use Rattle.builder_spec.specs.Holding.{sums, held};
-ghost use Rattle.builder_spec.specs.Built.{built};
-ghost use Rattle.builder_spec.specs.Laying.{by_key, by_claim, given_to};
+ghost use Rattle.builder_spec.specs.Holding.{sums, amount_in};
+ghost use Rattle.builder_spec.specs.Built.{build_answer};
+ghost use Rattle.builder_spec.specs.Laying.{by_key, by_claim, paid_to};
 ghost use Rattle.builder_spec.specs.Claims.{claim_front, hinders_claim, layout_claim};
-ghost use Rattle.coin_selection.specs.Passing.{Passes};
-ghost use Rattle.builder.specs.Code.{claim_request};
+ghost use Rattle.coin_selection.specs.Answers.{AnswersCause};
+ghost use Rattle.builder_spec.specs.Requests.{claim_request};
 
 use crate::inputs::{copies_of, put_keys};
-use crate::outputs::put_given;
+use crate::outputs::put_paid;
 use crate::payouts::{check_held, check_payouts, put_claims, tokens_awaited};
 use builder_spec::BuildFault;
-use ledger::Unspent;
+use coin_selection::{Amount, Shares, check_apart, check_signed, front_of, see_all, shares_within};
 use collections::{Items, Text};
 use contract::Interval;
 use eutxo_types::Tx;
-use coin_selection::{Amount, Shares, check_apart, check_signed, front_of, see_all, shares_within};
+use ledger::Unspent;
 use std::alloc::Global;
 
 // What is asked for.
 #[derive(Clone, Copy)]
-struct Asked<'a> {
+struct ClaimAsked<'a> {
     payouts: &'a [Unspent],
     interval: Interval,
     signers: &'a [Text],
@@ -32,17 +32,17 @@ struct Asked<'a> {
 
 // What is spent, where nothing hinders the claim.
 #[derive(Drop)]
-struct Funds<'a> {
+struct ClaimFunds<'a> {
     shares: Shares,
     front: &'a [Unspent],
 }
 
 // What is spent, or the first clause that fails.
-fn funds_of<'a>(alloc: Global, asked: Asked<'a>) -> Result<Funds<'a>, BuildFault>
-    ensures first { IfOk result (λ funds. funds.shares.first ≡ sums held asked.entry.payouts.now) }
-    ensures others { IfOk result (λ funds. funds.shares.others ≡ sums held (claim_front (claim_request asked.entry.payouts.now asked.entry.interval asked.entry.signers.now asked.entry.offered.now asked.entry.to.now asked.entry.change.now))) }
+fn funds_of<'a>(alloc: Global, asked: ClaimAsked<'a>) -> Result<ClaimFunds<'a>, BuildFault>
+    ensures first { IfOk result (λ funds. funds.shares.first ≡ sums amount_in asked.entry.payouts.now) }
+    ensures others { IfOk result (λ funds. funds.shares.others ≡ sums amount_in (claim_front (claim_request asked.entry.payouts.now asked.entry.interval asked.entry.signers.now asked.entry.offered.now asked.entry.to.now asked.entry.change.now))) }
     ensures front { IfOk result (λ funds. funds.front.now ≡ claim_front (claim_request asked.entry.payouts.now asked.entry.interval asked.entry.signers.now asked.entry.offered.now asked.entry.to.now asked.entry.change.now)) }
-    ensures passes { Passes result (hinders_claim (claim_request asked.entry.payouts.now asked.entry.interval asked.entry.signers.now asked.entry.offered.now asked.entry.to.now asked.entry.change.now)) }
+    ensures passes { AnswersCause result (hinders_claim (claim_request asked.entry.payouts.now asked.entry.interval asked.entry.signers.now asked.entry.offered.now asked.entry.to.now asked.entry.change.now)) }
 {
     let payouts = asked.payouts;
     let offered = asked.offered;
@@ -56,7 +56,7 @@ fn funds_of<'a>(alloc: Global, asked: Asked<'a>) -> Result<Funds<'a>, BuildFault
     let front = front_of(alloc, &tokens, none, offered)?;
     match shares_within(alloc, payouts, front) {
         Ok(shares) => match check_apart(alloc, payouts, offered) {
-            Ok(()) => Ok(Funds { shares, front }),
+            Ok(()) => Ok(ClaimFunds { shares, front }),
             Err(fault) => Err(fault),
         },
         Err(fault) => Err(fault),
@@ -64,23 +64,23 @@ fn funds_of<'a>(alloc: Global, asked: Asked<'a>) -> Result<Funds<'a>, BuildFault
 }
 
 // The transaction of a claim that nothing hinders.
-fn lay_out(alloc: Global, asked: Asked<'_>, funds: Funds<'_>) -> Result<Tx, BuildFault>
+fn lay_out(alloc: Global, asked: ClaimAsked<'_>, funds: ClaimFunds<'_>) -> Result<Tx, BuildFault>
     ensures ok { IfOk result (λ tx. tx ≡ record {
       inputs = map by_claim asked.entry.payouts.now ++ map by_key funds.entry.front.now;
-      outputs = given_to asked.entry.to.now funds.entry.shares.first ++ given_to asked.entry.change.now funds.entry.shares.others;
+      outputs = paid_to asked.entry.to.now funds.entry.shares.first ++ paid_to asked.entry.change.now funds.entry.shares.others;
       interval = asked.entry.interval;
       signers = asked.entry.signers.now;
     }) }
     ensures err { IfErr result (λ fault. fault ≡ BuildFault.Memory) }
 {
-    let Funds { shares, front } = funds;
+    let ClaimFunds { shares, front } = funds;
     let Shares { first, others } = shares;
     let mut inputs = Items::new(alloc);
     put_claims(&mut inputs, asked.payouts)?;
     put_keys(&mut inputs, front)?;
     let mut outputs = Items::new(alloc);
-    put_given(&mut outputs, asked.to, first)?;
-    put_given(&mut outputs, asked.change, others)?;
+    put_paid(&mut outputs, asked.to, first)?;
+    put_paid(&mut outputs, asked.change, others)?;
     let signers = copies_of(alloc, asked.signers)?;
     Ok(Tx {
         inputs,
@@ -109,9 +109,9 @@ pub fn build_claim(
     change: &Text,
 ) -> Result<Tx, BuildFault>
     ensures { let r = claim_request payouts.now interval signers.now offered.now to.now change.now in
-        Aside BuildFault.Memory result (built (hinders_claim r) (layout_claim r)) }
+        Aside BuildFault.Memory result (build_answer (hinders_claim r) (layout_claim r)) }
 {
-    let asked = Asked {
+    let asked = ClaimAsked {
         payouts,
         interval,
         signers,

@@ -3,7 +3,7 @@ ghost use Rattle.std.specs.Prelude.{◌≡◌, IfOk, OnOk};
 ghost use Rattle.std.proofs.Math.Dec.{T};
 ghost use Rattle.std.specs.FinMap.{is_sorted, put};
 ghost use Rattle.names.specs.Orders.{account_cmp};
-ghost use Rattle.builder_spec.specs.Starts.{fresh};
+ghost use Rattle.builder_spec.specs.Starts.{fresh_state};
 
 use collections::{Entries, Memory};
 use contract::{Account, State};
@@ -32,7 +32,7 @@ fn copy_of(alloc: Global, accounts: &[(Account, i128)]) -> Result<Entries<Accoun
 
 /// The state with the accounts and the minimum time of another, in which nothing was chosen and nothing is bound.
 pub(crate) fn fresh(alloc: Global, state: &State) -> Result<State, Memory>
-    ensures { IfOk result (λ copy. copy ≡ fresh state.now) }
+    ensures { IfOk result (λ copy. copy ≡ fresh_state state.now) }
 {
     let accounts = copy_of(alloc, state.accounts())?;
     let choices = Entries::new(alloc);

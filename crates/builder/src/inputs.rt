@@ -2,10 +2,10 @@
 ghost use Rattle.std.specs.Prelude.{◌≡◌, ◌++◌, map, IfOk, OnOk};
 ghost use Rattle.builder_spec.specs.Laying.{by_key};
 
-use ledger::Unspent;
 use collections::{Items, Memory, TryClone};
 use contract::Input;
 use eutxo_types::{OutputRef, Redeemer, Spend};
+use ledger::Unspent;
 use std::alloc::Global;
 
 fn by_key(unspent: &Unspent) -> Spend

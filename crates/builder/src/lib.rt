@@ -1,7 +1,7 @@
 //! Transactions for a request: a step of a thread, a start of a contract, a claim of payouts (The Extended UTXO
 //! Model, "Extended UTXO model: EUTXO").
 //!
-//! What hinders a request, and how its transaction is laid out, is defined in `building`. Each call answers the
+//! What hinders a request, and how its transaction is laid out, is defined in `builder_spec`. Each call answers the
 //! fault of the first clause that the request fails, or its layout, unless memory is refused. None of them reads a
 //! ledger: they build on what was seen of one.
 #![tactic(auto)]
@@ -16,7 +16,7 @@ mod step;
 mod thread;
 
 pub use builder_spec::BuildFault;
-pub use ledger::{Ask, Look, PayoutLock, ThreadOutput, Unspent};
 pub use claim::build_claim;
+pub use ledger::{Ask, Look, PayoutLock, ThreadOutput, Unspent};
 pub use start::build_start;
 pub use step::build_step;

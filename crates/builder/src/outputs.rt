@@ -2,19 +2,19 @@
 ghost use Rattle.std.specs.Prelude.{◌≡◌, ◌++◌, ◌∷◌, [], true, false, pos, ◌<ℤ◌, if◌then◌else◌, IfOk, IfErr, OnOk};
 ghost use Rattle.std.specs.FinMap.{entries};
 ghost use Rattle.bundle.specs.Bundles.{covers, minus};
-ghost use Rattle.eutxo.specs.Places.{is_empty};
-ghost use Rattle.roles.specs.Steps.{lock_for, owed, due, continuation};
+ghost use Rattle.eutxo.specs.Faults.{is_empty};
+ghost use Rattle.roles.specs.Steps.{lock_for, owed_output, due_outputs, continuation};
 ghost use Rattle.roles.specs.Sums.{sums_of};
 ghost use Rattle.builder_spec.specs.Holding.{sums};
-ghost use Rattle.builder_spec.specs.Clauses.{is_much};
-ghost use Rattle.builder_spec.specs.Laying.{given_to};
+ghost use Rattle.builder_spec.specs.Causes.{is_much};
+ghost use Rattle.builder_spec.specs.Laying.{paid_to};
 
 use builder_spec::BuildFault;
 use bundle::{Bundle, BundleFault};
+use coin_selection::{only, see_all, see_room, sum, sums_of};
 use collections::{Bytes, Items, Memory, Text, TryClone};
 use contract::{Outcome, Party, Payment, State};
 use eutxo_types::{Cont, Datum, Lock, Output};
-use coin_selection::{only, see_all, see_room, sum, sums_of};
 use roles::{Published, due_to};
 use std::alloc::Global;
 
@@ -33,7 +33,7 @@ fn lock_for(currency: &Bytes, party: &Party) -> Result<Lock, Memory>
 // The output for a payment to a party.
 fn owed(alloc: Global, currency: &Bytes, party: &Party, payment: &Payment) -> Result<Output, Memory>
     requires { pos 0 <ℤ payment.now.amount }
-    ensures { IfOk result (λ output. output ≡ owed currency.now party.now payment.now) }
+    ensures { IfOk result (λ output. output ≡ owed_output currency.now party.now payment.now) }
 {
     let lock = lock_for(currency, party)?;
     let amount = only(alloc, &payment.token, payment.amount)?;
@@ -47,7 +47,7 @@ pub(crate) fn put_due(
     currency: &Bytes,
     payments: &[Payment],
 ) -> Result<(), Memory>
-    ensures { OnOk result (outputs.new ≡ outputs.old ++ due currency.now payments.now) }
+    ensures { OnOk result (outputs.new ≡ outputs.old ++ due_outputs currency.now payments.now) }
 {
     for payment in payments {
         if let Some(party) = due_to(payment) {
@@ -93,12 +93,12 @@ fn is_nothing(amount: &Bundle) -> bool
 }
 
 /// Puts an output to an address behind others, where there is anything for it.
-pub(crate) fn put_given(
+pub(crate) fn put_paid(
     outputs: &mut Items<Output>,
     address: &Text,
     amount: Bundle,
 ) -> Result<(), Memory>
-    ensures { OnOk result (outputs.new ≡ outputs.old ++ given_to address.now amount) }
+    ensures { OnOk result (outputs.new ≡ outputs.old ++ paid_to address.now amount) }
 {
     if is_nothing(&amount) {
         return Ok(());
@@ -109,14 +109,14 @@ pub(crate) fn put_given(
 
 /// The output in which a published contract goes on, unless it is closed, and those that are due for the payments. No
 /// sum of its accounts is too large for an amount, and it is refused only for memory.
-pub(crate) fn made(
+pub(crate) fn step_outputs(
     alloc: Global,
     published: &Published,
     closed: bool,
     outcome: Outcome<Cont>,
 ) -> Result<Items<Output>, BuildFault>
     requires { is_much (sums_of outcome.state) ≡ false }
-    ensures ok { IfOk result (λ outputs. outputs ≡ (if closed then [] else continuation published.now.id outcome.place outcome.state ∷ []) ++ due published.now.currency outcome.payments) }
+    ensures ok { IfOk result (λ outputs. outputs ≡ (if closed then [] else continuation published.now.id outcome.place outcome.state ∷ []) ++ due_outputs published.now.currency outcome.payments) }
     ensures err { IfErr result (λ fault. fault ≡ BuildFault.Memory) }
 {
     let Outcome {
@@ -146,15 +146,19 @@ fn without(mut all: Bundle, taken: &Bundle) -> Bundle
 }
 
 /// What is spent and not made, where what is spent covers what is made. It is refused only for memory.
-pub(crate) fn rest(alloc: Global, all: Bundle, made: &[Output]) -> Result<Bundle, BuildFault>
+pub(crate) fn rest(
+    alloc: Global,
+    all: Bundle,
+    step_outputs: &[Output],
+) -> Result<Bundle, BuildFault>
     requires { covers all (sums (λ o. o.amount) made.now) ≡ true }
     ensures ok { IfOk result (λ rest. rest ≡ minus all (sums (λ o. o.amount) made.now)) }
     ensures err { IfErr result (λ fault. fault ≡ BuildFault.Memory) }
 {
-    see_all(made);
+    see_all(step_outputs);
     see_room(&all);
     let _ = all.entries();
-    match sum(alloc, made) {
+    match sum(alloc, step_outputs) {
         Ok(sum) => Ok(without(all, &sum)),
         Err(BundleFault::Memory) => Err(BuildFault::Memory),
         Err(_) => unreachable!(),

@@ -2,20 +2,19 @@
 ghost use Rattle.std.specs.Prelude.{◌≡◌, ◌++◌, not, IfOk, OnOk, map, option_map};
 ghost use Rattle.std.specs.List.{list_any, find};
 ghost use Rattle.names.specs.declared.party.Party.TheVariants.{Role};
-ghost use Rattle.eutxo.specs.Places.{is_empty};
+ghost use Rattle.eutxo.specs.Faults.{is_empty};
 ghost use Rattle.builder_spec.specs.declared.fault.BuildFault.TheVariants.{NotAuthorised};
-ghost use Rattle.builder_spec.specs.Holding.{held, holds_token};
-ghost use Rattle.builder_spec.specs.Serving.{AreBundles};
+ghost use Rattle.builder_spec.specs.Holding.{amount_in, holds_token, AreBundles};
 ghost use Rattle.builder_spec.specs.Laying.{by_claim};
-ghost use Rattle.builder_spec.specs.Claims.{awaited, tokens_awaited, is_payout, no_payouts};
-ghost use Rattle.coin_selection.specs.Passing.{Passes};
+ghost use Rattle.builder_spec.specs.Claims.{awaited_token, tokens_awaited, is_payout, payout_cause};
+ghost use Rattle.coin_selection.specs.Answers.{AnswersCause};
 
 use builder_spec::BuildFault;
-use ledger::Unspent;
+use coin_selection::{RoleToken, first_unheld};
 use collections::{Items, Memory, TryClone};
 use contract::Party;
 use eutxo_types::{Lock, Redeemer, Spend};
-use coin_selection::{RoleToken, first_unheld};
+use ledger::Unspent;
 use std::alloc::Global;
 
 fn is_payout(lock: &Lock) -> bool
@@ -46,7 +45,7 @@ pub(crate) fn are_none(outputs: &[Unspent]) -> bool
 
 /// There are payouts, and they alone.
 pub(crate) fn check_payouts(payouts: &[Unspent]) -> Result<(), BuildFault>
-    ensures { Passes result (no_payouts payouts.now) }
+    ensures { AnswersCause result (payout_cause payouts.now) }
 {
     if are_none(payouts) || any_other(payouts) {
         Err(BuildFault::NoThread)
@@ -56,7 +55,7 @@ pub(crate) fn check_payouts(payouts: &[Unspent]) -> Result<(), BuildFault>
 }
 
 fn awaited(lock: &Lock) -> Option<RoleToken<'_>>
-    ensures { result ≡ awaited lock.now }
+    ensures { result ≡ awaited_token lock.now }
 {
     match lock {
         Lock::Key(_) => None,
@@ -87,8 +86,8 @@ pub(crate) fn check_held(
     tokens: &[RoleToken<'_>],
     outputs: &[Unspent],
 ) -> Result<(), BuildFault>
-    requires { AreBundles held outputs.now }
-    ensures { Passes result (option_map (λ t. NotAuthorised (Role t.name)) (find (λ t. not (holds_token outputs.now t)) tokens.now)) }
+    requires { AreBundles amount_in outputs.now }
+    ensures { AnswersCause result (option_map (λ t. NotAuthorised (Role t.name)) (find (λ t. not (holds_token outputs.now t)) tokens.now)) }
 {
     match first_unheld(alloc, tokens, outputs)? {
         None => Ok(()),

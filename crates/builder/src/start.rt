@@ -5,38 +5,37 @@ ghost use Rattle.names.specs.Equal.{ada};
 ghost use Rattle.bundle.specs.Bundles.{minus};
 ghost use Rattle.roles.specs.Steps.{continuation};
 ghost use Rattle.roles.specs.Sums.{sums_of};
-ghost use Rattle.builder_spec.specs.Holding.{sums, held, least_lacking};
-ghost use Rattle.eutxo.specs.Places.{is_empty};
+ghost use Rattle.builder_spec.specs.Holding.{sums, amount_in, least_lacking, AreBundles};
+ghost use Rattle.eutxo.specs.Faults.{is_empty};
 ghost use Rattle.builder_spec.specs.declared.fault.BuildFault.TheVariants.{NoFunds};
-ghost use Rattle.builder_spec.specs.Clauses.{no_funds, is_much};
-ghost use Rattle.builder_spec.specs.Serving.{AreBundles};
-ghost use Rattle.builder_spec.specs.Built.{built};
-ghost use Rattle.builder_spec.specs.Laying.{by_key, given_to};
-ghost use Rattle.builder_spec.specs.Starts.{accounts_of, fresh, start_front, start_output, hinders_start, layout_start};
-ghost use Rattle.coin_selection.specs.Passing.{Passes};
-ghost use Rattle.builder.specs.Code.{start_request};
+ghost use Rattle.builder_spec.specs.Causes.{funds_cause, is_much};
+ghost use Rattle.builder_spec.specs.Built.{build_answer};
+ghost use Rattle.builder_spec.specs.Laying.{by_key, paid_to};
+ghost use Rattle.builder_spec.specs.Starts.{accounts_of, fresh_state, start_front, start_output, hinders_start, layout_start};
+ghost use Rattle.coin_selection.specs.Answers.{AnswersCause};
+ghost use Rattle.builder_spec.specs.Requests.{start_request};
 
 use crate::fresh::fresh;
 use crate::inputs::{copies_of, put_keys};
-use crate::outputs::{continuation, put_given, rest};
+use crate::outputs::{continuation, put_paid, rest};
 use crate::payouts::are_none;
 use builder_spec::BuildFault;
 use bundle::Bundle;
-use ledger::Unspent;
-use collections::{Bytes, Items, Text};
-use contract::{Interval, State};
-use eutxo_types::{Output, Tx};
 use coin_selection::{
     Amount, Shares, accounts_of, check_apart, check_funds, check_signed, see_all, see_room,
     shares_within, start_front,
 };
+use collections::{Bytes, Items, Text};
+use contract::{Interval, State};
+use eutxo_types::{Output, Tx};
+use ledger::Unspent;
 use names::Token;
 use roles::Published;
 use std::alloc::Global;
 
 // What is asked for.
 #[derive(Clone, Copy)]
-struct Asked<'a> {
+struct StartAsked<'a> {
     published: &'a Published,
     state: &'a State,
     interval: Interval,
@@ -47,7 +46,7 @@ struct Asked<'a> {
 
 // What is spent, where nothing hinders the start.
 #[derive(Drop)]
-struct Funds<'a> {
+struct StartFunds<'a> {
     all: Bundle,
     front: &'a [Unspent],
 }
@@ -67,8 +66,8 @@ fn check_start_funds(
     amounts: &[Amount<'_>],
     offered: &[Unspent],
 ) -> Result<(), BuildFault>
-    requires { AreBundles held offered.now }
-    ensures { Passes result (if is_empty offered.now then Some (NoFunds ada) else no_funds amounts.now offered.now) }
+    requires { AreBundles amount_in offered.now }
+    ensures { AnswersCause result (if is_empty offered.now then Some (NoFunds ada) else funds_cause amounts.now offered.now) }
 {
     if are_none(offered) {
         Err(BuildFault::NoFunds(ada(alloc)))
@@ -78,12 +77,12 @@ fn check_start_funds(
 }
 
 // What is spent, or the first clause that fails.
-fn funds_of<'a>(alloc: Global, asked: Asked<'a>) -> Result<Funds<'a>, BuildFault>
-    ensures all { IfOk result (λ funds. funds.all ≡ sums held (start_front (start_request asked.entry.published.now asked.entry.state.now asked.entry.interval asked.entry.signers.now asked.entry.offered.now asked.entry.change.now))) }
+fn funds_of<'a>(alloc: Global, asked: StartAsked<'a>) -> Result<StartFunds<'a>, BuildFault>
+    ensures all { IfOk result (λ funds. funds.all ≡ sums amount_in (start_front (start_request asked.entry.published.now asked.entry.state.now asked.entry.interval asked.entry.signers.now asked.entry.offered.now asked.entry.change.now))) }
     ensures front { IfOk result (λ funds. funds.front.now ≡ start_front (start_request asked.entry.published.now asked.entry.state.now asked.entry.interval asked.entry.signers.now asked.entry.offered.now asked.entry.change.now)) }
     ensures covered { IfOk result (λ funds. is_none (least_lacking (accounts_of asked.entry.state.now) funds.front.now) ≡ true) }
-    ensures bundles { IfOk result (λ funds. AreBundles held funds.front.now) }
-    ensures passes { Passes result (hinders_start (start_request asked.entry.published.now asked.entry.state.now asked.entry.interval asked.entry.signers.now asked.entry.offered.now asked.entry.change.now)) }
+    ensures bundles { IfOk result (λ funds. AreBundles amount_in funds.front.now) }
+    ensures passes { AnswersCause result (hinders_start (start_request asked.entry.published.now asked.entry.state.now asked.entry.interval asked.entry.signers.now asked.entry.offered.now asked.entry.change.now)) }
 {
     let offered = asked.offered;
     see_all(offered);
@@ -96,7 +95,7 @@ fn funds_of<'a>(alloc: Global, asked: Asked<'a>) -> Result<Funds<'a>, BuildFault
         Ok(shares) => match check_apart(alloc, none, offered) {
             Ok(()) => {
                 let Shares { others, .. } = shares;
-                Ok(Funds { all: others, front })
+                Ok(StartFunds { all: others, front })
             }
             Err(fault) => Err(fault),
         },
@@ -106,8 +105,8 @@ fn funds_of<'a>(alloc: Global, asked: Asked<'a>) -> Result<Funds<'a>, BuildFault
 
 // The contract's output.
 fn start_output(alloc: Global, published: &Published, state: &State) -> Result<Output, BuildFault>
-    requires { is_much (sums_of (fresh state.now)) ≡ false }
-    ensures ok { IfOk result (λ output. output ≡ continuation published.now.id published.now.root (fresh state.now)) }
+    requires { is_much (sums_of (fresh_state state.now)) ≡ false }
+    ensures ok { IfOk result (λ output. output ≡ continuation published.now.id published.now.root (fresh_state state.now)) }
     ensures err { IfErr result (λ fault. fault ≡ BuildFault.Memory) }
 {
     let state = fresh(alloc, state)?;
@@ -115,24 +114,24 @@ fn start_output(alloc: Global, published: &Published, state: &State) -> Result<O
 }
 
 // The transaction of a start, from what it spends.
-fn lay_out(alloc: Global, asked: Asked<'_>, funds: Funds<'_>) -> Result<Tx, BuildFault>
-    requires all { funds.all ≡ sums held funds.front.now }
+fn lay_out(alloc: Global, asked: StartAsked<'_>, funds: StartFunds<'_>) -> Result<Tx, BuildFault>
+    requires all { funds.all ≡ sums amount_in funds.front.now }
     requires covered { is_none (least_lacking (accounts_of asked.state.now) funds.front.now) ≡ true }
-    requires bundles { AreBundles held funds.front.now }
+    requires bundles { AreBundles amount_in funds.front.now }
     ensures ok { IfOk result (λ tx. tx ≡ record {
       inputs = map by_key funds.entry.front.now;
-      outputs = start_output (start_request asked.entry.published.now asked.entry.state.now asked.entry.interval asked.entry.signers.now asked.entry.offered.now asked.entry.change.now) ∷ given_to asked.entry.change.now (minus funds.entry.all (sums (λ o. o.amount) (start_output (start_request asked.entry.published.now asked.entry.state.now asked.entry.interval asked.entry.signers.now asked.entry.offered.now asked.entry.change.now) ∷ [])));
+      outputs = start_output (start_request asked.entry.published.now asked.entry.state.now asked.entry.interval asked.entry.signers.now asked.entry.offered.now asked.entry.change.now) ∷ paid_to asked.entry.change.now (minus funds.entry.all (sums (λ o. o.amount) (start_output (start_request asked.entry.published.now asked.entry.state.now asked.entry.interval asked.entry.signers.now asked.entry.offered.now asked.entry.change.now) ∷ [])));
       interval = asked.entry.interval;
       signers = asked.entry.signers.now;
     }) }
     ensures err { IfErr result (λ fault. fault ≡ BuildFault.Memory) }
 {
-    let Funds { all, front } = funds;
+    let StartFunds { all, front } = funds;
     see_room(&all);
     let mut outputs = Items::new(alloc);
     outputs.push(start_output(alloc, asked.published, asked.state)?)?;
     let change = rest(alloc, all, outputs.as_slice())?;
-    put_given(&mut outputs, asked.change, change)?;
+    put_paid(&mut outputs, asked.change, change)?;
     let mut inputs = Items::new(alloc);
     put_keys(&mut inputs, front)?;
     let signers = copies_of(alloc, asked.signers)?;
@@ -162,9 +161,9 @@ pub fn build_start(
     change: &Text,
 ) -> Result<Tx, BuildFault>
     ensures { let r = start_request published.now state.now interval signers.now offered.now change.now in
-        Aside BuildFault.Memory result (built (hinders_start r) (layout_start r)) }
+        Aside BuildFault.Memory result (build_answer (hinders_start r) (layout_start r)) }
 {
-    let asked = Asked {
+    let asked = StartAsked {
         published,
         state,
         interval,

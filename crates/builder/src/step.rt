@@ -6,34 +6,34 @@ ghost use Rattle.semantics.specs.Walk.{standing, answer_of};
 ghost use Rattle.bundle.specs.Bundles.{covers, minus};
 ghost use Rattle.eutxo.specs.Parts.{contract_in};
 ghost use Rattle.roles.specs.Sums.{sums_of};
-ghost use Rattle.builder_spec.specs.Holding.{sums, held, least_lacking};
-ghost use Rattle.builder_spec.specs.Serving.{AreBundles};
-ghost use Rattle.builder_spec.specs.Built.{built};
-ghost use Rattle.builder_spec.specs.Laying.{by_key, by_step, given_to};
-ghost use Rattle.builder_spec.specs.Steps.{thread_in, terms, walk, deposits, step_front, step_spent, hinders_thread, layout_thread, hinders_on, layout_on, hinders_step, layout_step};
-ghost use Rattle.coin_selection.specs.Passing.{Passes};
-ghost use Rattle.builder.specs.Code.{request, later};
+ghost use Rattle.builder_spec.specs.Holding.{sums, amount_in, least_lacking, AreBundles};
+ghost use Rattle.builder_spec.specs.Built.{build_answer};
+ghost use Rattle.builder_spec.specs.Laying.{by_key, by_step, paid_to};
+ghost use Rattle.builder_spec.specs.Steps.{thread_in, thread_terms, step_walk, deposits, step_front, step_spent, hinders_thread, layout_thread, hinders_on, layout_on, hinders_step, layout_step};
+ghost use Rattle.coin_selection.specs.Answers.{AnswersCause};
+ghost use Rattle.builder_spec.specs.Requests.{request};
+ghost use Rattle.builder.specs.CausesSupport.{causes_after_contract};
 
 use crate::inputs::{by_step, copies_of, put_keys};
-use crate::outputs::{made, put_given, rest};
+use crate::outputs::{put_paid, rest, step_outputs};
 use crate::thread::{datum_of, is_closed};
 use builder_spec::BuildFault;
 use bundle::Bundle;
-use ledger::{Look, ThreadOutput, Unspent};
-use collections::{Items, Text};
-use contract::{Input, Interval, Outcome, SemFault};
-use eutxo_types::{Cont, Datum, Output, Tx};
 use coin_selection::{
     check_authorised, check_funds, check_once, check_signed, deposits, front_of, roles_of, see_all,
     see_room, within_limits,
 };
+use collections::{Items, Text};
+use contract::{Input, Interval, Outcome, SemFault};
+use eutxo_types::{Cont, Datum, Output, Tx};
+use ledger::{Look, ThreadOutput, Unspent};
 use machine::compute;
 use semantics::{money_is_kept, payments_are_natural, transactions_end_quiet};
 use std::alloc::Global;
 
 // What is asked for.
 #[derive(Clone, Copy)]
-struct Asked<'a> {
+struct StepAsked<'a> {
     interval: Interval,
     inputs: &'a [Input],
     signers: &'a [Text],
@@ -44,7 +44,7 @@ struct Asked<'a> {
 // What is spent of a thread's output and the offered outputs, where nothing after the contract's answer hinders the
 // step.
 #[derive(Drop)]
-struct Funds<'a> {
+struct StepFunds<'a> {
     all: Bundle,
     front: &'a [Unspent],
 }
@@ -52,15 +52,15 @@ struct Funds<'a> {
 // What is spent, or the first of the clauses on signers, parties, funds, limits and repeats that fails.
 fn funds_of<'a>(
     alloc: Global,
-    asked: Asked<'a>,
+    asked: StepAsked<'a>,
     thread: &ThreadOutput,
     datum: &Datum,
-) -> Result<Funds<'a>, BuildFault>
-    ensures all { IfOk result (λ funds. funds.all ≡ sums held (step_spent (request asked.entry.interval asked.entry.inputs.now asked.entry.signers.now asked.entry.offered.now asked.entry.change.now) (thread.now, datum.now))) }
+) -> Result<StepFunds<'a>, BuildFault>
+    ensures all { IfOk result (λ funds. funds.all ≡ sums amount_in (step_spent (request asked.entry.interval asked.entry.inputs.now asked.entry.signers.now asked.entry.offered.now asked.entry.change.now) (thread.now, datum.now))) }
     ensures front { IfOk result (λ funds. funds.front.now ≡ step_front (request asked.entry.interval asked.entry.inputs.now asked.entry.signers.now asked.entry.offered.now asked.entry.change.now) (thread.now, datum.now)) }
     ensures covered { IfOk result (λ funds. is_none (least_lacking (deposits asked.entry.inputs.now) funds.front.now) ≡ true) }
-    ensures bundles { IfOk result (λ funds. AreBundles held funds.front.now) }
-    ensures passes { Passes result (later (request asked.entry.interval asked.entry.inputs.now asked.entry.signers.now asked.entry.offered.now asked.entry.change.now) (thread.now, datum.now)) }
+    ensures bundles { IfOk result (λ funds. AreBundles amount_in funds.front.now) }
+    ensures passes { AnswersCause result (causes_after_contract (request asked.entry.interval asked.entry.inputs.now asked.entry.signers.now asked.entry.offered.now asked.entry.change.now) (thread.now, datum.now)) }
 {
     let _ = datum;
     let currency = &thread.published.get().currency;
@@ -74,7 +74,7 @@ fn funds_of<'a>(
     let front = front_of(alloc, &roles, &amounts, offered)?;
     match within_limits(alloc, thread.reference, &thread.output, asked.inputs, front) {
         Ok(all) => match check_once(alloc, thread.reference, &thread.output, offered) {
-            Ok(()) => Ok(Funds { all, front }),
+            Ok(()) => Ok(StepFunds { all, front }),
             Err(fault) => Err(fault),
         },
         Err(fault) => Err(fault),
@@ -84,23 +84,23 @@ fn funds_of<'a>(
 // The transaction of a step, from what it spends and what it makes but for the change.
 fn lay_out(
     alloc: Global,
-    asked: Asked<'_>,
+    asked: StepAsked<'_>,
     thread: &ThreadOutput,
-    funds: Funds<'_>,
+    funds: StepFunds<'_>,
     mut outputs: Items<Output>,
 ) -> Result<Tx, BuildFault>
     requires { covers funds.all (sums (λ o. o.amount) outputs) ≡ true }
     ensures ok { IfOk result (λ tx. tx ≡ record {
       inputs = by_step asked.entry.inputs.now (record { reference = thread.now.reference; output = thread.now.output }) ∷ map by_key funds.entry.front.now;
-      outputs = outputs ++ given_to asked.entry.change.now (minus funds.entry.all (sums (λ o. o.amount) outputs));
+      outputs = outputs ++ paid_to asked.entry.change.now (minus funds.entry.all (sums (λ o. o.amount) outputs));
       interval = asked.entry.interval;
       signers = asked.entry.signers.now;
     }) }
     ensures err { IfErr result (λ fault. fault ≡ BuildFault.Memory) }
 {
-    let Funds { all, front } = funds;
+    let StepFunds { all, front } = funds;
     let change = rest(alloc, all, outputs.as_slice())?;
-    put_given(&mut outputs, asked.change, change)?;
+    put_paid(&mut outputs, asked.change, change)?;
     let mut inputs = Items::new(alloc);
     inputs.push(by_step(alloc, thread.reference, asked.inputs)?)?;
     put_keys(&mut inputs, front)?;
@@ -116,21 +116,21 @@ fn lay_out(
 // The transaction of a step that nothing hinders.
 fn finish(
     alloc: Global,
-    asked: Asked<'_>,
+    asked: StepAsked<'_>,
     thread: &ThreadOutput,
     datum: &Datum,
-    funds: Funds<'_>,
+    funds: StepFunds<'_>,
     outcome: Outcome<Cont>,
 ) -> Result<Tx, BuildFault>
-    requires ended { answer_of (walk (request asked.interval asked.inputs.now asked.signers.now asked.offered.now asked.change.now) (thread.now, datum.now)) ≡ Ok (standing outcome.state (cont_tree thread.now.published.table outcome.place.0)) }
-    requires paid { outcome.payments ≡ (walk (request asked.interval asked.inputs.now asked.signers.now asked.offered.now asked.change.now) (thread.now, datum.now)).payments }
-    requires led { (terms (thread.now, datum.now)).at datum.now.cont (walk (request asked.interval asked.inputs.now asked.signers.now asked.offered.now asked.change.now) (thread.now, datum.now)).turns ≡ outcome.place }
+    requires ended { answer_of (step_walk (request asked.interval asked.inputs.now asked.signers.now asked.offered.now asked.change.now) (thread.now, datum.now)) ≡ Ok (standing outcome.state (cont_tree thread.now.published.table outcome.place.0)) }
+    requires paid { outcome.payments ≡ (step_walk (request asked.interval asked.inputs.now asked.signers.now asked.offered.now asked.change.now) (thread.now, datum.now)).payments }
+    requires led { (thread_terms (thread.now, datum.now)).at datum.now.cont (step_walk (request asked.interval asked.inputs.now asked.signers.now asked.offered.now asked.change.now) (thread.now, datum.now)).turns ≡ outcome.place }
     requires has { Has thread.now.published.table (a_cont outcome.place.0) }
-    requires all { funds.all ≡ sums held (step_spent (request asked.interval asked.inputs.now asked.signers.now asked.offered.now asked.change.now) (thread.now, datum.now)) }
+    requires all { funds.all ≡ sums amount_in (step_spent (request asked.interval asked.inputs.now asked.signers.now asked.offered.now asked.change.now) (thread.now, datum.now)) }
     requires front { funds.front.now ≡ step_front (request asked.interval asked.inputs.now asked.signers.now asked.offered.now asked.change.now) (thread.now, datum.now) }
     requires sums { thread.now.output.amount ≡ sums_of datum.now.state }
     requires covered { is_none (least_lacking (deposits asked.inputs.now) funds.front.now) ≡ true }
-    requires bundles { AreBundles held funds.front.now }
+    requires bundles { AreBundles amount_in funds.front.now }
     ensures ok { IfOk result (λ tx. tx ≡ layout_thread (request asked.entry.interval asked.entry.inputs.now asked.entry.signers.now asked.entry.offered.now asked.entry.change.now) (thread.now, datum.now)) }
     ensures err { IfErr result (λ fault. fault ≡ BuildFault.Memory) }
 {
@@ -142,8 +142,8 @@ fn finish(
     see_room(&funds.all);
     let published = thread.published.get();
     let closed = is_closed(&published.table, outcome.place);
-    match made(alloc, published, closed, outcome) {
-        Ok(made) => lay_out(alloc, asked, thread, funds, made),
+    match step_outputs(alloc, published, closed, outcome) {
+        Ok(step_outputs) => lay_out(alloc, asked, thread, funds, step_outputs),
         Err(fault) => Err(fault),
     }
 }
@@ -151,12 +151,12 @@ fn finish(
 // Builds on a thread that stands.
 fn build_at(
     alloc: Global,
-    asked: Asked<'_>,
+    asked: StepAsked<'_>,
     thread: &ThreadOutput,
     datum: &Datum,
 ) -> Result<Tx, BuildFault>
     requires { thread_in thread.now (contract_in thread.now.output.lock) ≡ Some (thread.now, datum.now) }
-    ensures { Aside BuildFault.Memory result (built (hinders_thread (request asked.entry.interval asked.entry.inputs.now asked.entry.signers.now asked.entry.offered.now asked.entry.change.now) (thread.now, datum.now)) (layout_thread (request asked.entry.interval asked.entry.inputs.now asked.entry.signers.now asked.entry.offered.now asked.entry.change.now) (thread.now, datum.now))) }
+    ensures { Aside BuildFault.Memory result (build_answer (hinders_thread (request asked.entry.interval asked.entry.inputs.now asked.entry.signers.now asked.entry.offered.now asked.entry.change.now) (thread.now, datum.now)) (layout_thread (request asked.entry.interval asked.entry.inputs.now asked.entry.signers.now asked.entry.offered.now asked.entry.change.now) (thread.now, datum.now))) }
 {
     let table = &thread.published.get().table;
     table.turns_lead();
@@ -171,9 +171,9 @@ fn build_at(
 }
 
 // Builds on a thread.
-fn build_on(alloc: Global, asked: Asked<'_>, thread: &ThreadOutput) -> Result<Tx, BuildFault>
+fn build_on(alloc: Global, asked: StepAsked<'_>, thread: &ThreadOutput) -> Result<Tx, BuildFault>
     ensures { let e = thread_in thread.now (contract_in thread.now.output.lock) in
-        Aside BuildFault.Memory result (built (hinders_on (request asked.entry.interval asked.entry.inputs.now asked.entry.signers.now asked.entry.offered.now asked.entry.change.now) e) (layout_on (request asked.entry.interval asked.entry.inputs.now asked.entry.signers.now asked.entry.offered.now asked.entry.change.now) e)) }
+        Aside BuildFault.Memory result (build_answer (hinders_on (request asked.entry.interval asked.entry.inputs.now asked.entry.signers.now asked.entry.offered.now asked.entry.change.now) e) (layout_on (request asked.entry.interval asked.entry.inputs.now asked.entry.signers.now asked.entry.offered.now asked.entry.change.now) e)) }
 {
     match datum_of(alloc, thread) {
         Ok(None) => Err(BuildFault::NoThread),
@@ -203,9 +203,9 @@ pub fn build_step(
     change: &Text,
 ) -> Result<Tx, BuildFault>
     ensures { let r = request interval inputs.now signers.now offered.now change.now in
-        Aside BuildFault.Memory result (built (hinders_step look.now r) (layout_step look.now r)) }
+        Aside BuildFault.Memory result (build_answer (hinders_step look.now r) (layout_step look.now r)) }
 {
-    let asked = Asked {
+    let asked = StepAsked {
         interval,
         inputs,
         signers,

@@ -4,11 +4,11 @@ ghost use Rattle.table.specs.Flat.{Has, a_cont, cont_tree};
 ghost use Rattle.table.specs.Along.{has_cont};
 ghost use Rattle.eutxo.specs.Parts.{contract_in};
 ghost use Rattle.roles.specs.Steps.{is_close};
-ghost use Rattle.builder_spec.specs.Steps.{stands, thread_in};
+ghost use Rattle.builder_spec.specs.Steps.{is_current, thread_in};
 
-use ledger::ThreadOutput;
 use collections::Memory;
 use eutxo_types::{Cont, Datum, Lock};
+use ledger::ThreadOutput;
 use roles::holds_sums;
 use semantics::Steps;
 use std::alloc::Global;
@@ -31,13 +31,13 @@ pub(crate) fn is_closed(table: &Table, cont: Cont) -> bool
 
 // Whether a thread's output is of the published script, at a number of its table, and holds exactly the sums of its
 // accounts.
-fn stands(
+fn is_current(
     alloc: Global,
     thread: &ThreadOutput,
     script: &[u8; 32],
     datum: &Datum,
 ) -> Result<bool, Memory>
-    ensures { IfOk result (λ answer. answer ≡ stands thread.now (script.now, datum.now)) }
+    ensures { IfOk result (λ answer. answer ≡ is_current thread.now (script.now, datum.now)) }
 {
     let published = thread.published.get();
     if *script == published.id && has_cont(&published.table, datum.cont) {
@@ -53,7 +53,7 @@ pub(crate) fn datum_of(alloc: Global, thread: &ThreadOutput) -> Result<Option<&D
 {
     match &thread.output.lock {
         Lock::Contract { script, datum } => {
-            if stands(alloc, thread, script, datum)? {
+            if is_current(alloc, thread, script, datum)? {
                 Ok(Some(datum))
             } else {
                 Ok(None)

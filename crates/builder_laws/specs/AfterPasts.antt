@@ -1,5 +1,5 @@
 -- When a layout is accepted after what a ledger accepted, however it came by it.
-use Rattle.std.specs.Prelude.{◌≡◌, ℕ, ℤ, ◌≤ℤ◌, List, ◌++◌, slice_get, All, Option, Some, None}
+use Rattle.std.specs.Prelude.{◌≡◌, ℕ, ℤ, List, ◌++◌, slice_get, Option, Some, None}
 use Rattle.eutxo_types.specs.declared.tx.Tx.{Tx}
 use Rattle.eutxo_types.specs.Fitting.{TxFits}
 use Rattle.eutxo_types.specs.Ids.{id_of}
@@ -9,34 +9,24 @@ use Rattle.roles.specs.declared.published.Published.{Published}
 use Rattle.ledger.specs.declared.look.Look.{Look}
 use Rattle.ledger.specs.declared.look.Unspent.{Unspent}
 use Rattle.builder_spec.specs.Requests.{StepRequest, StartRequest, ClaimRequest}
-use Rattle.builder_spec.specs.Steps.{Thread, thread, step_spent, hinders_step, layout_step}
+use Rattle.builder_spec.specs.Steps.{Thread, look_thread, step_spent, hinders_step, layout_step}
 use Rattle.builder_spec.specs.Starts.{start_front, hinders_start, layout_start}
 use Rattle.builder_spec.specs.Claims.{claim_front, hinders_claim, layout_claim}
-use Rattle.ledger_laws.specs.Past.{Past, unspent_at}
+use Rattle.ledger_laws.specs.Past.{Past}
 use Rattle.ledger_laws.specs.Sound.{moment}
 use Rattle.ledger_laws.specs.Laws.{marlowe}
+use Rattle.ledger_spec.specs.Open.{IsAlone, IsOpen}
 
--- no other transaction that was accepted has its id, which is a SHA-256 of its bytes
-abbrev pub IsAlone : Past → Tx → Type 0
-IsAlone past tx = (n : ℕ) (other : Tx) → slice_get past.accepted n ≡ Some other → id_of other ≡ id_of tx → other ≡ tx
-
--- none of other bytes has it. That is the same where all fit their spelling, as each does that was spelled
+-- no accepted transaction of other bytes has its id, a SHA-256 of them. That none other has it is the same where all fit their spelling, as each does that was spelled
 abbrev pub IsAloneByBytes : Past → Tx → Type 0
 IsAloneByBytes past tx = (n : ℕ) (other : Tx) → slice_get past.accepted n ≡ Some other → id_of other ≡ id_of tx → tx_bytes other ≡ tx_bytes tx
 
 abbrev pub BytesTellApart : Type 0
 BytesTellApart = (past : Past) (tx : Tx) → TxFits tx → ((n : ℕ) (other : Tx) → slice_get past.accepted n ≡ Some other → TxFits other) → IsAloneByBytes past tx → IsAlone past tx
 
--- after a past, what a transaction spends is unspent as it was handed in, no other has its id, and the tick lies in its interval
-pub record IsOpen (past : Past) (tick : ℤ) (spent : List Unspent) (tx : Tx) : Type 0 where
-  pub unspent : All (λ u. unspent_at past u.reference ≡ Some u.output) spent
-  pub alone : IsAlone past tx
-  pub from : tx.interval.from ≤ℤ tick
-  pub to : tick ≤ℤ tx.interval.to
-
 -- a step that nothing hinders is accepted then, where the thread's script is published as the look shows it
 abbrev pub StepsAreAcceptedAfter : Type 0
-StepsAreAcceptedAfter = (look : Look) (r : StepRequest) (e : Thread) (published : List ℕ → Option Published) (past : Past) (tick : ℤ) → thread look ≡ Some e → hinders_step look r ≡ None →
+StepsAreAcceptedAfter = (look : Look) (r : StepRequest) (e : Thread) (published : List ℕ → Option Published) (past : Past) (tick : ℤ) → look_thread look ≡ Some e → hinders_step look r ≡ None →
     published e.0.published.id ≡ Some e.0.published → IsOpen past tick (step_spent r e) (layout_step look r) → judge marlowe (moment published past tick) (layout_step look r) ≡ None
 
 -- so is a start, where what is started is published under its id

@@ -1,5 +1,5 @@
 -- What is left for the change.
-use Rattle.std.specs.Prelude.{◌≡◌, ◌-ℤ◌, ◌≤ℤ◌, List, [], ◌∷◌, All, Some, None}
+use Rattle.std.specs.Prelude.{◌≡◌, ◌-ℤ◌, ◌≤ℤ◌, [], ◌∷◌, Some, None}
 use Rattle.std.specs.FinMap.{entries}
 use Rattle.names.specs.declared.token.Token.{Token}
 use Rattle.states.specs.States as states
@@ -8,24 +8,19 @@ use Rattle.semantics.specs.Money.{deposited}
 use Rattle.bundle.specs.Bundles.{amount_of}
 use Rattle.bundle.specs.Totals.{total_of}
 use Rattle.ledger.specs.declared.look.Look.{Look}
-use Rattle.ledger.specs.declared.look.Unspent.{Unspent}
 use Rattle.builder_spec.specs.Requests.{StepRequest, StartRequest}
-use Rattle.builder_spec.specs.Holding.{held}
+use Rattle.builder_spec.specs.Holding.{amount_in, AreBundles}
 use Rattle.builder_spec.specs.Laying.{rest}
-use Rattle.builder_spec.specs.Steps.{Thread, thread, step_front, step_spent, step_made, hinders_step}
+use Rattle.builder_spec.specs.Steps.{Thread, look_thread, step_front, step_spent, step_outputs, hinders_step}
 use Rattle.builder_spec.specs.Starts.{start_front, start_output, hinders_start}
-
--- outputs hold amounts above 0 alone, as all outputs do
-abbrev pub AreBundles : List Unspent → Type 0
-AreBundles us = All (λ u. AllPositive (entries (held u))) us
 
 -- THE CHANGE OF A STEP that nothing hinders is, token by token, what its front holds above the deposits, and that is never below 0. (The
 -- accounts are above 0, as those of all states are.)
 abbrev pub StepChangeIsTheRest : Type 0
-StepChangeIsTheRest = (look : Look) (r : StepRequest) (e : Thread) (t : Token) → thread look ≡ Some e → hinders_step look r ≡ None → AllPositive (entries e.1.state.accounts) → AreBundles r.offered →
-    (amount_of (rest (step_spent r e) (step_made r e)) t ≡ total_of held t (step_front r e) -ℤ deposited t r.inputs) × (deposited t r.inputs ≤ℤ total_of held t (step_front r e))
+StepChangeIsTheRest = (look : Look) (r : StepRequest) (e : Thread) (t : Token) → look_thread look ≡ Some e → hinders_step look r ≡ None → AllPositive (entries e.1.state.accounts) → AreBundles amount_in r.offered →
+    (amount_of (rest (step_spent r e) (step_outputs r e)) t ≡ total_of amount_in t (step_front r e) -ℤ deposited t r.inputs) × (deposited t r.inputs ≤ℤ total_of amount_in t (step_front r e))
 
 -- and that of a start what its front holds above the accounts
 abbrev pub StartChangeIsTheRest : Type 0
-StartChangeIsTheRest = (r : StartRequest) (t : Token) → hinders_start r ≡ None → AreBundles r.offered →
-    (amount_of (rest (start_front r) (start_output r ∷ [])) t ≡ total_of held t (start_front r) -ℤ states.total_of t r.state) × (states.total_of t r.state ≤ℤ total_of held t (start_front r))
+StartChangeIsTheRest = (r : StartRequest) (t : Token) → hinders_start r ≡ None → AreBundles amount_in r.offered →
+    (amount_of (rest (start_front r) (start_output r ∷ [])) t ≡ total_of amount_in t (start_front r) -ℤ states.total_of t r.state) × (states.total_of t r.state ≤ℤ total_of amount_in t (start_front r))

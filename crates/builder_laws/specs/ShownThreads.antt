@@ -5,7 +5,7 @@ use Rattle.eutxo.specs.Parts.{contract_in}
 use Rattle.roles.specs.declared.published.Published.{Published}
 use Rattle.ledger.specs.declared.look.Look.{Look}
 use Rattle.ledger.specs.declared.look.ThreadOutput.{ThreadOutput}
-use Rattle.builder_spec.specs.Steps.{Thread, thread}
+use Rattle.builder_spec.specs.Steps.{Thread, look_thread}
 use Rattle.ledger_laws.specs.Past.{Past, unspent_at}
 use Rattle.ledger_laws.specs.Sound.{IsSound}
 use Rattle.ledger_laws.specs.Laws.{marlowe, AreTables}
@@ -22,6 +22,6 @@ pub record IsShown (published : List ℕ → Option Published) (past : Past) (t 
   pub named : published script ≡ Some t.published
 
 -- the thread of a look that shows one so is that output, with its datum
-abbrev pub ShownThreadsStand : Type 0
-ShownThreadsStand = (published : List ℕ → Option Published) (past : Past) (look : Look) (t : ThreadOutput) (d : Datum) → AreTables published → AreUnderIds published → IsSound marlowe published past →
-    look.thread ≡ Some t → IsShown published past t d → (let e : Thread = (t, d) in thread look ≡ Some e)
+abbrev pub ShownThreadsAreCurrent : Type 0
+ShownThreadsAreCurrent = (published : List ℕ → Option Published) (past : Past) (look : Look) (t : ThreadOutput) (d : Datum) → AreTables published → AreUnderIds published → IsSound marlowe published past →
+    look.thread ≡ Some t → IsShown published past t d → (let e : Thread = (t, d) in look_thread look ≡ Some e)

@@ -1,5 +1,5 @@
 //! Threads that are shown, and threads that are closed.
-ghost use Rattle.builder_laws.specs.ShownThreads.{ShownThreadsStand};
+ghost use Rattle.builder_laws.specs.ShownThreads.{ShownThreadsAreCurrent};
 ghost use Rattle.builder_laws.specs.AfterLast.{AnyoneCloses, NoThreadHinders};
 
 use ledger_laws::contracts_are_funded;
@@ -8,8 +8,8 @@ use semantics::contracts_close_after_the_last_timeout;
 /// A look that shows an unspent contract output of a ledger, with what is published there under its script, shows a
 /// thread that stands: it is of that script, at a number of the table, and holds just the sums of its accounts. So such a
 /// look fails the first clause only where it shows no thread.
-pub fn shown_threads_stand()
-    ensures { ShownThreadsStand }
+pub fn shown_threads_are_current()
+    ensures { ShownThreadsAreCurrent }
 {
     contracts_are_funded();
 }

@@ -1,4 +1,4 @@
-pub mod Shortest
-pub mod Holdings
-pub mod Sufficing
-pub mod Funding
+pub mod FrontsLaws
+pub mod HoldingLaws
+pub mod SufficesLaws
+pub mod FundsLaws

@@ -4,6 +4,6 @@ use Rattle.eutxo_types.specs.declared.tx.Tx.{Tx}
 use Rattle.builder_spec.specs.declared.fault.BuildFault.{BuildFault}
 
 -- the fault that hinders the request; or, where nothing does, its layout
-abbrev pub built : Option BuildFault → Tx → Result Tx BuildFault
-built None layout = Ok layout
-built (Some fault) layout = Err fault
+abbrev pub build_answer : Option BuildFault → Tx → Result Tx BuildFault
+build_answer None layout = Ok layout
+build_answer (Some fault) layout = Err fault

@@ -1,11 +1,11 @@
 -- What outputs hold together, and whether that is as much as is wanted.
 use Rattle.std.specs.Prelude.{ℤ, pos, int_lt, Bool, List, [], ◌∷◌, map, filter, Option}
 use Rattle.std.specs.List.{list_any}
-use Rattle.std.specs.FinMap.{empty}
+use Rattle.std.specs.FinMap.{empty, entries}
 use Rattle.collections.specs.Total.{total}
 use Rattle.names.specs.declared.token.Token.{Token}
 use Rattle.states.specs.States.{counted}
-use Rattle.bundle.specs.Bundles.{Amounts, amount_of, plus}
+use Rattle.bundle.specs.Bundles.{Amounts, AllPositive, amount_of, plus}
 use Rattle.bundle.specs.Totals.{total_of}
 use Rattle.eutxo.specs.Differing.{least}
 use Rattle.ledger.specs.declared.look.Unspent.{Unspent}
@@ -15,12 +15,19 @@ abbrev pub sums : {A : Type 0} → (A → Amounts) → List A → Amounts
 sums held [] = empty
 sums held (x ∷ xs) = plus (held x) (sums held xs)
 
-abbrev pub held : Unspent → Amounts
-held u = u.output.amount
+-- outputs hold amounts above 0 alone, as all outputs do
+abbrev pub AreBundles : {A : Type 0} → (A → Amounts) → List A → Type 0
+AreBundles held [] = Unit {0}
+AreBundles held (x ∷ xs) = AllPositive (entries (held x)) × AreBundles held xs
+
+-- what an output holds
+
+abbrev pub amount_in : Unspent → Amounts
+amount_in u = u.output.amount
 
 -- one of them holds the token
 abbrev pub holds_token : List Unspent → Token → Bool
-holds_token us t = list_any (λ u. int_lt (pos 0) (amount_of (held u) t)) us
+holds_token us t = list_any (λ u. int_lt (pos 0) (amount_of (amount_in u) t)) us
 
 -- how much of a token is wanted, where all of these are
 abbrev pub wanted : List (Token × ℤ) → Token → ℤ
@@ -28,7 +35,7 @@ wanted ns t = total (λ n. counted t n.0 n.1) ns
 
 -- they hold less of a token than is wanted
 abbrev pub lacks : List (Token × ℤ) → List Unspent → Token → Bool
-lacks ns us t = int_lt (total_of held t us) (wanted ns t)
+lacks ns us t = int_lt (total_of amount_in t us) (wanted ns t)
 
 -- the least of the wanted tokens of which they do
 abbrev pub least_lacking : List (Token × ℤ) → List Unspent → Option Token

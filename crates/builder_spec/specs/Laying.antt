@@ -8,9 +8,9 @@ use Rattle.eutxo_types.specs.declared.output.Output.{Output}
 use Rattle.eutxo_types.specs.declared.redeemer.Redeemer.{Redeemer}
 use Rattle.eutxo_types.specs.declared.redeemer.Redeemer.TheVariants as with
 use Rattle.eutxo_types.specs.declared.spend.Spend.{Spend}
-use Rattle.eutxo.specs.Places.{is_empty}
+use Rattle.eutxo.specs.Faults.{is_empty}
 use Rattle.ledger.specs.declared.look.Unspent.{Unspent}
-use Rattle.builder_spec.specs.Holding.{sums, held}
+use Rattle.builder_spec.specs.Holding.{sums, amount_in}
 
 -- an input that spends an output
 abbrev pub spend_with : Redeemer → Unspent → Spend
@@ -26,9 +26,9 @@ abbrev pub by_step : List Input → Unspent → Spend
 by_step xs = spend_with (with.Step xs)
 
 -- an output to an address, where there is anything for it
-abbrev pub given_to : List ℕ → Amounts → List Output
-given_to address m = if is_empty (entries m) then [] else record { lock = Key address; amount = m } ∷ []
+abbrev pub paid_to : List ℕ → Amounts → List Output
+paid_to address m = if is_empty (entries m) then [] else record { lock = Key address; amount = m } ∷ []
 
 -- what is spent and not made: the change
 abbrev pub rest : List Unspent → List Output → Amounts
-rest spent made = minus (sums held spent) (sums (λ o. o.amount) made)
+rest spent made = minus (sums amount_in spent) (sums (λ o. o.amount) made)

@@ -1,10 +1,10 @@
 pub mod Requests
 pub mod Holding
 pub mod Fronts
-pub mod Clauses
+pub mod Causes
 pub mod Laying
 pub mod Steps
 pub mod Starts
 pub mod Claims
 pub mod Built
-pub mod Serving
+pub mod FrontsSupport

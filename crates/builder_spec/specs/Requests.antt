@@ -14,6 +14,9 @@ pub record StepRequest : Type 0 where
   pub offered : List Unspent
   pub change : List ℕ
 
+abbrev pub request : Interval → List Input → List (List ℕ) → List Unspent → List ℕ → StepRequest
+request interval inputs signers offered change = record { interval = interval; inputs = inputs; signers = signers; offered = offered; change = change }
+
 -- a start of what is published, with the accounts and the minimum time of a state
 pub record StartRequest : Type 0 where
   pub published : Published
@@ -23,6 +26,9 @@ pub record StartRequest : Type 0 where
   pub offered : List Unspent
   pub change : List ℕ
 
+abbrev pub start_request : Published → StateMaps → Interval → List (List ℕ) → List Unspent → List ℕ → StartRequest
+start_request published state interval signers offered change = record { published = published; state = state; interval = interval; signers = signers; offered = offered; change = change }
+
 -- a claim of payouts, and the address to which they go
 pub record ClaimRequest : Type 0 where
   pub payouts : List Unspent
@@ -31,3 +37,6 @@ pub record ClaimRequest : Type 0 where
   pub offered : List Unspent
   pub to : List ℕ
   pub change : List ℕ
+
+abbrev pub claim_request : List Unspent → Interval → List (List ℕ) → List Unspent → List ℕ → List ℕ → ClaimRequest
+claim_request payouts interval signers offered to change = record { payouts = payouts; interval = interval; signers = signers; offered = offered; to = to; change = change }

@@ -13,11 +13,11 @@ use Rattle.machine.specs.declared.datum.Datum.{Datum}
 use Rattle.eutxo_types.specs.declared.output.Output.{Output}
 use Rattle.eutxo_types.specs.declared.tx.Tx.{Tx}
 use Rattle.eutxo.specs.Parts.{same_bytes, contract_in}
-use Rattle.eutxo.specs.Places.{first_of}
+use Rattle.eutxo.specs.Faults.{first_of}
 use Rattle.eutxo.specs.Rules.{has_signed}
 use Rattle.roles.specs.Sums.{sums_of}
 use Rattle.roles.specs.Terms.{Terms, terms_of}
-use Rattle.roles.specs.Steps.{same_amounts, role_token, needed, continuation, due, is_close}
+use Rattle.roles.specs.Steps.{same_amounts, role_token, actor, continuation, due_outputs, is_close}
 use Rattle.ledger.specs.declared.look.Look.{Look}
 use Rattle.ledger.specs.declared.look.ThreadOutput.{ThreadOutput}
 use Rattle.ledger.specs.declared.look.Unspent.{Unspent}
@@ -26,8 +26,8 @@ use Rattle.builder_spec.specs.declared.fault.BuildFault.TheVariants.{NoThread, S
 use Rattle.builder_spec.specs.Requests.{StepRequest}
 use Rattle.builder_spec.specs.Holding.{holds_token}
 use Rattle.builder_spec.specs.Fronts.{front}
-use Rattle.builder_spec.specs.Clauses.{not_signed, no_funds, too_many, repeated}
-use Rattle.builder_spec.specs.Laying.{by_key, by_step, given_to, rest}
+use Rattle.builder_spec.specs.Causes.{signature_cause, funds_cause, limit_cause, repeat_cause}
+use Rattle.builder_spec.specs.Laying.{by_key, by_step, paid_to, rest}
 
 -- ---- the thread
 
@@ -35,34 +35,34 @@ use Rattle.builder_spec.specs.Laying.{by_key, by_step, given_to, rest}
 abbrev pub Thread : Type 0
 Thread = ThreadOutput × Datum
 
-abbrev pub terms : Thread → Terms
-terms e = terms_of e.0.published
+abbrev pub thread_terms : Thread → Terms
+thread_terms e = terms_of e.0.published
 
 -- its script is what is published there, its number is in the table, and it holds exactly the sums of its accounts
-abbrev pub stands : ThreadOutput → List ℕ × Datum → Bool
-stands t c = same_bytes c.0 t.published.id && ((terms_of t.published).has c.1.cont && same_amounts t.output.amount (sums_of c.1.state))
+abbrev pub is_current : ThreadOutput → List ℕ × Datum → Bool
+is_current t c = same_bytes c.0 t.published.id && ((terms_of t.published).has c.1.cont && same_amounts t.output.amount (sums_of c.1.state))
 
 abbrev pub thread_in : ThreadOutput → Option (List ℕ × Datum) → Option Thread
 thread_in t None = None
-thread_in t (Some c) = if stands t c then Some (t, c.1) else None
+thread_in t (Some c) = if is_current t c then Some (t, c.1) else None
 
 abbrev pub thread_of : Option ThreadOutput → Option Thread
 thread_of None = None
 thread_of (Some t) = thread_in t (contract_in t.output.lock)
 
 -- the thread that a look shows, where it stands so
-abbrev pub thread : Look → Option Thread
-thread look = thread_of look.thread
+abbrev pub look_thread : Look → Option Thread
+look_thread look = thread_of look.thread
 
 -- ---- what the contract makes of the request
 
-abbrev pub walk : StepRequest → Thread → Walk
-walk r e = computed r.interval e.1.state ((terms e).tree e.1.cont) r.inputs
+abbrev pub step_walk : StepRequest → Thread → Walk
+step_walk r e = computed r.interval e.1.state ((thread_terms e).tree e.1.cont) r.inputs
 
 -- 2: the transaction function refuses
-abbrev pub refused : Result Standing SemFault → Option BuildFault
-refused (Ok a) = None
-refused (Err f) = Some (Semantics f)
+abbrev pub semantics_cause : Result Standing SemFault → Option BuildFault
+semantics_cause (Ok a) = None
+semantics_cause (Err f) = Some (Semantics f)
 
 -- ---- what the inputs need
 
@@ -72,7 +72,7 @@ token_of currency (Address a) = None
 token_of currency (Role r) = Some (role_token currency r)
 
 abbrev pub roles_of : List ℕ → List Input → List Token
-roles_of currency xs = filter_map (token_of currency) (filter_map needed xs)
+roles_of currency xs = filter_map (token_of currency) (filter_map actor xs)
 
 -- what an input deposits, where that is above 0
 abbrev pub deposit_of : Input → Option (Token × ℤ)
@@ -88,8 +88,8 @@ may_act currency signers offered (Address a) = has_signed signers a
 may_act currency signers offered (Role r) = holds_token offered (role_token currency r)
 
 -- 4: of the parties that the inputs need, in order, the first that may not act
-abbrev pub not_authorised : List ℕ → List (List ℕ) → List Unspent → List Input → Option BuildFault
-not_authorised currency signers offered xs = option_map NotAuthorised (find (λ p. not (may_act currency signers offered p)) (filter_map needed xs))
+abbrev pub authority_cause : List ℕ → List (List ℕ) → List Unspent → List Input → Option BuildFault
+authority_cause currency signers offered xs = option_map NotAuthorised (find (λ p. not (may_act currency signers offered p)) (filter_map actor xs))
 
 -- ---- what is spent
 
@@ -97,27 +97,27 @@ abbrev pub step_front : StepRequest → Thread → List Unspent
 step_front r e = front (roles_of e.0.published.currency r.inputs) (deposits r.inputs) r.offered
 
 -- the thread's output
-abbrev pub own : Thread → Unspent
-own e = record { reference = e.0.reference; output = e.0.output }
+abbrev pub own_output : Thread → Unspent
+own_output e = record { reference = e.0.reference; output = e.0.output }
 
 abbrev pub step_spent : StepRequest → Thread → List Unspent
-step_spent r e = own e ∷ step_front r e
+step_spent r e = own_output e ∷ step_front r e
 
 -- 6, with the limit on the contract's inputs
-abbrev pub too_many_given : List Input → List Unspent → Option BuildFault
-too_many_given xs spent = if nat_lt 256 (length xs) then Some TooMany else too_many spent
+abbrev pub step_limit_cause : List Input → List Unspent → Option BuildFault
+step_limit_cause xs spent = if nat_lt 256 (length xs) then Some TooMany else limit_cause spent
 
 -- ---- WHAT HINDERS A STEP: the first of seven clauses that fails
 
 abbrev pub hinders_thread : StepRequest → Thread → Option BuildFault
 hinders_thread r e =
     first_of
-    (refused (answer_of (walk r e))
-    ∷ not_signed r.signers r.offered
-    ∷ not_authorised e.0.published.currency r.signers r.offered r.inputs
-    ∷ no_funds (deposits r.inputs) r.offered
-    ∷ too_many_given r.inputs (step_spent r e)
-    ∷ repeated (own e ∷ r.offered)
+    (semantics_cause (answer_of (step_walk r e))
+    ∷ signature_cause r.signers r.offered
+    ∷ authority_cause e.0.published.currency r.signers r.offered r.inputs
+    ∷ funds_cause (deposits r.inputs) r.offered
+    ∷ step_limit_cause r.inputs (step_spent r e)
+    ∷ repeat_cause (own_output e ∷ r.offered)
     ∷ [])
 
 abbrev pub hinders_on : StepRequest → Option Thread → Option BuildFault
@@ -125,25 +125,25 @@ hinders_on r None = Some NoThread
 hinders_on r (Some e) = hinders_thread r e
 
 abbrev pub hinders_step : Look → StepRequest → Option BuildFault
-hinders_step look r = hinders_on r (thread look)
+hinders_step look r = hinders_on r (look_thread look)
 
 -- ---- ITS LAYOUT: the thread's output and the front are spent; the contract goes on, unless it is Close, the payments
 -- that are due follow, and then the change
 
-abbrev pub goes_on : Thread → Walk → Standing → List Output
-goes_on e w a = if is_close a.contract then [] else continuation e.0.published.id ((terms e).at e.1.cont w.turns) a.state ∷ []
+abbrev pub continuing_outputs : Thread → Walk → Standing → List Output
+continuing_outputs e w a = if is_close a.contract then [] else continuation e.0.published.id ((thread_terms e).at e.1.cont w.turns) a.state ∷ []
 
-abbrev pub made : Thread → Walk → Result Standing SemFault → List Output
-made e w (Ok a) = goes_on e w a ++ due e.0.published.currency w.payments
-made e w (Err f) = []
+abbrev pub step_outputs_of : Thread → Walk → Result Standing SemFault → List Output
+step_outputs_of e w (Ok a) = continuing_outputs e w a ++ due_outputs e.0.published.currency w.payments
+step_outputs_of e w (Err f) = []
 
-abbrev pub step_made : StepRequest → Thread → List Output
-step_made r e = made e (walk r e) (answer_of (walk r e))
+abbrev pub step_outputs : StepRequest → Thread → List Output
+step_outputs r e = step_outputs_of e (step_walk r e) (answer_of (step_walk r e))
 
 abbrev pub layout_thread : StepRequest → Thread → Tx
 layout_thread r e = record {
-  inputs = by_step r.inputs (own e) ∷ map by_key (step_front r e);
-  outputs = step_made r e ++ given_to r.change (rest (step_spent r e) (step_made r e));
+  inputs = by_step r.inputs (own_output e) ∷ map by_key (step_front r e);
+  outputs = step_outputs r e ++ paid_to r.change (rest (step_spent r e) (step_outputs r e));
   interval = r.interval;
   signers = r.signers;
 }
@@ -154,4 +154,4 @@ layout_on r None = record { inputs = []; outputs = []; interval = r.interval; si
 layout_on r (Some e) = layout_thread r e
 
 abbrev pub layout_step : Look → StepRequest → Tx
-layout_step look r = layout_on r (thread look)
+layout_step look r = layout_on r (look_thread look)

@@ -1,5 +1,5 @@
 pub mod Bundles
-pub mod Hashing
 pub mod Laws
 pub mod Totals
-pub mod Walks
+pub mod HashingSupport
+pub mod WalksSupport

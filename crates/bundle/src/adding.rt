@@ -4,7 +4,7 @@ ghost use Rattle.std.proofs.Math.Dec.{T};
 ghost use Rattle.std.specs.FinMap.{is_sorted, put, from_sorted};
 ghost use Rattle.names.specs.Orders.{token_cmp};
 ghost use Rattle.bundle.specs.Bundles.{is_large, any_large, too_large, each, plus, AllPositive};
-ghost use Rattle.bundle.specs.Walks.{amount_in, AllBefore, NoneAfter, StartsFrom};
+ghost use Rattle.bundle.specs.WalksSupport.{amount_in, AllBefore, NoneAfter, StartsFrom};
 
 use crate::bundle::Bundle;
 use crate::walk::{Entry, amount_at, copy_all, is_at, put_copy, skip_before};

@@ -8,7 +8,7 @@ ghost use Rattle.std.specs.FinMap.{is_sorted};
 ghost use Rattle.names.specs.Orders.{token_cmp};
 ghost use Rattle.collections.proofs.Places.{IsAt, IsGap};
 ghost use Rattle.bundle.specs.Bundles.{amount_of, with_amount, plus, minus, lacking, covers, too_large, AllPositive};
-ghost use Rattle.bundle.specs.Walks.{amount_in};
+ghost use Rattle.bundle.specs.WalksSupport.{amount_in};
 
 use crate::adding::{is_too_large, sum_of};
 use crate::fault::BundleFault;

@@ -45,7 +45,7 @@ impl Eq for Bundle {
 impl Hash for Bundle {
     ghost use Rattle.collections.proofs.SameLaws.{same_by_decides};
     ghost use Rattle.std.proofs.Common.{ap};
-    ghost use Rattle.bundle.specs.Hashing.{bundle_fed};
+    ghost use Rattle.bundle.specs.HashingSupport.{bundle_fed};
     ghost use Rattle.bundle.specs.contracts.bundle.Bundle as it;
 
     ghost hash_input = { bundle_fed };

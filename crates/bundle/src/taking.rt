@@ -6,7 +6,7 @@ ghost use Rattle.std.specs.Ordering.{int_eq};
 ghost use Rattle.std.specs.FinMap.{is_sorted, put, from_sorted};
 ghost use Rattle.names.specs.Orders.{token_cmp};
 ghost use Rattle.bundle.specs.Bundles.{lacking, first_short, each, minus, AllPositive};
-ghost use Rattle.bundle.specs.Walks.{amount_in, without_zeros, AllBefore, AllNatural};
+ghost use Rattle.bundle.specs.WalksSupport.{amount_in, without_zeros, AllBefore, AllNatural};
 
 use crate::bundle::Bundle;
 use crate::walk::{Entry, amount_at, skip_before};

@@ -4,7 +4,7 @@ ghost use Rattle.std.proofs.Math.Dec.{T};
 ghost use Rattle.std.specs.FinMap.{is_sorted};
 ghost use Rattle.std.specs.Ordering.{is_gt, is_eq};
 ghost use Rattle.names.specs.Orders.{token_cmp};
-ghost use Rattle.bundle.specs.Walks.{amount_in, AllBefore, StartsFrom, starts_with};
+ghost use Rattle.bundle.specs.WalksSupport.{amount_in, AllBefore, StartsFrom, starts_with};
 
 use collections::{Memory, TryClone};
 use names::{Token, compare_tokens};

@@ -1,5 +1,5 @@
-mod Staying
-mod Publishing
-mod Sound
-mod Courses
-mod Layouts
+mod AcceptedLemmas
+mod PublishedLemmas
+mod SoundLemmas
+mod LegalLemmas
+mod HeadlineLemmas

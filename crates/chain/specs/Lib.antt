@@ -1,3 +1,1 @@
-pub mod Legal
-pub mod Kept
-pub mod Layouts
+pub mod ChainSupport

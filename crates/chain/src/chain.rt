@@ -1,32 +1,31 @@
 //! The ledger of one thread.
 ghost use Rattle.std.specs.Prelude.{◌≡◌, ◌++◌, ◌≤◌, [], IfOk, IfErr, OnErr, OnOk, length, drop, map, option_to_list};
-ghost use Rattle.ledger_laws.specs.Laws.{EachIsARun, EndsWithItsRun, EachStepHasItsThread, ContractsAreStepped, EachContractEndsAThread, EachEndIsUnspent, AreFunded, AreOfTables, EachIsAuthorised, IsSpentOnce, IsPreserved};
 ghost use Rattle.ledger_laws.specs.Sound.{AreKeys};
 ghost use Rattle.eutxo.specs.Judgement.{found};
-ghost use Rattle.ledger_replay.specs.Beginning.{SumsFit, IsNoStart};
+ghost use Rattle.ledger_spec.specs.Genesis.{SumsFit, RefusesGenesis};
 ghost use Rattle.eutxo_types.specs.Ids.{id_of};
-ghost use Rattle.ledger_replay.specs.Standing.{changed, past_of, world, standing, published, published_at, moment_of};
-ghost use Rattle.chain.specs.Layouts.{AcceptsSteps, AcceptsStarts, AcceptsClaims, ShowsStanding};
-ghost use Rattle.ledger_dispatch.specs.Answering.{reply_to, with_new};
-ghost use Rattle.chain.specs.Legal.{entry_of, with_entry, IsLegal};
-ghost use Rattle.ledger_views.specs.Recording.{AreSteps};
+ghost use Rattle.ledger_spec.specs.Replay.{after_call, past_of, world, replay, published, published_at, moment_of};
+ghost use Rattle.ledger_spec.specs.Headline.{FirstHalf, SecondHalf};
+ghost use Rattle.ledger_spec.specs.Calls.{reply_to, published_with};
+ghost use Rattle.ledger_spec.specs.Legal.{entry_of, with_entry, IsLegal};
+ghost use Rattle.ledger_spec.specs.Records.{AreSteps};
 
 use builder_laws::{
-    claims_are_accepted, shown_threads_stand, starts_are_accepted, steps_are_accepted,
+    claims_are_accepted, shown_threads_are_current, starts_are_accepted, steps_are_accepted,
 };
-use ledger_dispatch::{answer, records, resolution};
-use ledger::{Call, Entry, Reply};
 use collections::{Items, Memory, TryClone};
 use eutxo::{Checked, Resolved, Shared};
 use eutxo_types::{Output, OutputRef, Tx};
+use ledger::{Call, Entry, Reply};
+use ledger_dispatch::{answer, records, resolution};
 use ledger_laws::{
     accepting_is_sound, contracts_are_funded, contracts_end_threads, outputs_are_spent_once,
     parties_are_authorised, publishing_is_sound, starting_is_sound, steps_stand_on_threads,
     threads_are_runs, tokens_are_preserved,
 };
+use ledger_replay::{World, check_genesis, count_of, ids_of, last_tick, world_after};
+use ledger_spec::{GenesisFault, StepRecord};
 use roles::{Published, published_are_tables};
-use ledger_views::StepRecord;
-use ledger_replay::{GenesisFault, World, check_genesis, count_of, ids_of, last_tick, walk};
 use std::alloc::Global;
 use std::marker::Model;
 
@@ -69,8 +68,8 @@ impl Model for Chain {
     ghost use Rattle.eutxo_types.specs.contracts.tx.Tx as txs;
     ghost use Rattle.ledger.specs.contracts.ask.Ask as ask_rows;
     ghost use Rattle.ledger.specs.contracts.look.Look as look_rows;
-    ghost use Rattle.ledger_replay.specs.Standing.{Course};
-    ghost use Rattle.chain.specs.Kept.{IsKept};
+    ghost use Rattle.ledger_spec.specs.Replay.{Course};
+    ghost use Rattle.chain.specs.ChainSupport.{IsKept};
 
     ghost Value = { Course };
 
@@ -84,7 +83,7 @@ impl Model for Chain {
 // What is found for one call: its reply, that reply in two copies, what it publishes, and the ids of the
 // transactions that it accepts.
 #[derive(Drop)]
-struct Found<R, O> {
+struct Answered<R, O> {
     reply: R,
     copies: (R, R),
     object: O,
@@ -98,18 +97,18 @@ fn with_copies<R: TryClone + Drop, O: Drop>(
     known: usize,
     reply: R,
     object: O,
-) -> Result<Found<R, O>, Memory>
-    requires { known ≤ length world.now.standing.accepted }
+) -> Result<Answered<R, O>, Memory>
+    requires { known ≤ length world.now.replay.accepted }
     ensures reply { IfOk result (λ r. r.reply ≡ reply) }
     ensures mine { IfOk result (λ r. r.copies.0 ≡ reply) }
     ensures told { IfOk result (λ r. r.copies.1 ≡ reply) }
     ensures object { IfOk result (λ r. r.object ≡ object) }
-    ensures ids { IfOk result (λ r. r.ids.items ≡ map id_of (drop known world.now.standing.accepted)) }
+    ensures ids { IfOk result (λ r. r.ids.items ≡ map id_of (drop known world.now.replay.accepted)) }
 {
     let ids = ids_of(alloc, &world.accepted()[known..])?;
     let mine = reply.try_clone()?;
     let told = reply.try_clone()?;
-    Ok(Found {
+    Ok(Answered {
         reply,
         copies: (mine, told),
         object,
@@ -136,7 +135,7 @@ impl Chain {
     fn world(&self, alloc: Global) -> Result<World<'_>, Memory>
         ensures { IfOk result (λ w. w ≡ world self.now) }
     {
-        walk(
+        world_after(
             alloc,
             self.genesis.as_slice(),
             self.tick,
@@ -147,17 +146,17 @@ impl Chain {
     }
 
     // What a call is answered, what it publishes, and the ids of what it accepts.
-    #[tactic(auto, using(crate::proofs::Staying::enough_found))]
+    #[tactic(auto, using(crate::proofs::AcceptedLemmas::enough_found))]
     fn replies(
         &self,
         alloc: Global,
         call: &Call,
-    ) -> Result<Found<Reply, Option<Shared<Published>>>, Memory>
+    ) -> Result<Answered<Reply, Option<Shared<Published>>>, Memory>
         ensures reply { IfOk result (λ r. r.reply ≡ reply_to (world self.now) call.now) }
         ensures mine { IfOk result (λ r. r.copies.0 ≡ reply_to (world self.now) call.now) }
         ensures told { IfOk result (λ r. r.copies.1 ≡ reply_to (world self.now) call.now) }
-        ensures object { IfOk result (λ r. published self.now.entries ++ option_to_list r.object ≡ with_new (published self.now.entries) call.now) }
-        ensures ids { IfOk result (λ r. map id_of (world self.now).standing.accepted ++ r.ids.items ≡ map id_of (changed (world self.now).standing call.now (reply_to (world self.now) call.now)).accepted) }
+        ensures object { IfOk result (λ r. published self.now.entries ++ option_to_list r.object ≡ published_with (published self.now.entries) call.now) }
+        ensures ids { IfOk result (λ r. map id_of (world self.now).replay.accepted ++ r.ids.items ≡ map id_of (after_call (world self.now).replay call.now (reply_to (world self.now) call.now)).accepted) }
     {
         let mut world = self.world(alloc)?;
         let known = world.accepted().len();
@@ -166,20 +165,14 @@ impl Chain {
         Ok(found)
     }
 
-    /// The layout of a request that nothing hinders is accepted next, for every look and request, where what it
-    /// spends is unspent as it was handed in, no other accepted transaction has its id, the tick lies in its
-    /// interval, and the thread's script (of a start: what is started) is published as the request has it. And a
-    /// look that shows a thread shows one that stands. It does nothing.
-    pub fn layouts_are_accepted(&self)
-        ensures steps { AcceptsSteps self.now }
-        ensures starts { AcceptsStarts self.now }
-        ensures claims { AcceptsClaims self.now }
-        ensures shown { ShowsStanding self.now }
+    // The headline's second half, of this history. It does nothing.
+    fn layouts_are_accepted(&self)
+        ensures { SecondHalf self.now }
     {
         steps_are_accepted();
         starts_are_accepted();
         claims_are_accepted();
-        shown_threads_stand();
+        shown_threads_are_current();
         let _tick = self.tick;
     }
 
@@ -203,17 +196,14 @@ impl Chain {
         ensures mine { IfOk result (λ r. r.0 ≡ (entry_of self.old seat call).reply) }
         ensures told { IfOk result (λ r. r.1 ≡ (entry_of self.old seat call).reply) }
         ensures err { OnErr result (self.new ≡ self.old) }
-        ensures steps { AcceptsSteps self.old }
-        ensures starts { AcceptsStarts self.old }
-        ensures claims { AcceptsClaims self.old }
-        ensures shown { ShowsStanding self.old }
+        ensures second { SecondHalf self.old }
     {
         let _ = cache;
         self.layouts_are_accepted();
         accepting_is_sound::<Published>();
         publishing_is_sound::<Published>();
         published_are_tables();
-        let Found {
+        let Answered {
             reply,
             copies,
             object,
@@ -233,7 +223,7 @@ impl Chain {
 
     /// The tick: the last that it was advanced to, else the first, in POSIX milliseconds. Takes no memory.
     pub fn tick(&self) -> i64
-        ensures { result ≡ (world self.now).standing.tick }
+        ensures { result ≡ (world self.now).replay.tick }
     {
         last_tick(self.tick, &self.entries)
     }
@@ -251,17 +241,7 @@ impl Chain {
     pub fn history(&self) -> &[Entry]
         ensures all { result.now ≡ self.now.entries }
         ensures legal { IsLegal self.now }
-        ensures runs { EachIsARun (published_at (published self.now.entries)) (past_of (world self.now)) }
-        ensures stand { EndsWithItsRun (published_at (published self.now.entries)) (past_of (world self.now)) }
-        ensures steps { EachStepHasItsThread (past_of (world self.now)) }
-        ensures stepped { ContractsAreStepped (past_of (world self.now)) }
-        ensures authorised { EachIsAuthorised (published_at (published self.now.entries)) (past_of (world self.now)) }
-        ensures ends { EachContractEndsAThread (past_of (world self.now)) }
-        ensures unspent { EachEndIsUnspent (past_of (world self.now)) }
-        ensures funded { AreFunded (past_of (world self.now)) }
-        ensures numbers { AreOfTables (published_at (published self.now.entries)) (past_of (world self.now)) }
-        ensures once { IsSpentOnce (past_of (world self.now)) }
-        ensures preserved { IsPreserved (past_of (world self.now)) }
+        ensures first { FirstHalf self.now }
     {
         threads_are_runs();
         steps_stand_on_threads::<Published>();
@@ -304,7 +284,7 @@ impl Chain {
     /// (`TooLarge`); else only a growth that was refused gives `Memory`.
     pub fn genesis(alloc: Global, outputs: Items<Output>, tick: i64) -> Result<Chain, GenesisFault>
         ensures ok { IfOk result (λ chain. (chain ≡ record { genesis = outputs; first_tick = tick; entries = [] }) × AreKeys outputs × SumsFit outputs) }
-        ensures err { IfErr result (λ fault. IsNoStart outputs fault) }
+        ensures err { IfErr result (λ fault. RefusesGenesis outputs fault) }
     {
         check_genesis(alloc, outputs.as_slice())?;
         Ok(Chain::starting(alloc, outputs, tick))

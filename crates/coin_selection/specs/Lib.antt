@@ -1,4 +1,4 @@
-pub mod Passing
-pub mod Needed
-pub mod Left
-pub mod Serving
+pub mod Answers
+pub mod RequiredSupport
+pub mod MissingSupport
+pub mod MeetSupport

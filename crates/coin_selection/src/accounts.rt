@@ -3,7 +3,7 @@ ghost use Rattle.std.specs.Prelude.{◌≡◌, ◌⊎◌, true, pos, ◌<ℤ◌,
 ghost use Rattle.states.specs.States.{AllPositive};
 ghost use Rattle.roles.specs.Steps.{only};
 ghost use Rattle.roles.specs.Sums.{sums_of};
-ghost use Rattle.builder_spec.specs.Clauses.{is_much};
+ghost use Rattle.builder_spec.specs.Causes.{is_much};
 
 use crate::sums::{see_all, sum};
 use bundle::{Bundle, BundleFault};

@@ -9,10 +9,10 @@ ghost use Rattle.states.specs.States.{AllPositive};
 ghost use Rattle.builder_spec.specs.Starts.{accounts_of};
 ghost use Rattle.builder_spec.specs.Steps.{deposit_of, deposits};
 
+use crate::missing::Missing;
 use collections::Memory;
 use contract::{Account, Input, State};
 use names::Token;
-use crate::needs::Needs;
 use std::alloc::Global;
 use std::marker::Model;
 
@@ -36,12 +36,12 @@ impl<'a> Model for Amount<'a> {
 
 impl<'a> Amount<'a> {
     /// So much more of its token is needed.
-    pub(crate) fn add_to(&self, needs: &mut Needs) -> Result<(), Memory>
-        requires { amount_of needs.old self.now.0 ≤ℤ pos (2 ^ 199) }
+    pub(crate) fn add_to(&self, missing: &mut Missing) -> Result<(), Memory>
+        requires { amount_of missing.old self.now.0 ≤ℤ pos (2 ^ 199) }
         ensures range { (pos 0 <ℤ self.now.1) × (self.now.1 ≤ℤ pos (2 ^ 127)) }
-        ensures added { OnOk result ((t : AToken) → get needs.new t ≡ (if eq_by_cmp token_cmp self.now.0 t then Some (amount_of needs.old self.now.0 +ℤ self.now.1) else get needs.old t)) }
+        ensures added { OnOk result ((t : AToken) → get missing.new t ≡ (if eq_by_cmp token_cmp self.now.0 t then Some (amount_of missing.old self.now.0 +ℤ self.now.1) else get missing.old t)) }
     {
-        needs.add(self.token, *self.amount)
+        missing.add(self.token, *self.amount)
     }
 }
 

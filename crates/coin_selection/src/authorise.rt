@@ -3,36 +3,35 @@ ghost use Rattle.std.specs.Prelude.{◌≡◌, ◌∷◌, [], not, option_copied
 ghost use Rattle.std.specs.FinMap.{get};
 ghost use Rattle.std.specs.List.{find, filter_map};
 ghost use Rattle.std.specs.Option.{option_map};
-ghost use Rattle.roles.specs.Steps.{needed};
-ghost use Rattle.builder_spec.specs.Holding.{held, holds_token};
-ghost use Rattle.builder_spec.specs.Serving.{AreBundles};
+ghost use Rattle.roles.specs.Steps.{actor};
+ghost use Rattle.builder_spec.specs.Holding.{amount_in, holds_token, AreBundles};
 ghost use Rattle.builder_spec.specs.Steps.{may_act};
-ghost use Rattle.coin_selection.specs.Needed.{may_act_but};
+ghost use Rattle.coin_selection.specs.RequiredSupport.{may_act_but};
 
+use crate::actor::missing_after;
 use crate::amounts::Amount;
-use crate::needed::lacking;
-use crate::roles_needed::{RoleToken, roles_of};
-use ledger::Unspent;
+use crate::missing::Missing;
+use crate::role_tokens::{RoleToken, roles_of};
 use collections::{Bytes, Memory, Text};
 use contract::{Input, Party};
 use eutxo::has_signed;
-use crate::needs::Needs;
-use roles::needed;
+use ledger::Unspent;
+use roles::actor;
 use std::alloc::Global;
 
 // Whether a role's token is among those that are needed.
-fn is_unheld(unheld: &Needs, role: &RoleToken<'_>) -> Result<bool, Memory>
+fn is_unheld(unheld: &Missing, role: &RoleToken<'_>) -> Result<bool, Memory>
     ensures { IfOk result (λ answer. answer ≡ is_some (get unheld.now role.now)) }
 {
     let token = role.to_token()?;
-    Ok(unheld.needs(&token))
+    Ok(unheld.lacks(&token))
 }
 
 // An address acts by its signature, and a role unless its token is needed.
 fn may_act(
     currency: &Bytes,
     signers: &[Text],
-    unheld: &Needs,
+    unheld: &Missing,
     party: &Party,
 ) -> Result<bool, Memory>
     ensures { IfOk result (λ answer. answer ≡ may_act_but currency.now signers.now unheld.now party.now) }
@@ -50,12 +49,12 @@ fn may_act(
 fn barred<'a>(
     currency: &Bytes,
     signers: &[Text],
-    unheld: &Needs,
+    unheld: &Missing,
     input: &'a Input,
 ) -> Result<Option<&'a Party>, Memory>
-    ensures { IfOk result (λ party. option_copied party ≡ find (λ p. not (may_act_but currency.now signers.now unheld.now p)) (filter_map needed (input.now ∷ []))) }
+    ensures { IfOk result (λ party. option_copied party ≡ find (λ p. not (may_act_but currency.now signers.now unheld.now p)) (filter_map actor (input.now ∷ []))) }
 {
-    match needed(input) {
+    match actor(input) {
         None => Ok(None),
         Some(party) => {
             if may_act(currency, signers, unheld, party)? {
@@ -75,12 +74,12 @@ pub(crate) fn unauthorised<'a>(
     offered: &[Unspent],
     inputs: &'a [Input],
 ) -> Result<Option<&'a Party>, Memory>
-    requires { AreBundles held offered.now }
-    ensures { IfOk result (λ party. option_copied party ≡ find (λ p. not (may_act currency.now signers.now offered.now p)) (filter_map needed inputs.now)) }
+    requires { AreBundles amount_in offered.now }
+    ensures { IfOk result (λ party. option_copied party ≡ find (λ p. not (may_act currency.now signers.now offered.now p)) (filter_map actor inputs.now)) }
 {
     let roles = roles_of(alloc, currency, inputs)?;
     let none: &[Amount<'_>] = &[];
-    let unheld = lacking(alloc, &roles, none, offered)?;
+    let unheld = missing_after(alloc, &roles, none, offered)?;
     for input in inputs {
         if let Some(party) = barred(currency, signers, &unheld, input)? {
             return Ok(Some(party));
@@ -95,11 +94,11 @@ pub fn first_unheld<'a>(
     tokens: &[RoleToken<'a>],
     outputs: &[Unspent],
 ) -> Result<Option<&'a Text>, Memory>
-    requires { AreBundles held outputs.now }
+    requires { AreBundles amount_in outputs.now }
     ensures { IfOk result (λ role. option_copied role ≡ option_map (λ t. t.name) (find (λ t. not (holds_token outputs.now t)) tokens.now)) }
 {
     let none: &[Amount<'_>] = &[];
-    let unheld = lacking(alloc, tokens, none, outputs)?;
+    let unheld = missing_after(alloc, tokens, none, outputs)?;
     for token in tokens {
         if is_unheld(&unheld, token)? {
             return Ok(Some(token.role()));

@@ -1,10 +1,9 @@
 //! The clauses of a request, each one function.
 ghost use Rattle.std.specs.Prelude.{◌∷◌, ◌++◌};
-ghost use Rattle.builder_spec.specs.Holding.{held};
-ghost use Rattle.builder_spec.specs.Serving.{AreBundles};
-ghost use Rattle.builder_spec.specs.Clauses.{not_signed, no_funds, repeated};
-ghost use Rattle.builder_spec.specs.Steps.{not_authorised};
-ghost use Rattle.coin_selection.specs.Passing.{Passes};
+ghost use Rattle.builder_spec.specs.Holding.{amount_in, AreBundles};
+ghost use Rattle.builder_spec.specs.Causes.{signature_cause, funds_cause, repeat_cause};
+ghost use Rattle.builder_spec.specs.Steps.{authority_cause};
+ghost use Rattle.coin_selection.specs.Answers.{AnswersCause};
 
 use crate::amounts::Amount;
 use crate::authorise::unauthorised;
@@ -12,15 +11,15 @@ use crate::funds::least_lacking;
 use crate::limits::{has_repeat, put_references};
 use crate::signed::are_signed;
 use builder_spec::BuildFault;
-use ledger::Unspent;
 use collections::{Bytes, Text, TryClone};
 use contract::Input;
 use eutxo_types::{Output, OutputRef};
+use ledger::Unspent;
 use std::alloc::Global;
 
 /// Each offered output is under the key of a signer.
 pub fn check_signed(signers: &[Text], offered: &[Unspent]) -> Result<(), BuildFault>
-    ensures { Passes result (not_signed signers.now offered.now) }
+    ensures { AnswersCause result (signature_cause signers.now offered.now) }
 {
     if are_signed(signers, offered) {
         Ok(())
@@ -37,8 +36,8 @@ pub fn check_authorised(
     offered: &[Unspent],
     inputs: &[Input],
 ) -> Result<(), BuildFault>
-    requires { AreBundles held offered.now }
-    ensures { Passes result (not_authorised currency.now signers.now offered.now inputs.now) }
+    requires { AreBundles amount_in offered.now }
+    ensures { AnswersCause result (authority_cause currency.now signers.now offered.now inputs.now) }
 {
     match unauthorised(alloc, currency, signers, offered, inputs)? {
         None => Ok(()),
@@ -55,8 +54,8 @@ pub fn check_funds(
     amounts: &[Amount<'_>],
     offered: &[Unspent],
 ) -> Result<(), BuildFault>
-    requires { AreBundles held offered.now }
-    ensures { Passes result (no_funds amounts.now offered.now) }
+    requires { AreBundles amount_in offered.now }
+    ensures { AnswersCause result (funds_cause amounts.now offered.now) }
 {
     match least_lacking(alloc, amounts, offered)? {
         None => Ok(()),
@@ -71,7 +70,7 @@ pub fn check_once(
     output: &Output,
     offered: &[Unspent],
 ) -> Result<(), BuildFault>
-    ensures { Passes result (repeated (record { reference = reference; output = output.now } ∷ offered.now)) }
+    ensures { AnswersCause result (repeat_cause (record { reference = reference; output = output.now } ∷ offered.now)) }
 {
     let _ = output;
     let mut references = vec![in alloc; reference]?;
@@ -85,7 +84,7 @@ pub fn check_once(
 
 /// All of these are named once.
 pub fn check_apart(alloc: Global, first: &[Unspent], others: &[Unspent]) -> Result<(), BuildFault>
-    ensures { Passes result (repeated (first.now ++ others.now)) }
+    ensures { AnswersCause result (repeat_cause (first.now ++ others.now)) }
 {
     let mut references = Vec::new(alloc);
     put_references(&mut references, first)?;

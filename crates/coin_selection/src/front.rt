@@ -1,15 +1,15 @@
 //! The front of what is offered.
 ghost use Rattle.std.specs.Prelude.{◌≡◌, ◌<◌, ◌&&◌, [], not, length, IfOk};
-ghost use Rattle.eutxo.specs.Places.{is_empty};
-ghost use Rattle.builder_spec.specs.Holding.{held};
+ghost use Rattle.eutxo.specs.Faults.{is_empty};
+ghost use Rattle.builder_spec.specs.Holding.{amount_in, AreBundles};
 ghost use Rattle.builder_spec.specs.Fronts.{shortest, suffices, front};
-ghost use Rattle.builder_spec.specs.Serving.{AreBundles, IsShortest};
+ghost use Rattle.builder_spec.specs.FrontsSupport.{IsShortest};
 
+use crate::actor::{meet, missing_of};
 use crate::amounts::Amount;
-use crate::needed::{meet, needs_of};
-use crate::roles_needed::RoleToken;
-use ledger::Unspent;
+use crate::role_tokens::RoleToken;
 use collections::Memory;
+use ledger::Unspent;
 use std::alloc::Global;
 
 // How many offered outputs the shortest front has that suffices: what they hold is counted until nothing is needed.
@@ -19,15 +19,15 @@ fn front_length(
     amounts: &[Amount<'_>],
     offered: &[Unspent],
 ) -> Result<usize, Memory>
-    requires { AreBundles held offered.now }
+    requires { AreBundles amount_in offered.now }
     ensures { IfOk result (λ length. IsShortest (suffices roles.now amounts.now) offered.now length) }
 {
-    let mut needs = needs_of(alloc, roles, amounts)?;
+    let mut missing = missing_of(alloc, roles, amounts)?;
     for i in 0..offered.len() {
-        if needs.is_met() {
+        if missing.is_met() {
             return Ok(i);
         }
-        meet(&mut needs, &offered[i]);
+        meet(&mut missing, &offered[i]);
     }
     Ok(offered.len())
 }
@@ -40,9 +40,9 @@ pub fn front_of<'a>(
     amounts: &[Amount<'_>],
     offered: &'a [Unspent],
 ) -> Result<&'a [Unspent], Memory>
-    requires { AreBundles held offered.now }
+    requires { AreBundles amount_in offered.now }
     ensures front { IfOk result (λ taken. taken.now ≡ front roles.now amounts.now offered.now) }
-    ensures bundles { IfOk result (λ taken. AreBundles held taken.now) }
+    ensures bundles { IfOk result (λ taken. AreBundles amount_in taken.now) }
 {
     let length = front_length(alloc, roles, amounts, offered)?;
     Ok(&offered[..length])
@@ -55,10 +55,10 @@ pub fn start_front<'a>(
     amounts: &[Amount<'_>],
     offered: &'a [Unspent],
 ) -> Result<&'a [Unspent], Memory>
-    requires bundles { AreBundles held offered.now }
+    requires bundles { AreBundles amount_in offered.now }
     requires some { 0 < length offered.now }
     ensures front { IfOk result (λ taken. taken.now ≡ shortest (λ us. not (is_empty us) && suffices [] amounts.now us) offered.now) }
-    ensures bundles { IfOk result (λ taken. AreBundles held taken.now) }
+    ensures bundles { IfOk result (λ taken. AreBundles amount_in taken.now) }
 {
     let none: &[RoleToken<'_>] = &[];
     let length = front_length(alloc, none, amounts, offered)?;

@@ -1,13 +1,12 @@
 //! Whether what is wanted is there.
 ghost use Rattle.std.specs.Prelude.{◌≡◌, IfOk};
-ghost use Rattle.builder_spec.specs.Holding.{held, least_lacking};
-ghost use Rattle.builder_spec.specs.Serving.{AreBundles};
+ghost use Rattle.builder_spec.specs.Holding.{amount_in, least_lacking, AreBundles};
 
+use crate::actor::missing_after;
 use crate::amounts::Amount;
-use crate::needed::lacking;
-use crate::roles_needed::RoleToken;
-use ledger::Unspent;
+use crate::role_tokens::RoleToken;
 use collections::{Memory, TryClone};
+use ledger::Unspent;
 use names::Token;
 use std::alloc::Global;
 
@@ -17,12 +16,12 @@ pub(crate) fn least_lacking(
     amounts: &[Amount<'_>],
     outputs: &[Unspent],
 ) -> Result<Option<Token>, Memory>
-    requires { AreBundles held outputs.now }
+    requires { AreBundles amount_in outputs.now }
     ensures { IfOk result (λ least. least ≡ least_lacking amounts.now outputs.now) }
 {
     let none: &[RoleToken<'_>] = &[];
-    let needs = lacking(alloc, none, amounts, outputs)?;
-    match needs.least() {
+    let missing = missing_after(alloc, none, amounts, outputs)?;
+    match missing.least() {
         None => Ok(None),
         Some(token) => Ok(Some(token.try_clone()?)),
     }

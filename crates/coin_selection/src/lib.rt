@@ -3,19 +3,19 @@
 //! A request wants amounts of tokens and tokens of roles. Of the outputs that are offered to it, in order, it spends the
 //! shortest front that has them. Here are the clauses on what is offered and spent, each one function that passes or
 //! answers the clause's fault, the fronts, and the sums of what several outputs or accounts hold. They are defined in
-//! `building`.
+//! `builder_spec`.
 #![tactic(auto)]
 
 mod accounts;
+mod actor;
 mod amounts;
 mod authorise;
 mod checks;
 mod front;
 mod funds;
 mod limits;
-mod needed;
-mod needs;
-mod roles_needed;
+mod missing;
+mod role_tokens;
 mod signed;
 mod sums;
 
@@ -25,5 +25,5 @@ pub use authorise::first_unheld;
 pub use checks::{check_apart, check_authorised, check_funds, check_once, check_signed};
 pub use front::{front_of, start_front};
 pub use limits::{Shares, shares_within, within_limits};
-pub use roles_needed::{RoleToken, roles_of};
+pub use role_tokens::{RoleToken, roles_of};
 pub use sums::{see_all, see_room, sum};

@@ -3,19 +3,18 @@ ghost use Rattle.std.specs.Prelude.{◌≡◌, ◌⊎◌, if◌then◌else◌, �
 ghost use Rattle.std.specs.HashSet.{contains};
 ghost use Rattle.eutxo.specs.Parts.{same_ref};
 ghost use Rattle.bundle.specs.Bundles.{plus};
-ghost use Rattle.builder_spec.specs.Holding.{sums, held};
-ghost use Rattle.builder_spec.specs.Clauses.{is_much, too_many, has_repeat};
-ghost use Rattle.builder_spec.specs.Steps.{too_many_given};
-ghost use Rattle.builder_spec.specs.Serving.{AreBundles};
-ghost use Rattle.coin_selection.specs.Passing.{Passes};
+ghost use Rattle.builder_spec.specs.Holding.{sums, amount_in, AreBundles};
+ghost use Rattle.builder_spec.specs.Causes.{is_much, limit_cause, has_repeat};
+ghost use Rattle.builder_spec.specs.Steps.{step_limit_cause};
+ghost use Rattle.coin_selection.specs.Answers.{AnswersCause};
 
 use crate::sums::{see, see_room, sum, with};
 use builder_spec::BuildFault;
 use bundle::{Bundle, BundleFault};
-use ledger::Unspent;
 use collections::Memory;
 use contract::Input;
 use eutxo_types::{Output, OutputRef};
+use ledger::Unspent;
 use std::alloc::Global;
 use std::collections::HashSet;
 
@@ -70,9 +69,9 @@ pub(crate) fn has_repeat(alloc: Global, references: &[OutputRef]) -> Result<bool
 
 // What a thread's output and others hold together.
 fn spent(alloc: Global, output: &Output, front: &[Unspent]) -> Result<Bundle, BundleFault>
-    requires { AreBundles held front.now }
-    ensures ok { IfOk result (λ all. all ≡ plus output.now.amount (sums held front.now)) }
-    ensures err { IfErr result (λ fault. (fault ≡ BundleFault.Memory) ⊎ ((fault ≡ BundleFault.TooLarge) × (is_much (plus output.now.amount (sums held front.now)) ≡ true))) }
+    requires { AreBundles amount_in front.now }
+    ensures ok { IfOk result (λ all. all ≡ plus output.now.amount (sums amount_in front.now)) }
+    ensures err { IfErr result (λ fault. (fault ≡ BundleFault.Memory) ⊎ ((fault ≡ BundleFault.TooLarge) × (is_much (plus output.now.amount (sums amount_in front.now)) ≡ true))) }
 {
     see(output);
     match sum(alloc, front) {
@@ -89,9 +88,9 @@ pub fn within_limits(
     inputs: &[Input],
     front: &[Unspent],
 ) -> Result<Bundle, BuildFault>
-    requires { AreBundles held front.now }
-    ensures all { IfOk result (λ all. all ≡ sums held (record { reference = reference; output = output.now } ∷ front.now)) }
-    ensures passes { Passes result (too_many_given inputs.now (record { reference = reference; output = output.now } ∷ front.now)) }
+    requires { AreBundles amount_in front.now }
+    ensures all { IfOk result (λ all. all ≡ sums amount_in (record { reference = reference; output = output.now } ∷ front.now)) }
+    ensures passes { AnswersCause result (step_limit_cause inputs.now (record { reference = reference; output = output.now } ∷ front.now)) }
 {
     let _ = reference;
     if inputs.len() > MOST || front.len() >= MOST {
@@ -130,12 +129,12 @@ pub struct Shares {
 
 // What each list holds, where both together fit.
 fn shares_of(alloc: Global, first: &[Unspent], others: &[Unspent]) -> Result<Shares, BundleFault>
-    requires first { AreBundles held first.now }
-    requires others { AreBundles held others.now }
-    ensures first { IfOk result (λ shares. shares.first ≡ sums held first.now) }
-    ensures others { IfOk result (λ shares. shares.others ≡ sums held others.now) }
-    ensures fits { OnOk result (is_much (plus (sums held first.now) (sums held others.now)) ≡ false) }
-    ensures err { IfErr result (λ fault. (fault ≡ BundleFault.Memory) ⊎ ((fault ≡ BundleFault.TooLarge) × (is_much (plus (sums held first.now) (sums held others.now)) ≡ true))) }
+    requires first { AreBundles amount_in first.now }
+    requires others { AreBundles amount_in others.now }
+    ensures first { IfOk result (λ shares. shares.first ≡ sums amount_in first.now) }
+    ensures others { IfOk result (λ shares. shares.others ≡ sums amount_in others.now) }
+    ensures fits { OnOk result (is_much (plus (sums amount_in first.now) (sums amount_in others.now)) ≡ false) }
+    ensures err { IfErr result (λ fault. (fault ≡ BundleFault.Memory) ⊎ ((fault ≡ BundleFault.TooLarge) × (is_much (plus (sums amount_in first.now) (sums amount_in others.now)) ≡ true))) }
 {
     match sum(alloc, first) {
         Err(fault) => Err(fault),
@@ -167,11 +166,11 @@ pub fn shares_within(
     first: &[Unspent],
     others: &[Unspent],
 ) -> Result<Shares, BuildFault>
-    requires first { AreBundles held first.now }
-    requires others { AreBundles held others.now }
-    ensures first { IfOk result (λ shares. shares.first ≡ sums held first.now) }
-    ensures others { IfOk result (λ shares. shares.others ≡ sums held others.now) }
-    ensures passes { Passes result (too_many (first.now ++ others.now)) }
+    requires first { AreBundles amount_in first.now }
+    requires others { AreBundles amount_in others.now }
+    ensures first { IfOk result (λ shares. shares.first ≡ sums amount_in first.now) }
+    ensures others { IfOk result (λ shares. shares.others ≡ sums amount_in others.now) }
+    ensures passes { AnswersCause result (limit_cause (first.now ++ others.now)) }
 {
     if first.len() > MOST || others.len() > MOST - first.len() {
         return Err(BuildFault::TooMany);

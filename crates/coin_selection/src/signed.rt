@@ -1,12 +1,12 @@
 //! Signatures on what is offered.
 ghost use Rattle.std.specs.Prelude.{◌≡◌};
 ghost use Rattle.std.specs.List.{list_all};
-ghost use Rattle.builder_spec.specs.Clauses.{is_signed};
+ghost use Rattle.builder_spec.specs.Causes.{is_signed};
 
-use ledger::Unspent;
 use collections::Text;
 use eutxo::has_signed;
 use eutxo_types::Lock;
+use ledger::Unspent;
 
 fn is_signed(signers: &[Text], lock: &Lock) -> bool
     ensures { result ≡ is_signed signers.now lock.now }

@@ -3,9 +3,8 @@ ghost use Rattle.std.specs.Prelude.{◌≡◌, ◌⊎◌, true, false, IfOk, IfE
 ghost use Rattle.std.specs.List.{list_any};
 ghost use Rattle.std.specs.FinMap.{entries};
 ghost use Rattle.bundle.specs.Bundles.{AllPositive, plus};
-ghost use Rattle.builder_spec.specs.Holding.{sums};
-ghost use Rattle.builder_spec.specs.Clauses.{is_much};
-ghost use Rattle.builder_spec.specs.Serving.{AreBundles};
+ghost use Rattle.builder_spec.specs.Holding.{sums, AreBundles};
+ghost use Rattle.builder_spec.specs.Causes.{is_much};
 
 use bundle::{Bundle, BundleFault, Holds};
 use collections::TryClone;

@@ -1,5 +1,5 @@
 -- The resolution of a transaction: the outputs of its inputs, and the scripts that it names, as far as they were found.
-use Rattle.std.specs.Prelude.{◌≡◌, ℕ, Bool, true, ◌&&◌, if◌then◌else◌, List, [], ◌∷◌, Option, Some, None, is_some, option_map, slice_get}
+use Rattle.std.specs.Prelude.{◌≡◌, ℕ, Bool, true, ◌&&◌, if◌then◌else◌, List, [], ◌∷◌, Option, Some, None, is_some, option_map}
 use Rattle.std.specs.Cmp.Lexicographic.{pointwise}
 use Rattle.std.specs.List.{list_all}
 use Rattle.std.specs.FinMap as map
@@ -12,14 +12,6 @@ use Rattle.eutxo_types.specs.declared.spend.Spend.{Spend}
 use Rattle.eutxo_types.specs.declared.tx.Tx.{Tx}
 use Rattle.eutxo.specs.declared.resolved.Resolved.{Resolved}
 use Rattle.eutxo.specs.Parts.{same_bytes}
-
--- the output that was found for the input at a place (a word of the code's; no public clause names it)
-abbrev pub joined : Option (Option Output) → Option Output
-joined None = None
-joined (Some o) = o
-
-abbrev pub found_at : List (Option Output) → ℕ → Option Output
-found_at os i = joined (slice_get os i)
 
 -- each input with its output, where none is missing
 abbrev pub with_output : Spend → Option Output → Option (List (Spend × Output)) → Option (List (Spend × Output))

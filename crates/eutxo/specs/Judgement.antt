@@ -13,9 +13,9 @@ use Rattle.eutxo_types.specs.Ids.{id_of}
 use Rattle.eutxo.specs.declared.resolved.Resolved.{Resolved}
 use Rattle.eutxo.specs.Asked.{Judges}
 use Rattle.eutxo.specs.Found.{is_known}
-use Rattle.eutxo.specs.Local.{of_tx, local}
+use Rattle.eutxo.specs.Local.{tx_fault, local}
 use Rattle.eutxo.specs.Parts.{contract_in}
-use Rattle.eutxo.specs.Places.{fault_if, fault_at, first_of}
+use Rattle.eutxo.specs.Faults.{fault_if, fault_at, first_of}
 
 -- what the rules read of a ledger at a moment: the unspent output that a reference names, what is published under an id, whether
 -- an accepted transaction has an id, and the tick
@@ -88,4 +88,4 @@ found m tx = record { outputs = outputs_found m tx; scripts = scripts_found m.pu
 
 -- THE JUDGEMENT: no fault, or that of the first rule that refuses: 1 to 3, then 4 to 7, then the others on what is found
 abbrev pub judge : {V : Type 0} → Judges V → Moment V → Tx → Option TxFault
-judge j m tx = first_of (of_tx tx ∷ not_unspent m tx ∷ id_in_use m tx ∷ outside_interval m tx ∷ unknown_script m tx ∷ local j tx (found m tx) ∷ [])
+judge j m tx = first_of (tx_fault tx ∷ not_unspent m tx ∷ id_in_use m tx ∷ outside_interval m tx ∷ unknown_script m tx ∷ local j tx (found m tx) ∷ [])

@@ -19,8 +19,8 @@ use Rattle.eutxo.specs.Asked.{Stepping, Judges}
 use Rattle.eutxo.specs.Checks.{CheckOf, IsCheck}
 use Rattle.eutxo.specs.Found.{script_at, with_outputs, if_known, AreEqual}
 use Rattle.eutxo.specs.Judgement.{Moment, not_unspent, id_in_use, outside_interval, unknown_script, names_of, outputs_found, found, judge}
-use Rattle.eutxo.specs.Local.{of_tx, of_whole, local, verdict_of}
-use Rattle.eutxo.specs.Places.{first_of}
+use Rattle.eutxo.specs.Local.{tx_fault, whole_fault, local, verdict_of}
+use Rattle.eutxo.specs.Faults.{first_of}
 use Rattle.eutxo.specs.Rules.{not_preserved}
 
 -- ---- resolutions
@@ -47,8 +47,8 @@ EqualResolutionsDecideAlike {V} j eq = (tx : Tx) (a b : Resolved V) → AreEqual
 -- ---- the judgement
 
 -- rules 1 to 7: the first that refuses
-abbrev pub of_ledger : {V : Type 0} → Moment V → Tx → Option TxFault
-of_ledger m tx = first_of (of_tx tx ∷ not_unspent m tx ∷ id_in_use m tx ∷ outside_interval m tx ∷ unknown_script m tx ∷ [])
+abbrev pub ledger_fault : {V : Type 0} → Moment V → Tx → Option TxFault
+ledger_fault m tx = first_of (tx_fault tx ∷ not_unspent m tx ∷ id_in_use m tx ∷ outside_interval m tx ∷ unknown_script m tx ∷ [])
 
 -- a fault that comes first refuses; else the verdict stands
 abbrev pub verdict_after : Option TxFault → Verdict → Verdict
@@ -57,13 +57,13 @@ verdict_after (Some f) v = Refused f
 
 -- wherever the resolution of a check agrees with what is found, the judgement is that of rules 1 to 7, and then the verdict
 abbrev pub ChecksDecide : {V : Type 0} → Judges V → Type 0
-ChecksDecide {V} j = (m : Moment V) (c : CheckOf V) → IsCheck j c → Agree j c.tx (found m c.tx) c.found → verdict_of (judge j m c.tx) ≡ verdict_after (of_ledger m c.tx) c.verdict
+ChecksDecide {V} j = (m : Moment V) (c : CheckOf V) → IsCheck j c → Agree j c.tx (found m c.tx) c.found → verdict_of (judge j m c.tx) ≡ verdict_after (ledger_fault m c.tx) c.verdict
 
 -- what is found leaves out nothing that the rules read of the ledger
 abbrev pub FoundIsEnough : {V : Type 0} → Judges V → Type 0
 FoundIsEnough {V} j =
     (m : Moment V) (tx : Tx) →
-    local j tx (found m tx) ≡ first_of (of_tx tx ∷ of_whole j m.published tx (if_known m.published tx.outputs (with_outputs tx.inputs (outputs_found m tx))) ∷ [])
+    local j tx (found m tx) ≡ first_of (tx_fault tx ∷ whole_fault j m.published tx (if_known m.published tx.outputs (with_outputs tx.inputs (outputs_found m tx))) ∷ [])
 
 -- ---- the sums
 

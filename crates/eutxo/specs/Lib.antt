@@ -1,5 +1,5 @@
 pub mod Parts
-pub mod Places
+pub mod Faults
 pub mod Found
 pub mod Asked
 pub mod Differing
@@ -8,5 +8,6 @@ pub mod Local
 pub mod Checks
 pub mod Judgement
 pub mod Laws
-pub mod Changes
 pub mod Worked
+pub mod FoundSupport
+pub mod ChangesSupport

@@ -6,15 +6,15 @@ use Rattle.eutxo_types.specs.declared.spend.Spend.{Spend}
 use Rattle.eutxo_types.specs.declared.tx.Tx.{Tx}
 use Rattle.eutxo_types.specs.declared.verdict.Verdict.{Verdict}
 use Rattle.eutxo_types.specs.declared.verdict.Verdict.TheVariants.{Accepted, Refused}
-use Rattle.eutxo.specs.Places.{first_of, or_else}
+use Rattle.eutxo.specs.Faults.{first_of, or_else}
 use Rattle.eutxo.specs.Found.{script_at, whole}
 use Rattle.eutxo.specs.declared.resolved.Resolved.{Resolved}
 use Rattle.eutxo.specs.Asked.{Judges}
-use Rattle.eutxo.specs.Rules.{no_inputs, too_many, repeated_input, not_signed, two_contracts, wrong_redeemer, role_missing, stepped, of_step, not_preserved}
+use Rattle.eutxo.specs.Rules.{no_inputs, too_many, repeated_input, not_signed, two_contracts, wrong_redeemer, role_missing, stepped_contract, step_fault, not_preserved}
 
 -- the rules of the transaction alone, in their order: 1 to 3
-abbrev pub of_tx : Tx → Option TxFault
-of_tx tx = first_of (no_inputs tx ∷ too_many tx ∷ repeated_input tx ∷ [])
+abbrev pub tx_fault : Tx → Option TxFault
+tx_fault tx = first_of (no_inputs tx ∷ too_many tx ∷ repeated_input tx ∷ [])
 
 -- those of the transaction and what it spends: 8 to 18
 abbrev pub spent_rules : {V : Type 0} → Judges V → (List ℕ → Option V) → Tx → List (Spend × Output) → List (Option TxFault)
@@ -23,21 +23,21 @@ spent_rules j named tx spent =
     ∷ two_contracts spent
     ∷ wrong_redeemer spent
     ∷ role_missing j spent
-    ∷ of_step j named tx spent (stepped spent)
+    ∷ step_fault j named tx spent (stepped_contract spent)
     ∷ not_preserved spent tx.outputs
     ∷ []
 
-abbrev pub of_spent : {V : Type 0} → Judges V → (List ℕ → Option V) → Tx → List (Spend × Output) → Option TxFault
-of_spent j named tx spent = first_of (spent_rules j named tx spent)
+abbrev pub spent_fault : {V : Type 0} → Judges V → (List ℕ → Option V) → Tx → List (Spend × Output) → Option TxFault
+spent_fault j named tx spent = first_of (spent_rules j named tx spent)
 
 -- which are judged only where nothing is missing
-abbrev pub of_whole : {V : Type 0} → Judges V → (List ℕ → Option V) → Tx → Option (List (Spend × Output)) → Option TxFault
-of_whole j named tx None = None
-of_whole j named tx (Some spent) = of_spent j named tx spent
+abbrev pub whole_fault : {V : Type 0} → Judges V → (List ℕ → Option V) → Tx → Option (List (Spend × Output)) → Option TxFault
+whole_fault j named tx None = None
+whole_fault j named tx (Some spent) = spent_fault j named tx spent
 
 -- THE LOCAL VERDICT: no fault, or that of the first rule that refuses, of 1 to 3 and, where nothing is missing, 8 to 18
 abbrev pub local : {V : Type 0} → Judges V → Tx → Resolved V → Option TxFault
-local j tx found = or_else (of_tx tx) (of_whole j (script_at found.scripts) tx (whole tx found))
+local j tx found = or_else (tx_fault tx) (whole_fault j (script_at found.scripts) tx (whole tx found))
 
 abbrev pub verdict_of : Option TxFault → Verdict
 verdict_of None = Accepted

@@ -17,7 +17,7 @@ use Rattle.eutxo_types.specs.declared.spend.Spend.{Spend}
 use Rattle.eutxo_types.specs.declared.tx.Tx.{Tx}
 use Rattle.eutxo.specs.declared.validator.StepAnswer.{StepAnswer}
 use Rattle.eutxo.specs.declared.validator.StepAnswer.TheVariants as answers
-use Rattle.eutxo.specs.Places.{fault_if, fault_at, first_place, is_empty}
+use Rattle.eutxo.specs.Faults.{fault_if, fault_at, first_index, is_empty}
 use Rattle.eutxo.specs.Parts.{same_ref, inputs_of, is_contract, contract_in, outputs_from}
 use Rattle.eutxo.specs.Differing.{first_differing}
 use Rattle.eutxo.specs.Asked.{Stepping, Judges}
@@ -41,7 +41,7 @@ is_repeated xs i x = list_any (λ y. same_ref y.reference x.reference) (take i x
 
 -- 3: the input at this place names an output that an earlier one names
 abbrev pub repeated_input : Tx → Option TxFault
-repeated_input tx = option_map RepeatedInput (first_place (is_repeated tx.inputs) 0 tx.inputs)
+repeated_input tx = option_map RepeatedInput (first_index (is_repeated tx.inputs) 0 tx.inputs)
 
 -- ---- of the transaction and what it spends
 
@@ -92,12 +92,12 @@ or_contract (Some c) xs later = Some (c.0, c.1, xs)
 abbrev pub or_later : Lock → List Input → Option (List ℕ × Datum × List Input) → Option (List ℕ × Datum × List Input)
 or_later l xs later = or_contract (contract_in l) xs later
 
-abbrev pub stepped : List (Spend × Output) → Option (List ℕ × Datum × List Input)
-stepped [] = None
-stepped (x ∷ xs) = or_later x.1.lock (inputs_of x.0.redeemer) (stepped xs)
+abbrev pub stepped_contract : List (Spend × Output) → Option (List ℕ × Datum × List Input)
+stepped_contract [] = None
+stepped_contract (x ∷ xs) = or_later x.1.lock (inputs_of x.0.redeemer) (stepped_contract xs)
 
-abbrev pub stepping : Tx → List (Spend × Output) → List ℕ × Datum × List Input → Stepping
-stepping tx spent s = record { script = s.0; datum = s.1; inputs = s.2; tx = tx; spent = spent }
+abbrev pub step_asked : Tx → List (Spend × Output) → List ℕ × Datum × List Input → Stepping
+step_asked tx spent s = record { script = s.0; datum = s.1; inputs = s.2; tx = tx; spent = spent }
 
 -- an output from a place on has a contract lock
 abbrev pub stray_after : ℕ → List Output → Option TxFault
@@ -109,9 +109,9 @@ after_answer os (answers.Refused fault) = Some fault
 after_answer os answers.GoesOn = stray_after 1 os
 after_answer os answers.Ends = stray_after 0 os
 
-abbrev pub of_script : {V : Type 0} → Judges V → Option V → Stepping → Option TxFault
-of_script j None s = None
-of_script j (Some v) s = after_answer s.tx.outputs (j.step v s)
+abbrev pub script_fault : {V : Type 0} → Judges V → Option V → Stepping → Option TxFault
+script_fault j None s = None
+script_fault j (Some v) s = after_answer s.tx.outputs (j.step v s)
 
 abbrev pub starts_wrong_at : {V : Type 0} → Judges V → Option V → Datum → Amounts → Bool
 starts_wrong_at j None d held = false
@@ -126,12 +126,12 @@ starts_wrong j named held l = starts_wrong_in j named held (contract_in l)
 
 -- 17: the output at this place has a contract lock, and its script takes it for no start
 abbrev pub wrong_start : {V : Type 0} → Judges V → (List ℕ → Option V) → List Output → Option TxFault
-wrong_start j named os = option_map WrongStart (first_place (λ i o. starts_wrong j named o.amount o.lock) 0 os)
+wrong_start j named os = option_map WrongStart (first_index (λ i o. starts_wrong j named o.amount o.lock) 0 os)
 
 -- 12 to 16 where a contract is stepped, else 17
-abbrev pub of_step : {V : Type 0} → Judges V → (List ℕ → Option V) → Tx → List (Spend × Output) → Option (List ℕ × Datum × List Input) → Option TxFault
-of_step j named tx spent None = wrong_start j named tx.outputs
-of_step j named tx spent (Some s) = of_script j (named s.0) (stepping tx spent s)
+abbrev pub step_fault : {V : Type 0} → Judges V → (List ℕ → Option V) → Tx → List (Spend × Output) → Option (List ℕ × Datum × List Input) → Option TxFault
+step_fault j named tx spent None = wrong_start j named tx.outputs
+step_fault j named tx spent (Some s) = script_fault j (named s.0) (step_asked tx spent s)
 
 -- ---- of the sums
 

@@ -2,7 +2,7 @@
 ghost use Rattle.std.specs.Prelude.{◌≡◌, ◌++◌, pos, ◌<ℤ◌, true, false, IfOk, OnOk};
 ghost use Rattle.std.specs.List.Sorted.{IsPermutation};
 ghost use Rattle.bundle.specs.Bundles.{AllPositive};
-ghost use Rattle.eutxo.specs.Changes.{signed, signed_entries, changes_of, NeverFalls};
+ghost use Rattle.eutxo.specs.ChangesSupport.{signed, signed_entries, changes_of, NeverFalls};
 
 use bundle::Holds;
 use collections::Memory;
@@ -22,7 +22,7 @@ impl<'a> Model for Change<'a> {
     ghost use Rattle.std.specs.Coded.{coded×, coded_ℤ};
     ghost use Rattle.names.specs.declared.token.Token.{Token};
     ghost use Rattle.names.specs.contracts.token.Token as tokens;
-    ghost use Rattle.eutxo.specs.Changes.{signed};
+    ghost use Rattle.eutxo.specs.ChangesSupport.{signed};
 
     ghost Value = { Token × ℤ };
 

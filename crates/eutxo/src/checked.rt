@@ -4,7 +4,7 @@ ghost use Rattle.eutxo.specs.Asked.{judges_of};
 ghost use Rattle.eutxo.specs.Local.{verdict_of};
 ghost use Rattle.eutxo.specs.Checks.{check_of, IsCheck};
 
-use crate::local::local;
+use crate::local::local_fault;
 use crate::resolved::Resolved;
 use crate::validator::Validator;
 use collections::{Memory, Same, TryClone};
@@ -62,7 +62,7 @@ pub fn check<V: Validator + Drop>(
     ensures { IfOk result (λ c. c ≡ check_of (judges_of V.step_gives V.starts V.claims) tx.now found) }
 {
     let id = tx_id(alloc, tx)?;
-    let fault = local(alloc, tx, &found)?;
+    let fault = local_fault(alloc, tx, &found)?;
     let tx = tx.try_clone()?;
     Ok(Checked {
         tx,

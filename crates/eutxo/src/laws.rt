@@ -13,27 +13,27 @@ pub fn equal_resolutions_decide_alike<V: Validator>()
 
 /// At every moment, the judgement of a transaction is that of rules 1 to 7, and then the verdict of any check of
 /// it whose resolution agrees with what is found at that moment.
-#[tactic(auto, using(crate::proofs::Judging::checks_decide))]
+#[tactic(auto, using(crate::proofs::JudgementLemmas::checks_decide))]
 pub fn checks_decide<V: Validator>()
     ensures { ChecksDecide (judges_of V.step_gives V.starts V.claims) }
 {}
 
 /// What is found at a moment has all that the rules of a transaction and what it spends read of the ledger.
-#[tactic(auto, using(crate::proofs::Judging::found_is_enough))]
+#[tactic(auto, using(crate::proofs::JudgementLemmas::found_is_enough))]
 pub fn found_is_enough<V: Validator>()
     ensures { FoundIsEnough (judges_of V.step_gives V.starts V.claims) }
 {}
 
 /// Where the rule on sums refuses nothing, the sums of every token are preserved; and else the token that it
 /// names is the least whose sums aren't.
-#[tactic(auto, using(crate::proofs::Preserving::same_totals, crate::proofs::Preserving::the_least_is_named))]
+#[tactic(auto, using(crate::proofs::PreservedLemmas::same_totals, crate::proofs::PreservedLemmas::the_least_is_named))]
 pub fn sums_are_preserved()
     ensures same { SumsAreTheSame }
     ensures least { TheLeastIsNamed }
 {}
 
 /// Worked judgements by the rules that read the ledger, whatever the scripts.
-#[tactic(auto, using(crate::proofs::Examples::nothing, crate::proofs::Examples::used, crate::proofs::Examples::ten, crate::proofs::Examples::unpublished))]
+#[tactic(auto, using(crate::proofs::WorkedLemmas::nothing, crate::proofs::WorkedLemmas::used, crate::proofs::WorkedLemmas::ten, crate::proofs::WorkedLemmas::unpublished))]
 pub fn worked_judgements<V: Validator>()
     ensures unspent { NothingIsNotUnspent (judges_of V.step_gives V.starts V.claims) }
     ensures used { UsedIsInUse (judges_of V.step_gives V.starts V.claims) }

@@ -14,14 +14,14 @@ mod changes;
 mod checked;
 mod laws;
 mod local;
-mod of_spent;
-mod of_step;
-mod of_tx;
 mod preserved;
 mod resolved;
 mod scripts;
 mod shared;
 mod spent;
+mod spent_rules;
+mod step_rules;
+mod tx_rules;
 mod validator;
 
 pub use checked::{Checked, check};
@@ -29,10 +29,10 @@ pub use laws::{
     checks_decide, equal_resolutions_decide_alike, found_is_enough, sums_are_preserved,
     worked_judgements,
 };
-pub use local::local as local_fault;
-pub use of_tx::{has_signed, is_same, of_tx as tx_fault};
+pub use local::local_fault;
 pub use resolved::Resolved;
 pub use scripts::Scripts;
 pub use shared::Shared;
 pub use spent::Spent;
+pub use tx_rules::{has_signed, is_same, tx_fault};
 pub use validator::{StepAnswer, Validator};

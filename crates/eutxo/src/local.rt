@@ -2,27 +2,27 @@
 ghost use Rattle.std.specs.Prelude.{◌≡◌, IfOk};
 ghost use Rattle.eutxo.specs.Asked.{judges_of};
 ghost use Rattle.eutxo.specs.Found.{script_at};
-ghost use Rattle.eutxo.specs.Local.{of_spent, local};
+ghost use Rattle.eutxo.specs.Local.{spent_fault, local};
 
-use crate::of_spent::{not_signed, role_missing, two_contracts, wrong_redeemer};
-use crate::of_step::of_step;
-use crate::of_tx::of_tx;
 use crate::preserved::not_preserved;
 use crate::resolved::{Resolved, whole};
 use crate::scripts::Scripts;
 use crate::spent::Spent;
+use crate::spent_rules::{not_signed, role_missing, two_contracts, wrong_redeemer};
+use crate::step_rules::step_fault;
+use crate::tx_rules::tx_fault;
 use crate::validator::Validator;
 use collections::Memory;
 use eutxo_types::{Tx, TxFault};
 use std::alloc::Global;
 
-fn of_spent<V: Validator>(
+fn spent_fault<V: Validator>(
     alloc: Global,
     scripts: &Scripts<V>,
     tx: &Tx,
     spent: &[Spent<'_>],
 ) -> Result<Option<TxFault>, Memory>
-    ensures { IfOk result (λ fault. fault ≡ of_spent (judges_of V.step_gives V.starts V.claims) (script_at scripts.now) tx.now spent.now) }
+    ensures { IfOk result (λ fault. fault ≡ spent_fault (judges_of V.step_gives V.starts V.claims) (script_at scripts.now) tx.now spent.now) }
 {
     if let Some(fault) = not_signed(tx.signers.as_slice(), spent) {
         return Ok(Some(fault));
@@ -36,7 +36,7 @@ fn of_spent<V: Validator>(
     if let Some(fault) = role_missing::<V>(spent) {
         return Ok(Some(fault));
     }
-    if let Some(fault) = of_step(alloc, scripts, tx, spent)? {
+    if let Some(fault) = step_fault(alloc, scripts, tx, spent)? {
         return Ok(Some(fault));
     }
     not_preserved(alloc, spent, tx.outputs.as_slice())
@@ -44,18 +44,18 @@ fn of_spent<V: Validator>(
 
 /// The fault of the lowest of rules 1 to 3 and, where nothing is missing in the resolution, 8 to 18 that
 /// refuses, or `None`. Answers `Memory` only where a growth was refused.
-pub fn local<V: Validator>(
+pub fn local_fault<V: Validator>(
     alloc: Global,
     tx: &Tx,
     found: &Resolved<V>,
 ) -> Result<Option<TxFault>, Memory>
     ensures { IfOk result (λ fault. fault ≡ local (judges_of V.step_gives V.starts V.claims) tx.now found.now) }
 {
-    if let Some(fault) = of_tx(tx) {
+    if let Some(fault) = tx_fault(tx) {
         return Ok(Some(fault));
     }
     match whole(alloc, tx, found)? {
-        Some(spent) => of_spent(alloc, &found.scripts, tx, spent.as_slice()),
+        Some(spent) => spent_fault(alloc, &found.scripts, tx, spent.as_slice()),
         None => Ok(None),
     }
 }

@@ -1,7 +1,7 @@
 //! The rule on sums.
 ghost use Rattle.std.specs.Prelude.{◌≡◌, ◌<◌, ◌+◌, pos, IfOk, option_copied, length, drop};
 ghost use Rattle.eutxo.specs.Differing.{first_differing};
-ghost use Rattle.eutxo.specs.Changes.{goes_on, uneven};
+ghost use Rattle.eutxo.specs.ChangesSupport.{goes_on, uneven};
 ghost use Rattle.eutxo.specs.Rules.{not_preserved};
 
 use crate::changes::{Change, changes_between};
@@ -38,7 +38,7 @@ fn first_uneven<'a>(changes: &[Change<'a>]) -> Option<&'a Token>
 }
 
 // The least token of which the sums over two lists differ: n log n steps in the entries of both.
-#[tactic(auto, using(crate::proofs::Deciding::walk_decides))]
+#[tactic(auto, using(crate::proofs::DifferingLemmas::walk_decides))]
 fn first_differing<'a, A: Holds, B: Holds>(
     alloc: Global,
     spent: &'a [A],

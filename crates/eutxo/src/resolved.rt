@@ -1,7 +1,8 @@
 //! Resolutions of transactions.
 ghost use Rattle.std.specs.Prelude.{◌≡◌, ◌↔◌, IsTrue, IfOk, option_copied};
 ghost use Rattle.std.specs.List.{list_all};
-ghost use Rattle.eutxo.specs.Found.{found_at, with_outputs, script_at, is_known, all_known, whole, AreEqual};
+ghost use Rattle.eutxo.specs.FoundSupport.{found_at};
+ghost use Rattle.eutxo.specs.Found.{with_outputs, script_at, is_known, all_known, whole, AreEqual};
 
 use crate::scripts::Scripts;
 use crate::spent::Spent;
@@ -130,7 +131,7 @@ fn output_at(outputs: &[Option<Output>], at: usize) -> Option<&Output>
     }
 }
 
-#[tactic(auto, using(crate::proofs::Pairing::next_pair, crate::proofs::Pairing::no_pair))]
+#[tactic(auto, using(crate::proofs::FoundLemmas::next_pair, crate::proofs::FoundLemmas::no_pair))]
 fn with_outputs<'a>(
     alloc: Global,
     inputs: &'a [Spend],

@@ -1,2 +1,2 @@
-pub mod Apart
-pub mod Examples
+pub mod SpellingLemmas
+pub mod WorkedLemmas

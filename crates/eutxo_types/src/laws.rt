@@ -8,7 +8,7 @@ ghost use Rattle.eutxo_types.specs.Worked.{BeginsTheLedger, IsMade, NoneIsZero, 
 /// whose ids are of 32 bytes, what begins with a spelling begins with that of one transaction alone, and what
 /// follows is determined: so no spelling begins another's, and two transactions with one spelling are the same.
 /// The same holds of the inputs and of the outputs among themselves.
-#[tactic(auto, using(crate::proofs::Apart::inputs_read_one_way, crate::proofs::Apart::outputs_read_one_way, crate::proofs::Apart::transactions_read_one_way, crate::proofs::Apart::transactions_begin_no_other))]
+#[tactic(auto, using(crate::proofs::SpellingLemmas::inputs_read_one_way, crate::proofs::SpellingLemmas::outputs_read_one_way, crate::proofs::SpellingLemmas::transactions_read_one_way, crate::proofs::SpellingLemmas::transactions_begin_no_other))]
 pub fn no_transaction_begins_another()
     ensures inputs { ReadsOneWay SpendFits spend_bytes }
     ensures outputs { ReadsOneWay OutputFits output_bytes }

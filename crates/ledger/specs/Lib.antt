@@ -1,3 +1,3 @@
-pub mod Finding
 pub mod Replies
 pub mod Shown
+pub mod ResolveSupport

@@ -22,9 +22,9 @@ abbrev pub ticket_in : Reply → Option ℕ
 ticket_in (answer.Ticket n) = Some n
 ticket_in r = None
 
-abbrev pub places_in : Reply → List Ticketed
-places_in (answer.Round vs) = vs
-places_in r = []
+abbrev pub verdicts_in : Reply → List Ticketed
+verdicts_in (answer.Round vs) = vs
+verdicts_in r = []
 
 abbrev pub accepts : Verdict → Bool
 accepts told.Accepted = true

@@ -2,7 +2,7 @@
 ghost use Rattle.std.specs.Prelude.{◌≡◌, ◌++◌, IfOk, OnOk, map, option_copied};
 ghost use Rattle.eutxo.specs.Judgement.{with_script, made_names, found_names, scripts_found, found};
 ghost use Rattle.eutxo.specs.Parts.{contract_in, contract_of};
-ghost use Rattle.ledger.specs.Finding.{with_named};
+ghost use Rattle.ledger.specs.ResolveSupport.{with_named};
 
 use crate::ledger::Ledger;
 use collections::{Items, Memory, TryClone};

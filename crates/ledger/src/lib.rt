@@ -29,5 +29,5 @@ pub use call::{Call, Entry, Reply, Ticketed};
 pub use found::resolve;
 pub use ledger::Ledger;
 pub use look::{Look, ThreadOutput, Unspent};
-pub use reading::{accepts, is_accepted, is_advanced, places_in, ticket_in};
+pub use reading::{accepts, is_accepted, is_advanced, ticket_in, verdicts_in};
 pub use rules::judge;

@@ -1,6 +1,6 @@
 //! What a reply says.
 ghost use Rattle.std.specs.Prelude.{◌≡◌};
-ghost use Rattle.ledger.specs.Replies.{is_advanced, is_accepted, ticket_in, places_in, accepts};
+ghost use Rattle.ledger.specs.Replies.{is_advanced, is_accepted, ticket_in, verdicts_in, accepts};
 
 use crate::call::{Reply, Ticketed};
 use eutxo_types::Verdict;
@@ -30,8 +30,8 @@ pub fn ticket_in(reply: &Reply) -> Option<u64>
 }
 
 /// The verdicts of a round with their tickets, in the order in which they were judged: none, where it is no reply to a round.
-pub fn places_in(reply: &Reply) -> &[Ticketed]
-    ensures { result.now ≡ places_in reply.now }
+pub fn verdicts_in(reply: &Reply) -> &[Ticketed]
+    ensures { result.now ≡ verdicts_in reply.now }
 {
     match reply {
         Reply::Round(places) => places.as_slice(),

@@ -12,7 +12,7 @@ use eutxo::{Validator, local_fault, tx_fault};
 use eutxo_types::{Lock, Output, Spend, Tx, TxFault};
 use std::alloc::Global;
 
-fn missing_place<V, L: Ledger<V>>(ledger: &L, inputs: &[Spend]) -> Option<usize>
+fn missing_index<V, L: Ledger<V>>(ledger: &L, inputs: &[Spend]) -> Option<usize>
     ensures { result ≡ position (λ x. is_none ((L.moment ledger.now).unspent x.reference)) inputs.now }
 {
     inputs
@@ -23,7 +23,7 @@ fn missing_place<V, L: Ledger<V>>(ledger: &L, inputs: &[Spend]) -> Option<usize>
 fn not_unspent<V, L: Ledger<V>>(ledger: &L, tx: &Tx) -> Option<TxFault>
     ensures { result ≡ not_unspent (L.moment ledger.now) tx.now }
 {
-    match missing_place(ledger, tx.inputs.as_slice()) {
+    match missing_index(ledger, tx.inputs.as_slice()) {
         Some(i) => Some(TxFault::NotUnspent(i as u64)),
         None => None,
     }
@@ -50,7 +50,7 @@ fn is_known<V, L: Ledger<V>>(ledger: &L, lock: &Lock) -> bool
     }
 }
 
-fn unknown_place<V, L: Ledger<V>>(ledger: &L, outputs: &[Output]) -> Option<usize>
+fn unknown_index<V, L: Ledger<V>>(ledger: &L, outputs: &[Output]) -> Option<usize>
     ensures { result ≡ position (is_unknown (L.moment ledger.now).published) outputs.now }
 {
     outputs.iter().position(|o| !is_known(ledger, &o.lock))
@@ -59,7 +59,7 @@ fn unknown_place<V, L: Ledger<V>>(ledger: &L, outputs: &[Output]) -> Option<usiz
 fn unknown_script<V, L: Ledger<V>>(ledger: &L, tx: &Tx) -> Option<TxFault>
     ensures { result ≡ unknown_script (L.moment ledger.now) tx.now }
 {
-    match unknown_place(ledger, tx.outputs.as_slice()) {
+    match unknown_index(ledger, tx.outputs.as_slice()) {
         Some(i) => Some(TxFault::UnknownScript(i as u64)),
         None => None,
     }

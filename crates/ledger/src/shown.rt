@@ -1,9 +1,9 @@
 //! What a look holds of a ledger.
 ghost use Rattle.std.specs.Prelude.{◌≡◌, IfOk, option_copied};
 ghost use Rattle.eutxo.specs.Judgement.{found};
-ghost use Rattle.eutxo.specs.Places.{or_else};
+ghost use Rattle.eutxo.specs.Faults.{or_else};
 ghost use Rattle.roles.specs.declared.published.Published.{Published};
-ghost use Rattle.ledger.specs.Shown.{output_among, thread_output, output_shown, script_shown, shown};
+ghost use Rattle.ledger.specs.Shown.{output_among, output_of_thread, output_shown, script_shown, look_moment};
 
 use crate::found::resolve;
 use crate::ledger::Ledger;
@@ -26,7 +26,7 @@ fn output_among<'a>(outputs: &'a [Unspent], reference: &OutputRef) -> Option<&'a
 }
 
 fn thread_output<'a>(thread: &'a Option<ThreadOutput>, reference: &OutputRef) -> Option<&'a Output>
-    ensures { option_copied result ≡ thread_output thread.now reference.now }
+    ensures { option_copied result ≡ output_of_thread thread.now reference.now }
 {
     match thread {
         Some(x) => {
@@ -80,7 +80,7 @@ fn script_shown<'a>(
 }
 
 impl Ledger<Published> for Look {
-    ghost moment = { λ look. shown look };
+    ghost moment = { λ look. look_moment look };
 
     fn unspent_at(&self, reference: &OutputRef) -> Option<&Output> {
         output_shown(self, reference)
@@ -105,7 +105,7 @@ impl Look {
     /// that are shown, and what is published under the thread's script where the transaction's outputs
     /// or those outputs name it. Answers `Memory` only where a growth was refused.
     pub fn resolve(&self, alloc: Global, tx: &Tx) -> Result<Resolved<Published>, Memory>
-        ensures { IfOk result (λ resolved. resolved ≡ found (shown self.now) tx.now) }
+        ensures { IfOk result (λ resolved. resolved ≡ found (look_moment self.now) tx.now) }
     {
         resolve(alloc, self, tx)
     }

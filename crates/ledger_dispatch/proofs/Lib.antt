@@ -1,3 +1,3 @@
-mod Rounds
-pub mod Accepting
-mod Publishing
+mod RoundLemmas
+pub mod CallsLemmas
+mod PublishLemmas

@@ -3,16 +3,17 @@ ghost use Rattle.std.specs.Prelude.{◌≡◌, IfOk};
 ghost use Rattle.eutxo.specs.Judgement.{found};
 ghost use Rattle.ledger_laws.specs.Laws.{marlowe, AreTables};
 ghost use Rattle.ledger_laws.specs.Sound.{IsSound};
-ghost use Rattle.ledger_replay.specs.Standing.{past_of, published_at, moment_of};
-ghost use Rattle.ledger_views.specs.Recording.{AreSteps};
+ghost use Rattle.ledger_spec.specs.Replay.{past_of, published_at, moment_of};
+ghost use Rattle.ledger_spec.specs.Records.{AreSteps};
 
-use ledger::resolve;
 use collections::{Items, Memory};
 use eutxo::Resolved;
 use eutxo_types::{OutputRef, Tx};
-use roles::Published;
-use ledger_views::{StepRecord, steps_of};
+use ledger::resolve;
 use ledger_replay::World;
+use ledger_spec::StepRecord;
+use ledger_views::steps_of;
+use roles::Published;
 use std::alloc::Global;
 
 /// What is found of what a transaction names, by what stands: the unspent outputs of its inputs, and of the scripts

@@ -14,7 +14,7 @@ use Rattle.eutxo.specs.Judgement.{judge}
 use Rattle.eutxo.specs.Parts.{is_contract, contract_in, inputs_of}
 use Rattle.roles.specs.declared.published.Published.{Published}
 use Rattle.roles.specs.Terms.{IsTable, terms_of}
-use Rattle.roles.specs.Steps.{step_of, starts_from, holds_role, needed, authorised}
+use Rattle.roles.specs.Steps.{step_of, starts_from, holds_role, actor, authorised}
 use Rattle.roles.specs.Sums.{sums_of}
 use Rattle.ledger_laws.specs.Past.{Past, before, after, unspent, unspent_at}
 use Rattle.ledger_laws.specs.Threads.{thread, ends, is_step, steps, IsStart, StartsThread, Member, Run, contract_after, state_after, Carries}
@@ -147,7 +147,7 @@ pub record IsAuthorised (published : List ℕ → Option Published) (tx : Tx) (s
   pub contract : contract_in x.1.lock ≡ Some (script, datum)
   pub object : Published
   pub named : published script ≡ Some object
-  pub parties : All (λ party. authorised object.currency tx.signers spent party ≡ true) (filter_map needed (inputs_of x.0.redeemer))
+  pub parties : All (λ party. authorised object.currency tx.signers spent party ≡ true) (filter_map actor (inputs_of x.0.redeemer))
 
 -- the inputs of the n-th accepted transaction with the outputs that they spend
 abbrev pub SpendsThere : Past → ℕ → Tx → List (Spend × Output) → Type 0

@@ -24,28 +24,28 @@ abbrev pub after : Past → Tx → Past
 after past tx = record past { accepted = past.accepted ++ tx ∷ [] }
 
 -- outputs with their references, the first at place i
-abbrev pub referred : (ℕ → OutputRef) → ℕ → List Output → List (OutputRef × Output)
-referred name i [] = []
-referred name i (o ∷ os) = (name i, o) ∷ referred name (i + 1) os
+abbrev pub with_references : (ℕ → OutputRef) → ℕ → List Output → List (OutputRef × Output)
+with_references name i [] = []
+with_references name i (o ∷ os) = (name i, o) ∷ with_references name (i + 1) os
 
-abbrev pub made : Tx → List (OutputRef × Output)
-made tx = referred (λ j. Made (id_of tx) j) 0 tx.outputs
+abbrev pub created_by : Tx → List (OutputRef × Output)
+created_by tx = with_references (λ j. Made (id_of tx) j) 0 tx.outputs
 
-abbrev pub made_by : List Tx → List (OutputRef × Output)
-made_by [] = []
-made_by (tx ∷ txs) = made tx ++ made_by txs
+abbrev pub created_by_all : List Tx → List (OutputRef × Output)
+created_by_all [] = []
+created_by_all (tx ∷ txs) = created_by tx ++ created_by_all txs
 
 -- all outputs that there ever were, in order of creation
 abbrev pub created : Past → List (OutputRef × Output)
-created past = referred (λ j. Genesis j) 0 past.genesis ++ made_by past.accepted
+created past = with_references (λ j. Genesis j) 0 past.genesis ++ created_by_all past.accepted
 
 -- whether an input of the transaction names the output
-abbrev pub names : OutputRef → Tx → Bool
-names r tx = list_any (λ x. same_ref x.reference r) tx.inputs
+abbrev pub is_input_of : OutputRef → Tx → Bool
+is_input_of r tx = list_any (λ x. same_ref x.reference r) tx.inputs
 
 -- whether one of these transactions spends it
 abbrev pub is_spent : List Tx → OutputRef → Bool
-is_spent txs r = list_any (names r) txs
+is_spent txs r = list_any (is_input_of r) txs
 
 -- the outputs that were created and not spent
 abbrev pub unspent : Past → List (OutputRef × Output)

@@ -20,8 +20,8 @@ use Rattle.eutxo_types.specs.declared.tx.Tx.{Tx}
 use Rattle.eutxo_types.specs.Ids.{id_of}
 use Rattle.eutxo.specs.Parts.{contract_at, given_to}
 use Rattle.roles.specs.Terms.{Terms}
-use Rattle.roles.specs.Steps.{continuation, due}
-use Rattle.ledger_laws.specs.Past.{Past, names}
+use Rattle.roles.specs.Steps.{continuation, due_outputs}
+use Rattle.ledger_laws.specs.Past.{Past, is_input_of}
 
 -- ---- threads
 
@@ -38,7 +38,7 @@ pub record Link : Type 0 where
 abbrev pub spine : Option OutputRef → List Tx → List Link
 spine None txs = []
 spine (Some r) [] = []
-spine (Some r) (tx ∷ txs) = if names r tx then record { spends = r; tx = tx } ∷ spine (next_of tx) txs else spine (Some r) txs
+spine (Some r) (tx ∷ txs) = if is_input_of r tx then record { spends = r; tx = tx } ∷ spine (next_of tx) txs else spine (Some r) txs
 
 -- where a thread from an output ends: at that output, or at the next output of its last transaction
 abbrev pub ends : Option OutputRef → List Link → Option OutputRef
@@ -112,7 +112,7 @@ state_after s (x ∷ xs) = state_after x.outcome.state xs
 
 -- the outputs that are due for its payments come first
 abbrev pub PaysFirst : Terms → Effect → List Output → Type 0
-PaysFirst t e os = (rest : List Output) × (os ≡ due t.currency e.payments ++ rest)
+PaysFirst t e os = (rest : List Output) × (os ≡ due_outputs t.currency e.payments ++ rest)
 
 -- output 0 goes on with a number that stands for the remaining contract, unless that is Close; then the payments
 abbrev pub LaidOutAfter : Terms → List ℕ → Effect → ContractTree → List Output → Type 0

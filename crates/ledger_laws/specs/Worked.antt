@@ -10,24 +10,24 @@ use Rattle.eutxo_types.specs.declared.spend.Spend.{Spend}
 use Rattle.eutxo_types.specs.declared.tx.Tx.{Tx}
 use Rattle.eutxo_types.specs.Ids.{id_of}
 use Rattle.eutxo.specs.Parts.{same_ref, contract_at, given_to}
-use Rattle.ledger_laws.specs.Past.{Past, names, unspent_at}
+use Rattle.ledger_laws.specs.Past.{Past, is_input_of, unspent_at}
 use Rattle.ledger_laws.specs.Threads.{spine, ends}
 
 -- where nobody spends an output, its thread has no members, and ends there
 abbrev pub NobodyCame : Type 0
-NobodyCame = (r : OutputRef) (tx : Tx) → names r tx ≡ false → (spine (Some r) (tx ∷ []) ≡ []) × (ends (Some r) (spine (Some r) (tx ∷ [])) ≡ Some r)
+NobodyCame = (r : OutputRef) (tx : Tx) → is_input_of r tx ≡ false → (spine (Some r) (tx ∷ []) ≡ []) × (ends (Some r) (spine (Some r) (tx ∷ [])) ≡ Some r)
 
 -- two transactions, the second of which spends the first one's output 0, which is a contract's: the thread goes on, and is over
 -- where the second makes no contract
 abbrev pub TwoSteps : Type 0
 TwoSteps =
-    (r : OutputRef) (a b : Tx) (c : List ℕ × Datum) → names r a ≡ true → contract_at a 0 ≡ Some c → names (Made (id_of a) 0) b ≡ true → contract_at b 0 ≡ None →
+    (r : OutputRef) (a b : Tx) (c : List ℕ × Datum) → is_input_of r a ≡ true → contract_at a 0 ≡ Some c → is_input_of (Made (id_of a) 0) b ≡ true → contract_at b 0 ≡ None →
     (spine (Some r) (a ∷ b ∷ []) ≡ record { spends = r; tx = a } ∷ record { spends = Made (id_of a) 0; tx = b } ∷ [])
     × (ends (Some r) (spine (Some r) (a ∷ b ∷ [])) ≡ None)
 
 -- what comes after a thread is over is none of its members, whatever it names
 abbrev pub NoneAfterTheEnd : Type 0
-NoneAfterTheEnd = (r : OutputRef) (a b : Tx) → names r a ≡ true → contract_at a 0 ≡ None → spine (Some r) (a ∷ b ∷ []) ≡ record { spends = r; tx = a } ∷ []
+NoneAfterTheEnd = (r : OutputRef) (a b : Tx) → is_input_of r a ≡ true → contract_at a 0 ≡ None → spine (Some r) (a ∷ b ∷ []) ≡ record { spends = r; tx = a } ∷ []
 
 -- of two steps in a transaction, an output is given the inputs of the one that names it
 abbrev pub GivenByName : Type 0

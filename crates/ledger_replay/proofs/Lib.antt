@@ -1,4 +1,4 @@
-mod Lists
-pub mod Walking
-mod Finding
-mod Fitting
+mod ListLemmas
+pub mod ReplayLemmas
+mod CreatedLemmas
+mod GenesisLemmas

@@ -1,4 +1,2 @@
-pub mod Standing
-pub mod Ticks
-pub mod Threads
-pub mod Beginning
+pub mod GenesisSupport
+pub mod ReplaySupport

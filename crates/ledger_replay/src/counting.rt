@@ -1,6 +1,6 @@
 //! Counts over entries.
 ghost use Rattle.std.specs.Prelude.{◌≡◌, Bool, count_by};
-ghost use Rattle.ledger_replay.specs.Standing.{gives_ticket, tickets, count_of};
+ghost use Rattle.ledger_spec.specs.Replay.{gives_ticket, tickets, count_of};
 
 use ledger::{Entry, ticket_in};
 

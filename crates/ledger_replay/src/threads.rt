@@ -4,9 +4,9 @@ ghost use Rattle.eutxo_types.specs.Ids.{id_of};
 ghost use Rattle.eutxo.specs.Parts.{same_bytes, contract_in, contract_at};
 ghost use Rattle.ledger_laws.specs.Past.{has_id};
 ghost use Rattle.ledger_laws.specs.Threads.{is_step, steps, next_of};
-ghost use Rattle.ledger_replay.specs.Threads.{starts_in};
+ghost use Rattle.ledger_spec.specs.Views.{starts_in};
 
-use crate::kept::Kept;
+use crate::transactions::AcceptedTx;
 use eutxo_types::{Lock, Output, OutputRef, Redeemer, Tx};
 
 fn is_step(redeemer: &Redeemer) -> bool
@@ -46,7 +46,7 @@ fn has_contract_at(tx: &Tx, index: u64) -> bool
 }
 
 /// Whether the transaction makes a start output of this name.
-pub fn starts_in(kept: &Kept<'_>, reference: &OutputRef) -> bool
+pub fn starts_in(kept: &AcceptedTx<'_>, reference: &OutputRef) -> bool
     ensures { result ≡ starts_in reference.now kept.now }
 {
     match reference {
@@ -58,7 +58,7 @@ pub fn starts_in(kept: &Kept<'_>, reference: &OutputRef) -> bool
 }
 
 /// The next output of a thread that the transaction steps: its output 0, where that is a contract's.
-pub fn next_of(kept: &Kept<'_>) -> Option<OutputRef>
+pub fn next_of(kept: &AcceptedTx<'_>) -> Option<OutputRef>
     ensures { result ≡ next_of kept.now }
 {
     if has_contract_at(kept.tx(), 0) {

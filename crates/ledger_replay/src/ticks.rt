@@ -1,7 +1,7 @@
 //! The tick, without the rest of what stands.
 ghost use Rattle.std.specs.Prelude.{◌≡◌};
-ghost use Rattle.ledger_replay.specs.Standing.{standing};
-ghost use Rattle.ledger_replay.specs.Ticks.{tick_after};
+ghost use Rattle.ledger_spec.specs.Replay.{replay};
+ghost use Rattle.ledger_replay.specs.ReplaySupport.{tick_after};
 
 use ledger::{Call, Entry, is_advanced};
 
@@ -22,9 +22,9 @@ fn tick_after(tick: i64, entry: &Entry) -> i64
 }
 
 /// The tick that was advanced to last, else the first.
-#[tactic(auto, using(crate::proofs::Walking::tick_next))]
+#[tactic(auto, using(crate::proofs::ReplayLemmas::tick_next))]
 pub fn last_tick(first: i64, entries: &[Entry]) -> i64
-    ensures { result ≡ (standing first entries.now).tick }
+    ensures { result ≡ (replay first entries.now).tick }
 {
     let mut tick = first;
     for e in entries {

@@ -6,16 +6,16 @@ ghost use Rattle.eutxo_types.specs.Ids.{id_of};
 ghost use Rattle.eutxo.specs.Parts.{same_ref};
 ghost use Rattle.eutxo.specs.Judgement.{judge};
 ghost use Rattle.ledger_laws.specs.Laws.{marlowe};
-ghost use Rattle.ledger_laws.specs.Past.{names, is_spent, referred, made, made_by, created};
-ghost use Rattle.ledger_replay.specs.Standing.{standing, tickets, past_of, moment_of};
+ghost use Rattle.ledger_laws.specs.Past.{is_input_of, is_spent, with_references, created_by, created_by_all, created};
+ghost use Rattle.ledger_spec.specs.Replay.{replay, tickets, past_of, moment_of};
 
 use crate::counting::count_tickets;
-use crate::kept::{Kept, Waiting, with_ids};
-use crate::walked::{Walked, gather};
-use ledger::{Entry, Ledger, judge};
+use crate::replay::{Replay, replay_entries};
+use crate::transactions::{AcceptedTx, PendingTx, with_ids};
 use collections::Memory;
 use eutxo::{Shared, is_same};
 use eutxo_types::{Output, OutputRef, Tx, TxFault};
+use ledger::{Entry, Ledger, judge};
 use roles::Published;
 use std::alloc::Global;
 use std::marker::Model;
@@ -26,8 +26,8 @@ pub struct World<'a> {
     genesis: &'a [Output],
     published: &'a [Shared<Published>],
     tick: i64,
-    accepted: Vec<Kept<'a>>,
-    pending: Vec<Waiting<'a>>,
+    accepted: Vec<AcceptedTx<'a>>,
+    pending: Vec<PendingTx<'a>>,
     tickets: u64,
 }
 
@@ -36,17 +36,17 @@ impl<'a> Model for World<'a> {
     ghost use Rattle.eutxo_types.specs.contracts.tx.Tx as txs;
     ghost use Rattle.eutxo_types.specs.contracts.output.Output as outputs;
     ghost use Rattle.roles.specs.contracts.published.Published as publications;
-    ghost use Rattle.ledger_replay.specs.Standing.{World};
+    ghost use Rattle.ledger_spec.specs.Replay.{World};
 
     ghost Value = { World };
 
     ghost coded = { Prim.hlevel (codes, txs.the_row.coded, outputs.the_row.coded, publications.the_row.coded) };
 
-    ghost view = { λ a. record { genesis = a.genesis.now; published = a.published.now; standing = record { tick = a.tick; accepted = a.accepted.items; pending = a.pending.items }; tickets = a.tickets } };
+    ghost view = { λ a. record { genesis = a.genesis.now; published = a.published.now; replay = record { tick = a.tick; accepted = a.accepted.items; pending = a.pending.items }; tickets = a.tickets } };
 }
 
 /// What stands after these entries, where the ids are those of the accepted transactions, in order. Hashes nothing.
-pub fn walk<'a>(
+pub fn world_after<'a>(
     alloc: Global,
     genesis: &'a [Output],
     tick: i64,
@@ -54,14 +54,14 @@ pub fn walk<'a>(
     entries: &'a [Entry],
     ids: &[[u8; 32]],
 ) -> Result<World<'a>, Memory>
-    requires { ids.now ≡ map id_of (standing tick entries.now).accepted }
-    ensures { IfOk result (λ w. w ≡ record { genesis = genesis.now; published = published.now; standing = standing tick entries.now; tickets = tickets entries.now }) }
+    requires { ids.now ≡ map id_of (replay tick entries.now).accepted }
+    ensures { IfOk result (λ w. w ≡ record { genesis = genesis.now; published = published.now; replay = replay tick entries.now; tickets = tickets entries.now }) }
 {
-    let Walked {
+    let Replay {
         tick,
         accepted,
         pending,
-    } = gather(alloc, tick, entries)?;
+    } = replay_entries(alloc, tick, entries)?;
     let accepted = with_ids(alloc, &accepted, ids)?;
     Ok(World {
         genesis,
@@ -76,8 +76,8 @@ pub fn walk<'a>(
 // ---- what the rules read
 
 /// Whether an input of the transaction names the output.
-pub fn names(tx: &Tx, reference: &OutputRef) -> bool
-    ensures { result ≡ names reference.now tx.now }
+pub fn is_input_of(tx: &Tx, reference: &OutputRef) -> bool
+    ensures { result ≡ is_input_of reference.now tx.now }
 {
     for x in tx.inputs.as_slice() {
         if is_same(x.reference, *reference) {
@@ -94,11 +94,11 @@ fn output_of(outputs: &[Output], index: u64) -> Option<&Output>
 }
 
 // Whether an accepted transaction spends the output.
-fn is_spent(accepted: &[Kept<'_>], reference: &OutputRef) -> bool
+fn is_spent(accepted: &[AcceptedTx<'_>], reference: &OutputRef) -> bool
     ensures { result ≡ is_spent accepted.now reference.now }
 {
     for k in accepted {
-        if names(k.tx(), reference) {
+        if is_input_of(k.tx(), reference) {
             return true;
         }
     }
@@ -106,9 +106,9 @@ fn is_spent(accepted: &[Kept<'_>], reference: &OutputRef) -> bool
 }
 
 // What a transaction made of that name.
-#[tactic(auto, using(crate::proofs::Finding::made_here, crate::proofs::Finding::made_elsewhere, crate::proofs::Finding::made_not))]
-fn made<'a>(kept: &Kept<'a>, reference: &OutputRef) -> Option<&'a Output>
-    ensures { option_copied result ≡ lookup (same_ref reference.now) (made kept.now) }
+#[tactic(auto, using(crate::proofs::CreatedLemmas::made_here, crate::proofs::CreatedLemmas::made_elsewhere, crate::proofs::CreatedLemmas::made_not))]
+fn made<'a>(kept: &AcceptedTx<'a>, reference: &OutputRef) -> Option<&'a Output>
+    ensures { option_copied result ≡ lookup (same_ref reference.now) (created_by kept.now) }
 {
     let tx = kept.tx();
     match reference {
@@ -123,9 +123,9 @@ fn made<'a>(kept: &Kept<'a>, reference: &OutputRef) -> Option<&'a Output>
     }
 }
 
-#[tactic(auto, using(crate::proofs::Finding::made_at, crate::proofs::Finding::made_later))]
-fn made_at<'a>(accepted: &[Kept<'a>], reference: &OutputRef) -> Option<&'a Output>
-    ensures { option_copied result ≡ lookup (same_ref reference.now) (made_by accepted.now) }
+#[tactic(auto, using(crate::proofs::CreatedLemmas::made_at, crate::proofs::CreatedLemmas::made_later))]
+fn made_at<'a>(accepted: &[AcceptedTx<'a>], reference: &OutputRef) -> Option<&'a Output>
+    ensures { option_copied result ≡ lookup (same_ref reference.now) (created_by_all accepted.now) }
 {
     for k in accepted {
         if let Some(output) = made(k, reference) {
@@ -135,9 +135,9 @@ fn made_at<'a>(accepted: &[Kept<'a>], reference: &OutputRef) -> Option<&'a Outpu
     None
 }
 
-#[tactic(auto, using(crate::proofs::Finding::genesis_here, crate::proofs::Finding::genesis_not))]
+#[tactic(auto, using(crate::proofs::CreatedLemmas::genesis_here, crate::proofs::CreatedLemmas::genesis_not))]
 fn genesis_at<'a>(genesis: &'a [Output], reference: &OutputRef) -> Option<&'a Output>
-    ensures { option_copied result ≡ lookup (same_ref reference.now) (referred (λ i. OutputRef.Genesis i) 0 genesis.now) }
+    ensures { option_copied result ≡ lookup (same_ref reference.now) (with_references (λ i. OutputRef.Genesis i) 0 genesis.now) }
 {
     match reference {
         OutputRef::Genesis { index } => output_of(genesis, *index),
@@ -146,7 +146,7 @@ fn genesis_at<'a>(genesis: &'a [Output], reference: &OutputRef) -> Option<&'a Ou
 }
 
 impl<'a> World<'a> {
-    #[tactic(auto, using(crate::proofs::Finding::found_front, crate::proofs::Finding::found_back))]
+    #[tactic(auto, using(crate::proofs::CreatedLemmas::found_front, crate::proofs::CreatedLemmas::found_back))]
     fn output_at(&self, reference: &OutputRef) -> Option<&Output>
         ensures { option_copied result ≡ lookup (same_ref reference.now) (created (past_of self.now)) }
     {
@@ -158,7 +158,7 @@ impl<'a> World<'a> {
 
     /// The tick of the ledger.
     pub fn now(&self) -> i64
-        ensures { result ≡ self.now.standing.tick }
+        ensures { result ≡ self.now.replay.tick }
     {
         self.tick
     }
@@ -171,15 +171,15 @@ impl<'a> World<'a> {
     }
 
     /// The accepted transactions, in order.
-    pub fn accepted(&self) -> &[Kept<'a>]
-        ensures { result.now ≡ self.now.standing.accepted }
+    pub fn accepted(&self) -> &[AcceptedTx<'a>]
+        ensures { result.now ≡ self.now.replay.accepted }
     {
         &self.accepted
     }
 
     /// The transactions that wait for a round, in order.
-    pub fn pending(&self) -> &[Waiting<'a>]
-        ensures { result.now ≡ self.now.standing.pending }
+    pub fn pending(&self) -> &[PendingTx<'a>]
+        ensures { result.now ≡ self.now.replay.pending }
     {
         &self.pending
     }
@@ -194,9 +194,9 @@ impl<'a> World<'a> {
     /// Accepts a transaction, whose id is given.
     pub fn accept(&mut self, tx: &'a Tx, id: [u8; 32]) -> Result<(), Memory>
         requires { id ≡ id_of tx.now }
-        ensures { OnOk result (self.new ≡ record self.old { standing = record self.old.standing { accepted = self.old.standing.accepted ++ tx.now ∷ [] } }) }
+        ensures { OnOk result (self.new ≡ record self.old { replay = record self.old.replay { accepted = self.old.replay.accepted ++ tx.now ∷ [] } }) }
     {
-        self.accepted.push(Kept::new(tx, id))?;
+        self.accepted.push(AcceptedTx::new(tx, id))?;
         Ok(())
     }
 

@@ -1,7 +1,7 @@
-mod Following
-mod Gathering
-mod Moving
-mod Spending
-mod Starting
-mod Stepping
-mod Telling
+mod SpineLemmas
+mod ViewsLemmas
+mod EndLemmas
+mod SpentLemmas
+mod StartLemmas
+mod NextRecordLemmas
+mod RecordsLemmas

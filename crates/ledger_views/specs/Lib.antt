@@ -1,4 +1,2 @@
-pub mod Looking
-pub mod Recording
-pub mod Showing
-pub mod Walking
+pub mod ViewsSupport
+pub mod RecordsSupport

@@ -1,19 +1,17 @@
 //! What is shown of what stands: a look at the ledger, and the records of a thread.
 //!
 //! A look has the unspent output of the asked thread, with what is published under its script, and the unspent
-//! outputs under the asked locks in order of creation, as functions of what stands (`specs/Looking.antt`). The
-//! records of a thread say what each of its transactions did to the contract (`specs/Recording.antt`): they are
+//! outputs under the asked locks in order of creation, as functions of what stands (`Views` of `ledger_spec`). The
+//! records of a thread say what each of its transactions did to the contract (`Records` of `ledger_spec`): they are
 //! found by one walk over what was accepted, and by computing each step anew on the table that is published under
 //! the thread's script.
 #![tactic(auto)]
 
-mod along;
-mod looking;
-mod recording;
+mod links;
+mod records;
 mod spent;
 mod start;
-mod step_record;
+mod views;
 
-pub use looking::show;
-pub use recording::steps_of;
-pub use step_record::StepRecord;
+pub use records::steps_of;
+pub use views::show;

@@ -1,12 +1,12 @@
 //! The references that accepted transactions spend.
 ghost use Rattle.std.specs.Prelude.{◌≡◌, ◌||◌, IfOk, OnOk};
 ghost use Rattle.eutxo.specs.Parts.{same_ref};
-ghost use Rattle.ledger_laws.specs.Past.{names, is_spent};
-ghost use Rattle.ledger_views.specs.Showing.{is_among};
+ghost use Rattle.ledger_laws.specs.Past.{is_input_of, is_spent};
+ghost use Rattle.ledger_views.specs.ViewsSupport.{is_among};
 
 use collections::Memory;
 use eutxo_types::{OutputRef, Tx};
-use ledger_replay::Kept;
+use ledger_replay::AcceptedTx;
 use std::alloc::Global;
 use std::collections::HashSet;
 use std::marker::Model;
@@ -14,11 +14,11 @@ use std::marker::Model;
 /// The references that accepted transactions spend, found by their hashes. Clauses see a list of them, in no
 /// order that is promised.
 #[derive(Drop)]
-pub(crate) struct Spent {
+pub(crate) struct SpentSet {
     references: HashSet<OutputRef>,
 }
 
-impl Model for Spent {
+impl Model for SpentSet {
     ghost use Rattle.std.specs.Prelude.{List};
     ghost use Rattle.std.specs.Coded.{coded_list};
     ghost use Rattle.eutxo_types.specs.declared.output_ref.OutputRef.{OutputRef};
@@ -31,13 +31,13 @@ impl Model for Spent {
     ghost view = { λ a. a.references.keys };
 }
 
-impl Spent {
+impl SpentSet {
     /// The references that these transactions spend, in one pass over their inputs; or Memory, where it is refused.
-    pub(crate) fn of(alloc: Global, accepted: &[Kept<'_>]) -> Result<Spent, Memory>
+    pub(crate) fn of(alloc: Global, accepted: &[AcceptedTx<'_>]) -> Result<SpentSet, Memory>
         ensures { IfOk result (λ spent. (r : OutputRef) → is_among spent r ≡ is_spent accepted.now r) }
     {
         let references = HashSet::new(alloc);
-        let mut spent = Spent { references };
+        let mut spent = SpentSet { references };
         for k in accepted {
             spent.put_all(k.tx())?;
         }
@@ -46,7 +46,7 @@ impl Spent {
 
     // Puts what a transaction spends among the others.
     fn put_all(&mut self, tx: &Tx) -> Result<(), Memory>
-        ensures { OnOk result ((r : OutputRef) → is_among self.new r ≡ (names r tx.now || is_among self.old r)) }
+        ensures { OnOk result ((r : OutputRef) → is_among self.new r ≡ (is_input_of r tx.now || is_among self.old r)) }
     {
         for spend in tx.inputs.as_slice() {
             self.put(spend.reference)?;

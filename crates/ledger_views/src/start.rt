@@ -2,11 +2,11 @@
 ghost use Rattle.std.specs.Prelude.{◌≡◌, ℕ, List, Option, find, option_map, option_copied, slice_get};
 ghost use Rattle.machine.specs.declared.datum.Datum.{Datum};
 ghost use Rattle.eutxo.specs.Parts.{contract_in, contract_at};
-ghost use Rattle.ledger_replay.specs.Threads.{starts_in};
-ghost use Rattle.ledger_views.specs.Walking.{contract_named, start_at};
+ghost use Rattle.ledger_spec.specs.Views.{starts_in};
+ghost use Rattle.ledger_views.specs.RecordsSupport.{contract_named, start_at};
 
 use eutxo_types::{Datum, Lock, OutputRef, Tx};
-use ledger_replay::{Kept, starts_in};
+use ledger_replay::{AcceptedTx, starts_in};
 
 /// The script and the datum of a start output.
 #[derive(Clone, Copy)]
@@ -44,7 +44,10 @@ fn contract_named<'a>(tx: &'a Tx, reference: &OutputRef) -> Option<Start<'a>>
 }
 
 // The transaction that makes the start output.
-fn maker<'k, 'a>(accepted: &'k [Kept<'a>], reference: &OutputRef) -> Option<&'k Kept<'a>>
+fn maker<'k, 'a>(
+    accepted: &'k [AcceptedTx<'a>],
+    reference: &OutputRef,
+) -> Option<&'k AcceptedTx<'a>>
     ensures { option_copied result ≡ find (starts_in reference.now) accepted.now }
 {
     for k in accepted {
@@ -56,7 +59,7 @@ fn maker<'k, 'a>(accepted: &'k [Kept<'a>], reference: &OutputRef) -> Option<&'k 
 }
 
 /// The start output of this name, where there is one.
-pub fn start_at<'a>(accepted: &[Kept<'a>], reference: &OutputRef) -> Option<Start<'a>>
+pub fn start_at<'a>(accepted: &[AcceptedTx<'a>], reference: &OutputRef) -> Option<Start<'a>>
     ensures { option_map (λ s. (s.script.now, s.datum.now)) result ≡ start_at reference.now accepted.now }
 {
     match maker(accepted, reference) {

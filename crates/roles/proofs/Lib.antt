@@ -1,4 +1,4 @@
-pub mod Leaving
-pub mod Summing
-pub mod Deciding
-pub mod Tables
+pub mod LeftLemmas
+pub mod SumsLemmas
+pub mod OutputLemmas
+pub mod PublicationsLemmas

@@ -2,4 +2,4 @@ pub mod Sums
 pub mod Terms
 pub mod Steps
 pub mod Publications
-pub mod Left
+pub mod LeftSupport

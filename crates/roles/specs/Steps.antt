@@ -32,7 +32,7 @@ use Rattle.eutxo_types.specs.declared.spend.Spend.{Spend}
 use Rattle.eutxo.specs.declared.validator.StepAnswer.{StepAnswer}
 use Rattle.eutxo.specs.declared.validator.StepAnswer.TheVariants as answers
 use Rattle.eutxo.specs.Parts.{outputs_from}
-use Rattle.eutxo.specs.Places.{fault_if, first_of, is_empty}
+use Rattle.eutxo.specs.Faults.{fault_if, first_of, is_empty}
 use Rattle.eutxo.specs.Rules.{has_signed}
 use Rattle.eutxo.specs.Asked.{Stepping}
 use Rattle.roles.specs.Sums.{sums_of}
@@ -63,10 +63,10 @@ abbrev pub holds_role : List (Spend × Output) → List ℕ → List ℕ → Boo
 holds_role spent currency role = list_any (shows currency role) spent
 
 -- the party that an input needs: the depositor, or the owner of the choice. A notify needs nobody
-abbrev pub needed : Input → Option Party
-needed (Deposit account party token amount) = Some party
-needed (Choice id number) = Some id.owner
-needed Notify = None
+abbrev pub actor : Input → Option Party
+actor (Deposit account party token amount) = Some party
+actor (Choice id number) = Some id.owner
+actor Notify = None
 
 -- an address that signed, or a role whose token a key input's output holds (Marlowe specification version 3, "Participants,
 -- roles and public keys")
@@ -76,7 +76,7 @@ authorised currency signers spent (Role r) = holds_role spent currency r
 
 -- of the parties that the inputs need, in order, the first that isn't authorised
 abbrev pub unauthorised : List ℕ → List (List ℕ) → List (Spend × Output) → List Input → Option Party
-unauthorised currency signers spent xs = find (λ p. not (authorised currency signers spent p)) (filter_map needed xs)
+unauthorised currency signers spent xs = find (λ p. not (authorised currency signers spent p)) (filter_map actor xs)
 
 -- ---- the outputs that a step has to make
 
@@ -93,8 +93,8 @@ lock_for currency (Role r) = Payout currency r
 abbrev pub only : Token → ℤ → Amounts
 only t n = map.insert map.empty t n
 
-abbrev pub owed : List ℕ → Party → Payment → Output
-owed currency party p = record { lock = lock_for currency party; amount = only p.token p.amount }
+abbrev pub owed_output : List ℕ → Party → Payment → Output
+owed_output currency party p = record { lock = lock_for currency party; amount = only p.token p.amount }
 
 -- the party to which a payment is due: payments to accounts and of 0 are made by no output
 abbrev pub due_above : Payee → ℤ → Option Party
@@ -104,14 +104,14 @@ due_above (to.Party a) n = if int_lt (pos 0) n then Some a else None
 abbrev pub due_to : Payment → Option Party
 due_to p = due_above p.to p.amount
 
-abbrev pub and_owed : List ℕ → Payment → Option Party → List Output → List Output
-and_owed currency p None rest = rest
-and_owed currency p (Some party) rest = owed currency party p ∷ rest
+abbrev pub and_owed_output : List ℕ → Payment → Option Party → List Output → List Output
+and_owed_output currency p None rest = rest
+and_owed_output currency p (Some party) rest = owed_output currency party p ∷ rest
 
 -- the outputs that are due, in order
-abbrev pub due : List ℕ → List Payment → List Output
-due currency [] = []
-due currency (p ∷ ps) = and_owed currency p (due_to p) (due currency ps)
+abbrev pub due_outputs : List ℕ → List Payment → List Output
+due_outputs currency [] = []
+due_outputs currency (p ∷ ps) = and_owed_output currency p (due_to p) (due_outputs currency ps)
 
 -- the lowest place, from i on, where the output that is due there isn't
 abbrev pub first_unpaid : ℕ → List Output → List Output → Option ℕ
@@ -142,12 +142,12 @@ abbrev pub wrong_continuation : Bool → Cont → StateMaps → Stepping → Opt
 wrong_continuation closed there state s = fault_if WrongContinuation (not (closed || is_first (continuation s.script there state) s.tx.outputs))
 
 -- how many outputs stand before the payments
-abbrev pub continuing : Bool → ℕ
-continuing closed = if closed then 0 else 1
+abbrev pub outputs_before : Bool → ℕ
+outputs_before closed = if closed then 0 else 1
 
 -- 15: the first place at which an output that is due for a payment isn't
 abbrev pub wrong_payment : List ℕ → Bool → List Payment → Stepping → Option TxFault
-wrong_payment currency closed ps s = option_map WrongPayment (first_unpaid (continuing closed) (due currency ps) (outputs_from (continuing closed) s.tx.outputs))
+wrong_payment currency closed ps s = option_map WrongPayment (first_unpaid (outputs_before closed) (due_outputs currency ps) (outputs_from (outputs_before closed) s.tx.outputs))
 
 abbrev pub answer_by : Option TxFault → Bool → StepAnswer
 answer_by (Some f) closed = answers.Refused f

@@ -6,7 +6,7 @@ ghost use Rattle.std.specs.Ordering.{int_eq};
 ghost use Rattle.std.specs.FinMap.{is_sorted};
 ghost use Rattle.names.specs.Orders.{token_cmp};
 ghost use Rattle.collections.proofs.Places.{IsAt, IsGap};
-ghost use Rattle.roles.specs.Left.{left_of, IsTaken};
+ghost use Rattle.roles.specs.LeftSupport.{left_of, IsTaken};
 ghost use Rattle.roles.specs.Sums.{sums_of};
 ghost use Rattle.roles.specs.Steps.{only};
 

@@ -1,7 +1,7 @@
 //! Who may act.
 ghost use Rattle.std.specs.Prelude.{◌≡◌, option_copied, int_lt, pos};
 ghost use Rattle.bundle.specs.Bundles.{amount_of};
-ghost use Rattle.roles.specs.Steps.{role_token, is_key, shows, holds_role, needed, authorised, unauthorised};
+ghost use Rattle.roles.specs.Steps.{role_token, is_key, shows, holds_role, actor, authorised, unauthorised};
 
 use collections::{Bytes, Text};
 use contract::{Input, Party};
@@ -34,8 +34,8 @@ pub fn holds_role(spent: &[Spent<'_>], currency: &Bytes, role: &Text) -> bool
 }
 
 /// The party that an input needs: the depositor, or the owner of the choice. A notify needs nobody.
-pub fn needed(input: &Input) -> Option<&Party>
-    ensures { option_copied result ≡ needed input.now }
+pub fn actor(input: &Input) -> Option<&Party>
+    ensures { option_copied result ≡ actor input.now }
 {
     match input {
         Input::Deposit(_, party, _, _) => Some(party),
@@ -63,7 +63,7 @@ pub fn unauthorised<'a>(
     ensures { option_copied result ≡ unauthorised currency.now signers.now spent.now inputs.now }
 {
     for x in inputs {
-        if let Some(party) = needed(x)
+        if let Some(party) = actor(x)
             && !is_authorised(currency, signers, spent, party)
         {
             return Some(party);

@@ -1,6 +1,6 @@
 //! The outputs that a step has to make.
 ghost use Rattle.std.specs.Prelude.{◌≡◌, ◌+◌, ◌↔◌, IsTrue, IfOk, drop, option_copied};
-ghost use Rattle.roles.specs.Steps.{same_output, continuation, is_first, lock_for, owed, due_to, due, first_unpaid};
+ghost use Rattle.roles.specs.Steps.{same_output, continuation, is_first, lock_for, owed_output, due_to, due_outputs, first_unpaid};
 
 use crate::amounts::{is_only, is_sums};
 use collections::{Bytes, Memory, Same};
@@ -82,14 +82,14 @@ fn is_under(currency: &Bytes, party: &Party, lock: &Lock) -> bool
 }
 
 fn is_owed(currency: &Bytes, party: &Party, payment: &Payment, output: &Output) -> bool
-    ensures { IsTrue result ↔ (output.now ≡ owed currency.now party.now payment.now) }
+    ensures { IsTrue result ↔ (output.now ≡ owed_output currency.now party.now payment.now) }
 {
     is_under(currency, party, &output.lock)
         && is_only(&output.amount, &payment.token, payment.amount)
 }
 
 fn pays(currency: &Bytes, party: &Party, payment: &Payment, output: &Output) -> bool
-    ensures { result ≡ same_output output.now (owed currency.now party.now payment.now) }
+    ensures { result ≡ same_output output.now (owed_output currency.now party.now payment.now) }
 {
     is_owed(currency, party, payment, output)
 }
@@ -111,13 +111,13 @@ pub fn due_to(payment: &Payment) -> Option<&Party>
 }
 
 /// The lowest place from `from` on that isn't the payment that is due there.
-pub fn unpaid_place(
+pub fn unpaid_index(
     currency: &Bytes,
     from: usize,
     payments: &[Payment],
     outputs: &[Output],
 ) -> Option<usize>
-    ensures { result ≡ first_unpaid from (due currency.now payments.now) (drop from outputs.now) }
+    ensures { result ≡ first_unpaid from (due_outputs currency.now payments.now) (drop from outputs.now) }
 {
     let mut place = from;
     for payment in payments {

@@ -11,7 +11,7 @@ mod publishing;
 mod script;
 mod step;
 
-pub use authorise::needed;
+pub use authorise::actor;
 pub use compiler::CompileFault;
 pub use laws::{published_are_tables, published_tell_contracts_apart};
 pub use layout::due_to;

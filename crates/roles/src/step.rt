@@ -6,7 +6,7 @@ ghost use Rattle.roles.specs.Terms.{terms_of};
 ghost use Rattle.roles.specs.Steps.{is_close, outcome_answer, step_of};
 
 use crate::authorise::unauthorised;
-use crate::layout::{goes_on, unpaid_place};
+use crate::layout::{goes_on, unpaid_index};
 use crate::published::Published;
 use collections::{Bytes, Memory, TryClone};
 use contract::{Input, Outcome, SemFault};
@@ -47,7 +47,7 @@ fn outcome_answer(
         return Ok(StepAnswer::Refused(TxFault::WrongContinuation));
     }
     let from = if closed { 0 } else { 1 };
-    match unpaid_place(currency, from, outcome.payments.as_slice(), outputs) {
+    match unpaid_index(currency, from, outcome.payments.as_slice(), outputs) {
         Some(i) => Ok(StepAnswer::Refused(TxFault::WrongPayment(i as u64))),
         None => Ok(if closed {
             StepAnswer::Ends

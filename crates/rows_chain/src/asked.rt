@@ -5,8 +5,8 @@ use chain::Entry;
 use collections::Memory;
 use eutxo::{Checked, Resolved, Scripts, Validator, check};
 use eutxo_types::{Output, Spend, Tx};
-use std::alloc::{AllocError, Global};
 use rows_text::{Known, RowFault, verdict_line, word_of_reference};
+use std::alloc::{AllocError, Global};
 
 /// A line for each entry: its place, its seat and number, the call, and the first line of the reply.
 pub fn history_lines(

@@ -3,16 +3,16 @@ use crate::offers::Handed;
 use crate::session::Desk;
 use crate::shown::put_output;
 use builder::{BuildFault, build_claim, build_start, build_step};
-use ledger::Look;
 use collections::{Items, Text};
 use contract::{Input, State};
 use eutxo_types::{Output, Spend, Tx, TxFault};
+use ledger::Look;
 use roles::Published;
-use std::alloc::{AllocError, Global};
 use rows_text::{
     Known, RowFault, first, inputs_of, nothing, parts, refusal_line, replace, state_of, text,
     word_of, word_of_reference,
 };
+use std::alloc::{AllocError, Global};
 
 /// What is asked for, beside the interval and the signers that are written. The function that owns it is generic in it, so that
 /// no proof walks through its drop.

@@ -1,4 +1,4 @@
-//! `chain_rows`: worked rows of a chain as data. It reads the files that its arguments name, line by line, and prints what the
+//! `rows_chain`: worked rows of a chain as data. It reads the files that its arguments name, line by line, and prints what the
 //! chain answers; `stdout` has what it must print.
 //!
 //! A paragraph is a session of its own. It begins with a line `# SUBJECT`, which is printed. Then `genesis` and an output, a
@@ -8,7 +8,7 @@
 //! `let NAME TEXT` names a text, for all paragraphs below it: `$NAME` then stands for it in place of a contract, a state or an
 //! input.
 //!
-//! Transactions and outputs are written as `transaction_text` says. A transaction has the name that it was handed in under,
+//! Transactions and outputs are written as `rows_text` says. A transaction has the name that it was handed in under,
 //! as the origin of what it made, and a script that of its first publishing.
 //!
 //! A request for a transaction has the interval and the signers that are written, and what these lines put behind the others:
@@ -42,7 +42,7 @@
 //! - `check` prints the verdict on that transaction and what is found, and keeps both at hand for the calls below, as a cache;
 //! - `steps_of REFERENCE` prints the number of steps of the thread that starts there, and for each its interval and the number
 //!   where the contract went on, then a line for each input, warning and payment, and the state;
-//! - `build step CHANGE INPUT ..` builds a step of the thread that the last look shows, with inputs as `transaction_text` has
+//! - `build step CHANGE INPUT ..` builds a step of the thread that the last look shows, with inputs as `rows_text` has
 //!   them, `build start NAME STATE CHANGE` a start of what is published under the name, and `build claim TO CHANGE` a claim:
 //!   `built from` and the references of the inputs, then a line for each output; or `refused FAULT`;
 //! - `history` prints a line for each entry: its place, `SEAT.NUMBER`, the call, and the reply without what a look shows.
@@ -62,8 +62,8 @@ mod shown;
 mod started;
 
 use crate::session::Session;
-use std::process::ExitCode;
 use rows_text::print_rows;
+use std::process::ExitCode;
 
 fn main(rt: HostRuntime) -> ExitCode {
     match print_rows::<Session, HostRuntime>(&rt) {

@@ -1,9 +1,9 @@
 //! What is handed in beside a request.
-use ledger::{Look, Unspent};
 use collections::{Items, TryClone};
 use eutxo_types::{Output, OutputRef};
-use std::alloc::Global;
+use ledger::{Look, Unspent};
 use rows_text::{Known, RowFault, first, number, output_of, parts, put, reference_of};
+use std::alloc::Global;
 
 /// What is offered, and the payouts that are claimed.
 #[derive(Drop)]

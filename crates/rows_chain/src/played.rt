@@ -1,17 +1,17 @@
 //! Calls.
 use crate::replies::reply_lines;
 use crate::session::Desk;
-use ledger::{Ask, PayoutLock};
 use chain::{Call, Chain};
 use collections::{Items, TryClone};
 use contract_json::read_contract;
 use eutxo_types::Tx;
-use std::alloc::Global;
-use std::mem;
+use ledger::{Ask, PayoutLock};
 use rows_text::{
     RowFault, Sent, bytes, first, named_of, nothing, number, parts, put, put_in, reference_of,
     sent_of, text,
 };
+use std::alloc::Global;
+use std::mem;
 
 /// Plays a call, from its word and what follows: what is printed for its reply.
 pub fn played(

@@ -1,10 +1,10 @@
 //! Replies as they are printed.
 use crate::shown::put_look;
-use ledger::Look;
 use chain::{Call, Reply, Ticketed};
 use collections::Memory;
-use std::alloc::{AllocError, Global};
+use ledger::Look;
 use rows_text::{Known, RowFault, refusal_line, replace, verdict_line, word_of_id};
+use std::alloc::{AllocError, Global};
 
 /// What is printed. The function that owns it is generic in it, so that no proof walks through its drop.
 pub trait Printed: Drop {

@@ -5,18 +5,18 @@ use crate::offers::{Handed, hand_in};
 use crate::played::played;
 use crate::recorded::steps_lines;
 use crate::started::started;
-use ledger::Look;
 use chain::Chain;
 use collections::Items;
 use eutxo::Checked;
 use eutxo_types::{Output, Tx};
+use ledger::Look;
 use roles::Published;
-use std::alloc::Global;
-use std::mem;
 use rows_text::{
     Answers, Known, RowFault, first, named_text_of, nothing, number, output_of, parts, put, put_in,
     reference_of, replace, write,
 };
+use std::alloc::Global;
+use std::mem;
 
 /// What is written so far: the outputs to begin with, a transaction, what is handed in to build one, what has a name, the last
 /// look, and checks at hand.

@@ -1,11 +1,11 @@
 //! Outputs and looks as they are printed.
-use ledger::{Look, ThreadOutput, Unspent};
 use collections::Memory;
 use contract::State;
 use contract_json::state_to_json;
 use eutxo_types::{Datum, Lock, Output, OutputRef};
-use std::alloc::{AllocError, Global};
+use ledger::{Look, ThreadOutput, Unspent};
 use rows_text::{Known, put_amounts, word_of_reference};
+use std::alloc::{AllocError, Global};
 
 /// Puts a line for each output that a look shows at the end.
 pub fn put_look(

@@ -1,7 +1,7 @@
 //! How a chain begins.
 use chain::GenesisFault;
-use std::alloc::Global;
 use rows_text::RowFault;
+use std::alloc::Global;
 
 /// Keeps a chain that was begun: the line that says so, or the fault. It is generic in it, so that no proof walks through its
 /// drop.

@@ -3,12 +3,12 @@ use crate::forms::{Form, form_of, text_of};
 use crate::given::{Given, Row};
 use crate::on_tables::beside;
 use crate::texts::{Spelled, Text};
-use marlowe_cli::{Task, line};
 use contract::{
     Action, Bound, Case, ChoiceId, Contract, Input, Observation, Party, Payee, State, Token,
     TryClone, Value,
 };
 use contract_json::{JsonFault, Transaction, WriteFault};
+use marlowe_cli::{Task, line};
 use marlowe_run::{Fault, json_fault_name, refusal, run, write_fault_name};
 use std::alloc::{AllocError, Global};
 

@@ -1,4 +1,4 @@
-//! `rows`: worked rows of the libraries as data. It reads the files that its arguments name, line by line, and
+//! `rows_runs`: worked rows of the libraries as data. It reads the files that its arguments name, line by line, and
 //! prints a line for each row; `stdout` has what it must print.
 //!
 //! A line is a word, a space and a text. These words give what later rows are about, and print nothing:

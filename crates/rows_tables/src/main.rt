@@ -1,4 +1,4 @@
-//! `table_rows`: worked rows of tables as data. It reads the files that its arguments name, line by line, and prints what comes
+//! `rows_tables`: worked rows of tables as data. It reads the files that its arguments name, line by line, and prints what comes
 //! of each row; `stdout` has what it must print.
 //!
 //! A line is a word, a space and a text:

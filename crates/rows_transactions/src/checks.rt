@@ -4,9 +4,9 @@ use collections::{Items, Memory};
 use eutxo::{Resolved, Scripts, Shared, Validator, check};
 use eutxo_types::{Output, Tx};
 use roles::Published;
+use rows_text::{Named, RowFault, verdict_line};
 use std::alloc::{AllocError, Global};
 use std::sync::Arc;
-use rows_text::{Named, RowFault, verdict_line};
 
 /// A validator that a row can ask for: what it is for something published.
 trait Asked: Validator + Drop {

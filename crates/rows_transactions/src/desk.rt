@@ -4,12 +4,12 @@ use crate::finds::{found_of, put_found};
 use crate::sums::{added, subtracted};
 use collections::Items;
 use eutxo_types::{Output, Tx, encode_tx, tx_id};
-use std::alloc::{AllocError, Global};
-use std::mem;
 use rows_text::{
     Answers, Known, RowFault, first, named_of, nothing, number, parts, put, put_in, put_keys,
     replace, write,
 };
+use std::alloc::{AllocError, Global};
+use std::mem;
 
 /// What is written so far: a transaction, what its inputs find, and what is published.
 #[derive(Drop)]

@@ -1,8 +1,8 @@
 //! What inputs find.
 use collections::Items;
 use eutxo_types::{Lock, Output};
-use std::alloc::Global;
 use rows_text::{Known, RowFault, locked, output_of, put, text};
+use std::alloc::Global;
 
 /// What an input finds: an output, or `nothing`.
 pub fn found_of(alloc: Global, known: &Known, rest: &str) -> Result<Option<Output>, RowFault> {

@@ -1,7 +1,7 @@
-//! `transaction_rows`: worked rows of transactions, of their checks and of amounts as data. It reads the files that its
+//! `rows_transactions`: worked rows of transactions, of their checks and of amounts as data. It reads the files that its
 //! arguments name, line by line, and prints a line or two for each row; `stdout` has what it must print.
 //!
-//! A transaction is written as `transaction_text` says, and begins without anything, from 0 to 0. These lines print nothing
+//! A transaction is written as `rows_text` says, and begins without anything, from 0 to 0. These lines print nothing
 //! either:
 //!
 //! - `finds` and an output, or `finds nothing`, says what the next input spends, for a check;
@@ -27,8 +27,8 @@ mod stubborn;
 mod sums;
 
 use crate::desk::Desk;
-use std::process::ExitCode;
 use rows_text::print_rows;
+use std::process::ExitCode;
 
 fn main(rt: HostRuntime) -> ExitCode {
     match print_rows::<Desk, HostRuntime>(&rt) {

@@ -1,7 +1,7 @@
 //! Sums and differences of bundles.
 use bundle::{Bundle, BundleFault};
-use std::alloc::{AllocError, Global};
 use rows_text::{RowFault, bundle_of, put_amounts, word_of};
+use std::alloc::{AllocError, Global};
 
 /// Adds, from `AMOUNTS / AMOUNTS`: the line for the answer, and what is in the first bundle afterwards.
 pub fn added(alloc: Global, rest: &str) -> Result<String, RowFault> {

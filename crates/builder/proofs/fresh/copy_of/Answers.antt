@@ -1,7 +1,7 @@
 use Rattle.std.proofs.Common.{◌∙◌, ap}
 use Rattle.std.specs.FinMap.Entries.{put}
 use Rattle.names.specs.Orders.{account_cmp}
-use Rattle.builder.proofs.Copying.{put_next}
+use Rattle.builder.proofs.CopyLemmas.{put_next}
 use Rattle.builder.proofs.fresh.copy_of.Goals as goal
 
 pub loop-account-preserved : goal.loop-account-preserved

@@ -3,7 +3,7 @@ use Rattle.std.proofs.Math.Dec.{T}
 use Rattle.std.specs.FinMap.{entries_sorted, from_sorted}
 use Rattle.std.specs.FinMap.Entries.{is_sorted}
 use Rattle.names.specs.Orders.{account_cmp}
-use Rattle.builder.proofs.Copying.{state_of, fresh_is}
+use Rattle.builder.proofs.CopyLemmas.{state_of, fresh_is}
 use Rattle.builder.proofs.fresh.fresh.Goals as goal
 
 pub copy_of-requires : goal.copy_of-requires

@@ -1,10 +1,10 @@
 use Rattle.std.proofs.Common.{rules, ◌≡◌, true, false, [], ◌∷◌, sym, ap, subst}
 use Rattle.bundle.specs.Bundles.{covers}
 use Rattle.eutxo_types.specs.declared.output.Output.{Output}
-use Rattle.builder_spec.specs.Holding.{sums, held}
-use Rattle.builder_spec.specs.Clauses.{is_much}
-use Rattle.builder_spec.proofs.Funding.{amount}
-use Rattle.builder.proofs.Covered.{start_room, start_covers}
+use Rattle.builder_spec.specs.Holding.{sums, amount_in}
+use Rattle.builder_spec.specs.Causes.{is_much}
+use Rattle.builder_spec.proofs.FundsLaws.{amount}
+use Rattle.builder.proofs.CoveredLemmas.{start_room, start_covers}
 use Rattle.builder.proofs.start.lay_out.Goals as goal
 
 pub start_output-requires : goal.start_output-requires
@@ -15,5 +15,5 @@ rest-requires c =
     let us = c.args.funds.front.now in
     let o = c.in_ok-start_output.field-0 in
     let one : c.as_slice.result.now ≡ o ∷ [] = search rules in
-    subst (λ m. covers m (sums amount c.as_slice.result.now) ≡ true) (sym c.requires.all) (subst (λ os. covers (sums held us) (sums amount os) ≡ true) (sym one)
+    subst (λ m. covers m (sums amount c.as_slice.result.now) ≡ true) (sym c.requires.all) (subst (λ os. covers (sums amount_in us) (sums amount os) ≡ true) (sym one)
     (start_covers c.args.asked.state.now us o (ap (λ (x : Output). x.amount) c.in_ok-start_output.ensures.ok) c.requires.bundles c.requires.covered))

@@ -4,8 +4,8 @@ use Rattle.table.specs.Along.{has_cont}
 use Rattle.table.specs.AlongLaws.{along_tree}
 use Rattle.eutxo.specs.Parts.{contract_in}
 use Rattle.roles.specs.declared.published.Published.{Published}
-use Rattle.builder.proofs.Clauses.{thread_has}
-use Rattle.builder.proofs.Covered.{thread_sums}
+use Rattle.builder.proofs.CausesLemmas.{thread_has}
+use Rattle.builder.proofs.CoveredLemmas.{thread_sums}
 use Rattle.builder.proofs.step.build_at.Goals as goal
 
 pub finish-requires-clause-has : goal.finish-requires-clause-has

@@ -1,4 +1,4 @@
-use Rattle.builder_laws.proofs.Unused.{bytes_tell_apart}
+use Rattle.builder_laws.proofs.AfterPastsLemmas.{bytes_tell_apart}
 use Rattle.builder_laws.proofs.accepted.bytes_tell_accepted_apart.Goals as goal
 
 pub returns : goal.returns

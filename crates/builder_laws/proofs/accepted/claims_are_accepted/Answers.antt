@@ -1,4 +1,4 @@
-use Rattle.builder_laws.proofs.Claiming.{claims_pass, claims_are_accepted, claims_are_accepted_after}
+use Rattle.builder_laws.proofs.ClaimLemmas.{claims_pass, claims_are_accepted, claims_are_accepted_after}
 use Rattle.builder_laws.proofs.accepted.claims_are_accepted.Goals as goal
 
 pub returns-clause-passes : goal.returns-clause-passes

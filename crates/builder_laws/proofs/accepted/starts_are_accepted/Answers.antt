@@ -1,4 +1,4 @@
-use Rattle.builder_laws.proofs.Starting.{starts_pass, starts_are_accepted, starts_are_accepted_after}
+use Rattle.builder_laws.proofs.StartLemmas.{starts_pass, starts_are_accepted, starts_are_accepted_after}
 use Rattle.builder_laws.proofs.accepted.starts_are_accepted.Goals as goal
 
 pub returns-clause-passes : goal.returns-clause-passes

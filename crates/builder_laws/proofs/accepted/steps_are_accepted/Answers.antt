@@ -1,4 +1,4 @@
-use Rattle.builder_laws.proofs.Stepping.{steps_pass, steps_are_accepted, steps_are_accepted_after}
+use Rattle.builder_laws.proofs.StepLemmas.{steps_pass, steps_are_accepted, steps_are_accepted_after}
 use Rattle.builder_laws.proofs.accepted.steps_are_accepted.Goals as goal
 
 pub returns-clause-passes : goal.returns-clause-passes

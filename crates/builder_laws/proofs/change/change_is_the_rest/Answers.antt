@@ -1,4 +1,4 @@
-use Rattle.builder_laws.proofs.Changing.{step_change_is_the_rest, start_change_is_the_rest}
+use Rattle.builder_laws.proofs.ChangeLemmas.{step_change_is_the_rest, start_change_is_the_rest}
 use Rattle.builder_laws.proofs.change.change_is_the_rest.Goals as goal
 
 pub returns-clause-step : goal.returns-clause-step

@@ -1,4 +1,4 @@
-use Rattle.builder_laws.proofs.Closing.{anyone_closes, no_thread_hinders}
+use Rattle.builder_laws.proofs.AfterLastLemmas.{anyone_closes, no_thread_hinders}
 use Rattle.builder_laws.proofs.threads.anyone_closes_after_the_last_timeout.Goals as goal
 
 pub returns-clause-closes : goal.returns-clause-closes

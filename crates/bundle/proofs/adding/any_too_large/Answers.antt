@@ -6,9 +6,9 @@ use Rattle.std.specs.FinMap.{from_sorted, is_sorted}
 use Rattle.collections.proofs.Places.{third}
 use Rattle.names.specs.Orders.{token_cmp}
 use Rattle.bundle.specs.Bundles.{is_large, any_large}
-use Rattle.bundle.proofs.Looping.{large_now, large_later}
-use Rattle.bundle.proofs.Walking.{here, none_after, none_after-first, amount_in-natural}
-use Rattle.bundle.proofs.Zeros.{amount_of-from_sorted}
+use Rattle.bundle.proofs.LoopLemmas.{large_now, large_later}
+use Rattle.bundle.proofs.WalkLemmas.{here, none_after, none_after-first, amount_in-natural}
+use Rattle.bundle.proofs.ZeroLemmas.{amount_of-from_sorted}
 use Rattle.bundle.proofs.adding.any_too_large.Goals as goal
 
 pub is_above-requires : goal.is_above-requires

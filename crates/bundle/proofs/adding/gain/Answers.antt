@@ -4,9 +4,9 @@ use Rattle.std.specs.declared.cmp.Ordering.TheVariants.{Equal}
 use Rattle.names.specs.declared.token.Token.{Token}
 use Rattle.names.specs.Orders.{token_cmp}
 use Rattle.bundle.specs.Bundles.{is_large}
-use Rattle.bundle.specs.Walks.{NoneAfter}
-use Rattle.bundle.proofs.Walking.{none_after, starts_at, starts_within, positive_at}
-use Rattle.bundle.proofs.Merging.{held_there, passed_there, passed_new, none_after_put, none_after_more}
+use Rattle.bundle.specs.WalksSupport.{NoneAfter}
+use Rattle.bundle.proofs.WalkLemmas.{none_after, starts_at, starts_within, positive_at}
+use Rattle.bundle.proofs.MergeLemmas.{held_there, passed_there, passed_new, none_after_put, none_after_more}
 use Rattle.bundle.proofs.adding.gain.Goals as goal
 
 at_least : (n : ℤ) → pos 0 <ℤ n → pos 0 ≤ℤ n

@@ -1,7 +1,7 @@
 use Rattle.std.proofs.Common.{take, subst}
 use Rattle.std.proofs.lemmas.Result.{on_ok_weaker}
-use Rattle.bundle.proofs.Merging.{merging_next, merging_fits, merging_more, merging_done}
-use Rattle.bundle.proofs.Walking.{BeforeFirst, here, none_after-first}
+use Rattle.bundle.proofs.MergeLemmas.{merging_next, merging_fits, merging_more, merging_done}
+use Rattle.bundle.proofs.WalkLemmas.{BeforeFirst, here, none_after-first}
 use Rattle.bundle.proofs.adding.merge.Goals as goal
 
 pub gain-requires : goal.gain-requires

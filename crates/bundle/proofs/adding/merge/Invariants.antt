@@ -1,7 +1,7 @@
 use Rattle.std.proofs.Common.{◌≤◌, ◌++◌, length, take, drop}
 use Rattle.std.specs.FinMap.{from_sorted}
-use Rattle.bundle.proofs.Merging.{IsMerging}
-use Rattle.bundle.proofs.Walking.{BeforeFirst}
+use Rattle.bundle.proofs.MergeLemmas.{IsMerging}
+use Rattle.bundle.proofs.WalkLemmas.{BeforeFirst}
 use Rattle.bundle.proofs.adding.merge.Given as goal
 
 -- what was put and what is left to put are the sum so far

@@ -1,7 +1,7 @@
 use Rattle.std.proofs.Common.{◌++◌, drop, take, ◌-◌, sym, ◌∙◌, ap, subst}
-use Rattle.bundle.specs.Walks.{AllBefore}
-use Rattle.bundle.proofs.Walking.{before-append, before_part}
-use Rattle.bundle.proofs.Merging.{joined}
+use Rattle.bundle.specs.WalksSupport.{AllBefore}
+use Rattle.bundle.proofs.WalkLemmas.{before-append, before_part}
+use Rattle.bundle.proofs.MergeLemmas.{joined}
 use Rattle.bundle.proofs.adding.pass.Goals as goal
 
 pub returns-clause-whole : goal.returns-clause-whole

@@ -7,7 +7,7 @@ use Rattle.names.specs.declared.token.Token.{Token}
 use Rattle.names.specs.Orders.{token_cmp}
 use Rattle.names.specs.Totals.{token_total}
 use Rattle.collections.proofs.Places.{at_in_range, find_gap}
-use Rattle.bundle.proofs.Walking.{amount_there, amount_in-natural}
+use Rattle.bundle.proofs.WalkLemmas.{amount_there, amount_in-natural}
 use Rattle.bundle.proofs.bundle.found_amount.Goals as goal
 
 pub offset_bounds-entries-at : goal.offset_bounds-entries-at

@@ -2,7 +2,7 @@ use Rattle.std.proofs.Common.{rules}
 use Rattle.std.proofs.lemmas.Fn.{always_returns_same}
 use Rattle.names.specs.declared.token.Token.{Token}
 use Rattle.names.specs.Orders.{token_cmp}
-use Rattle.bundle.proofs.Searching.{searched}
+use Rattle.bundle.proofs.SearchLaws.{searched}
 use Rattle.bundle.proofs.bundle.place_of.Goals as goal
 
 pub returns : goal.returns

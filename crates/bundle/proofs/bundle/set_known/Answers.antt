@@ -8,9 +8,9 @@ use Rattle.std.specs.FinMap.Entries.{put, is_sorted-put}
 use Rattle.names.specs.Orders.{token_cmp}
 use Rattle.names.specs.Totals.{token_total}
 use Rattle.bundle.specs.Bundles.{AllPositive, with_amount}
-use Rattle.bundle.specs.Walks.{without_zeros}
-use Rattle.bundle.proofs.Positive.{AllPositive-put}
-use Rattle.bundle.proofs.Zeros.{sorted-without_zeros, positive-without_zeros, natural-put, natural_of_positive, no_zeros, put_is_change, put_without_zeros}
+use Rattle.bundle.specs.WalksSupport.{without_zeros}
+use Rattle.bundle.proofs.PositiveLaws.{AllPositive-put}
+use Rattle.bundle.proofs.ZeroLemmas.{sorted-without_zeros, positive-without_zeros, natural-put, natural_of_positive, no_zeros, put_is_change, put_without_zeros}
 use Rattle.bundle.proofs.bundle.set_known.Goals as goal
 
 above : (n : ℤ) → pos 0 ≤ℤ n → n ≢ pos 0 → pos 0 <ℤ n

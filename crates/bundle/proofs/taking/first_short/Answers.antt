@@ -7,9 +7,9 @@ use Rattle.std.specs.FinMap.{from_sorted, is_sorted}
 use Rattle.collections.proofs.Places.{third}
 use Rattle.names.specs.Orders.{token_cmp}
 use Rattle.bundle.specs.Bundles.{first_short}
-use Rattle.bundle.proofs.Looping.{short_now, short_later}
-use Rattle.bundle.proofs.Walking.{here, none_after, none_after-first}
-use Rattle.bundle.proofs.Zeros.{amount_of-from_sorted}
+use Rattle.bundle.proofs.LoopLemmas.{short_now, short_later}
+use Rattle.bundle.proofs.WalkLemmas.{here, none_after, none_after-first}
+use Rattle.bundle.proofs.ZeroLemmas.{amount_of-from_sorted}
 use Rattle.bundle.proofs.taking.first_short.Goals as goal
 
 pub returns-then-is_short : goal.returns-then-is_short

@@ -3,7 +3,7 @@ use Rattle.std.proofs.Math.Dec.{T}
 use Rattle.std.specs.FinMap.{is_sorted, from_sorted}
 use Rattle.names.specs.Orders.{token_cmp}
 use Rattle.bundle.specs.Bundles.{first_short}
-use Rattle.bundle.proofs.Walking.{BeforeFirst}
+use Rattle.bundle.proofs.WalkLemmas.{BeforeFirst}
 use Rattle.bundle.proofs.taking.first_short.Given as goal
 
 abbrev pub invariant-loop-entry : goal.invariant-loop-entry

@@ -1,8 +1,8 @@
 use Rattle.std.proofs.Common.{◌<ℤ◌, ◌≤ℤ◌, ◌-ℤ◌, pos, ℤ, get_or, set, sym, ◌∙◌, ap, subst, arith}
 use Rattle.std.proofs.lemmas.Int.{ints}
-use Rattle.bundle.specs.Walks.{amount_in}
-use Rattle.bundle.proofs.Walking.{starts, starts_within, is_at, amount_there}
-use Rattle.bundle.proofs.Lessening.{put_is_set}
+use Rattle.bundle.specs.WalksSupport.{amount_in}
+use Rattle.bundle.proofs.WalkLemmas.{starts, starts_within, is_at, amount_there}
+use Rattle.bundle.proofs.LessLemmas.{put_is_set}
 use Rattle.bundle.proofs.taking.reduce.Goals as goal
 
 above : (m n : ℤ) → pos 0 <ℤ n → n ≤ℤ m → pos 0 <ℤ m

@@ -1,7 +1,7 @@
 use Rattle.std.proofs.Common.{rules, ◌+◌, drop, sym, subst, arith}
 use Rattle.std.specs.FinMap.{from_sorted}
-use Rattle.bundle.proofs.Lessening.{IsLessening, starting, enough, lessened}
-use Rattle.bundle.proofs.Walking.{here, none_after, none_after-first}
+use Rattle.bundle.proofs.LessLemmas.{IsLessening, starting, enough, lessened}
+use Rattle.bundle.proofs.WalkLemmas.{here, none_after, none_after-first}
 use Rattle.bundle.proofs.taking.reduce_each.Goals as goal
 
 pub loop-entry-init : goal.loop-entry-init

@@ -1,7 +1,7 @@
 use Rattle.std.proofs.Common.{◌≤◌, length, take, drop}
 use Rattle.std.specs.FinMap.{from_sorted}
-use Rattle.bundle.proofs.Lessening.{IsLessening}
-use Rattle.bundle.proofs.Walking.{BeforeFirst}
+use Rattle.bundle.proofs.LessLemmas.{IsLessening}
+use Rattle.bundle.proofs.WalkLemmas.{BeforeFirst}
 use Rattle.bundle.proofs.taking.reduce_each.Given as goal
 
 -- what is left so far, where zeros stand for nothing

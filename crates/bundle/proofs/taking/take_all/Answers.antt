@@ -4,8 +4,8 @@ use Rattle.std.proofs.Math.Seq.{take-append_seam}
 use Rattle.std.specs.FinMap.{is_sorted}
 use Rattle.names.specs.Orders.{token_cmp}
 use Rattle.bundle.specs.Bundles.{AllPositive}
-use Rattle.bundle.specs.Walks.{without_zeros}
-use Rattle.bundle.proofs.Zeros.{sorted-without_zeros, positive-without_zeros}
+use Rattle.bundle.specs.WalksSupport.{without_zeros}
+use Rattle.bundle.proofs.ZeroLemmas.{sorted-without_zeros, positive-without_zeros}
 use Rattle.bundle.proofs.taking.take_all.Goals as goal
 
 front : {X : Type 0} (n : ℕ) (xs ys : List X) → length xs ≡ n → take n (xs ++ ys) ≡ xs

@@ -1,7 +1,7 @@
 use Rattle.std.proofs.Common.{sym, ◌∙◌, ap}
 use mir.Syntax.{w128}
 use Rattle.std.proofs.Math.Facts.{to_z-of_z}
-use Rattle.bundle.proofs.Walking.{is_at, amount_there, amount_nowhere}
+use Rattle.bundle.proofs.WalkLemmas.{is_at, amount_there, amount_nowhere}
 use Rattle.bundle.proofs.walk.amount_at.Goals as goal
 
 pub returns-then-is_at : goal.returns-then-is_at

@@ -1,5 +1,5 @@
 use Rattle.std.proofs.Common.{sym, ◌∙◌}
-use Rattle.bundle.proofs.Walking.{before_more, greater}
+use Rattle.bundle.proofs.WalkLemmas.{before_more, greater}
 use Rattle.bundle.proofs.walk.skip_before.Goals as goal
 
 pub loop-at-preserved : goal.loop-at-preserved

@@ -1,5 +1,5 @@
 use Rattle.std.proofs.Common.{take}
-use Rattle.bundle.specs.Walks.{AllBefore}
+use Rattle.bundle.specs.WalksSupport.{AllBefore}
 use Rattle.bundle.proofs.walk.skip_before.Given as goal
 
 abbrev pub invariant-loop-at : goal.invariant-loop-at

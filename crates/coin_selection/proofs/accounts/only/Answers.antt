@@ -2,7 +2,7 @@ use Rattle.std.proofs.Common.{◌≡◌, ◌∷◌, [], ◌∙◌, ap, rules}
 use Rattle.std.specs.FinMap.{from_sorted}
 use Rattle.std.specs.FinMap.Entries.{put}
 use Rattle.names.specs.Orders.{token_cmp}
-use Rattle.coin_selection.proofs.Singles.{only_is}
+use Rattle.coin_selection.proofs.SingleLemmas.{only_is}
 use Rattle.coin_selection.proofs.accounts.only.Goals as goal
 
 pub returns : goal.returns

@@ -4,8 +4,8 @@ use Rattle.bundle.specs.declared.fault.BundleFault.TheVariants as faults
 use Rattle.states.specs.States.{AllPositive}
 use Rattle.roles.specs.Sums.{sums_in, sums_of}
 use Rattle.builder_spec.specs.Holding.{sums}
-use Rattle.builder_spec.specs.Clauses.{is_much}
-use Rattle.coin_selection.proofs.Singles.{itself, sums-singles}
+use Rattle.builder_spec.specs.Causes.{is_much}
+use Rattle.coin_selection.proofs.SingleLemmas.{itself, sums-singles}
 use Rattle.coin_selection.proofs.accounts.sums_of.Goals as goal
 
 pub returns-in-Ok-clause-ok : goal.returns-in-Ok-clause-ok

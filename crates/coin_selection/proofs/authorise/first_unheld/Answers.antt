@@ -3,7 +3,7 @@ use Rattle.std.specs.List.{find}
 use Rattle.std.specs.Option.{option_map}
 use Rattle.names.specs.declared.token.Token.{Token}
 use Rattle.builder_spec.specs.Holding.{holds_token}
-use Rattle.coin_selection.proofs.Roles.{unheld_first}
+use Rattle.coin_selection.proofs.RoleTokenLemmas.{unheld_first}
 use Rattle.coin_selection.proofs.authorise.first_unheld.Goals as goal
 
 pub returns-then-branch : goal.returns-then-branch

@@ -1,12 +1,12 @@
 use Rattle.std.proofs.Common.{◌≡◌, false, take, subst, inl, arith}
-use Rattle.builder_spec.specs.Holding.{held}
+use Rattle.builder_spec.specs.Holding.{amount_in}
 use Rattle.builder_spec.specs.Fronts.{suffices}
-use Rattle.builder_spec.proofs.Sufficing.{bundles_take}
-use Rattle.coin_selection.specs.Needed.{need, Stands}
-use Rattle.coin_selection.proofs.Walking.{up_to}
-use Rattle.coin_selection.proofs.Halves.{bundle_at}
-use Rattle.coin_selection.proofs.Needing.{meet_more}
-use Rattle.coin_selection.proofs.Enough.{lack_all, met_suffices, unmet_lacks, up_one}
+use Rattle.builder_spec.proofs.SufficesLaws.{bundles_take}
+use Rattle.coin_selection.specs.RequiredSupport.{required_amount, IsMissing}
+use Rattle.coin_selection.proofs.ListLaws.{up_to}
+use Rattle.coin_selection.proofs.HalvesLemmas.{bundle_at}
+use Rattle.coin_selection.proofs.RequiredLemmas.{meet_more}
+use Rattle.coin_selection.proofs.EnoughLemmas.{lack_all, met_suffices, unmet_lacks, up_one}
 use Rattle.coin_selection.proofs.front.front_length.Goals as goal
 
 pub returns-then-is_met : goal.returns-then-is_met
@@ -15,7 +15,7 @@ returns-then-is_met c =
     let i = c.loop-i.i in record {
       within = omega (arith, c.loop-i-test.true);
       shorter = c.loop-i.invariant.shorter;
-      reached = inl (met_suffices c.args.roles.now c.args.amounts.now (take i us) c.loop-i.needs (bundles_take held i us c.requires) c.loop-i.invariant.left (c.is_met.ensures.0 c.if-is_met.true));
+      reached = inl (met_suffices c.args.roles.now c.args.amounts.now (take i us) c.loop-i.missing (bundles_take amount_in i us c.requires) c.loop-i.invariant.left (c.is_met.ensures.0 c.if-is_met.true));
     }
 
 pub loop-i-preserved : goal.loop-i-preserved
@@ -25,7 +25,7 @@ loop-i-preserved c =
     let ns = c.args.amounts.now in
     let i = c.loop-i.i in
     let u = c.index-offered-i.result in
-    let more = meet_more held (need rs ns) c.loop-i.needs c.meet.new.needs (take i us) u c.loop-i.invariant.left (bundle_at held us i u c.loop-i-test.true c.index-offered-i.is c.requires) c.meet.ensures in record {
-      left = subst (λ vs. Stands (lack_all rs ns vs) c.meet.new.needs) (up_to us i u c.loop-i-test.true c.index-offered-i.is) more;
-      shorter = up_one (λ k. suffices rs ns (take k us) ≡ false) i c.loop-i.invariant.shorter (unmet_lacks rs ns (take i us) c.loop-i.needs c.is_met.result (bundles_take held i us c.requires) c.loop-i.invariant.left c.is_met.ensures.1 c.if-is_met.false);
+    let more = meet_more amount_in (required_amount rs ns) c.loop-i.missing c.meet.new.missing (take i us) u c.loop-i.invariant.left (bundle_at amount_in us i u c.loop-i-test.true c.index-offered-i.is c.requires) c.meet.ensures in record {
+      left = subst (λ vs. IsMissing (lack_all rs ns vs) c.meet.new.missing) (up_to us i u c.loop-i-test.true c.index-offered-i.is) more;
+      shorter = up_one (λ k. suffices rs ns (take k us) ≡ false) i c.loop-i.invariant.shorter (unmet_lacks rs ns (take i us) c.loop-i.missing c.is_met.result (bundles_take amount_in i us c.requires) c.loop-i.invariant.left c.is_met.ensures.1 c.if-is_met.false);
     }

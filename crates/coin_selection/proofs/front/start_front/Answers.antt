@@ -1,7 +1,7 @@
 use Rattle.std.proofs.Common.{◌≡◌, ◌<◌, inl, inr, ◌⊎◌, arith}
-use Rattle.builder_spec.specs.Holding.{held}
-use Rattle.builder_spec.proofs.Sufficing.{bundles_take}
-use Rattle.coin_selection.proofs.Some.{start_is}
+use Rattle.builder_spec.specs.Holding.{amount_in}
+use Rattle.builder_spec.proofs.SufficesLaws.{bundles_take}
+use Rattle.coin_selection.proofs.StartFrontLemmas.{start_is}
 use Rattle.coin_selection.proofs.front.start_front.Goals.{then-length-eq0, else-length-eq0}
 use Rattle.coin_selection.proofs.front.start_front.Goals as goal
 
@@ -16,4 +16,4 @@ returns-clause-front c =
     ])
 
 pub returns-clause-bundles : goal.returns-clause-bundles
-returns-clause-bundles c = bundles_take held c.if-length-eq0.some c.args.offered.now c.requires.bundles
+returns-clause-bundles c = bundles_take amount_in c.if-length-eq0.some c.args.offered.now c.requires.bundles

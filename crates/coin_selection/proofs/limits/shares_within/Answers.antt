@@ -1,6 +1,6 @@
 use Rattle.std.proofs.Common.{◌≡◌, ◌∙◌, ◌+◌, ◌≤◌, length, ap, ◌⊎◌, inl, inr, Option, Some, arith}
 use Rattle.builder_spec.specs.declared.fault.BuildFault.{BuildFault}
-use Rattle.coin_selection.proofs.Together.{not_over, over_much}
+use Rattle.coin_selection.proofs.SharesLemmas.{not_over, over_much}
 use Rattle.coin_selection.proofs.limits.shares_within.Goals as goal
 
 pub returns-in-Ok-clause-passes : goal.returns-in-Ok-clause-passes

@@ -1,9 +1,8 @@
 use Rattle.std.proofs.Common.{◌≡◌, true, sym, ◌∙◌, ap, subst, IfOk, IfErr, ◌⊎◌, inl, inr, arith}
 use Rattle.bundle.specs.declared.fault.BundleFault.TheVariants as faults
-use Rattle.builder_spec.specs.Holding.{sums}
-use Rattle.builder_spec.specs.Clauses.{is_much}
-use Rattle.builder_spec.specs.Serving.{AreBundles}
-use Rattle.coin_selection.proofs.Halves.{one_sum, in_halves, joined, much_first, much_others, single}
+use Rattle.builder_spec.specs.Holding.{sums, AreBundles}
+use Rattle.builder_spec.specs.Causes.{is_much}
+use Rattle.coin_selection.proofs.HalvesLemmas.{one_sum, in_halves, joined, much_first, much_others, single}
 use Rattle.coin_selection.proofs.sums.+sum.Goals as goal
 
 kept : {A B C D : Type 0} → A ⊎ (B × C) → (C → D) → A ⊎ (B × D)

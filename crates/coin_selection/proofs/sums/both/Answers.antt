@@ -3,7 +3,7 @@ use Rattle.std.specs.Result.{IsOkUnless}
 use Rattle.bundle.specs.Bundles.{too_large}
 use Rattle.bundle.specs.declared.fault.BundleFault.{BundleFault}
 use Rattle.bundle.specs.declared.fault.BundleFault.TheVariants as faults
-use Rattle.builder_spec.proofs.Holdings.{too_large_much}
+use Rattle.builder_spec.proofs.HoldingLaws.{too_large_much}
 use Rattle.coin_selection.proofs.sums.both.Goals as goal
 
 told : {X : Type 0} {M : Type 0} (r : Result X BundleFault) (f : BundleFault) (b : Bool) → r ≡ Err f → (b ≡ true → r ≡ Err faults.TooLarge) → (b ≡ false → IsOkUnless r faults.Memory) → (b ≡ true → M) → (f ≡ faults.Memory) ⊎ ((f ≡ faults.TooLarge) × M)

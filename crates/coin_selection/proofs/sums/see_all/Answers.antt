@@ -1,4 +1,4 @@
-use Rattle.coin_selection.proofs.Walking.{bundles_more}
+use Rattle.coin_selection.proofs.ListLaws.{bundles_more}
 use Rattle.coin_selection.proofs.sums.see_all.Goals as goal
 
 pub loop-item-preserved : goal.loop-item-preserved

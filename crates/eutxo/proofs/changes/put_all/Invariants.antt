@@ -1,5 +1,5 @@
 use Rattle.std.proofs.Common.{◌≡◌, ◌++◌, drop}
-use Rattle.eutxo.specs.Changes.{changes_of}
+use Rattle.eutxo.specs.ChangesSupport.{changes_of}
 use Rattle.eutxo.proofs.changes.put_all.Given as goal
 
 abbrev pub invariant-loop-item : goal.invariant-loop-item

@@ -1,6 +1,6 @@
 use Rattle.std.proofs.Common.{◌≡◌, ◌++◌, drop}
 use Rattle.bundle.specs.Bundles.{AllPositive}
-use Rattle.eutxo.specs.Changes.{signed_entries}
+use Rattle.eutxo.specs.ChangesSupport.{signed_entries}
 use Rattle.eutxo.proofs.changes.put_entries.Given as goal
 
 abbrev pub invariant-loop-entry : goal.invariant-loop-entry

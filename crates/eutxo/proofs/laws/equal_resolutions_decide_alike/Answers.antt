@@ -1,5 +1,5 @@
 use Rattle.eutxo.specs.Asked.{judges_of}
-use Rattle.eutxo.proofs.Judging as judging
+use Rattle.eutxo.proofs.JudgementLemmas as judging
 use Rattle.eutxo.proofs.laws.equal_resolutions_decide_alike.Goals as goal
 
 pub returns-clause-agree : goal.returns-clause-agree

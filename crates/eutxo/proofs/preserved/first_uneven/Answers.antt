@@ -1,8 +1,8 @@
 use Rattle.std.proofs.Common.{◌≡◌, ◌+◌, ◌+ℤ◌, pos, drop, arith, sym, ◌∙◌, ap}
 use Rattle.std.proofs.lemmas.Int.{ints}
 use Rattle.std.specs.Ordering.{int_eq}
-use Rattle.eutxo.specs.Changes.{goes_on, uneven}
-use Rattle.eutxo.proofs.Walking.{uneven_on, uneven_next}
+use Rattle.eutxo.specs.ChangesSupport.{goes_on, uneven}
+use Rattle.eutxo.proofs.ChangesLemmas.{uneven_on, uneven_next}
 use Rattle.eutxo.proofs.preserved.first_uneven.Goals.{then-not-goes_on+else-not-eq, else-not-goes_on}
 use Rattle.eutxo.proofs.preserved.first_uneven.Goals as goal
 

@@ -1,5 +1,5 @@
 use Rattle.std.proofs.Common.{◌≡◌, ◌≤ℤ◌, ◌*◌, ◌^◌, pos, neg_ℤ, drop}
-use Rattle.eutxo.specs.Changes.{uneven}
+use Rattle.eutxo.specs.ChangesSupport.{uneven}
 use Rattle.eutxo.proofs.preserved.first_uneven.Given as goal
 
 -- the rest, begun with the sum so far, answers as the whole

@@ -3,7 +3,7 @@ use Rattle.std.specs.Option.{option_map, option_copied}
 use Rattle.eutxo_types.specs.declared.output.Output.{Output}
 use Rattle.eutxo_types.specs.declared.spend.Spend.{Spend}
 use Rattle.eutxo.specs.Found.{with_outputs}
-use Rattle.eutxo.proofs.Pairing.{next_pair, no_pair}
+use Rattle.eutxo.proofs.FoundLemmas.{next_pair, no_pair}
 use Rattle.eutxo.proofs.resolved.with_outputs.Goals as goal
 
 pub returns-in-None : goal.returns-in-None

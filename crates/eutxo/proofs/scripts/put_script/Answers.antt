@@ -3,7 +3,7 @@ use Rattle.std.specs.FinMap.Entries.{is_sorted}
 use Rattle.std.proofs.Common.{◌∙◌, sym, subst, arith}
 use Rattle.names.specs.Orders.{bytes_cmp}
 use Rattle.collections.proofs.Places.{IsAt, IsGap, at_in_range, gap_in_range, put_at, put_gap}
-use Rattle.eutxo.proofs.Putting.{sorted_put}
+use Rattle.eutxo.proofs.ScriptPutLemmas.{sorted_put}
 use Rattle.eutxo.proofs.scripts.put_script.Goals as goal
 
 pub index_mut-requires : goal.index_mut-requires

@@ -1,4 +1,4 @@
-use Rattle.eutxo_types.proofs.Examples.{begins_the_ledger, is_made, gives, claims, steps, key_of_x, payout_of_b, start_of_closes, nothing_held, five_ada, moves}
+use Rattle.eutxo_types.proofs.WorkedLemmas.{begins_the_ledger, is_made, gives, claims, steps, key_of_x, payout_of_b, start_of_closes, nothing_held, five_ada, moves}
 use Rattle.eutxo_types.proofs.laws.worked_transactions.Goals as goal
 
 pub returns : goal.returns

@@ -1,5 +1,5 @@
 use Rattle.eutxo.specs.Asked.{judges_of}
-use Rattle.ledger_laws.proofs.Growth.{after_is_sound}
+use Rattle.ledger_laws.proofs.SoundLemmas.{after_is_sound}
 use Rattle.ledger_laws.proofs.ledger.accepting_is_sound.Goals as goal
 
 pub returns : goal.returns

@@ -1,5 +1,5 @@
 use Rattle.eutxo.specs.Asked.{judges_of}
-use Rattle.ledger_laws.proofs.Threading.{contracts_end, ends_are_unspent}
+use Rattle.ledger_laws.proofs.ThreadLemmas.{contracts_end, ends_are_unspent}
 use Rattle.ledger_laws.proofs.ledger.contracts_end_threads.Goals as goal
 
 pub returns-clause-thread : goal.returns-clause-thread

@@ -1,5 +1,5 @@
 use Rattle.eutxo.specs.Asked.{judges_of}
-use Rattle.ledger_laws.proofs.Once.{outputs_are_spent_once}
+use Rattle.ledger_laws.proofs.SpentOnceLemmas.{outputs_are_spent_once}
 use Rattle.ledger_laws.proofs.ledger.outputs_are_spent_once.Goals as goal
 
 pub returns : goal.returns

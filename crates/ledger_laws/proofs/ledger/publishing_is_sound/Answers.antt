@@ -1,5 +1,5 @@
 use Rattle.eutxo.specs.Asked.{judges_of}
-use Rattle.ledger_laws.proofs.Publishing.{later_is_sound}
+use Rattle.ledger_laws.proofs.LaterLemmas.{later_is_sound}
 use Rattle.ledger_laws.proofs.ledger.publishing_is_sound.Goals as goal
 
 pub returns : goal.returns

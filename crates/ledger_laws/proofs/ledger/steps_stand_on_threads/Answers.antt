@@ -1,5 +1,5 @@
 use Rattle.eutxo.specs.Asked.{judges_of}
-use Rattle.ledger_laws.proofs.Threading.{steps_stand, contracts_are_stepped}
+use Rattle.ledger_laws.proofs.ThreadLemmas.{steps_stand, contracts_are_stepped}
 use Rattle.ledger_laws.proofs.ledger.steps_stand_on_threads.Goals as goal
 
 pub returns-clause-thread : goal.returns-clause-thread

@@ -1,5 +1,5 @@
 use Rattle.eutxo.specs.Asked.{judges_of}
-use Rattle.ledger_laws.proofs.Preserved.{tokens_are_preserved}
+use Rattle.ledger_laws.proofs.PreservedLemmas.{tokens_are_preserved}
 use Rattle.ledger_laws.proofs.ledger.tokens_are_preserved.Goals as goal
 
 pub returns : goal.returns

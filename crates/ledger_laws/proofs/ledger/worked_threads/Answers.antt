@@ -1,4 +1,4 @@
-use Rattle.ledger_laws.proofs.Examples.{nobody_came, two_steps, none_after_the_end, given_by_name, one_moves}
+use Rattle.ledger_laws.proofs.WorkedLemmas.{nobody_came, two_steps, none_after_the_end, given_by_name, one_moves}
 use Rattle.ledger_laws.proofs.ledger.worked_threads.Goals as goal
 
 pub returns-clause-nobody : goal.returns-clause-nobody

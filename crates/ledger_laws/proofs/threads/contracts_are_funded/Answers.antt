@@ -1,4 +1,4 @@
-use Rattle.ledger_laws.proofs.Funded.{contracts_are_funded, contracts_are_of_tables}
+use Rattle.ledger_laws.proofs.FundedLemmas.{contracts_are_funded, contracts_are_of_tables}
 use Rattle.ledger_laws.proofs.threads.contracts_are_funded.Goals as goal
 
 pub returns-clause-sums : goal.returns-clause-sums

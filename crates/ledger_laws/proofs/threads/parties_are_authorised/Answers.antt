@@ -1,4 +1,4 @@
-use Rattle.ledger_laws.proofs.Allowed.{parties_are_authorised}
+use Rattle.ledger_laws.proofs.AuthorisedLemmas.{parties_are_authorised}
 use Rattle.ledger_laws.proofs.threads.parties_are_authorised.Goals as goal
 
 pub returns : goal.returns

@@ -1,4 +1,4 @@
-use Rattle.ledger_laws.proofs.Runs.{threads_are_runs, threads_end_with_runs}
+use Rattle.ledger_laws.proofs.RunLemmas.{threads_are_runs, threads_end_with_runs}
 use Rattle.ledger_laws.proofs.threads.threads_are_runs.Goals as goal
 
 pub returns-clause-run : goal.returns-clause-run

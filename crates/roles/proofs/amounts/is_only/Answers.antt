@@ -1,7 +1,7 @@
 use Rattle.std.proofs.Common.{◌∷◌, [], sym, ◌∙◌, ap}
 use Rattle.std.proofs.Math.Facts.{to_z-of_z}
 use Rattle.std.specs.FinMap.{entries, same_entries_map}
-use Rattle.roles.proofs.Summing.{entries-only}
+use Rattle.roles.proofs.SumsLemmas.{entries-only}
 use Rattle.roles.proofs.amounts.is_only.Goals as goal
 
 pub returns : goal.returns

@@ -7,10 +7,10 @@ use Rattle.std.specs.FinMap.{entries_sorted}
 use Rattle.std.specs.FinMap.Entries.{is_sorted}
 use Rattle.names.specs.Orders.{token_cmp}
 use Rattle.states.specs.States as states
-use Rattle.roles.specs.Left.{left_of, IsTaken}
+use Rattle.roles.specs.LeftSupport.{left_of, IsTaken}
 use Rattle.roles.specs.Sums.{sums_in}
-use Rattle.roles.proofs.Leaving.{all_zero, refused}
-use Rattle.roles.proofs.Summing.{IsLeft, at_first, taken, too_little, all_taken, nothing_left, here}
+use Rattle.roles.proofs.LeftLemmas.{all_zero, refused}
+use Rattle.roles.proofs.SumsLemmas.{IsLeft, at_first, taken, too_little, all_taken, nothing_left, here}
 use Rattle.roles.proofs.amounts.is_sums.Goals as goal
 
 pub loop-account-init : goal.loop-account-init

@@ -1,5 +1,5 @@
 use Rattle.std.proofs.Common.{drop}
-use Rattle.roles.proofs.Summing.{IsLeft}
+use Rattle.roles.proofs.SumsLemmas.{IsLeft}
 use Rattle.roles.proofs.amounts.is_sums.Given as goal
 
 abbrev pub invariant-loop-account : goal.invariant-loop-account

@@ -2,8 +2,8 @@ use Rattle.std.proofs.Common.{◌-ℤ◌, set, not, sym, ◌∙◌, ap, arith}
 use Rattle.std.specs.Prelude.{int_lt}
 use Rattle.names.specs.Orders.{token_cmp}
 use Rattle.collections.proofs.Places.{at_in_range}
-use Rattle.roles.specs.Left.{left_of}
-use Rattle.roles.proofs.Leaving.{left_at, left_gap, left_set, too_few}
+use Rattle.roles.specs.LeftSupport.{left_of}
+use Rattle.roles.proofs.LeftLemmas.{left_at, left_gap, left_set, too_few}
 use Rattle.roles.proofs.amounts.take.Goals as goal
 
 pub index_mut-requires : goal.index_mut-requires

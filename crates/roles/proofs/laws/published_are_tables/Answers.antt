@@ -1,4 +1,4 @@
-use Rattle.roles.proofs.Tables.{published_are_tables}
+use Rattle.roles.proofs.PublicationsLemmas.{published_are_tables}
 use Rattle.roles.proofs.laws.published_are_tables.Goals as goal
 
 pub returns : goal.returns

@@ -1,4 +1,4 @@
-use Rattle.roles.proofs.Tables.{published_tell_apart}
+use Rattle.roles.proofs.PublicationsLemmas.{published_tell_apart}
 use Rattle.roles.proofs.laws.published_tell_contracts_apart.Goals as goal
 
 pub returns : goal.returns

@@ -1,5 +1,5 @@
 use Rattle.roles.specs.Sums.{sums_of}
-use Rattle.roles.proofs.Deciding.{decided_amounts}
+use Rattle.roles.proofs.OutputLemmas.{decided_amounts}
 use Rattle.roles.proofs.script.holds_sums.Goals as goal
 
 pub returns : goal.returns

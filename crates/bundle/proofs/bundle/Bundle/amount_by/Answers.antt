@@ -3,8 +3,8 @@ use mir.Syntax.{w128}
 use Rattle.std.proofs.Math.Facts.{to_z-of_z}
 use Rattle.names.specs.declared.token.Token.{Token}
 use Rattle.bundle.specs.Bundles.{amount_of}
-use Rattle.bundle.specs.Walks.{amount_in}
-use Rattle.bundle.proofs.Zeros.{amount_of-from_sorted}
+use Rattle.bundle.specs.WalksSupport.{amount_in}
+use Rattle.bundle.proofs.ZeroLemmas.{amount_of-from_sorted}
 use Rattle.bundle.proofs.bundle.Bundle.amount_by.Goals as goal
 
 pub returns-clause-held : goal.returns-clause-held

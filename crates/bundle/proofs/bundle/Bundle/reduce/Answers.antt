@@ -1,7 +1,7 @@
 use Rattle.std.proofs.Common.{◌<ℤ◌, ◌≤ℤ◌, pos, ℤ, sym, ◌∙◌, ap, subst, arith}
 use Rattle.std.proofs.lemmas.Int.{ints}
 use Rattle.bundle.specs.Bundles.{Amounts, amount_of}
-use Rattle.bundle.proofs.Zeros.{amount_of-from_sorted}
+use Rattle.bundle.proofs.ZeroLemmas.{amount_of-from_sorted}
 use Rattle.bundle.proofs.bundle.Bundle.reduce.Goals as goal
 
 above : (m n : ℤ) → pos 0 <ℤ n → n ≤ℤ m → pos 0 <ℤ m

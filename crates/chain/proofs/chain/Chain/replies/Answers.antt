@@ -1,7 +1,7 @@
 use Rattle.std.proofs.Common.{◌∙◌, ap}
-use Rattle.ledger_replay.specs.Standing.{World, world}
-use Rattle.ledger_dispatch.specs.Answering.{reply_to}
-use Rattle.chain.proofs.Staying.{ids_found}
+use Rattle.ledger_spec.specs.Replay.{World, world}
+use Rattle.ledger_spec.specs.Calls.{reply_to}
+use Rattle.chain.proofs.AcceptedLemmas.{ids_found}
 use Rattle.chain.proofs.chain.Chain.replies.Goals as goal
 
 pub returns-clause-reply : goal.returns-clause-reply

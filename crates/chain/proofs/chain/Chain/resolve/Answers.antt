@@ -1,6 +1,6 @@
 use Rattle.std.proofs.Common.{◌≡◌, subst, IfOk}
 use Rattle.eutxo.specs.Judgement.{found}
-use Rattle.ledger_replay.specs.Standing.{World, moment_of}
+use Rattle.ledger_spec.specs.Replay.{World, moment_of}
 use Rattle.chain.proofs.chain.Chain.resolve.Goals as goal
 
 pub returns : goal.returns

@@ -1,5 +1,5 @@
 use Rattle.std.proofs.Common.{to_z, of_z, w64}
-use Rattle.chain.proofs.Courses.{kept_start}
+use Rattle.chain.proofs.LegalLemmas.{kept_start}
 use Rattle.chain.proofs.chain.Chain.starting.Goals as goal
 
 pub invariant_of-result : goal.invariant_of-result

@@ -2,11 +2,11 @@ use Rattle.std.proofs.Common.{rules, ◌≡◌, ◌++◌, ◌∷◌, [], refl, s
 use Rattle.std.specs.Option.{option_to_list}
 use Rattle.eutxo_types.specs.Ids.{id_of}
 use Rattle.ledger.specs.declared.call.Entry.{Entry}
-use Rattle.ledger_replay.specs.Standing.{Course, changed, count_of, published, world}
-use Rattle.ledger_dispatch.specs.Answering.{reply_to, with_new}
-use Rattle.chain.specs.Legal.{entry_of}
-use Rattle.chain.specs.Kept.{IsKept}
-use Rattle.chain.proofs.Courses.{kept_more, same_entry, on_err}
+use Rattle.ledger_spec.specs.Replay.{Course, after_call, count_of, published, world}
+use Rattle.ledger_spec.specs.Calls.{reply_to, published_with}
+use Rattle.ledger_spec.specs.Legal.{entry_of}
+use Rattle.chain.specs.ChainSupport.{IsKept}
+use Rattle.chain.proofs.LegalLemmas.{kept_more, same_entry, on_err}
 use Rattle.chain.proofs.chain.Chain.step.Goals as goal
 
 pub invariant_of-self-2 : goal.invariant_of-self-2
@@ -15,9 +15,9 @@ invariant_of-self-2 c =
     let course : Course = record { genesis = s.genesis; first_tick = s.tick; entries = s.entries.items } in
     let found = c.in_ok-reply in
     let reply = found.ensures.reply ∙ ap (λ (v : Course). reply_to (world v) c.args.call) (sym c.self.view_is) in
-    let object = subst (λ (v : Course). published v.entries ++ option_to_list found.field-0.object ≡ with_new (published v.entries) c.args.call) (sym c.self.view_is) found.ensures.object in
+    let object = subst (λ (v : Course). published v.entries ++ option_to_list found.field-0.object ≡ published_with (published v.entries) c.args.call) (sym c.self.view_is) found.ensures.object in
     let ids =
-    subst (λ (v : Course). map id_of (world v).standing.accepted ++ found.field-0.ids.items ≡ map id_of (changed (world v).standing c.args.call (reply_to (world v) c.args.call)).accepted) (sym c.self.view_is) found.ensures.ids in
+    subst (λ (v : Course). map id_of (world v).replay.accepted ++ found.field-0.ids.items ≡ map id_of (after_call (world v).replay c.args.call (reply_to (world v) c.args.call)).accepted) (sym c.self.view_is) found.ensures.ids in
     let number : c.count_of-number.result ≡ count_of c.args.seat s.entries.items = search rules in
     let made : Entry = record { seat = c.args.seat; number = c.count_of-number.result; call = c.args.call; reply = found.field-0.reply } in
     let e : made ≡ entry_of course c.args.seat c.args.call = same_entry made (entry_of course c.args.seat c.args.call) refl number refl reply in

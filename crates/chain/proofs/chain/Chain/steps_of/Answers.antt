@@ -1,8 +1,8 @@
 use Rattle.std.proofs.Common.{sym, subst, IfOk}
 use Rattle.ledger_laws.specs.Laws.{marlowe, AreTables}
 use Rattle.ledger_laws.specs.Sound.{IsSound}
-use Rattle.ledger_replay.specs.Standing.{World, Course, world, past_of, published_at}
-use Rattle.ledger_views.specs.Recording.{AreSteps}
+use Rattle.ledger_spec.specs.Replay.{World, Course, world, past_of, published_at}
+use Rattle.ledger_spec.specs.Records.{AreSteps}
 use Rattle.chain.proofs.chain.Chain.steps_of.Goals as goal
 
 pub records-requires : goal.records-requires

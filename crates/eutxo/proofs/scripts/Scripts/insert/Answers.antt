@@ -1,7 +1,7 @@
 use Rattle.std.proofs.Common.{◌∙◌, ap}
 use Rattle.std.specs.FinMap.{from_sorted, insert}
 use Rattle.names.specs.Orders.{bytes_cmp}
-use Rattle.eutxo.proofs.Putting.{map_put, on_ok}
+use Rattle.eutxo.proofs.ScriptPutLemmas.{map_put, on_ok}
 use Rattle.eutxo.proofs.scripts.Scripts.insert.Goals as goal
 
 pub returns-clause-ok : goal.returns-clause-ok

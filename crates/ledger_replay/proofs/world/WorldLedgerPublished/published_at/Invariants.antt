@@ -1,5 +1,5 @@
 use Rattle.std.proofs.Common.{◌≡◌, drop}
-use Rattle.ledger_replay.specs.Standing.{published_at}
+use Rattle.ledger_spec.specs.Replay.{published_at}
 use Rattle.ledger_replay.proofs.world.WorldLedgerPublished.published_at.Given as goal
 
 abbrev pub invariant-loop-p : goal.invariant-loop-p

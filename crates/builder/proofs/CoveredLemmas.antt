@@ -1,0 +1,192 @@
+-- What is spent covers what is made.
+use Rattle.std.proofs.Common.{◌≡◌, ℕ, ℤ, pos, ◌+ℤ◌, ◌<ℤ◌, ◌≤ℤ◌, Bool, true, false, cond, not, ◌&&◌, List, [], ◌∷◌, is_none, Option, Some, None, Result, Ok, Err, refl, sym, ◌∙◌, ap, subst, arith}
+use Rattle.std.proofs.lemmas.Int.{ints}
+use Rattle.std.specs.List.{list_all, find, filter_map}
+use Rattle.std.specs.Option.{option_map}
+use Rattle.std.specs.FinMap.{entries}
+use Rattle.std.specs.Ordering.{eq_by_cmp}
+use Rattle.collections.proofs.SameLaws.{same_by_decides}
+use Rattle.names.specs.declared.party.Party.{Party}
+use Rattle.names.specs.declared.payee.Payee.{Payee}
+use Rattle.names.specs.declared.payee.Payee.TheVariants as to
+use Rattle.names.specs.declared.party.Party.TheVariants.{Address, Role}
+use Rattle.names.specs.declared.token.Token.{Token}
+use Rattle.names.specs.Orders.{token_cmp}
+use Rattle.contract.specs.declared.fault.SemFault.{SemFault}
+use Rattle.contract.specs.declared.fault.SemFault.TheVariants.{Leaves128}
+use Rattle.contract.specs.declared.input.Input.{Input}
+use Rattle.contract.specs.declared.payment.Payment.{Payment}
+use Rattle.states.specs.States as states
+use Rattle.states.specs.States.{StateMaps, counted}
+use Rattle.semantics.specs.Walk.{Standing, answer_of}
+use Rattle.semantics.specs.Laws.{EndsQuiet}
+use Rattle.semantics.specs.Money.{deposited, taken_out, paid_out, MoneyIsKept}
+use Rattle.semantics.specs.Naturals.{AreNatural, PaymentsAreNatural}
+use Rattle.bundle.specs.contracts.bundle.Bundle as bundles
+use Rattle.bundle.specs.Bundles.{Amounts, amount_of, covers, AllPositive}
+use Rattle.bundle.specs.Totals.{total_of}
+use Rattle.bundle.proofs.CoverLaws.{covers_each_token, each_token_is_covered}
+use Rattle.machine.specs.declared.datum.Datum.{Datum}
+use Rattle.eutxo_types.specs.declared.output.Output.{Output}
+use Rattle.eutxo.specs.Parts.{same_bytes}
+use Rattle.eutxo.specs.Faults.{is_empty}
+use Rattle.roles.specs.Sums.{sums_of}
+use Rattle.roles.specs.Steps.{same_amounts, role_token, actor}
+use Rattle.roles.specs.Terms.{terms_of}
+use Rattle.ledger.specs.declared.look.ThreadOutput.{ThreadOutput}
+use Rattle.ledger.specs.declared.look.Unspent.{Unspent}
+use Rattle.builder_spec.specs.Requests.{StepRequest}
+use Rattle.builder_spec.specs.Holding.{sums, amount_in, holds_token, wanted, least_lacking, AreBundles}
+use Rattle.builder_spec.specs.Fronts.{shortest, suffices, front}
+use Rattle.builder_spec.specs.Causes.{is_much}
+use Rattle.builder_spec.specs.Steps.{Thread, thread_terms, step_walk, token_of, roles_of, may_act, deposits, own_output, step_outputs_of, is_current, thread_in}
+use Rattle.builder_spec.specs.Starts.{accounts_of, fresh_state, covers_accounts}
+use Rattle.builder_spec.proofs.HoldingLaws.{amount_of-sums, positive_sums, much_at, much_of, most}
+use Rattle.builder_spec.proofs.SufficesLaws.{and_so, and_true, front_suffices}
+use Rattle.builder_spec.proofs.FrontsLaws.{shortest_passes}
+use Rattle.builder_spec.proofs.FundsLaws.{amount, funded, all_covered, wanted-accounts, amount_of-sums_in}
+
+not_so : (b : Bool) → (b ≡ true → true ≡ false) → b ≡ false
+not_so true h = absurd (cc (h refl))
+not_so false h = refl
+
+-- ---- room for what is covered
+
+more : (a b : ℤ) → most <ℤ b → b ≤ℤ a → most <ℤ a
+more a b h k = omega (arith, ints, h, k)
+
+-- what has room covers nothing that hasn't
+pub room_below : (a b : Amounts) → is_much a ≡ false → ((t : Token) → most <ℤ amount_of b t → most <ℤ amount_of a t) → is_much b ≡ false
+room_below a b h f = not_so (is_much b) (λ e. let k = much_of b e in sym (much_at a k.0 (f k.0 k.1)) ∙ h)
+
+pub covered_room : (a b : Amounts) → AllPositive (entries a) → is_much a ≡ false → covers a b ≡ true → is_much b ≡ false
+covered_room a b p h c = room_below a b h (λ t k. more (amount_of a t) (amount_of b t) k (covers_each_token a b p c t))
+
+-- ---- steps
+
+zero_counted : (b : Bool) (n : ℤ) → pos 0 ≤ℤ n → pos 0 ≤ℤ cond b n (pos 0)
+zero_counted true n h = h
+zero_counted false n h = omega (arith, ints)
+
+natural_out : (y : Payee) (n : ℤ) → pos 0 ≤ℤ n → pos 0 ≤ℤ taken_out y n
+natural_out y n h = elim y as (λ z. pos 0 ≤ℤ taken_out z n) [ to.Account q ↦ omega (arith, ints) | to.Party q ↦ h ]
+
+both_natural : (a b : ℤ) → pos 0 ≤ℤ a → pos 0 ≤ℤ b → pos 0 ≤ℤ (a +ℤ b)
+both_natural a b h k = omega (arith, ints, h, k)
+
+paid_natural : (t : Token) (ps : List Payment) → AreNatural ps → pos 0 ≤ℤ paid_out t ps
+paid_natural t [] h = omega (arith, ints)
+paid_natural t (p ∷ ps) h =
+    both_natural (taken_out p.to (counted t p.token p.amount)) (paid_out t ps)
+    (natural_out p.to (counted t p.token p.amount) (zero_counted (eq_by_cmp token_cmp t p.token) p.amount h.0)) (paid_natural t ps h.1)
+
+ended_well : (b : Bool) (end : Result Standing SemFault) (a : Standing) → cond b end (Err Leaves128) ≡ Ok a → end ≡ Ok a
+ended_well true end a h = h
+ended_well false end a h = absurd (cc)
+
+spent_more : (s d t p f all : ℤ) → s +ℤ d ≡ t +ℤ p → pos 0 ≤ℤ p → d ≤ℤ f → all ≡ s +ℤ f → most <ℤ t → most <ℤ all
+spent_more s d t p f all h k l m n = omega (arith, ints, h, k, l, m, n)
+
+-- what a step starts from: its thread's output holds the sums of its accounts, it succeeds, and its front covers the deposits
+pub record IsFunded (r : StepRequest) (e : Thread) (a : Standing) (us : List Unspent) : Type 0 where
+  pub sums : e.0.output.amount ≡ sums_of e.1.state
+  pub ended : answer_of (step_walk r e) ≡ Ok a
+  pub accounts : states.AllPositive (entries e.1.state.accounts)
+  pub covered : is_none (least_lacking (deposits r.inputs) us) ≡ true
+  pub bundles : AreBundles amount_in (own_output e ∷ us)
+
+pub step_covers : MoneyIsKept → EndsQuiet → PaymentsAreNatural → (r : StepRequest) (e : Thread) (a : Standing) (us : List Unspent) → IsFunded r e a us → covers (sums amount_in (own_output e ∷ us)) (sums amount (step_outputs_of e (step_walk r e) (Ok a))) ≡ true
+step_covers money quiet natural r e a us f =
+    let spent = own_output e ∷ us in
+    let out = step_outputs_of e (step_walk r e) (Ok a) in
+    each_token_is_covered (sums amount_in spent) (sums amount out) (positive_sums amount_in spent f.bundles) (λ t.
+    subst (λ n. n ≤ℤ amount_of (sums amount_in spent) t) (sym (amount_of-sums amount out t)) (subst (λ n. total_of amount t out ≤ℤ n) (sym (amount_of-sums amount_in spent t))
+    (funded money quiet natural r e a us f.sums f.ended f.accounts f.covered f.bundles.1 t).there))
+
+pub step_room : MoneyIsKept → EndsQuiet → PaymentsAreNatural → (r : StepRequest) (e : Thread) (a : Standing) (us : List Unspent) → IsFunded r e a us → is_much (sums amount_in (own_output e ∷ us)) ≡ false → is_much (sums_of a.state) ≡ false
+step_room money quiet natural r e a us f room =
+    let w = step_walk r e in
+    let c = (thread_terms e).tree e.1.cont in
+    let well : w.end ≡ Ok a = ended_well _ w.end a f.ended in
+    room_below (sums amount_in (own_output e ∷ us)) (sums_of a.state) room (λ t k.
+    let all : amount_of (sums amount_in (own_output e ∷ us)) t ≡ states.total_of t e.1.state +ℤ total_of amount_in t us = amount_of-sums amount_in (own_output e ∷ us) t
+    ∙ ap (λ n. n +ℤ total_of amount_in t us) (ap (λ m. amount_of m t) f.sums ∙ amount_of-sums_in (entries e.1.state.accounts) t) in
+    spent_more (states.total_of t e.1.state) (deposited t r.inputs) (states.total_of t a.state) (paid_out t w.payments) (total_of amount_in t us) (amount_of (sums amount_in (own_output e ∷ us)) t)
+    (money t r.interval e.1.state c r.inputs a well)
+    (paid_natural t w.payments (natural r.interval e.1.state c r.inputs f.accounts))
+    (funded money quiet natural r e a us f.sums f.ended f.accounts f.covered f.bundles.1 t).covered
+    all
+    (subst (λ n. most <ℤ n) (amount_of-sums_in (entries a.state.accounts) t) k))
+
+-- where each party may act, what is offered holds the tokens of the roles
+roles_offered : (currency : List ℕ) (signers : List (List ℕ)) (us : List Unspent) (ps : List Party) → find (λ p. not (may_act currency signers us p)) ps ≡ None → list_all (holds_token us) (filter_map (token_of currency) ps) ≡ true
+roles_offered currency signers us [] h = refl
+roles_offered currency signers us (Address a ∷ ps) h = by (may_act currency signers us (Address a)) (roles_offered currency signers us ps) h
+  where
+    by : (b : Bool) → (find (λ p. not (may_act currency signers us p)) ps ≡ None → list_all (holds_token us) (filter_map (token_of currency) ps) ≡ true) →
+        cond (not b) (let o : Option Party = Some (Address a) in o) (find (λ p. not (may_act currency signers us p)) ps) ≡ None → list_all (holds_token us) (filter_map (token_of currency) ps) ≡ true
+    by true f k = f k
+    by false f k = absurd (cc)
+roles_offered currency signers us (Role r ∷ ps) h = by (holds_token us (role_token currency r)) (roles_offered currency signers us ps) h
+  where
+    by : (b : Bool) → (find (λ p. not (may_act currency signers us p)) ps ≡ None → list_all (holds_token us) (filter_map (token_of currency) ps) ≡ true) →
+        cond (not b) (let o : Option Party = Some (Role r) in o) (find (λ p. not (may_act currency signers us p)) ps) ≡ None → b && list_all (holds_token us) (filter_map (token_of currency) ps) ≡ true
+    by true f k = f k
+    by false f k = absurd (cc)
+
+unmapped : {A B : Type 0} (f : A → B) (o : Option A) → option_map f o ≡ None → o ≡ None
+unmapped f None h = refl
+unmapped f (Some x) h = absurd (cc)
+
+-- where nothing hinders it, the front of a step covers the deposits
+pub front_covers : {F G : Type 0} (f : Party → F) (g : Token → G) (currency : List ℕ) (signers : List (List ℕ)) (us : List Unspent) (xs : List Input) → option_map f (find (λ p. not (may_act currency signers us p)) (filter_map actor xs)) ≡ None →
+    option_map g (least_lacking (deposits xs) us) ≡ None → is_none (least_lacking (deposits xs) (front (roles_of currency xs) (deposits xs) us)) ≡ true
+front_covers f g currency signers us xs h k =
+    let all = roles_offered currency signers us (filter_map actor xs) (unmapped f _ h) in
+    let some = and_true (list_all (holds_token us) (roles_of currency xs)) (is_none (least_lacking (deposits xs) us)) all (ap is_none (unmapped g _ k)) in
+    (and_so (list_all (holds_token (front (roles_of currency xs) (deposits xs) us)) (roles_of currency xs)) _ (front_suffices (roles_of currency xs) (deposits xs) us some)).1
+
+abbrev datum_or : Datum → Option Thread → Datum
+datum_or d None = d
+datum_or d (Some e) = e.1
+
+-- the output of a thread that stands holds the sums of its accounts
+pub thread_sums : (t : ThreadOutput) (o : Option (List ℕ × Datum)) (d : Datum) → thread_in t o ≡ Some (t, d) → t.output.amount ≡ sums_of d.state
+thread_sums t None d h = absurd (cc)
+thread_sums t (Some c) d h = by (is_current t c) refl h
+  where
+    by : (b : Bool) → is_current t c ≡ b → cond b (let o : Option Thread = Some (t, c.1) in o) None ≡ Some (t, d) → t.output.amount ≡ sums_of d.state
+    by false e k = absurd (cc)
+    by true e k =
+        let both = and_so (same_bytes c.0 t.published.id) _ e in
+        let last = and_so ((terms_of t.published).has c.1.cont) (same_amounts t.output.amount (sums_of c.1.state)) both.1 in
+        subst (λ (x : Datum). t.output.amount ≡ sums_of x.state) (ap (datum_or d) k) ((same_by_decides bundles.the_row.coded t.output.amount (sums_of c.1.state)).0 last.1)
+
+-- ---- starts
+
+-- where a start is funded, its front covers the accounts
+pub start_covered : {G : Type 0} (g : Token → G) (s : StateMaps) (us : List Unspent) → is_empty us ≡ false → option_map g (least_lacking (accounts_of s) us) ≡ None → is_none (least_lacking (accounts_of s) (shortest (covers_accounts s) us)) ≡ true
+start_covered g s us h k =
+    let some : covers_accounts s us ≡ true = and_true (not (is_empty us)) (suffices [] (accounts_of s) us) (ap not h) (ap is_none (unmapped g _ k)) in
+    (and_so (not (is_empty (shortest (covers_accounts s) us))) (suffices [] (accounts_of s) (shortest (covers_accounts s) us)) (shortest_passes (covers_accounts s) us some)).1
+
+start_has : (s : StateMaps) (us : List Unspent) → AreBundles amount_in us → is_none (least_lacking (accounts_of s) us) ≡ true → (t : Token) → amount_of (sums_of (fresh_state s)) t ≤ℤ amount_of (sums amount_in us) t
+start_has s us b c t =
+    subst (λ n. n ≤ℤ amount_of (sums amount_in us) t) (wanted-accounts t s ∙ sym (amount_of-sums_in (entries s.accounts) t))
+    (subst (λ n. wanted (accounts_of s) t ≤ℤ n) (sym (amount_of-sums amount_in us t)) (all_covered t (accounts_of s) us b c))
+
+pub start_room : (s : StateMaps) (us : List Unspent) → AreBundles amount_in us → is_none (least_lacking (accounts_of s) us) ≡ true → is_much (sums amount_in us) ≡ false → is_much (sums_of (fresh_state s)) ≡ false
+start_room s us b c room = room_below (sums amount_in us) (sums_of (fresh_state s)) room (λ t k. more (amount_of (sums amount_in us) t) (amount_of (sums_of (fresh_state s)) t) k (start_has s us b c t))
+
+just_one : (n : ℤ) → n +ℤ pos 0 ≡ n
+just_one n = omega (arith, ints)
+
+pub start_covers : (s : StateMaps) (us : List Unspent) (o : Output) → o.amount ≡ sums_of (fresh_state s) → AreBundles amount_in us → is_none (least_lacking (accounts_of s) us) ≡ true → covers (sums amount_in us) (sums amount (o ∷ [])) ≡ true
+start_covers s us o h b c =
+    each_token_is_covered (sums amount_in us) (sums amount (o ∷ [])) (positive_sums amount_in us b) (λ t.
+    subst (λ n. n ≤ℤ amount_of (sums amount_in us) t) (sym (amount_of-sums amount (o ∷ []) t ∙ just_one (amount_of o.amount t) ∙ ap (λ m. amount_of m t) h)) (start_has s us b c t))
+
+-- where neither clause on funds fails
+pub start_clear : {F : Type 0} (b : Bool) (x : F) (o : Option F) → cond b (Some x) o ≡ None → (b ≡ false) × (o ≡ None)
+start_clear true x o h = absurd (cc)
+start_clear false x o h = (refl, h)

@@ -1,0 +1,70 @@
+-- Closing after the last timeout.
+use Rattle.std.proofs.Common.{◌≡◌, ℕ, ℤ, ◌+ℤ◌, ◌<ℤ◌, ◌≤ℤ◌, Bool, true, false, List, [], ◌∷◌, refl, sym, ap, ◌∙◌, subst, Option, Some, None, Result, Ok, Err, inl, inr, arith}
+use Rattle.std.proofs.lemmas.Int.{ints}
+use Rattle.std.specs.Prelude.{if◌then◌else◌}
+use Rattle.std.specs.FinMap.{empty, entries}
+use Rattle.names.specs.declared.token.Token.{Token}
+use Rattle.contract.specs.declared.fault.SemFault.{SemFault}
+use Rattle.contract.specs.declared.interval.Interval.{Interval}
+use Rattle.semantics.specs.Walk.{Standing, answer_of}
+use Rattle.semantics.specs.Computed.{computed}
+use Rattle.semantics.specs.Money.{paid_out}
+use Rattle.semantics.specs.Closing.{ClosesSo, ClosesAfterLast}
+use Rattle.bundle.specs.Bundles.{Amounts, amount_of, each, plus}
+use Rattle.eutxo.specs.Faults.{first_of}
+use Rattle.builder_spec.specs.declared.fault.BuildFault.{BuildFault}
+use Rattle.builder_spec.specs.declared.fault.BuildFault.TheVariants.{Semantics, TooMany}
+use Rattle.builder_spec.specs.Requests.{StepRequest}
+use Rattle.builder_spec.specs.Holding.{sums, amount_in}
+use Rattle.builder_spec.specs.Causes.{is_much}
+use Rattle.builder_spec.specs.Steps.{Thread, thread_terms, step_walk, own_output, hinders_thread, hinders_on}
+use Rattle.builder_spec.proofs.HoldingLaws.{entries-empty, most, much_of}
+use Rattle.builder_spec.proofs.FundsLaws.{amount_of-sums_in}
+use Rattle.builder_laws.specs.AfterLast.{closing, Closes, AnyoneCloses, NoThreadHinders}
+use Rattle.builder_laws.proofs.LookThreadLemmas.{IsThread, thread_so}
+
+-- what hinders it: the answer of the transaction function, or that too much is spent
+abbrev hinders_after : Result Standing SemFault → Bool → Option BuildFault
+hinders_after (Ok a) much = if much then Some TooMany else None
+hinders_after (Err f) much = Some (Semantics f)
+
+closes_by : (r : StepRequest) (e : Thread) (end : Result Standing SemFault) (much : Bool) → answer_of (step_walk r e) ≡ end → much ≡ false → IsThread e → r.inputs ≡ [] →
+    ClosesSo r.interval e.1.state ((thread_terms e).tree e.1.cont) end → Closes r e (hinders_after end much)
+closes_by r e (Ok a) true q m is n h = cc
+closes_by r e (Ok a) false q m is n h = (
+  a,
+  q,
+  h.0,
+  λ t. ap (λ xs. paid_out t (computed r.interval e.1.state ((thread_terms e).tree e.1.cont) xs).payments) n
+      ∙ h.1 t ∙ sym (ap (λ m. amount_of m t) is.sums ∙ amount_of-sums_in (entries e.1.state.accounts) t),
+)
+closes_by r e (Err f) much q m is n (inl h) = inl (ap Semantics h)
+closes_by r e (Err f) much q m is n (inr h) = inr (ap Semantics h.0, h.1)
+
+last_clause : (b : Bool) → first_of ((if b then Some TooMany else None) ∷ None ∷ []) ≡ (if b then Some TooMany else None)
+last_clause true = refl
+last_clause false = refl
+
+alone : (m : Amounts) → plus m empty ≡ m
+alone m = ap (each (λ a b. a +ℤ b) m) entries-empty
+
+after_is : (i : Interval) (signers : List (List ℕ)) (change : List ℕ) (e : Thread) (end : Result Standing SemFault) → answer_of (step_walk (closing i signers change) e) ≡ end →
+    hinders_thread (closing i signers change) e ≡ hinders_after end (is_much e.0.output.amount)
+after_is i signers change e (Err f) q = rw q refl
+after_is i signers change e (Ok a) q = rw q (last_clause (is_much (sums amount_in (own_output e ∷ []))) ∙ ap (λ m. if is_much m then Some TooMany else None) (alone e.0.output.amount))
+
+past : (a : ℤ) → a ≤ℤ most → most <ℤ a → ⊥
+past a h k = omega (arith, ints, h, k)
+
+not_much : (m : Amounts) (b : Bool) → is_much m ≡ b → ((t : Token) → amount_of m t ≤ℤ most) → b ≡ false
+not_much m false e h = refl
+not_much m true e h = let k = much_of m e in absurd (past (amount_of m k.0) (h k.0) k.1)
+
+pub anyone_closes : ClosesAfterLast → AnyoneCloses
+anyone_closes law look e i signers change shown small h g m =
+    let r = closing i signers change in
+    subst (Closes r e) (sym (ap (hinders_on r) shown ∙ after_is i signers change e (answer_of (step_walk r e)) refl))
+    (closes_by r e (answer_of (step_walk r e)) (is_much e.0.output.amount) refl (not_much e.0.output.amount (is_much e.0.output.amount) refl small) (thread_so look e shown) refl (law i e.1.state ((thread_terms e).tree e.1.cont) h g m))
+
+pub no_thread_hinders : NoThreadHinders
+no_thread_hinders look i signers change none = ap (hinders_on (closing i signers change)) none

@@ -1,0 +1,81 @@
+-- The outputs that layouts make.
+use Rattle.std.proofs.Common.{◌≡◌, ℕ, ◌+◌, Bool, true, false, ◌||◌, List, [], ◌∷◌, ◌++◌, refl, ap, ◌∙◌, Option, Some, None}
+use Rattle.std.specs.Prelude.{if◌then◌else◌}
+use Rattle.std.specs.List.{AllByRecursion}
+use Rattle.std.specs.FinMap.{entries}
+use Rattle.collections.proofs.SameLaws.{same_by_decides}
+use Rattle.names.specs.declared.party.Party.{Party}
+use Rattle.names.specs.declared.party.Party.TheVariants.{Address, Role}
+use Rattle.contract.specs.declared.payment.Payment.{Payment}
+use Rattle.bundle.specs.Bundles.{Amounts}
+use Rattle.bundle.specs.contracts.bundle.Bundle as bundles
+use Rattle.eutxo_types.specs.contracts.output.Output as outputs
+use Rattle.eutxo_types.specs.declared.lock.Lock.{Lock}
+use Rattle.eutxo_types.specs.declared.lock.Lock.TheVariants.{Key, Payout}
+use Rattle.eutxo_types.specs.declared.output.Output.{Output}
+use Rattle.eutxo.specs.Parts.{outputs_from}
+use Rattle.eutxo.specs.Faults.{is_empty}
+use Rattle.eutxo.specs.Rules.{stray_after, after_answer}
+use Rattle.roles.specs.Steps.{same_output, same_amounts, lock_for, due_to, and_owed_output, due_outputs, first_unpaid, is_first, outputs_before, answer_by}
+use Rattle.builder_spec.specs.Laying.{paid_to}
+
+pub same_output_itself : (o : Output) → same_output o o ≡ true
+same_output_itself o = (same_by_decides outputs.the_row.coded o o).1 refl
+
+pub same_amounts_itself : (m : Amounts) → same_amounts m m ≡ true
+same_amounts_itself m = (same_by_decides bundles.the_row.coded m m).1 refl
+
+-- ---- locks
+
+-- a test that is so of keys and payouts
+pub record IsSo (test : Lock → Bool) (v : Bool) : Type 0 where
+  pub key : (a : List ℕ) → test (Key a) ≡ v
+  pub payout : (c r : List ℕ) → test (Payout c r) ≡ v
+
+so_for : (test : Lock → Bool) (v : Bool) → IsSo test v → (currency : List ℕ) (p : Party) → test (lock_for currency p) ≡ v
+so_for test v h currency (Address a) = h.key a
+so_for test v h currency (Role r) = h.payout currency r
+
+-- it is so of the outputs for payments
+pub each_due : (test : Lock → Bool) (v : Bool) → IsSo test v → (currency : List ℕ) (ps : List Payment) → AllByRecursion (λ (o : Output). test o.lock ≡ v) (due_outputs currency ps)
+each_due test v h currency [] = tt
+each_due test v h currency (p ∷ ps) = by (due_to p) (due_outputs currency ps) (each_due test v h currency ps)
+  where
+    by : (o : Option Party) (rest : List Output) → AllByRecursion (λ (x : Output). test x.lock ≡ v) rest → AllByRecursion (λ (x : Output). test x.lock ≡ v) (and_owed_output currency p o rest)
+    by None rest k = k
+    by (Some party) rest k = (so_for test v h currency party, k)
+
+-- and what holds of a key output holds of what is given to an address
+pub each_given_so : (P : Output → Type 0) (address : List ℕ) (m : Amounts) → P (record { lock = Key address; amount = m }) → AllByRecursion P (paid_to address m)
+each_given_so P address m h = by (is_empty (entries m))
+  where
+    by : (b : Bool) → AllByRecursion P (if b then [] else record { lock = Key address; amount = m } ∷ [])
+    by true = tt
+    by false = (h, tt)
+
+pub each_given : (test : Lock → Bool) (v : Bool) → IsSo test v → (address : List ℕ) (m : Amounts) → AllByRecursion (λ (o : Output). test o.lock ≡ v) (paid_to address m)
+each_given test v h address m = each_given_so (λ (o : Output). test o.lock ≡ v) address m (h.key address)
+
+-- of an output that is there unless the contract is over
+pub each_unless : (test : Lock → Bool) (v b : Bool) (o : Output) → test o.lock ≡ v → AllByRecursion (λ (x : Output). test x.lock ≡ v) (if b then [] else o ∷ [])
+each_unless test v true o h = tt
+each_unless test v false o h = (h, tt)
+
+-- ---- the step's
+
+pub after_first : (b : Bool) (o : Output) (xs ys : List Output) → outputs_from (outputs_before b) (((if b then [] else o ∷ []) ++ xs) ++ ys) ≡ xs ++ ys
+after_first true o xs ys = refl
+after_first false o xs ys = refl
+
+pub goes_on_first : (b : Bool) (o : Output) (xs ys : List Output) → b || is_first o (((if b then [] else o ∷ []) ++ xs) ++ ys) ≡ true
+goes_on_first true o xs ys = refl
+goes_on_first false o xs ys = same_output_itself o
+
+pub all_paid : (i : ℕ) (xs ys : List Output) → first_unpaid i xs (xs ++ ys) ≡ None
+all_paid i [] ys = refl
+all_paid i (x ∷ xs) ys = ap (λ b. if b then first_unpaid (i + 1) xs (xs ++ ys) else Some i) (same_output_itself x) ∙ all_paid (i + 1) xs ys
+
+-- where no rule of the script refuses, those on stray contracts follow
+pub after_passing : (b : Bool) (os : List Output) → after_answer os (answer_by None b) ≡ stray_after (outputs_before b) os
+after_passing true os = refl
+after_passing false os = refl

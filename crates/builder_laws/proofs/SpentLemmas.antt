@@ -1,0 +1,109 @@
+-- The rules that every layout meets alike.
+use Rattle.std.proofs.Common.{◌≡◌, ℕ, nat_lt, Bool, true, false, not, ◌||◌, List, [], ◌∷◌, ◌++◌, map, length, refl, sym, ap, ◌∙◌, Option, None}
+use Rattle.std.specs.Prelude.{count_by}
+use Rattle.std.specs.List.{AllByRecursion, list_any}
+use Rattle.std.proofs.lemmas.List.{length-map}
+use Rattle.contract.specs.declared.interval.Interval.{Interval}
+use Rattle.names.specs.declared.token.Token.{Token}
+use Rattle.bundle.specs.Totals.{total_of}
+use Rattle.eutxo_types.specs.declared.fault.TxFault.TheVariants.{NoInputs, TooMany, RepeatedInput, NotSigned, TwoContracts, WrongRedeemer, RoleMissing}
+use Rattle.eutxo_types.specs.declared.lock.Lock.{Lock}
+use Rattle.eutxo_types.specs.declared.lock.Lock.TheVariants.{Key, Payout, Contract}
+use Rattle.eutxo_types.specs.declared.output.Output.{Output}
+use Rattle.eutxo_types.specs.declared.redeemer.Redeemer.{Redeemer}
+use Rattle.eutxo_types.specs.declared.redeemer.Redeemer.TheVariants as with
+use Rattle.eutxo_types.specs.declared.spend.Spend.{Spend}
+use Rattle.eutxo_types.specs.declared.tx.Tx.{Tx}
+use Rattle.eutxo.specs.Local.{tx_fault, spent_fault, spent_rules}
+use Rattle.eutxo.specs.Parts.{inputs_of, is_contract}
+use Rattle.eutxo.specs.Faults.{is_empty}
+use Rattle.eutxo.specs.Rules.{no_inputs, too_many, has_too_many, repeated_input, lacks_signer, not_signed, opens, wrong_redeemer, lacks_role, role_missing, stepped_contract, step_fault}
+use Rattle.roles.specs.declared.published.Published.{Published}
+use Rattle.roles.specs.Steps.{is_key, holds_role}
+use Rattle.ledger.specs.declared.look.Unspent.{Unspent}
+use Rattle.builder_spec.specs.Causes.{has_repeat}
+use Rattle.builder_spec.specs.Holding.{amount_in}
+use Rattle.builder_spec.specs.Laying.{spend_with, by_key}
+use Rattle.ledger_laws.specs.Laws.{marlowe}
+use Rattle.builder_laws.proofs.TestLemmas.{Nowhere, each-append, each_so, not_any, none_of_two, none_of, no_fault, if_not, mapped}
+use Rattle.builder_laws.proofs.NamedLemmas.{fresh}
+use Rattle.builder_laws.proofs.PairLemmas.{laid, paired, pairs, names, all_named, AreKeyed, IsKeyed, nowhere_keys, nowhere_paired, total_pairs}
+use Rattle.builder_laws.proofs.SumsLemmas.{preserved}
+
+-- ---- of the transaction alone
+
+module _ (w : Redeemer) (us fs : List Unspent) (os : List Output) (i : Interval) (signers : List (List ℕ)) where
+  abbrev tx : Tx
+  tx = laid w us fs os i signers
+
+  all_counted : length tx.inputs ≡ length (us ++ fs)
+  all_counted =
+      sym (length-map tx.inputs (λ (x : Spend). x.reference)) ∙ ap length (all_named w us fs) ∙ length-map (us ++ fs) (λ (u : Unspent). u.reference)
+
+  given_few : nat_lt 256 (length (inputs_of w)) ≡ false → (xs : List Unspent) → Nowhere has_too_many (map (spend_with w) xs)
+  given_few h [] = tt
+  given_few h (x ∷ xs) = (h, given_few h xs)
+
+  keys_few : (xs : List Unspent) → Nowhere has_too_many (map by_key xs)
+  keys_few [] = tt
+  keys_few (x ∷ xs) = (refl, keys_few xs)
+
+  pub first_rules : is_empty tx.inputs ≡ false → nat_lt 256 (length (us ++ fs)) ≡ false → nat_lt 256 (length (inputs_of w)) ≡ false → has_repeat (names (us ++ fs)) ≡ false → tx_fault tx ≡ None
+  first_rules some few given once =
+      none_of (no_inputs tx ∷ too_many tx ∷ repeated_input tx ∷ []) (
+        if_not (is_empty tx.inputs) NoInputs some,
+        (
+          if_not (nat_lt 256 (length tx.inputs) || list_any has_too_many tx.inputs) TooMany (none_of_two (nat_lt 256 (length tx.inputs)) (list_any has_too_many tx.inputs)
+              (ap (nat_lt 256) all_counted ∙ few) (not_any has_too_many tx.inputs (each-append (λ x. has_too_many x ≡ false) (map (spend_with w) us) (map by_key fs) (given_few given us) (keys_few fs)))),
+          (mapped RepeatedInput _ (fresh tx.inputs (ap has_repeat (all_named w us fs) ∙ once)), tt),
+        ),
+      )
+
+-- ---- of what it spends
+
+unsigned : (signers : List (List ℕ)) (l : Lock) → is_key l ≡ false → lacks_signer signers l ≡ false
+unsigned signers (Key a) h = cc
+unsigned signers (Payout c r) h = refl
+unsigned signers (Contract script d) h = refl
+
+-- the first are under other locks than keys, which the redeemer opens
+pub record IsOpened (w : Redeemer) (u : Unspent) : Type 0 where
+  pub unkeyed : is_key u.output.lock ≡ false
+  pub opened : opens w u.output.lock ≡ true
+
+module _ (w : Redeemer) (signers : List (List ℕ)) (us fs : List Unspent) (h : AllByRecursion (IsOpened w) us) (g : AreKeyed signers fs) where
+  abbrev ys : List (Spend × Output)
+  ys = pairs w us fs
+
+  nowhere : (test : Spend × Output → Bool) → AllByRecursion (λ u. test (spend_with w u, u.output) ≡ false) us → ((u : Unspent) → IsKeyed signers u → test (by_key u, u.output) ≡ false) → Nowhere test ys
+  nowhere test k f = each-append (λ x. test x ≡ false) (paired w us) (paired with.None fs) (nowhere_paired w test us k) (nowhere_keys signers test f fs g)
+
+  all_signed : not_signed signers ys ≡ None
+  all_signed =
+      no_fault NotSigned (λ (x : Spend × Output). lacks_signer signers x.1.lock) ys
+      (nowhere (λ (x : Spend × Output). lacks_signer signers x.1.lock) (each_so (IsOpened w) (λ u. lacks_signer signers u.output.lock ≡ false) (λ u k. unsigned signers u.output.lock k.unkeyed) us h)
+      (λ u k. ap (lacks_signer signers) k.lock ∙ ap not k.signed))
+
+  all_opened : wrong_redeemer ys ≡ None
+  all_opened =
+      no_fault WrongRedeemer (λ (x : Spend × Output). not (opens x.0.redeemer x.1.lock)) ys
+      (nowhere (λ (x : Spend × Output). not (opens x.0.redeemer x.1.lock)) (each_so (IsOpened w) (λ u. not (opens w u.output.lock) ≡ false) (λ u k. ap not k.opened) us h)
+      (λ u k. ap (λ l. not (opens with.None l)) k.lock))
+
+  all_granted : AllByRecursion (λ u. lacks_role (holds_role ys) u.output.lock ≡ false) us → role_missing marlowe ys ≡ None
+  all_granted k =
+      no_fault RoleMissing (λ (x : Spend × Output). lacks_role (holds_role ys) x.1.lock) ys
+      (nowhere (λ (x : Spend × Output). lacks_role (holds_role ys) x.1.lock) k (λ u k. ap (lacks_role (holds_role ys)) k.lock))
+
+  -- the others are met too, where one contract at most is spent, each payout is granted, the step is taken and sums are kept
+  pub passing : (named : List ℕ → Option Published) (tx : Tx) → tx.signers ≡ signers → nat_lt 1 (count_by (λ (x : Spend × Output). is_contract x.1.lock) ys) ≡ false →
+      AllByRecursion (λ u. lacks_role (holds_role ys) u.output.lock ≡ false) us → step_fault marlowe named tx ys (stepped_contract ys) ≡ None →
+      ((t : Token) → total_of amount_in t (us ++ fs) ≡ total_of (λ (o : Output). o.amount) t tx.outputs) → spent_fault marlowe named tx ys ≡ None
+  passing named tx s one granted step kept =
+      none_of (spent_rules marlowe named tx ys) (
+        ap (λ ss. not_signed ss ys) s ∙ all_signed,
+        (
+          if_not (nat_lt 1 (count_by (λ (x : Spend × Output). is_contract x.1.lock) ys)) TwoContracts one,
+          (all_opened, (all_granted granted, (step, (preserved ys tx.outputs (λ t. total_pairs w t us fs ∙ kept t), tt)))),
+        ),
+      )

@@ -1,0 +1,134 @@
+-- A start that nothing hinders is accepted.
+use Rattle.std.proofs.Common.{◌≡◌, ℕ, ℤ, nat_lt, true, false, not, ◌&&◌, List, [], ◌∷◌, ◌++◌, map, refl, sym, ap, ◌∙◌, Option, Some, None}
+use Rattle.std.specs.Prelude.{is_some, is_none}
+use Rattle.std.specs.List.{list_all, AllByRecursion}
+use Rattle.std.proofs.lemmas.Bool.{eq-eqb}
+use Rattle.std.specs.FinMap.{entries, empty, entries-from_sorted}
+use Rattle.std.specs.declared.cmp.Ordering.{Ordering}
+use Rattle.collections.proofs.Maps.{no_entries}
+use Rattle.names.specs.Equal.{ada}
+use Rattle.names.specs.Orders.{bytes_cmp, choice_id_cmp}
+use Rattle.machine.specs.declared.datum.Datum.{Datum}
+use Rattle.eutxo_types.specs.declared.fault.TxFault.TheVariants.{WrongStart}
+use Rattle.eutxo_types.specs.declared.output.Output.{Output}
+use Rattle.eutxo_types.specs.declared.redeemer.Redeemer.TheVariants as with
+use Rattle.eutxo_types.specs.declared.spend.Spend.{Spend}
+use Rattle.eutxo_types.specs.declared.tx.Tx.{Tx}
+use Rattle.eutxo.specs.Found.{script_at, is_known, all_known}
+use Rattle.eutxo.specs.Laws.{FoundIsEnough}
+use Rattle.eutxo.specs.Local.{tx_fault, spent_fault}
+use Rattle.eutxo.specs.Parts.{is_contract}
+use Rattle.eutxo.specs.Faults.{is_empty}
+use Rattle.eutxo.specs.Rules.{starts_wrong, starts_wrong_at, stepped_contract, step_fault}
+use Rattle.roles.specs.declared.published.Published.{Published}
+use Rattle.roles.specs.Sums.{sums_of}
+use Rattle.roles.specs.Steps.{same_cont, is_fresh, same_amounts, starts_from}
+use Rattle.ledger.specs.declared.look.Unspent.{Unspent}
+use Rattle.builder_spec.specs.declared.fault.BuildFault.TheVariants.{NoFunds}
+use Rattle.builder_spec.specs.Requests.{StartRequest}
+use Rattle.builder_spec.specs.Holding.{least_lacking}
+use Rattle.builder_spec.specs.Causes.{signature_cause, funds_cause, limit_cause, repeat_cause}
+use Rattle.builder_spec.specs.Laying.{by_key, paid_to, rest}
+use Rattle.builder_spec.specs.Starts.{fresh_state, accounts_of, covers_accounts, start_front, start_funds_cause, hinders_start, start_output, layout_start}
+use Rattle.builder_spec.proofs.FrontsLaws.{shortest_passes}
+use Rattle.ledger_laws.specs.Laws.{marlowe}
+use Rattle.builder_laws.specs.Accepting.{StartsPass, StartsAreAccepted}
+use Rattle.builder_laws.specs.AfterPasts.{StartsAreAcceptedAfter}
+use Rattle.builder_laws.proofs.TestLemmas.{both, together, not_so, none_counted, each_none, unmapped, mapped, no_place, everywhere_all}
+use Rattle.builder_laws.proofs.PairLemmas.{laid, pairs, all_paired, all_named, AreKeyed, nowhere_keys, no_step}
+use Rattle.builder_laws.proofs.SumsLemmas.{total-changed}
+use Rattle.builder_laws.proofs.FrontLemmas.{shortest_rest}
+use Rattle.builder_laws.proofs.OutputLemmas.{same_amounts_itself, IsSo, each_given, each_given_so}
+use Rattle.builder_laws.proofs.SpentLemmas.{first_rules, passing}
+use Rattle.builder_laws.proofs.CausesLemmas.{is_nothing, unless_else, keyed_front, named_once, not_many, pairs_known}
+use Rattle.builder_laws.proofs.AcceptingLemmas.{IsClean, passes, judged}
+use Rattle.builder_laws.proofs.AfterPastsLemmas.{judged_after}
+
+no_keys : (fs : List Unspent) → is_empty fs ≡ false → is_empty (map by_key fs) ≡ false
+no_keys [] h = cc
+no_keys (f ∷ fs) h = refl
+
+none_in : {K : Type 0} (R : K → K → Ordering) → is_empty (entries (empty {X = ℤ} {R = R})) ≡ true
+none_in R = ap is_empty (ap entries (sym (no_entries R)) ∙ entries-from_sorted R [] tt)
+
+module _ (r : StartRequest) (clear : hinders_start r ≡ None) where
+  abbrev fs : List Unspent
+  fs = start_front r
+
+  abbrev ys : List (Spend × Output)
+  ys = pairs with.None [] fs
+
+  abbrev output : Output
+  output = start_output r
+
+  abbrev change : List Output
+  change = paid_to r.change (rest fs (output ∷ []))
+
+  abbrev tx : Tx
+  tx = laid with.None [] fs (output ∷ change) r.interval r.signers
+
+  clauses : AllByRecursion (λ x. x ≡ None) (signature_cause r.signers r.offered ∷ start_funds_cause r ∷ limit_cause fs ∷ repeat_cause r.offered ∷ [])
+  clauses = each_none (signature_cause r.signers r.offered ∷ start_funds_cause r ∷ limit_cause fs ∷ repeat_cause r.offered ∷ []) clear
+
+  funded : (is_empty r.offered ≡ false) × (funds_cause (accounts_of r.state) r.offered ≡ None)
+  funded = unless_else (is_empty r.offered) (NoFunds ada) (funds_cause (accounts_of r.state) r.offered) clauses.1.0
+
+  -- the front has an output, and nothing lacks in it
+  pub enough : (is_empty fs ≡ false) × (is_none (least_lacking (accounts_of r.state) fs) ≡ true)
+  enough =
+      let all = shortest_passes (covers_accounts r.state) r.offered (together (not (is_empty r.offered)) (is_none (least_lacking (accounts_of r.state) r.offered))
+      (ap not funded.0) (is_nothing (least_lacking (accounts_of r.state) r.offered) (unmapped NoFunds _ funded.1))) in
+      let k = both (not (is_empty fs)) (is_none (least_lacking (accounts_of r.state) fs)) all in
+      (not_so (is_empty fs) k.0, k.1)
+
+  pub later : (more : List Unspent) × (r.offered ≡ fs ++ more)
+  later = shortest_rest (covers_accounts r.state) r.offered
+
+  signed : AreKeyed r.signers fs
+  signed = keyed_front r.signers fs later.0 r.offered later.1 clauses.0
+
+  first : tx_fault tx ≡ None
+  first = first_rules with.None [] fs (output ∷ change) r.interval r.signers (no_keys fs enough.0) (not_many fs clauses.1.1.0) refl (named_once [] fs later.0 r.offered later.1 clauses.1.1.1.0)
+
+  -- it is a start
+  starts : starts_from r.published.root (record { cont = r.published.root; state = fresh_state r.state }) output.amount ≡ true
+  starts =
+      together (same_cont r.published.root r.published.root && is_fresh (fresh_state r.state)) (same_amounts (sums_of (fresh_state r.state)) (sums_of (fresh_state r.state)))
+      (together (same_cont r.published.root r.published.root) (is_fresh (fresh_state r.state)) (eq-eqb r.published.root.0 r.published.root.0 refl)
+      (together (is_empty (entries (empty {X = ℤ} {R = choice_id_cmp}))) (is_empty (entries (empty {X = ℤ} {R = bytes_cmp}))) (none_in choice_id_cmp) (none_in bytes_cmp)))
+      (same_amounts_itself (sums_of (fresh_state r.state)))
+
+  module _ (named : List ℕ → Option Published) (there : named r.published.id ≡ Some r.published) where
+    starts_well : starts_wrong marlowe named output.amount output.lock ≡ false
+    starts_well = ap (λ v. starts_wrong_at marlowe v (let d : Datum = record { cont = r.published.root; state = fresh_state r.state } in d) output.amount) there ∙ ap not starts
+
+    steps : step_fault marlowe named tx ys (stepped_contract ys) ≡ None
+    steps =
+        ap (step_fault marlowe named tx ys) (no_step with.None r.signers [] fs tt signed)
+        ∙ mapped WrongStart _ (no_place (λ (o : Output). starts_wrong marlowe named o.amount o.lock) 0 tx.outputs
+        (starts_well, each_given_so (λ (o : Output). starts_wrong marlowe named o.amount o.lock ≡ false) r.change (rest fs (output ∷ [])) refl))
+
+    known_is : all_known named tx.outputs ys ≡ true
+    known_is =
+        let so_known : IsSo (is_known named) true = record { key = λ x. refl; payout = λ x y. refl } in
+        together (list_all (λ (o : Output). is_known named o.lock) tx.outputs) (list_all (λ (x : Spend × Output). is_known named x.1.lock) ys)
+        (everywhere_all (λ (o : Output). is_known named o.lock) tx.outputs (ap is_some there, each_given (is_known named) true so_known r.change (rest fs (output ∷ []))))
+        (pairs_known named with.None r.signers [] fs tt signed)
+
+    rules : spent_fault marlowe named tx ys ≡ None
+    rules =
+        passing with.None r.signers [] fs tt signed named tx refl
+        (ap (nat_lt 1) (none_counted (λ (x : Spend × Output). is_contract x.1.lock) ys (nowhere_keys r.signers (λ (x : Spend × Output). is_contract x.1.lock) (λ u k. ap is_contract k.lock) fs signed)))
+        tt steps (λ t. sym (total-changed r.change fs (output ∷ []) t))
+
+    clean : IsClean named (layout_start r) fs ys
+    clean = record { first = first; names = all_named with.None [] fs; pairs = all_paired with.None [] fs; known = known_is; rules = rules }
+
+pub starts_pass : StartsPass
+starts_pass r found clear outputs script = passes (layout_start r) found (start_front r) (pairs with.None [] (start_front r)) (clean r clear (script_at found.scripts) script) outputs
+
+pub starts_are_accepted : FoundIsEnough marlowe → StartsAreAccepted
+starts_are_accepted enough r m clear script admits = judged enough m (layout_start r) (start_front r) (pairs with.None [] (start_front r)) (clean r clear m.published script) admits
+
+pub starts_are_accepted_after : FoundIsEnough marlowe → StartsAreAcceptedAfter
+starts_are_accepted_after enough r published past tick clear script is = judged_after enough published past tick (layout_start r) (start_front r) (pairs with.None [] (start_front r)) (clean r clear published script) is

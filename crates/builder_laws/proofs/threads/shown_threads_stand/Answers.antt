@@ -1,5 +1,0 @@
-use Rattle.builder_laws.proofs.Shown.{shown_threads_stand}
-use Rattle.builder_laws.proofs.threads.shown_threads_stand.Goals as goal
-
-pub returns : goal.returns
-returns c = shown_threads_stand c.contracts_are_funded.ensures.sums c.contracts_are_funded.ensures.number

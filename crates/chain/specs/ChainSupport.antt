@@ -1,0 +1,16 @@
+-- No reader needs this file: what a chain keeps, the invariant behind the clauses.
+use Rattle.std.specs.Prelude.{◌≡◌, ℕ, List, map}
+use Rattle.eutxo_types.specs.Ids.{id_of}
+use Rattle.roles.specs.declared.published.Published.{Published}
+use Rattle.ledger_laws.specs.Laws.{marlowe, AreTables}
+use Rattle.ledger_laws.specs.Sound.{IsSound}
+use Rattle.ledger_spec.specs.Replay.{Course, published_at, published, world, past_of}
+use Rattle.ledger_spec.specs.Legal.{IsLegal}
+
+-- what was published, the ids of what was accepted, and a legal history whose accepted transactions are sound
+pub record IsKept (ps : List Published) (ids : List (List ℕ)) (c : Course) : Type 0 where
+  pub objects : ps ≡ published c.entries
+  pub used : ids ≡ map id_of (world c).replay.accepted
+  pub legal : IsLegal c
+  pub sound : IsSound marlowe (published_at (published c.entries)) (past_of (world c))
+  pub tables : AreTables (published_at (published c.entries))

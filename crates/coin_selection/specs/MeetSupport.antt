@@ -1,0 +1,11 @@
+-- No reader needs this file: it serves the proofs of this crate.
+use Rattle.std.specs.Prelude.{ℤ, if◌then◌else◌, List, [], ◌∷◌, Option}
+use Rattle.std.specs.Ordering.{eq_by_cmp}
+use Rattle.names.specs.declared.token.Token.{Token}
+use Rattle.names.specs.Orders.{token_cmp}
+use Rattle.coin_selection.specs.MissingSupport.{left}
+
+-- what is left of a token's need, one entry after another
+abbrev pub after : Option ℤ → Token → List (Token × ℤ) → Option ℤ
+after o t [] = o
+after o t (e ∷ es) = after (if eq_by_cmp token_cmp e.0 t then left o e.1 else o) t es

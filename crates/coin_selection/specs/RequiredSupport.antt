@@ -1,0 +1,34 @@
+-- No reader needs this file: what a map of missing amounts stands for.
+use Rattle.std.specs.Prelude.{◌≡◌, ℕ, ℤ, pos, int_lt, Bool, not, if◌then◌else◌, List, [], ◌∷◌, Option, Some, None, is_some}
+use Rattle.std.specs.Ordering.{eq_by_cmp}
+use Rattle.std.specs.FinMap.{get}
+use Rattle.names.specs.declared.party.Party.{Party}
+use Rattle.names.specs.declared.party.Party.TheVariants.{Address, Role}
+use Rattle.names.specs.declared.token.Token.{Token}
+use Rattle.names.specs.Orders.{token_cmp}
+use Rattle.bundle.specs.Bundles.{Amounts}
+use Rattle.eutxo.specs.Rules.{has_signed}
+use Rattle.roles.specs.Steps.{role_token}
+use Rattle.builder_spec.specs.Holding.{wanted}
+
+-- a number, where it is above 0
+abbrev pub above : ℤ → Option ℤ
+above n = if int_lt (pos 0) n then Some n else None
+
+-- one at least, where it must be
+abbrev pub one_at_least : Bool → ℤ → ℤ
+one_at_least must n = if must then (if int_lt (pos 0) n then n else pos 1) else n
+
+-- how much of a token is needed: as much as is wanted, and one at least of each of these roles' tokens
+abbrev pub required_amount : List Token → List (Token × ℤ) → Token → ℤ
+required_amount [] ns t = wanted ns t
+required_amount (r ∷ rs) ns t = one_at_least (eq_by_cmp token_cmp r t) (required_amount rs ns t)
+
+-- a map has, of each token, the number that a function gives it, where that is above 0
+abbrev pub IsMissing : (Token → ℤ) → Amounts → Type 0
+IsMissing f m = (t : Token) → get m t ≡ above (f t)
+
+-- an address acts by its signature, and a role unless its token is needed
+abbrev pub may_act_but : List ℕ → List (List ℕ) → Amounts → Party → Bool
+may_act_but currency signers m (Address a) = has_signed signers a
+may_act_but currency signers m (Role r) = not (is_some (get m (role_token currency r)))

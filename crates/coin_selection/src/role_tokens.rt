@@ -1,0 +1,81 @@
+//! Tokens of roles.
+ghost use Rattle.std.specs.Prelude.{◌≡◌, IfOk};
+ghost use Rattle.roles.specs.Steps.{role_token};
+ghost use Rattle.builder_spec.specs.Steps.{token_of, roles_of};
+
+use collections::{Bytes, Memory, Text, TryClone};
+use contract::{Input, Party};
+use names::Token;
+use roles::actor;
+use std::alloc::Global;
+use std::marker::Model;
+
+/// The token of a role, lent. Clauses see the token.
+#[derive(Drop)]
+pub struct RoleToken<'a> {
+    currency: &'a Bytes,
+    role: &'a Text,
+}
+
+impl<'a> Model for RoleToken<'a> {
+    ghost use Rattle.names.specs.declared.token.Token.{Token};
+
+    ghost Value = { Token };
+
+    ghost view = { λ a. record { symbol = a.currency.now; name = a.role.now } };
+}
+
+impl<'a> RoleToken<'a> {
+    /// The token of a currency's role.
+    pub fn new(currency: &'a Bytes, role: &'a Text) -> RoleToken<'a>
+        ensures { result ≡ role_token currency.now role.now }
+    {
+        RoleToken { currency, role }
+    }
+
+    /// The role.
+    pub(crate) fn role(&self) -> &'a Text
+        ensures { result.now ≡ self.now.name }
+    {
+        self.role
+    }
+
+    /// A token of its own.
+    pub(crate) fn to_token(&self) -> Result<Token, Memory>
+        ensures { IfOk result (λ token. token ≡ self.now) }
+    {
+        Ok(Token {
+            symbol: self.currency.try_clone()?,
+            name: self.role.try_clone()?,
+        })
+    }
+}
+
+// The token of a party that is a role.
+fn token_of<'a>(currency: &'a Bytes, party: &'a Party) -> Option<RoleToken<'a>>
+    ensures { result ≡ token_of currency.now party.now }
+{
+    match party {
+        Party::Address(_) => None,
+        Party::Role(role) => Some(RoleToken::new(currency, role)),
+    }
+}
+
+/// The tokens of the roles that inputs need, in order.
+pub fn roles_of<'a>(
+    alloc: Global,
+    currency: &'a Bytes,
+    inputs: &'a [Input],
+) -> Result<Vec<RoleToken<'a>>, Memory>
+    ensures { IfOk result (λ roles. roles.items ≡ roles_of currency.now inputs.now) }
+{
+    let mut roles = Vec::new(alloc);
+    for input in inputs {
+        if let Some(party) = actor(input)
+            && let Some(role) = token_of(currency, party)
+        {
+            roles.push(role)?;
+        }
+    }
+    Ok(roles)
+}

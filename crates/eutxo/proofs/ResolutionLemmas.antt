@@ -1,0 +1,157 @@
+-- What a transaction decides depends on the answers of the scripts that it and the outputs that it spends name.
+use Rattle.std.proofs.Common.{◌≡◌, ℕ, ◌+◌, Bool, true, false, not, ◌&&◌, List, [], ◌∷◌, ◌++◌, Option, Some, None, refl, ◌∙◌, ap, subst}
+use Rattle.std.specs.Prelude.{if◌then◌else◌, is_some}
+use Rattle.std.specs.List.{list_all, AllByRecursion}
+use Rattle.std.specs.Option.{option_map}
+use Rattle.contract.specs.declared.input.Input.{Input}
+use Rattle.bundle.specs.Bundles.{Amounts}
+use Rattle.machine.specs.declared.datum.Datum.{Datum}
+use Rattle.eutxo_types.specs.declared.fault.TxFault.TheVariants.{WrongStart}
+use Rattle.eutxo_types.specs.declared.lock.Lock.{Lock}
+use Rattle.eutxo_types.specs.declared.lock.Lock.TheVariants.{Key, Payout, Contract}
+use Rattle.eutxo_types.specs.declared.output.Output.{Output}
+use Rattle.eutxo_types.specs.declared.spend.Spend.{Spend}
+use Rattle.eutxo_types.specs.declared.tx.Tx.{Tx}
+use Rattle.eutxo.specs.declared.resolved.Resolved.{Resolved}
+use Rattle.eutxo.specs.Asked.{Judges, Stepping}
+use Rattle.eutxo.specs.Found.{script_at, is_known, all_known, with_outputs, if_known}
+use Rattle.eutxo.specs.Judgement.{name_in, made_names, found_names, names_of}
+use Rattle.eutxo.specs.Laws.{AnswerAlike, Agree}
+use Rattle.eutxo.specs.Local.{spent_fault, whole_fault, tx_fault, local}
+use Rattle.eutxo.specs.Parts.{inputs_of, contract_in}
+use Rattle.eutxo.specs.Faults.{first_of, or_else, first_index}
+use Rattle.eutxo.specs.Rules.{or_later, stepped_contract, step_asked, after_answer, script_fault, step_fault, starts_wrong, starts_wrong_at, not_signed, two_contracts, wrong_redeemer, role_missing, not_preserved}
+
+pub all_append : {A : Type 0} (P : A → Type 0) (xs ys : List A) → AllByRecursion P (xs ++ ys) → AllByRecursion P xs × AllByRecursion P ys
+all_append P [] ys h = (tt, h)
+all_append P (x ∷ xs) ys h = let parts = all_append P xs ys h.1 in ((h.0, parts.0), parts.1)
+
+module _ {V : Type 0} (j : Judges V) where
+  some_alike : (x y : Option V) → AnswerAlike j x y → is_some x ≡ is_some y
+  some_alike None None h = refl
+  some_alike None (Some w) h = absurd h
+  some_alike (Some v) None h = absurd h
+  some_alike (Some v) (Some w) h = refl
+
+  start_alike : (d : Datum) (held : Amounts) (x y : Option V) → AnswerAlike j x y → starts_wrong_at j x d held ≡ starts_wrong_at j y d held
+  start_alike d held None None h = refl
+  start_alike d held None (Some w) h = absurd h
+  start_alike d held (Some v) None h = absurd h
+  start_alike d held (Some v) (Some w) h = ap not (h.1 d held)
+
+  step_alike : (s : Stepping) (x y : Option V) → AnswerAlike j x y → script_fault j x s ≡ script_fault j y s
+  step_alike s None None h = refl
+  step_alike s None (Some w) h = absurd h
+  step_alike s (Some v) None h = absurd h
+  step_alike s (Some v) (Some w) h = ap (after_answer s.tx.outputs) (h.0 s)
+
+module _ {V : Type 0} (j : Judges V) (named other : List ℕ → Option V) where
+  abbrev Alike : List ℕ → Type 0
+  Alike id = AnswerAlike j (named id) (other id)
+
+  abbrev AlikeIn : Lock → Type 0
+  AlikeIn l = AllByRecursion Alike (name_in (contract_in l))
+
+  abbrev AlikeMade : List Output → Type 0
+  AlikeMade [] = Unit {0}
+  AlikeMade (o ∷ os) = AlikeIn o.lock × AlikeMade os
+
+  abbrev AlikeFound : List (Option Output) → Type 0
+  AlikeFound [] = Unit {0}
+  AlikeFound (None ∷ os) = AlikeFound os
+  AlikeFound (Some o ∷ os) = AlikeIn o.lock × AlikeFound os
+
+  abbrev AlikeSpent : List (Spend × Output) → Type 0
+  AlikeSpent [] = Unit {0}
+  AlikeSpent (y ∷ ys) = AlikeIn y.1.lock × AlikeSpent ys
+
+  made_alike : (os : List Output) → AllByRecursion Alike (made_names os) → AlikeMade os
+  made_alike [] h = tt
+  made_alike (o ∷ os) h = let parts = all_append Alike (name_in (contract_in o.lock)) (made_names os) h in (parts.0, made_alike os parts.1)
+
+  found_alike : (os : List (Option Output)) → AllByRecursion Alike (found_names os) → AlikeFound os
+  found_alike [] h = tt
+  found_alike (None ∷ os) h = found_alike os h
+  found_alike (Some o ∷ os) h = let parts = all_append Alike (name_in (contract_in o.lock)) (found_names os) h in (parts.0, found_alike os parts.1)
+
+  spent_alike : (xs : List Spend) (os : List (Option Output)) → AlikeFound os → (ys : List (Spend × Output)) → with_outputs xs os ≡ Some ys → AlikeSpent ys
+  spent_alike [] os h [] e = tt
+  spent_alike [] os h (y ∷ ys) e = cc
+  spent_alike (x ∷ xs) [] h ys e = cc
+  spent_alike (x ∷ xs) (None ∷ os) h ys e = cc
+  spent_alike (x ∷ xs) (Some o ∷ os) h ys e = by (with_outputs xs os) refl e (spent_alike xs os h.1)
+    where
+      by : (r : Option (List (Spend × Output))) → with_outputs xs os ≡ r → option_map (λ zs. (x, o) ∷ zs) r ≡ Some ys → ((zs : List (Spend × Output)) → with_outputs xs os ≡ Some zs → AlikeSpent zs) → AlikeSpent ys
+      by None q f go = cc
+      by (Some zs) q f go = let s : (x, o) ∷ zs ≡ ys = cc in subst AlikeSpent s (h.0, go zs q)
+
+  same_known : (l : Lock) → AlikeIn l → is_known named l ≡ is_known other l
+  same_known (Key a) h = refl
+  same_known (Payout c r) h = refl
+  same_known (Contract script d) h = some_alike j (named script) (other script) h.0
+
+  all_made : (os : List Output) → AlikeMade os → list_all (λ o. is_known named o.lock) os ≡ list_all (λ o. is_known other o.lock) os
+  all_made [] h = refl
+  all_made (o ∷ os) h = ap (λ b. b && list_all (λ o. is_known named o.lock) os) (same_known o.lock h.0) ∙ ap (λ b. is_known other o.lock && b) (all_made os h.1)
+
+  all_spent : (ys : List (Spend × Output)) → AlikeSpent ys → list_all (λ x. is_known named x.1.lock) ys ≡ list_all (λ x. is_known other x.1.lock) ys
+  all_spent [] h = refl
+  all_spent (y ∷ ys) h = ap (λ b. b && list_all (λ x. is_known named x.1.lock) ys) (same_known y.1.lock h.0) ∙ ap (λ b. is_known other y.1.lock && b) (all_spent ys h.1)
+
+  same_start : (held : Amounts) (l : Lock) → AlikeIn l → starts_wrong j named held l ≡ starts_wrong j other held l
+  same_start held (Key a) h = refl
+  same_start held (Payout c r) h = refl
+  same_start held (Contract script d) h = start_alike j d held (named script) (other script) h.0
+
+  same_places : (k : ℕ) (os : List Output) → AlikeMade os → first_index (λ i (o : Output). starts_wrong j named o.amount o.lock) k os ≡ first_index (λ i (o : Output). starts_wrong j other o.amount o.lock) k os
+  same_places k [] h = refl
+  same_places k (o ∷ os) h =
+      ap (λ b. if b then Some k else first_index (λ i (o : Output). starts_wrong j named o.amount o.lock) (k + 1) os) (same_start o.amount o.lock h.0)
+      ∙ ap (λ r. if starts_wrong j other o.amount o.lock then Some k else r) (same_places (k + 1) os h.1)
+
+  stepped_if : (l : Lock) (i : List Input) (later : Option (List ℕ × Datum × List Input)) (s : List ℕ × Datum × List Input) → AlikeIn l → or_later l i later ≡ Some s → (later ≡ Some s → Alike s.0) → Alike s.0
+  stepped_if (Key a) i later s h e go = go e
+  stepped_if (Payout c r) i later s h e go = go e
+  stepped_if (Contract script d) i later s h e go =
+      let q : (let z : List ℕ × Datum × List Input = (script, d, i) in z) ≡ s = cc in
+      subst (λ (z : List ℕ × Datum × List Input). Alike z.0) q h.0
+
+  stepped_alike : (ys : List (Spend × Output)) (s : List ℕ × Datum × List Input) → AlikeSpent ys → stepped_contract ys ≡ Some s → Alike s.0
+  stepped_alike [] s h e = cc
+  stepped_alike (y ∷ ys) s h e = stepped_if y.1.lock (inputs_of y.0.redeemer) (stepped_contract ys) s h.0 e (stepped_alike ys s h.1)
+
+  same_step : (tx : Tx) (ys : List (Spend × Output)) → AlikeMade tx.outputs → AlikeSpent ys → (z : Option (List ℕ × Datum × List Input)) → stepped_contract ys ≡ z → step_fault j named tx ys z ≡ step_fault j other tx ys z
+  same_step tx ys m s None e = ap (option_map WrongStart) (same_places 0 tx.outputs m)
+  same_step tx ys m s (Some z) e = step_alike j (step_asked tx ys z) (named z.0) (other z.0) (stepped_alike ys z s e)
+
+  same_spent : (tx : Tx) (ys : List (Spend × Output)) → AlikeMade tx.outputs → AlikeSpent ys → spent_fault j named tx ys ≡ spent_fault j other tx ys
+  same_spent tx ys m s =
+      ap (λ f. first_of (not_signed tx.signers ys ∷ two_contracts ys ∷ wrong_redeemer ys ∷ role_missing j ys ∷ f ∷ not_preserved ys tx.outputs ∷ [])) (same_step tx ys m s (stepped_contract ys) refl)
+
+  same_whole : (tx : Tx) → AlikeMade tx.outputs → (o : Option (List (Spend × Output))) → ((ys : List (Spend × Output)) → o ≡ Some ys → AlikeSpent ys) →
+      whole_fault j named tx (if_known named tx.outputs o) ≡ whole_fault j other tx (if_known other tx.outputs o)
+  same_whole tx m None h = refl
+  same_whole tx m (Some ys) h =
+      let s = h ys refl in
+      ap (λ b. whole_fault j named tx (if b then Some ys else None))
+      (ap (λ b. b && list_all (λ x. is_known named x.1.lock) ys) (all_made tx.outputs m) ∙ ap (λ b. list_all (λ o. is_known other o.lock) tx.outputs && b) (all_spent ys s))
+      ∙ by (all_known other tx.outputs ys) s
+    where
+      by : (b : Bool) → AlikeSpent ys → whole_fault j named tx (if b then Some ys else None) ≡ whole_fault j other tx (if b then Some ys else None)
+      by true s = same_spent tx ys m s
+      by false s = refl
+
+  -- where the scripts that are named answer alike, so do the rules
+  pub alike_decide : (tx : Tx) (os : List (Option Output)) → AllByRecursion Alike (names_of tx os) →
+      whole_fault j named tx (if_known named tx.outputs (with_outputs tx.inputs os)) ≡ whole_fault j other tx (if_known other tx.outputs (with_outputs tx.inputs os))
+  alike_decide tx os h =
+      let parts = all_append Alike (made_names tx.outputs) (found_names os) h in
+      same_whole tx (made_alike tx.outputs parts.0) (with_outputs tx.inputs os) (spent_alike tx.inputs os (found_alike os parts.1))
+
+module _ {V : Type 0} (j : Judges V) where
+  -- resolutions that agree decide alike
+  pub agreeing_decide : (tx : Tx) (a b : Resolved V) → Agree j tx a b → local j tx a ≡ local j tx b
+  agreeing_decide tx a b h =
+      ap (or_else (tx_fault tx))
+      (alike_decide j (script_at a.scripts) (script_at b.scripts) tx a.outputs h.scripts
+      ∙ ap (λ os. whole_fault j (script_at b.scripts) tx (if_known (script_at b.scripts) tx.outputs (with_outputs tx.inputs os))) h.outputs)

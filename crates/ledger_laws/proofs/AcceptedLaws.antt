@@ -1,0 +1,219 @@
+-- What every accepted transaction of a sound past meets.
+use Rattle.std.proofs.Common.{◌≡◌, ℕ, zero, suc, ◌+◌, ◌<◌, ◌≤◌, Bool, true, false, not, cond, List, [], ◌∷◌, ◌++◌, refl, sym, ◌∙◌, ap, subst, arith, Option, Some, None, take}
+use Rattle.std.specs.Prelude.{if◌then◌else◌, nat_lt, count_by}
+use Rattle.std.specs.List.{slice_get, list_any, list_all}
+use Rattle.std.specs.Map.{lookup}
+use Rattle.machine.specs.declared.datum.Datum.{Datum}
+use Rattle.eutxo_types.specs.declared.fault.TxFault.TheVariants.{TwoContracts, WrongRedeemer}
+use Rattle.eutxo_types.specs.declared.lock.Lock.{Lock}
+use Rattle.eutxo_types.specs.declared.lock.Lock.TheVariants.{Key, Payout, Contract}
+use Rattle.eutxo_types.specs.declared.output.Output.{Output}
+use Rattle.eutxo_types.specs.declared.output_ref.OutputRef.{OutputRef}
+use Rattle.eutxo_types.specs.declared.output_ref.OutputRef.TheVariants.{Genesis, Made}
+use Rattle.eutxo_types.specs.declared.spend.Spend.{Spend}
+use Rattle.eutxo_types.specs.declared.tx.Tx.{Tx}
+use Rattle.eutxo_types.specs.Ids.{id_of}
+use Rattle.eutxo.specs.Laws.{FoundIsEnough}
+use Rattle.eutxo.specs.Asked.{Judges}
+use Rattle.eutxo.specs.Found.{is_known, all_known, if_known}
+use Rattle.eutxo.specs.Local.{spent_rules, spent_fault, whole_fault}
+use Rattle.eutxo.specs.Rules.{stepped_contract, step_fault, not_preserved}
+use Rattle.roles.specs.Steps.{is_key}
+use Rattle.eutxo.specs.Parts.{is_contract, same_bytes, same_ref}
+use Rattle.ledger_laws.specs.Past.{Past, before, with_references, created_by, created_by_all, created, is_input_of, is_spent, unspent_at, has_id}
+use Rattle.eutxo.specs.Judgement.{is_unknown}
+use Rattle.ledger_laws.specs.Sound.{AreKeys, IsSound}
+use Rattle.ledger_laws.specs.Threads.{is_step, steps}
+use Rattle.ledger_laws.proofs.PlainLaws.{EachFalse, both, not_both, not_false, few, same_some, is_there, each_at, any_taken, any_take, take_some, taken_at}
+use Rattle.ledger_laws.proofs.ReferenceLaws.{itself, unspent_so, unspent_created, output_nth, none_created, spender}
+use Rattle.ledger_laws.proofs.JudgedLemmas.{found, each_none, nowhere, unless, Passes, passes, made_known}
+use Rattle.ledger_laws.proofs.PairedLemmas.{Paired, paired, spent_known, found_at, holds, misfits, stepped_some, Stepping, stepping_found, named_steps, nth_steps, one_contract}
+
+key_opens : (l : Lock) → is_key l ≡ true → is_contract l ≡ true → ⊥
+key_opens (Key a) h e = cc
+key_opens (Payout c r) h e = cc
+key_opens (Contract s d) h e = cc
+
+-- no output that there was at first has a contract lock
+pub no_contract_first : (os : List Output) → AreKeys os → (i : ℕ) (o : Output) → slice_get os i ≡ Some o → is_contract o.lock ≡ true → ⊥
+no_contract_first [] h i o e c = cc
+no_contract_first (x ∷ os) h zero o e c = key_opens o.lock (subst (λ (z : Output). is_key z.lock ≡ true) (same_some x o e) (h 0 x (omega arith))) c
+no_contract_first (x ∷ os) h (suc i) o e c = no_contract_first os (λ k d l. h (suc k) d (omega arith)) i o e c
+
+module _ {V : Type 0} (j : Judges V) (enough : FoundIsEnough j) (named : List ℕ → Option V) (past : Past) (sound : IsSound j named past) where
+  -- ---- the scripts of all outputs are known
+
+  abbrev pub AllKnown : List (OutputRef × Output) → Type 0
+  AllKnown [] = Unit {0}
+  AllKnown (e ∷ es) = (is_known named e.1.lock ≡ true) × AllKnown es
+
+  known_append : (es fs : List (OutputRef × Output)) → AllKnown es → AllKnown fs → AllKnown (es ++ fs)
+  known_append [] fs h k = k
+  known_append (e ∷ es) fs h k = (h.0, known_append es fs h.1 k)
+
+  known_referred : (name : ℕ → OutputRef) (i : ℕ) (os : List Output) → EachFalse (is_unknown named) os → AllKnown (with_references name i os)
+  known_referred name i [] h = tt
+  known_referred name i (o ∷ os) h = (not_false (is_known named o.lock) h.0, known_referred name (i + 1) os h.1)
+
+  key_known : (l : Lock) → is_key l ≡ true → not (is_known named l) ≡ false
+  key_known (Key a) h = refl
+  key_known (Payout c r) h = cc
+  key_known (Contract s d) h = cc
+
+  keys_known : (os : List Output) → AreKeys os → EachFalse (is_unknown named) os
+  keys_known [] h = tt
+  keys_known (o ∷ os) h = (key_known o.lock (h 0 o (omega arith)), keys_known os (λ k d l. h (suc k) d (omega arith)))
+
+  made_all_known : (txs : List Tx) → ((n : ℕ) (tx : Tx) → slice_get txs n ≡ Some tx → EachFalse (is_unknown named) tx.outputs) → AllKnown (created_by_all txs)
+  made_all_known [] h = tt
+  made_all_known (tx ∷ txs) h =
+      known_append (created_by tx) (created_by_all txs) (known_referred (λ j. Made (id_of tx) j) 0 tx.outputs (h 0 tx refl)) (made_all_known txs (λ n t e. h (suc n) t e))
+
+  pub passes_at : (n : ℕ) (tx : Tx) → slice_get past.accepted n ≡ Some tx → Passes j named (before past n) tx
+  passes_at n tx e = let l = sound.admitted n tx e in passes j enough named (before past n) l.0 tx l.1
+
+  all_created_known : AllKnown (created past)
+  all_created_known =
+      known_append (with_references (λ j. Genesis j) 0 past.genesis) (created_by_all past.accepted)
+      (known_referred (λ j. Genesis j) 0 past.genesis (keys_known past.genesis sound.keys))
+      (made_all_known past.accepted (λ n tx e. (passes_at n tx e).known))
+
+  known_of : (test : OutputRef → Bool) (es : List (OutputRef × Output)) (o : Output) → AllKnown es → lookup test es ≡ Some o → is_known named o.lock ≡ true
+  known_of test [] o h e = cc
+  known_of test (x ∷ es) o h e = by (test x.0) e (known_of test es o h.1)
+    where
+      by : (b : Bool) → cond b (Some x.1) (lookup test es) ≡ Some o → (lookup test es ≡ Some o → is_known named o.lock ≡ true) → is_known named o.lock ≡ true
+      by true q go = subst (λ (z : Output). is_known named z.lock ≡ true) (same_some x.1 o q) h.0
+      by false q go = go q
+
+  -- what a transaction finds is of a published script
+  pub find_known : (n : ℕ) (r : OutputRef) (o : Output) → unspent_at (before past n) r ≡ Some o → is_known named o.lock ≡ true
+  find_known n r o f = known_of (same_ref r) (created past) o all_created_known (unspent_created past n r o f)
+
+  -- ---- what an accepted transaction spends
+
+  pub record Spent (n : ℕ) (tx : Tx) : Type 0 where
+    pub ys : List (Spend × Output)
+    pub pairs : Paired (unspent_at (before past n)) tx.inputs ys
+    pub there : found (unspent_at (before past n)) tx ≡ Some ys
+    pub single : count_by holds ys ≤ 1
+    pub kinds : EachFalse misfits ys
+    pub step : step_fault j named tx ys (stepped_contract ys) ≡ None
+    pub sums : not_preserved ys tx.outputs ≡ None
+
+  from_rules : (n : ℕ) (tx : Tx) (ys : List (Spend × Output)) → Paired (unspent_at (before past n)) tx.inputs ys → found (unspent_at (before past n)) tx ≡ Some ys → spent_fault j named tx ys ≡ None → Spent n tx
+  from_rules n tx ys p f h =
+      let e = each_none (spent_rules j named tx ys) h in
+      record {
+        ys = ys;
+        pairs = p;
+        there = f;
+        single = few (count_by holds ys) (unless (nat_lt 1 (count_by holds ys)) TwoContracts e.1.0);
+        kinds = nowhere WrongRedeemer misfits ys e.1.1.0;
+        step = e.1.1.1.1.0;
+        sums = e.1.1.1.1.1.0;
+      }
+
+  pub spent_at : (n : ℕ) (tx : Tx) → slice_get past.accepted n ≡ Some tx → Spent n tx
+  spent_at n tx e =
+      let p = passes_at n tx e in
+      let find = unspent_at (before past n) in
+      let q = paired find tx.inputs p.unspent in
+      let created_by = made_known named tx.outputs p.known in
+      let spent = spent_known named find (find_known n) tx.inputs q.0 q.2 in
+      let known : all_known named tx.outputs q.0 ≡ true = both (list_all (λ o. is_known named o.lock) tx.outputs) (list_all (λ x. is_known named x.1.lock) q.0) created_by spent in
+      from_rules n tx q.0 q.2 q.1
+      (subst (λ (b : Bool). whole_fault j named tx (if b then Some q.0 else None) ≡ None) known
+      (subst (λ (o : Option (List (Spend × Output))). whole_fault j named tx (if_known named tx.outputs o) ≡ None) q.1 p.local))
+
+  -- the script of what it finds was published
+  pub published : (n : ℕ) (r : OutputRef) (o : Output) (script : List ℕ) (d : Datum) → unspent_at (before past n) r ≡ Some o → o.lock ≡ Contract script d → (v : V) × (named script ≡ Some v)
+  published n r o script d f l = is_there (named script) (subst (λ (z : Lock). is_known named z ≡ true) l (find_known n r o f))
+
+  -- and that of what it makes
+  pub made_published : (n : ℕ) (tx : Tx) → slice_get past.accepted n ≡ Some tx → (i : ℕ) (o : Output) (script : List ℕ) (d : Datum) → slice_get tx.outputs i ≡ Some o → o.lock ≡ Contract script d → (v : V) × (named script ≡ Some v)
+  made_published n tx at i o script d m l =
+      is_there (named script) (subst (λ (z : Lock). is_known named z ≡ true) l (not_false _ (each_at (is_unknown named) i tx.outputs o (passes_at n tx at).known m)))
+
+  -- ---- ids and references
+
+  pub fresh_at : (n : ℕ) (tx : Tx) → slice_get past.accepted n ≡ Some tx → list_any (has_id (id_of tx)) (take n past.accepted) ≡ false
+  fresh_at n tx at = (passes_at n tx at).fresh
+
+  not_earlier : (n m : ℕ) (s t : Tx) → slice_get past.accepted n ≡ Some s → slice_get past.accepted m ≡ Some t → id_of s ≡ id_of t → n < m → ⊥
+  not_earlier n m s t a b e l =
+      not_both (any_taken (has_id (id_of t)) past.accepted n m s l a (subst (λ (id : List ℕ). same_bytes id (id_of s) ≡ true) e (itself (id_of s)))) (fresh_at m t b)
+
+  -- one id, one place
+  pub one_place : (n m : ℕ) (s t : Tx) → slice_get past.accepted n ≡ Some s → slice_get past.accepted m ≡ Some t → id_of s ≡ id_of t → n ≡ m
+  one_place n m s t a b e =
+      let p : n < m → ⊥ = not_earlier n m s t a b e in
+      let q : m < n → ⊥ = not_earlier m n t s b a (sym e) in
+      omega arith
+
+  -- an output that it makes stands under its name
+  pub made_there : (n : ℕ) (tx : Tx) → slice_get past.accepted n ≡ Some tx → (i : ℕ) (o : Output) → slice_get tx.outputs i ≡ Some o → lookup (same_ref (Made (id_of tx) i)) (created past) ≡ Some o
+  made_there n tx at i o m = output_nth past n i tx o at (fresh_at n tx at) m
+
+  -- what it names it finds
+  pub finds : (n : ℕ) (tx : Tx) → slice_get past.accepted n ≡ Some tx → (r : OutputRef) (o : Output) → is_input_of r tx ≡ true → lookup (same_ref r) (created past) ≡ Some o → unspent_at (before past n) r ≡ Some o
+  finds n tx at r o named_r out =
+      let s = spent_at n tx at in
+      let f = found_at (unspent_at (before past n)) r tx.inputs s.ys s.pairs named_r in
+      f.1 ∙ ap Some (same_some f.0 o (sym (unspent_created past n r f.0 f.1) ∙ out))
+
+  -- ---- the contract that it steps
+
+  pub names_contract : (n : ℕ) (tx : Tx) → slice_get past.accepted n ≡ Some tx → (r : OutputRef) (o : Output) → is_input_of r tx ≡ true → lookup (same_ref r) (created past) ≡ Some o → is_contract o.lock ≡ true → steps tx ≡ true
+  names_contract n tx at r o named_r out c =
+      let s = spent_at n tx at in
+      named_steps (unspent_at (before past n)) r o tx.inputs s.ys s.pairs s.kinds named_r (finds n tx at r o named_r out) c
+
+  pub step_at : (n i : ℕ) (tx : Tx) (x : Spend) (o : Output) → slice_get past.accepted n ≡ Some tx → slice_get tx.inputs i ≡ Some x → unspent_at (before past n) x.reference ≡ Some o → is_contract o.lock ≡ true → is_step x.redeemer ≡ true
+  step_at n i tx x o at in_at there c =
+      let s = spent_at n tx at in
+      nth_steps (unspent_at (before past n)) i x o tx.inputs s.ys s.pairs s.kinds in_at there c
+
+  pub names_one : (n : ℕ) (tx : Tx) → slice_get past.accepted n ≡ Some tx → (r s : OutputRef) (o p : Output) → is_input_of r tx ≡ true → lookup (same_ref r) (created past) ≡ Some o → is_contract o.lock ≡ true →
+      is_input_of s tx ≡ true → lookup (same_ref s) (created past) ≡ Some p → is_contract p.lock ≡ true → r ≡ s
+  names_one n tx at r s o p named_r out c named_s there d =
+      let z = spent_at n tx at in
+      one_contract (unspent_at (before past n)) r s o p tx.inputs z.ys z.pairs z.single named_r (finds n tx at r o named_r out) c named_s (finds n tx at s p named_s there) d
+
+  -- a transaction that steps names a contract
+  pub steps_one : (n : ℕ) (tx : Tx) → slice_get past.accepted n ≡ Some tx → steps tx ≡ true → (script : List ℕ) × (d : Datum) × Stepping (unspent_at (before past n)) tx.inputs script d
+  steps_one n tx at h =
+      let s = spent_at n tx at in
+      let z = stepped_some (unspent_at (before past n)) tx.inputs s.ys s.pairs h s.kinds in
+      (z.0.0, z.0.1, stepping_found (unspent_at (before past n)) tx.inputs s.ys z.0 s.pairs z.1)
+
+  -- ---- what it makes is new
+
+  -- what names an output of this id before the id was used
+  not_named : (n : ℕ) (tx : Tx) → slice_get past.accepted n ≡ Some tx → (id : List ℕ) (i : ℕ) → list_any (has_id id) (take n past.accepted) ≡ false → is_input_of (Made id i) tx ≡ false
+  not_named n tx at id i new = by (is_input_of (Made id i) tx) refl
+    where
+      by : (b : Bool) → is_input_of (Made id i) tx ≡ b → b ≡ false
+      by true e =
+          let s = spent_at n tx at in
+          let f = found_at (unspent_at (before past n)) (Made id i) tx.inputs s.ys s.pairs e in
+          let out = (unspent_so (before past n) (Made id i) f.0 f.1).1 in
+          let g : (let o : Option Output = Some f.0 in o) ≡ None = sym out ∙ none_created (before past n) id i new in
+          cc
+      by false e = refl
+
+  -- what it makes isn't spent yet
+  pub still_there : (n : ℕ) (tx : Tx) → slice_get past.accepted n ≡ Some tx → (i : ℕ) → is_spent (take n past.accepted ++ tx ∷ []) (Made (id_of tx) i) ≡ false
+  still_there n tx at i = by (is_spent (take n past.accepted ++ tx ∷ []) (Made (id_of tx) i)) refl
+    where
+      new : list_any (has_id (id_of tx)) (take n past.accepted) ≡ false
+      new = fresh_at n tx at
+
+      by : (b : Bool) → is_spent (take n past.accepted ++ tx ∷ []) (Made (id_of tx) i) ≡ b → b ≡ false
+      by true e =
+          let u : is_spent (take (suc n) past.accepted) (Made (id_of tx) i) ≡ true = ap (λ l. is_spent l (Made (id_of tx) i)) (take_some n past.accepted tx at) ∙ e in
+          let s = spender (Made (id_of tx) i) (take (suc n) past.accepted) u in
+          let m = taken_at (suc n) s.0 past.accepted s.1 s.2 in
+          let l = m.1 in
+          absurd (not_both s.3 (not_named s.0 s.1 m.0 (id_of tx) i (any_take (has_id (id_of tx)) s.0 n past.accepted (omega (arith, l)) new)))
+      by false e = refl

@@ -1,0 +1,107 @@
+-- What was accepted stays accepted where more is published.
+use Rattle.std.proofs.Common.{◌≡◌, ℕ, ◌+◌, Bool, true, not, cond, List, [], ◌∷◌, refl, sym, ◌∙◌, ap, subst, Option, Some, None}
+use Rattle.std.specs.Prelude.{if◌then◌else◌, is_some}
+use Rattle.std.specs.List.{list_all, position, position_from, slice_get}
+use Rattle.std.specs.Option.{option_map}
+use Rattle.std.proofs.lemmas.Iterator.Adapters.{position_from-zero}
+use Rattle.machine.specs.declared.datum.Datum.{Datum}
+use Rattle.eutxo_types.specs.declared.fault.TxFault.TheVariants.{UnknownScript, WrongStart}
+use Rattle.eutxo_types.specs.declared.lock.Lock.{Lock}
+use Rattle.eutxo_types.specs.declared.lock.Lock.TheVariants.{Key, Payout, Contract}
+use Rattle.eutxo_types.specs.declared.output.Output.{Output}
+use Rattle.eutxo_types.specs.declared.spend.Spend.{Spend}
+use Rattle.eutxo_types.specs.declared.tx.Tx.{Tx}
+use Rattle.eutxo.specs.Laws.{FoundIsEnough}
+use Rattle.eutxo.specs.Faults.{first_of, first_index}
+use Rattle.eutxo.specs.Found.{is_known, all_known, if_known}
+use Rattle.eutxo.specs.Rules.{stepped_contract, step_asked, script_fault, step_fault, starts_wrong, starts_wrong_at}
+use Rattle.eutxo.specs.Local.{spent_rules, spent_fault, whole_fault}
+use Rattle.bundle.specs.Bundles.{Amounts}
+use Rattle.eutxo.specs.Asked.{Judges}
+use Rattle.ledger_laws.specs.Past.{Past, before, unspent_at}
+use Rattle.eutxo.specs.Judgement.{is_unknown, judge}
+use Rattle.ledger_laws.specs.Sound.{moment, IsSound, IsMore}
+use Rattle.ledger_laws.specs.Laws.{LaterIsSound}
+use Rattle.ledger_laws.proofs.PlainLaws.{EachFalse, not_false, both, is_there}
+use Rattle.ledger_laws.proofs.JudgedLemmas.{found, all_rules, local_rules, EachNone, each_none, mapped_none, unplaced, made_known}
+use Rattle.ledger_laws.proofs.PairedLemmas.{Paired, paired, spent_known, stepping_found}
+use Rattle.ledger_laws.proofs.AcceptedLaws.{passes_at, find_known}
+
+first_none : {A : Type 0} (xs : List (Option A)) → EachNone xs → first_of xs ≡ None
+first_none [] h = refl
+first_none (None ∷ xs) h = first_none xs h.1
+first_none (Some x ∷ xs) h = cc
+
+no_position_from : {A : Type 0} (p : A → Bool) (n : ℕ) (xs : List A) → EachFalse p xs → position_from p n xs ≡ None
+no_position_from p n [] h = refl
+no_position_from p n (x ∷ xs) h = ap (λ b. cond b (Some n) (position_from p (n + 1) xs)) h.0 ∙ no_position_from p (n + 1) xs h.1
+
+no_position : {A : Type 0} (p : A → Bool) (xs : List A) → EachFalse p xs → position p xs ≡ None
+no_position p xs h = position_from-zero p xs ∙ no_position_from p 0 xs h
+
+placed : {A : Type 0} (p : A → Bool) (k : ℕ) (xs : List A) → EachFalse p xs → first_index (λ i x. p x) k xs ≡ None
+placed p k [] h = refl
+placed p k (x ∷ xs) h = ap (λ b. if b then Some k else first_index (λ i x. p x) (k + 1) xs) h.0 ∙ placed p (k + 1) xs h.1
+
+module _ {V : Type 0} (j : Judges V) (enough : FoundIsEnough j) (named later : List ℕ → Option V) (more : IsMore named later) where
+  still_known : (l : Lock) → is_known named l ≡ true → is_known later l ≡ true
+  still_known (Key a) h = refl
+  still_known (Payout c r) h = refl
+  still_known (Contract script d) h = let t = is_there (named script) h in ap is_some (more script t.0 t.1)
+
+  known_later : (os : List Output) → EachFalse (is_unknown named) os → EachFalse (is_unknown later) os
+  known_later [] h = tt
+  known_later (o ∷ os) h = (ap not (still_known o.lock (not_false (is_known named o.lock) h.0)), known_later os h.1)
+
+  same_start : (held : Amounts) (l : Lock) → is_known named l ≡ true → starts_wrong j later held l ≡ starts_wrong j named held l
+  same_start held (Key a) h = refl
+  same_start held (Payout c r) h = refl
+  same_start held (Contract script d) h =
+      let t = is_there (named script) h in
+      ap (λ v. starts_wrong_at j v d held) (more script t.0 t.1 ∙ sym t.1)
+
+  same_starts : (os : List Output) → EachFalse (is_unknown named) os → EachFalse (λ o. starts_wrong j named o.amount o.lock) os → EachFalse (λ o. starts_wrong j later o.amount o.lock) os
+  same_starts [] k h = tt
+  same_starts (o ∷ os) k h = (same_start o.amount o.lock (not_false (is_known named o.lock) k.0) ∙ h.0, same_starts os k.1 h.1)
+
+  module _ (past : Past) (sound : IsSound j named past) (n : ℕ) (tx : Tx) (at : slice_get past.accepted n ≡ Some tx) where
+    same_step : (ys : List (Spend × Output)) → Paired (unspent_at (before past n)) tx.inputs ys → (z : Option (List ℕ × Datum × _)) → stepped_contract ys ≡ z →
+        step_fault j named tx ys z ≡ None → step_fault j later tx ys z ≡ None
+    same_step ys p None e h =
+        let each = unplaced (λ (o : Output). starts_wrong j named o.amount o.lock) 0 tx.outputs (mapped_none WrongStart (first_index (λ i (o : Output). starts_wrong j named o.amount o.lock) 0 tx.outputs) h) in
+        ap (option_map WrongStart) (placed (λ (o : Output). starts_wrong j later o.amount o.lock) 0 tx.outputs (same_starts tx.outputs (passes_at j enough named past sound n tx at).known each))
+    same_step ys p (Some s) e h =
+        let f = stepping_found (unspent_at (before past n)) tx.inputs ys s p e in
+        let t = is_there (named s.0) (subst (λ (l : Lock). is_known named l ≡ true) f.lock (find_known j enough named past sound n f.reference f.output f.there)) in
+        subst (λ (v : Option V). script_fault j v (step_asked tx ys s) ≡ None) (t.1 ∙ sym (more s.0 t.0 t.1)) h
+
+    same_spent : (ys : List (Spend × Output)) → Paired (unspent_at (before past n)) tx.inputs ys → spent_fault j named tx ys ≡ None → spent_fault j later tx ys ≡ None
+    same_spent ys p h =
+        let e = each_none (spent_rules j named tx ys) h in
+        first_none (spent_rules j later tx ys) (e.0, (e.1.0, (e.1.1.0, (e.1.1.1.0, (same_step ys p (stepped_contract ys) refl e.1.1.1.1.0, (e.1.1.1.1.1.0, tt))))))
+
+    known_both : (k : List ℕ → Option V) (ys : List (Spend × Output)) → EachFalse (is_unknown k) tx.outputs → list_all (λ x. is_known k x.1.lock) ys ≡ true → all_known k tx.outputs ys ≡ true
+    known_both k ys h s = both (list_all (λ o. is_known k o.lock) tx.outputs) (list_all (λ x. is_known k x.1.lock) ys) (made_known k tx.outputs h) s
+
+    same_judge : (tick : _) → judge j (moment named (before past n) tick) tx ≡ None → judge j (moment later (before past n) tick) tx ≡ None
+    same_judge tick h =
+        let e = each_none (all_rules j (moment named (before past n) tick) tx) h in
+        let p = passes_at j enough named past sound n tx at in
+        let q = paired (unspent_at (before past n)) tx.inputs p.unspent in
+        let before_known = known_both named q.0 p.known (spent_known named (unspent_at (before past n)) (find_known j enough named past sound n) tx.inputs q.0 q.2) in
+        let after_known = known_both later q.0 (known_later tx.outputs p.known)
+        (spent_known later (unspent_at (before past n)) (λ r o f. still_known o.lock (find_known j enough named past sound n r o f)) tx.inputs q.0 q.2) in
+        let spent : spent_fault j named tx q.0 ≡ None =
+        subst (λ (b : Bool). whole_fault j named tx (if b then Some q.0 else None) ≡ None) before_known
+        (subst (λ (o : Option (List (Spend × Output))). whole_fault j named tx (if_known named tx.outputs o) ≡ None) q.1 p.local) in
+        let now : whole_fault j later tx (if_known later tx.outputs (found (unspent_at (before past n)) tx)) ≡ None =
+        subst (λ (o : Option (List (Spend × Output))). whole_fault j later tx (if_known later tx.outputs o) ≡ None) (sym q.1)
+        (subst (λ (b : Bool). whole_fault j later tx (if b then Some q.0 else None) ≡ None) (sym after_known) (same_spent q.0 q.2 spent)) in
+        first_none (all_rules j (moment later (before past n) tick) tx)
+        (e.0, (e.1.0, (e.1.1.0, (e.1.1.1.0, (ap (option_map UnknownScript) (no_position (is_unknown later) tx.outputs (known_later tx.outputs p.known)), (enough (moment later (before past n) tick) tx ∙ first_none (local_rules j later (before past n) tx) (e.0, (now, tt)), tt))))))
+
+pub later_is_sound : {V : Type 0} (j : Judges V) → FoundIsEnough j → LaterIsSound j
+later_is_sound j enough named later past more sound = record {
+  keys = sound.keys;
+  admitted = λ n tx at. let l = sound.admitted n tx at in (l.0, same_judge j enough named later more past sound n tx at l.0 l.1);
+}

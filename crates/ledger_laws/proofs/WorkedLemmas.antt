@@ -1,0 +1,58 @@
+-- The definitions on small lists of transactions.
+use Rattle.std.proofs.Common.{◌≡◌, Bool, true, false, not, ◌||◌, cond, List, [], ◌∷◌, ◌++◌, ◌∙◌, ap, Some, None}
+use Rattle.std.specs.Prelude.{if◌then◌else◌}
+use Rattle.std.specs.List.{list_any}
+use Rattle.std.specs.Map.{lookup}
+use Rattle.std.specs.Option.{option_map}
+use Rattle.eutxo_types.specs.declared.output_ref.OutputRef.{OutputRef}
+use Rattle.eutxo_types.specs.declared.output_ref.OutputRef.TheVariants.{Genesis, Made}
+use Rattle.eutxo_types.specs.declared.spend.Spend.{Spend}
+use Rattle.eutxo_types.specs.declared.tx.Tx.{Tx}
+use Rattle.eutxo_types.specs.Ids.{id_of}
+use Rattle.eutxo.specs.Parts.{same_ref}
+use Rattle.ledger_laws.specs.Past.{Past, with_references, created_by, created, is_input_of, is_spent}
+use Rattle.ledger_laws.specs.Threads.{Link, next_of, spine, ends}
+use Rattle.ledger_laws.specs.Worked.{NobodyCame, TwoSteps, NoneAfterTheEnd, GivenByName, OneMoves}
+use Rattle.ledger_laws.proofs.ReferenceLaws.{same_ref-refl, unspent_is}
+
+-- a transaction that names the output is the thread's next member
+named_first : (r : OutputRef) (a : Tx) (txs : List Tx) → is_input_of r a ≡ true → spine (Some r) (a ∷ txs) ≡ record { spends = r; tx = a } ∷ spine (next_of a) txs
+named_first r a txs h = ap (λ (b : Bool). if b then record { spends = r; tx = a } ∷ spine (next_of a) txs else spine (Some r) txs) h
+
+pub nobody_came : NobodyCame
+nobody_came r tx h =
+    let e : spine (Some r) (tx ∷ []) ≡ [] = ap (λ (b : Bool). if b then record { spends = r; tx = tx } ∷ spine (next_of tx) [] else []) h in
+    (e, ap (ends (Some r)) e)
+
+pub two_steps : TwoSteps
+two_steps r a b c h k m n =
+    let l : List Link = record { spends = r; tx = a } ∷ record { spends = Made (id_of a) 0; tx = b } ∷ [] in
+    let next : next_of a ≡ Some (Made (id_of a) 0) = ap (option_map (λ z. Made (id_of a) 0)) k in
+    let over : next_of b ≡ None = ap (option_map (λ z. Made (id_of b) 0)) n in
+    let e : spine (Some r) (a ∷ b ∷ []) ≡ l =
+    named_first r a (b ∷ []) h
+    ∙ ap (λ ls. record { spends = r; tx = a } ∷ ls)
+    (ap (λ s. spine s (b ∷ [])) next ∙ named_first (Made (id_of a) 0) b [] m ∙ ap (λ s. record { spends = Made (id_of a) 0; tx = b } ∷ spine s []) over) in
+    (e, ap (ends (Some r)) e ∙ over)
+
+pub none_after_the_end : NoneAfterTheEnd
+none_after_the_end r a b h k =
+    named_first r a (b ∷ []) h ∙ ap (λ s. record { spends = r; tx = a } ∷ spine s (b ∷ [])) (ap (option_map (λ z. Made (id_of a) 0)) k)
+
+pub given_by_name : GivenByName
+given_by_name p q xs ys h =
+    ap (λ (b : Bool). if b then Some xs else (if same_ref q q then Some ys else None)) h ∙ ap (λ (b : Bool). if b then Some ys else None) (same_ref-refl q)
+
+pub one_moves : OneMoves
+one_moves first created_by tx x ins ref outs =
+    let past : Past = record { genesis = first ∷ []; accepted = tx ∷ [] } in
+    let named : (r : OutputRef) → is_spent (tx ∷ []) r ≡ ((same_ref (Genesis 0) r || false) || false) =
+    λ r. ap (λ (xs : List Spend). list_any (λ y. same_ref y.reference r) xs || false) ins ∙ ap (λ q. (same_ref q r || false) || false) ref in
+    let gone : is_spent (tx ∷ []) (Genesis 0) ≡ true = named (Genesis 0) in
+    let free : is_spent (tx ∷ []) (Made (id_of tx) 0) ≡ false = named (Made (id_of tx) 0) in
+    let there : lookup (same_ref (Made (id_of tx) 0)) (created past) ≡ Some created_by =
+    ap (λ os. lookup (same_ref (Made (id_of tx) 0)) (with_references (λ j. Made (id_of tx) j) 0 os ++ [])) outs
+    ∙ ap (λ (b : Bool). cond b (Some created_by) None) (same_ref-refl (Made (id_of tx) 0)) in (
+      unspent_is past (Genesis 0) ∙ ap (λ (b : Bool). cond (not b) (lookup (same_ref (Genesis 0)) (created past)) None) gone,
+      unspent_is past (Made (id_of tx) 0) ∙ ap (λ (b : Bool). cond (not b) (lookup (same_ref (Made (id_of tx) 0)) (created past)) None) free ∙ there,
+    )

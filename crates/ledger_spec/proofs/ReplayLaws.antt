@@ -1,0 +1,8 @@
+-- One more entry of a history.
+use Rattle.std.proofs.Common.{◌≡◌, List, [], ◌∷◌, ◌++◌, refl}
+use Rattle.ledger.specs.declared.call.Entry.{Entry}
+use Rattle.ledger_spec.specs.Replay.{Replay, after_call, replay_from}
+
+pub replay_after : (s : Replay) (es : List Entry) (e : Entry) → replay_from s (es ++ e ∷ []) ≡ after_call (replay_from s es) e.call e.reply
+replay_after s [] e = refl
+replay_after s (x ∷ es) e = replay_after (after_call s x.call x.reply) es e

@@ -1,0 +1,79 @@
+-- What a look shows.
+use Rattle.std.specs.Prelude.{ℕ, Bool, false, not, ◌&&◌, if◌then◌else◌, List, map, filter, Option, Some, None, is_some}
+use Rattle.std.specs.List.{list_any}
+use Rattle.machine.specs.declared.datum.Datum.{Datum}
+use Rattle.eutxo_types.specs.declared.lock.Lock.{Lock}
+use Rattle.eutxo_types.specs.declared.lock.Lock.TheVariants.{Key, Payout, Contract}
+use Rattle.eutxo_types.specs.declared.output.Output.{Output}
+use Rattle.eutxo_types.specs.declared.output_ref.OutputRef.{OutputRef}
+use Rattle.eutxo_types.specs.declared.output_ref.OutputRef.TheVariants.{Genesis, Made}
+use Rattle.eutxo_types.specs.declared.tx.Tx.{Tx}
+use Rattle.eutxo.specs.Parts.{same_bytes, contract_in, contract_at}
+use Rattle.roles.specs.declared.published.Published.{Published}
+use Rattle.ledger.specs.declared.ask.Ask.{Ask}
+use Rattle.ledger.specs.declared.ask.PayoutLock.{PayoutLock}
+use Rattle.ledger.specs.declared.look.Look.{Look}
+use Rattle.ledger.specs.declared.look.ThreadOutput.{ThreadOutput}
+use Rattle.ledger.specs.declared.look.Unspent.{Unspent}
+use Rattle.ledger_laws.specs.Past.{Past, unspent, unspent_at, has_id}
+use Rattle.ledger_laws.specs.Threads.{thread, ends, steps}
+use Rattle.ledger_spec.specs.Replay.{World, past_of, published_at}
+
+-- ---- the unspent outputs under a lock
+
+-- keys of these addresses
+abbrev pub is_key_of : List (List ℕ) → Lock → Bool
+is_key_of keys (Key a) = list_any (λ b. same_bytes b a) keys
+is_key_of keys (Payout currency role) = false
+is_key_of keys (Contract script d) = false
+
+-- payouts under these locks
+abbrev pub is_payout_of : List PayoutLock → Lock → Bool
+is_payout_of locks (Key a) = false
+is_payout_of locks (Payout currency role) = list_any (λ x. same_bytes x.currency currency && same_bytes x.role role) locks
+is_payout_of locks (Contract script d) = false
+
+abbrev pub unspent_of : OutputRef × Output → Unspent
+unspent_of e = record { reference = e.0; output = e.1 }
+
+-- the unspent outputs under the asked locks, in order of creation, each once
+abbrev pub under_locks : (Lock → Bool) → Past → List Unspent
+under_locks asked past = map unspent_of (filter (λ e. asked e.1.lock) (unspent past))
+
+-- ---- a thread
+
+-- a start output: a contract output of an accepted transaction that steps no contract
+abbrev pub starts_in : OutputRef → Tx → Bool
+starts_in (Genesis i) tx = false
+starts_in (Made id i) tx = has_id id tx && (not (steps tx) && is_some (contract_at tx i))
+
+-- where the thread from a start output ends; of another output, nowhere
+abbrev pub end_of : Past → OutputRef → Option OutputRef
+end_of past r = if list_any (starts_in r) past.accepted then ends (Some r) (thread past r) else None
+
+abbrev pub thread_output : OutputRef → Output → Option Published → Option ThreadOutput
+thread_output r o None = None
+thread_output r o (Some p) = Some (record { reference = r; output = o; published = p })
+
+-- what is published under the script of a contract lock
+abbrev pub object_under : List Published → Option (List ℕ × Datum) → Option Published
+object_under ps None = None
+object_under ps (Some c) = published_at ps c.0
+
+abbrev pub thread_output_in : List Published → OutputRef → Option Output → Option ThreadOutput
+thread_output_in ps r None = None
+thread_output_in ps r (Some o) = thread_output r o (object_under ps (contract_in o.lock))
+
+abbrev pub thread_output_at : World → Option OutputRef → Option ThreadOutput
+thread_output_at w None = None
+thread_output_at w (Some q) = thread_output_in w.published q (unspent_at (past_of w) q)
+
+-- the unspent output of the asked thread, with what is published under its script
+abbrev pub thread_shown : World → Option OutputRef → Option ThreadOutput
+thread_shown w None = None
+thread_shown w (Some r) = thread_output_at w (end_of (past_of w) r)
+
+-- ---- a look
+
+abbrev pub look : World → Ask → Look
+look w ask = record { tick = w.replay.tick; thread = thread_shown w ask.thread; keys = under_locks (is_key_of ask.keys) (past_of w); payouts = under_locks (is_payout_of ask.payouts) (past_of w) }

@@ -1,0 +1,12 @@
+use Rattle.std.proofs.Common.{◌≡◌, true, drop}
+use Rattle.std.specs.List.{All}
+use Rattle.roles.specs.Terms.{terms_of}
+use Rattle.ledger_views.specs.RecordsSupport.{point, stands_after, Goes}
+use Rattle.ledger_views.proofs.records.records_of.Given as goal
+
+abbrev pub invariant-loop-link : goal.invariant-loop-link
+invariant-loop-link l = record {
+  goes : Goes (terms_of l.published) (point l.published.root l.start.datum.now.state) l.start.script.now l.links l.records (drop l.link-index l.links);
+  has : (terms_of l.published).has (stands_after (point l.published.root l.start.datum.now.state) l.records).0 ≡ true;
+  numbers : All (λ x. (terms_of l.published).has x.number ≡ true) l.records;
+}

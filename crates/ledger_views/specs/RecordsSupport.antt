@@ -1,0 +1,72 @@
+-- No reader needs this file: walks along a thread, which lead to what the records say.
+use Rattle.std.specs.Prelude.{◌≡◌, ℕ, ◌-◌, List, [], ◌++◌, map, length, find, slice_get, Option, Some, None}
+use Rattle.std.specs.Option.{unwrap_or}
+use Rattle.contract.specs.declared.input.Input.{Input}
+use Rattle.states.specs.States.{StateMaps}
+use Rattle.nodes.specs.declared.cont.Cont.{Cont}
+use Rattle.machine.specs.declared.datum.Datum.{Datum}
+use Rattle.eutxo_types.specs.declared.output_ref.OutputRef.{OutputRef}
+use Rattle.eutxo_types.specs.declared.output_ref.OutputRef.TheVariants.{Genesis, Made}
+use Rattle.eutxo_types.specs.declared.spend.Spend.{Spend}
+use Rattle.eutxo_types.specs.declared.tx.Tx.{Tx}
+use Rattle.eutxo.specs.Parts.{contract_at, given_to}
+use Rattle.roles.specs.Terms.{Terms}
+use Rattle.ledger_laws.specs.Threads.{Link, Member, Gives, Run, Carries}
+use Rattle.ledger_spec.specs.Views.{starts_in}
+use Rattle.ledger_spec.specs.declared.step_record.StepRecord.{StepRecord}
+use Rattle.ledger_spec.specs.Records.{member_of}
+
+-- ---- the start
+
+-- the contract output that a transaction makes under a name
+abbrev pub contract_named : OutputRef → Tx → Option (List ℕ × Datum)
+contract_named (Genesis i) tx = None
+contract_named (Made id i) tx = contract_at tx i
+
+abbrev pub contract_by : OutputRef → Option Tx → Option (List ℕ × Datum)
+contract_by r None = None
+contract_by r (Some tx) = contract_named r tx
+
+-- script and datum of a start output
+abbrev pub start_at : OutputRef → List Tx → Option (List ℕ × Datum)
+start_at r txs = contract_by r (find (starts_in r) txs)
+
+-- ---- a step
+
+-- the inputs that are given to an output
+abbrev pub given : OutputRef → List Spend → List Input
+given r xs = unwrap_or (given_to r xs) []
+
+-- where a thread stands: at a number, in a state
+abbrev pub Point : Type 0
+Point = Cont × StateMaps
+
+abbrev pub point : Cont → StateMaps → Point
+point k s = (k, s)
+
+abbrev pub left_by : Point → Option StepRecord → Point
+left_by p None = p
+left_by p (Some x) = (x.number, x.state)
+
+-- where it stands after these records
+abbrev pub stands_after : Point → List StepRecord → Point
+stands_after p xs = left_by p (slice_get xs (length xs - 1))
+
+-- what a transaction of a thread gives from here
+pub record IsStepOf (t : Terms) (p : Point) (l : Link) (x : Member) : Type 0 where
+  pub interval : l.tx.interval ≡ x.interval
+  pub inputs : given_to l.spends l.tx.inputs ≡ Some x.inputs
+  pub gives : Gives (t.tree p.0) p.1 x
+
+-- ---- a thread
+
+-- these links carry this run
+pub record IsRunOf (t : Terms) (p : Point) (script : List ℕ) (ls : List Link) (run : List Member) : Type 0 where
+  pub runs : Run (t.tree p.0) p.1 run
+  pub carried : Carries t script ls run
+
+-- of the links these are left, after these records
+pub record Goes (t : Terms) (p : Point) (script : List ℕ) (ls : List Link) (xs : List StepRecord) (left : List Link) : Type 0 where
+  pub rest : List Member
+  pub whole : IsRunOf t p script ls (map (member_of t) xs ++ rest)
+  pub here : IsRunOf t (stands_after p xs) script left rest

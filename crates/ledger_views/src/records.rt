@@ -1,0 +1,155 @@
+//! The records of a thread.
+ghost use Rattle.std.specs.Prelude.{◌≡◌, true, All, List, Some, IfOk, map, drop, unwrap_or};
+ghost use Rattle.std.specs.Option.{IfSome};
+ghost use Rattle.eutxo.specs.Parts.{inputs_of};
+ghost use Rattle.roles.specs.Terms.{terms_of};
+ghost use Rattle.ledger_laws.specs.Laws.{marlowe, AreTables};
+ghost use Rattle.ledger_laws.specs.Sound.{IsSound};
+ghost use Rattle.ledger_laws.specs.Threads.{IsStart, Member, spine};
+ghost use Rattle.ledger_spec.specs.Replay.{past_of, published_at};
+ghost use Rattle.ledger_spec.specs.Records.{member_of, TellTheRun, AreSteps};
+ghost use Rattle.ledger_views.specs.RecordsSupport.{given, point, stands_after, IsStepOf, IsRunOf};
+
+use crate::links::{ThreadLink, thread};
+use crate::start::{Start, start_at};
+use collections::{Items, Memory, TryClone};
+use contract::{Input, SemFault, State};
+use eutxo::{found_is_enough, is_same};
+use eutxo_types::{Cont, OutputRef, Redeemer, Spend};
+use ledger::Ledger;
+use ledger_laws::threads_are_runs;
+use ledger_replay::World;
+use ledger_spec::StepRecord;
+use roles::Published;
+use semantics::Steps;
+use std::alloc::{AllocError, Global};
+
+// ---- a step
+
+fn inputs_of(alloc: Global, redeemer: &Redeemer) -> Result<Items<Input>, Memory>
+    ensures { IfOk result (λ xs. xs ≡ inputs_of redeemer.now) }
+{
+    match redeemer {
+        Redeemer::None => Ok(Items::new(alloc)),
+        Redeemer::Claim => Ok(Items::new(alloc)),
+        Redeemer::Step(inputs) => inputs.try_clone(),
+    }
+}
+
+// The inputs that are given to the contract in an output.
+fn given(alloc: Global, reference: &OutputRef, inputs: &[Spend]) -> Result<Items<Input>, Memory>
+    ensures { IfOk result (λ xs. xs ≡ given reference.now inputs.now) }
+{
+    for x in inputs {
+        if is_same(x.reference, *reference) {
+            return inputs_of(alloc, &x.redeemer);
+        }
+    }
+    Ok(Items::new(alloc))
+}
+
+// Where a thread stands after these records, which starts at a root in a state.
+fn stands_after<'a>(root: Cont, first: &'a State, records: &'a [StepRecord]) -> (Cont, &'a State)
+    ensures { point result.0 result.1.now ≡ stands_after (point root first.now) records.now }
+{
+    match records.last() {
+        Some(last) => (last.number, &last.state),
+        None => (root, first),
+    }
+}
+
+// The record of one transaction of a thread, which stands at this number, in this state. Since the step was
+// accepted, only memory can be wanting.
+fn recorded(
+    alloc: Global,
+    published: &Published,
+    at: (Cont, &State),
+    link: &ThreadLink<'_>,
+) -> Result<StepRecord, Memory>
+    requires has { (terms_of published.now).has at.0 ≡ true }
+    requires step { (x : Member) × IsStepOf (terms_of published.now) (point at.0 at.1.now) link.now x }
+    ensures record { IfOk result (λ r. (x : Member) → IsStepOf (terms_of published.now) (point at.entry.0 at.entry.1.now) link.now x → member_of (terms_of published.now) r ≡ x) }
+    ensures number { IfOk result (λ r. (terms_of published.now).has r.number ≡ true) }
+{
+    let tx = link.tx();
+    let (number, state) = at;
+    let inputs = given(alloc, link.spends(), tx.inputs.as_slice())?;
+    let table = &published.table;
+    table.turns_lead();
+    match table.compute(alloc, &number, state, tx.interval, inputs.as_slice()) {
+        Ok(outcome) => Ok(StepRecord {
+            interval: tx.interval,
+            inputs,
+            warnings: outcome.warnings,
+            payments: outcome.payments,
+            state: outcome.state,
+            number: outcome.place,
+        }),
+        Err(SemFault::Memory) => Err(AllocError),
+        Err(_) => unreachable!(),
+    }
+}
+
+// ---- a thread
+
+// The records of the transactions of a thread.
+fn records_of(
+    alloc: Global,
+    published: &Published,
+    start: &Start<'_>,
+    links: &[ThreadLink<'_>],
+) -> Result<Items<StepRecord>, Memory>
+    requires root { (terms_of published.now).has published.now.root ≡ true }
+    requires run { (run : List Member) × IsRunOf (terms_of published.now) (point published.now.root start.now.datum.now.state) start.now.script.now links.now run }
+    ensures run { IfOk result (λ xs. IsRunOf (terms_of published.now) (point published.now.root start.now.datum.now.state) start.now.script.now links.now (map (member_of (terms_of published.now)) xs)) }
+    ensures numbers { IfOk result (λ xs. All (λ x. (terms_of published.now).has x.number ≡ true) xs) }
+{
+    let mut records = Items::new(alloc);
+    for link in links {
+        let at = stands_after(published.root, &start.datum.state, records.as_slice());
+        let record = recorded(alloc, published, at, link)?;
+        records.push(record)?;
+    }
+    Ok(records)
+}
+
+// The records of what starts here.
+fn steps_from(
+    alloc: Global,
+    world: &World<'_>,
+    reference: OutputRef,
+    start: &Start<'_>,
+) -> Result<Items<StepRecord>, Memory>
+    requires sound { IsSound marlowe (published_at world.now.published) (past_of world.now) }
+    requires tables { AreTables (published_at world.now.published) }
+    requires start { IsStart (past_of world.now) reference start.now.script.now start.now.datum.now }
+    ensures { IfOk result (λ xs. TellTheRun (published_at world.now.published) (past_of world.now) reference start.now.script.now start.now.datum.now xs) }
+{
+    threads_are_runs();
+    match world.published_at(start.script) {
+        Some(object) => {
+            let links = thread(alloc, world.accepted(), reference)?;
+            records_of(alloc, object.get(), start, &links)
+        }
+        None => unreachable!(),
+    }
+}
+
+/// The records of the thread that starts at an output, in order: the thread's one run, with as many records as
+/// the thread has transactions. Where no thread starts there are none. Answers `Memory` only where a growth
+/// was refused.
+pub fn steps_of(
+    alloc: Global,
+    world: &World<'_>,
+    start: &OutputRef,
+) -> Result<Items<StepRecord>, Memory>
+    requires sound { IsSound marlowe (published_at world.now.published) (past_of world.now) }
+    requires tables { AreTables (published_at world.now.published) }
+    ensures { IfOk result (λ xs. AreSteps (published_at world.now.published) (past_of world.now) start.now xs) }
+{
+    found_is_enough::<Published>();
+    match start_at(world.accepted(), start) {
+        Some(found) => steps_from(alloc, world, *start, &found),
+        None => Ok(Items::new(alloc)),
+    }
+}
