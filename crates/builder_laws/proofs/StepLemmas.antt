@@ -10,7 +10,8 @@ use Rattle.names.specs.declared.party.Party.TheVariants.{Address, Role}
 use Rattle.semantics.specs.Walk.{Standing, answer_of}
 use Rattle.machine.specs.declared.datum.Datum.{Datum}
 use Rattle.contract.specs.declared.input.Input.{Input}
-use Rattle.eutxo_types.specs.declared.fault.TxFault.TheVariants as faults
+use Rattle.eutxo_types.specs.declared.fault.TxFault.TheVariants.{StrayContract}
+use Rattle.eutxo.specs.declared.step_fault.StepFault.TheVariants as faults
 use Rattle.eutxo_types.specs.declared.output.Output.{Output}
 use Rattle.eutxo_types.specs.declared.redeemer.Redeemer.{Redeemer}
 use Rattle.eutxo_types.specs.declared.redeemer.Redeemer.TheVariants as with
@@ -162,8 +163,8 @@ module _ (r : StepRequest) (e : Thread) (clear : hinders_thread r e ≡ None) wh
     no_stray =
         let os = due_outputs p.currency (step_walk r e).payments in
         let none : IsSo is_contract false = record { key = λ x. refl; payout = λ x y. refl } in
-        ap (λ zs. option_map (λ k. faults.StrayContract (outputs_before closed + k)) (position (λ (o : Output). is_contract o.lock) zs)) (after_first closed going os change)
-        ∙ no_fault (λ k. faults.StrayContract (outputs_before closed + k)) (λ (o : Output). is_contract o.lock) (os ++ change)
+        ap (λ zs. option_map (λ k. StrayContract (outputs_before closed + k)) (position (λ (o : Output). is_contract o.lock) zs)) (after_first closed going os change)
+        ∙ no_fault (λ k. StrayContract (outputs_before closed + k)) (λ (o : Output). is_contract o.lock) (os ++ change)
         (each-append (λ (o : Output). is_contract o.lock ≡ false) os change (each_due is_contract false none p.currency (step_walk r e).payments) (each_given is_contract false none r.change (rest (us ++ fs) firsts)))
 
     answered : after_answer tx.outputs (step_of (thread_terms e) s) ≡ None

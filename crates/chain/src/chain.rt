@@ -9,6 +9,7 @@ ghost use Rattle.ledger_spec.specs.Headline.{FirstHalf, SecondHalf};
 ghost use Rattle.ledger_spec.specs.Calls.{reply_to, published_with};
 ghost use Rattle.ledger_spec.specs.Legal.{entry_of, with_entry, IsLegal};
 ghost use Rattle.ledger_spec.specs.Records.{AreSteps};
+ghost use Rattle.ledger_spec.specs.Views.{front};
 
 use builder_laws::{
     claims_are_accepted, shown_threads_are_current, starts_are_accepted, steps_are_accepted,
@@ -17,7 +18,7 @@ use collections::{Items, Memory, TryClone};
 use eutxo::{Checked, Resolved, Shared};
 use eutxo_types::{Output, OutputRef, Tx};
 use ledger::{Call, Entry, Reply};
-use ledger_dispatch::{answer, records, resolution};
+use ledger_dispatch::{answer, front, records, resolution};
 use ledger_laws::{
     accepting_is_sound, contracts_are_funded, contracts_end_threads, outputs_are_spent_once,
     parties_are_authorised, publishing_is_sound, starting_is_sound, steps_stand_on_threads,
@@ -132,7 +133,12 @@ impl Chain {
         }
     }
 
-    fn world(&self, alloc: Global) -> Result<World<'_>, Memory>
+    // What stands, and by which checks it judges.
+    fn world<'a>(
+        &'a self,
+        alloc: Global,
+        cache: &'a [Checked<Published>],
+    ) -> Result<World<'a>, Memory>
         ensures { IfOk result (λ w. w ≡ world self.now) }
     {
         world_after(
@@ -142,6 +148,7 @@ impl Chain {
             &self.published,
             &self.entries,
             &self.ids,
+            cache,
         )
     }
 
@@ -151,6 +158,7 @@ impl Chain {
         &self,
         alloc: Global,
         call: &Call,
+        cache: &[Checked<Published>],
     ) -> Result<Answered<Reply, Option<Shared<Published>>>, Memory>
         ensures reply { IfOk result (λ r. r.reply ≡ reply_to (world self.now) call.now) }
         ensures mine { IfOk result (λ r. r.copies.0 ≡ reply_to (world self.now) call.now) }
@@ -158,7 +166,7 @@ impl Chain {
         ensures object { IfOk result (λ r. published self.now.entries ++ option_to_list r.object ≡ published_with (published self.now.entries) call.now) }
         ensures ids { IfOk result (λ r. map id_of (world self.now).replay.accepted ++ r.ids.items ≡ map id_of (after_call (world self.now).replay call.now (reply_to (world self.now) call.now)).accepted) }
     {
-        let mut world = self.world(alloc)?;
+        let mut world = self.world(alloc, cache)?;
         let known = world.accepted().len();
         let (reply, object) = answer(alloc, &mut world, call)?;
         let found = with_copies(alloc, &world, known, reply, object)?;
@@ -178,7 +186,8 @@ impl Chain {
 
     /// Makes the entry of one call, and answers its reply in two equal copies. The entry's number counts the
     /// earlier entries of its seat, and its reply is that of the table of calls (`reply_to`). `cache` has checks
-    /// that were made before; they are not looked at. Answers `Memory` only where a growth was refused: then no
+    /// that were made before: a transaction of which one has a resolution equal to what is found now isn't judged again, in a
+    /// Submit and in each place of a Round. No clause names them, so the reply is the same for every cache. Answers `Memory` only where a growth was refused: then no
     /// entry is made, and nothing is changed.
     ///
     /// So a Submit of the layout of a request that nothing hinders (`builder`) is accepted, whatever other entries
@@ -198,7 +207,6 @@ impl Chain {
         ensures err { OnErr result (self.new ≡ self.old) }
         ensures second { SecondHalf self.old }
     {
-        let _ = cache;
         self.layouts_are_accepted();
         accepting_is_sound::<Published>();
         publishing_is_sound::<Published>();
@@ -208,7 +216,7 @@ impl Chain {
             copies,
             object,
             ids,
-        } = self.replies(alloc, &call)?;
+        } = self.replies(alloc, &call, cache)?;
         let number = count_of(&self.entries, seat);
         self.entries.reserve(1)?;
         add_found(&mut self.published, object, &mut self.ids, ids)?;
@@ -226,6 +234,13 @@ impl Chain {
         ensures { result ≡ (world self.now).replay.tick }
     {
         last_tick(self.tick, &self.entries)
+    }
+
+    /// The entries, in order. Takes no memory. What holds of them, `history` says.
+    pub fn entries(&self) -> &[Entry]
+        ensures { result.now ≡ self.now.entries }
+    {
+        &self.entries
     }
 
     /// The entries, in order. Takes no memory.
@@ -258,8 +273,18 @@ impl Chain {
     pub fn resolve(&self, alloc: Global, tx: &Tx) -> Result<Resolved<Published>, Memory>
         ensures { IfOk result (λ resolved. resolved ≡ found (moment_of (world self.now)) tx.now) }
     {
-        let world = self.world(alloc)?;
+        let world = self.world(alloc, &[])?;
         resolution(alloc, &world, tx)
+    }
+
+    /// The first so many of the pending transactions, or all where there are fewer, in order, each with what is found
+    /// now of what it names: what a round would judge first, for checks that are made before it. Answers `Memory` only
+    /// where a growth was refused.
+    pub fn front(&self, alloc: Global, count: u64) -> Result<Vec<(Tx, Resolved<Published>)>, Memory>
+        ensures { IfOk result (λ jobs. jobs.items ≡ front (world self.now) count) }
+    {
+        let world = self.world(alloc, &[])?;
+        front(alloc, &world, count)
     }
 
     /// The records of the thread that starts at an output, in order: the thread's one run (`history`), with as many
@@ -275,7 +300,7 @@ impl Chain {
     {
         // To read it is to know that what it keeps is sound.
         let _tick = self.tick;
-        let world = self.world(alloc)?;
+        let world = self.world(alloc, &[])?;
         records(alloc, &world, reference)
     }
 

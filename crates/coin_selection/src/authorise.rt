@@ -8,9 +8,9 @@ ghost use Rattle.builder_spec.specs.Holding.{amount_in, holds_token, AreBundles}
 ghost use Rattle.builder_spec.specs.Steps.{may_act};
 ghost use Rattle.coin_selection.specs.RequiredSupport.{may_act_but};
 
-use crate::actor::missing_after;
 use crate::amounts::Amount;
 use crate::missing::Missing;
+use crate::requirements::missing_after;
 use crate::role_tokens::{RoleToken, roles_of};
 use collections::{Bytes, Memory, Text};
 use contract::{Input, Party};

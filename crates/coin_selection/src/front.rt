@@ -5,8 +5,8 @@ ghost use Rattle.builder_spec.specs.Holding.{amount_in, AreBundles};
 ghost use Rattle.builder_spec.specs.Fronts.{shortest, suffices, front};
 ghost use Rattle.builder_spec.specs.FrontsSupport.{IsShortest};
 
-use crate::actor::{meet, missing_of};
 use crate::amounts::Amount;
+use crate::requirements::{meet, missing_of};
 use crate::role_tokens::RoleToken;
 use collections::Memory;
 use ledger::Unspent;

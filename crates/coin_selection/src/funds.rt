@@ -2,8 +2,8 @@
 ghost use Rattle.std.specs.Prelude.{◌≡◌, IfOk};
 ghost use Rattle.builder_spec.specs.Holding.{amount_in, least_lacking, AreBundles};
 
-use crate::actor::missing_after;
 use crate::amounts::Amount;
+use crate::requirements::missing_after;
 use crate::role_tokens::RoleToken;
 use collections::{Memory, TryClone};
 use ledger::Unspent;

@@ -7,7 +7,6 @@
 #![tactic(auto)]
 
 mod accounts;
-mod actor;
 mod amounts;
 mod authorise;
 mod checks;
@@ -15,6 +14,7 @@ mod front;
 mod funds;
 mod limits;
 mod missing;
+mod requirements;
 mod role_tokens;
 mod signed;
 mod sums;

@@ -11,3 +11,4 @@ pub mod ScriptPutLemmas
 pub mod ResolutionLemmas
 pub mod JudgementLemmas
 pub mod WorkedLemmas
+pub mod ChecksLemmas

@@ -7,6 +7,10 @@ use Rattle.eutxo_types.specs.declared.output.Output.{Output}
 use Rattle.eutxo_types.specs.declared.spend.Spend.{Spend}
 use Rattle.eutxo_types.specs.declared.tx.Tx.{Tx}
 use Rattle.eutxo.specs.declared.validator.StepAnswer.{StepAnswer}
+use Rattle.eutxo_types.specs.declared.fault.TxFault.{TxFault}
+use Rattle.eutxo_types.specs.declared.fault.TxFault.TheVariants.{Semantics, NotAuthorised, WrongContinuation, WrongPayment}
+use Rattle.eutxo.specs.declared.step_fault.StepFault.{StepFault}
+use Rattle.eutxo.specs.declared.step_fault.StepFault.TheVariants as steps
 
 -- a step: the id of the script, the datum that is spent, the redeemer's inputs, the transaction, and all that it spends
 pub record Stepping : Type 0 where
@@ -15,6 +19,13 @@ pub record Stepping : Type 0 where
   pub inputs : List Input
   pub tx : Tx
   pub spent : List (Spend × Output)
+
+-- the fault of the transaction with which a script refuses a step: those of rules 12 to 15
+abbrev pub refusal_of : StepFault → TxFault
+refusal_of (steps.Semantics f) = Semantics f
+refusal_of (steps.NotAuthorised party) = NotAuthorised party
+refusal_of steps.WrongContinuation = WrongContinuation
+refusal_of (steps.WrongPayment i) = WrongPayment i
 
 -- how the scripts of a type judge a step, tell a start, and grant a payout to what is spent beside it
 pub record Judges (V : Type 0) : Type 0 where

@@ -1,6 +1,5 @@
 -- Faults by a test, at the lowest place where a test holds, and the first of several.
 use Rattle.std.specs.Prelude.{ℕ, ◌+◌, Bool, true, false, if◌then◌else◌, List, [], ◌∷◌, position, Option, Some, None, option_map}
-use Rattle.eutxo_types.specs.declared.fault.TxFault.{TxFault}
 
 -- the first that is there
 abbrev pub first_of : {A : Type 0} → List (Option A) → Option A
@@ -14,11 +13,11 @@ or_else None y = y
 or_else (Some x) y = Some x
 
 -- a fault, where the test holds
-abbrev pub fault_if : TxFault → Bool → Option TxFault
+abbrev pub fault_if : {F : Type 0} → F → Bool → Option F
 fault_if fault b = if b then Some fault else None
 
 -- a fault at the lowest place where the test holds
-abbrev pub fault_at : {A : Type 0} → (ℕ → TxFault) → (A → Bool) → List A → Option TxFault
+abbrev pub fault_at : {A F : Type 0} → (ℕ → F) → (A → Bool) → List A → Option F
 fault_at fault test xs = option_map fault (position test xs)
 
 -- the lowest place, from i on, at which the test holds of the place and the element

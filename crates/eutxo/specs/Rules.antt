@@ -20,7 +20,7 @@ use Rattle.eutxo.specs.declared.validator.StepAnswer.TheVariants as answers
 use Rattle.eutxo.specs.Faults.{fault_if, fault_at, first_index, is_empty}
 use Rattle.eutxo.specs.Parts.{same_ref, inputs_of, is_contract, contract_in, outputs_from}
 use Rattle.eutxo.specs.Differing.{first_differing}
-use Rattle.eutxo.specs.Asked.{Stepping, Judges}
+use Rattle.eutxo.specs.Asked.{Stepping, Judges, refusal_of}
 
 -- ---- of the transaction alone
 
@@ -105,7 +105,7 @@ stray_after i os = fault_at (λ k. StrayContract (i + k)) (λ o. is_contract o.l
 
 -- 12 to 15 are the script's; 16: the contract goes on in output 0, or ends, and the output at this place has a contract lock
 abbrev pub after_answer : List Output → StepAnswer → Option TxFault
-after_answer os (answers.Refused fault) = Some fault
+after_answer os (answers.Refused fault) = Some (refusal_of fault)
 after_answer os answers.GoesOn = stray_after 1 os
 after_answer os answers.Ends = stray_after 0 os
 

@@ -1,8 +1,8 @@
 //! Checked transactions.
-ghost use Rattle.std.specs.Prelude.{◌≡◌, IfOk};
+ghost use Rattle.std.specs.Prelude.{◌≡◌, ◌↔◌, IsTrue, IfOk};
 ghost use Rattle.eutxo.specs.Asked.{judges_of};
 ghost use Rattle.eutxo.specs.Local.{verdict_of};
-ghost use Rattle.eutxo.specs.Checks.{check_of, IsCheck};
+ghost use Rattle.eutxo.specs.Checks.{check_of, IsCheck, IsOf};
 
 use crate::local::local_fault;
 use crate::resolved::Resolved;
@@ -41,7 +41,8 @@ impl<V: Validator> Model for Checked<V> {
     ghost invariant = { λ a. IsCheck (judges_of V.step_gives V.starts V.claims) (record { tx = a.tx; id = a.id; found = a.found; verdict = a.verdict }) };
 }
 
-fn verdict_of(fault: Option<TxFault>) -> Verdict
+/// The verdict by the fault of the first rule that refuses, if one does.
+pub fn verdict_of(fault: Option<TxFault>) -> Verdict
     ensures { result ≡ verdict_of fault }
 {
     match fault {
@@ -114,11 +115,29 @@ impl<V: Validator> Checked<V> {
         &self.found
     }
 
+    /// Whether it is of this transaction, with an equal resolution. Then its verdict is that of the two. It takes no
+    /// memory.
+    pub fn is_of(&self, tx: &Tx, found: &Resolved<V>) -> bool
+        ensures { IsTrue result ↔ IsOf V.eq tx.now found.now self.now }
+    {
+        self.tx.same(tx) && self.found.equals(found)
+    }
+
     /// The verdict of the rules that the transaction and the resolution decide.
     pub fn verdict(&self) -> &Verdict
         ensures verdict { result.now ≡ self.now.verdict }
         ensures whole { IsCheck (judges_of V.step_gives V.starts V.claims) self.now }
     {
         &self.verdict
+    }
+
+    /// The transaction, by value: what was checked is given back.
+    pub fn into_tx(self) -> Tx
+    where
+        V: Drop,
+        ensures { result ≡ self.tx }
+    {
+        let Checked { tx, .. } = self;
+        tx
     }
 }

@@ -3,7 +3,10 @@ ghost use Rattle.eutxo.specs.Asked.{judges_of};
 ghost use Rattle.eutxo.specs.Laws.{EqualResolutionsAgree, EqualResolutionsDecideAlike, ChecksDecide, FoundIsEnough, SumsAreTheSame, TheLeastIsNamed};
 ghost use Rattle.eutxo.specs.Worked.{NothingIsNotUnspent, UsedIsInUse, TenIsOutside, UnpublishedIsUnknown};
 
+use crate::checked::Checked;
+use crate::resolved::Resolved;
 use crate::validator::Validator;
+use eutxo_types::Tx;
 
 /// Resolutions with the same outputs and equal scripts agree on every transaction, and decide it alike.
 pub fn equal_resolutions_decide_alike<V: Validator>()
@@ -40,3 +43,14 @@ pub fn worked_judgements<V: Validator>()
     ensures tick { TenIsOutside (judges_of V.step_gives V.starts V.claims) }
     ensures published { UnpublishedIsUnknown (judges_of V.step_gives V.starts V.claims) }
 {}
+
+// What can be handed to another thread, and lent to several.
+fn crosses<T: Send + Sync>() {}
+
+/// Transactions, resolutions and checks can be handed to other threads, and lent to several. It does nothing: it asks
+/// here, once, what is needed wherever checks run at once.
+pub fn checks_cross_threads<V: Validator + Send + Sync>() {
+    crosses::<Tx>();
+    crosses::<Resolved<V>>();
+    crosses::<Checked<V>>();
+}

@@ -10,6 +10,7 @@
 //! at a moment are defined here (`specs/Judgement.antt`), and the law is that a `Checked` decides it.
 #![tactic(auto)]
 
+mod at_hand;
 mod changes;
 mod checked;
 mod laws;
@@ -20,19 +21,22 @@ mod scripts;
 mod shared;
 mod spent;
 mod spent_rules;
+mod step_fault;
 mod step_rules;
 mod tx_rules;
 mod validator;
 
-pub use checked::{Checked, check};
+pub use at_hand::recheck;
+pub use checked::{Checked, check, verdict_of};
 pub use laws::{
-    checks_decide, equal_resolutions_decide_alike, found_is_enough, sums_are_preserved,
-    worked_judgements,
+    checks_cross_threads, checks_decide, equal_resolutions_decide_alike, found_is_enough,
+    sums_are_preserved, worked_judgements,
 };
-pub use local::local_fault;
+pub use local::{local_fault, spent_fault};
 pub use resolved::Resolved;
 pub use scripts::Scripts;
 pub use shared::Shared;
 pub use spent::Spent;
+pub use step_fault::StepFault;
 pub use tx_rules::{has_signed, is_same, tx_fault};
 pub use validator::{StepAnswer, Validator};

@@ -1,8 +1,8 @@
 //! The local verdict.
 ghost use Rattle.std.specs.Prelude.{◌≡◌, IfOk};
 ghost use Rattle.eutxo.specs.Asked.{judges_of};
-ghost use Rattle.eutxo.specs.Found.{script_at};
-ghost use Rattle.eutxo.specs.Local.{spent_fault, local};
+ghost use Rattle.eutxo.specs.Found.{script_at, whole};
+ghost use Rattle.eutxo.specs.Local.{spent_fault, whole_fault, local};
 
 use crate::preserved::not_preserved;
 use crate::resolved::{Resolved, whole};
@@ -16,7 +16,7 @@ use collections::Memory;
 use eutxo_types::{Tx, TxFault};
 use std::alloc::Global;
 
-fn spent_fault<V: Validator>(
+fn first_fault<V: Validator>(
     alloc: Global,
     scripts: &Scripts<V>,
     tx: &Tx,
@@ -42,6 +42,22 @@ fn spent_fault<V: Validator>(
     not_preserved(alloc, spent, tx.outputs.as_slice())
 }
 
+/// The rules after the resolution: the fault of the lowest of rules 8 to 18 that refuses, or `None`; also where the
+/// resolution lacks an output or a script, since these rules are not judged then. Answers `Memory` only where a growth
+/// was refused.
+pub fn spent_fault<V: Validator>(
+    alloc: Global,
+    tx: &Tx,
+    found: &Resolved<V>,
+) -> Result<Option<TxFault>, Memory>
+    ensures { IfOk result (λ fault. fault ≡ whole_fault (judges_of V.step_gives V.starts V.claims) (script_at found.now.scripts) tx.now (whole tx.now found.now)) }
+{
+    match whole(alloc, tx, found)? {
+        Some(spent) => first_fault(alloc, &found.scripts, tx, spent.as_slice()),
+        None => Ok(None),
+    }
+}
+
 /// The fault of the lowest of rules 1 to 3 and, where nothing is missing in the resolution, 8 to 18 that
 /// refuses, or `None`. Answers `Memory` only where a growth was refused.
 pub fn local_fault<V: Validator>(
@@ -54,8 +70,5 @@ pub fn local_fault<V: Validator>(
     if let Some(fault) = tx_fault(tx) {
         return Ok(Some(fault));
     }
-    match whole(alloc, tx, found)? {
-        Some(spent) => spent_fault(alloc, &found.scripts, tx, spent.as_slice()),
-        None => Ok(None),
-    }
+    spent_fault(alloc, tx, found)
 }

@@ -13,12 +13,21 @@ use std::alloc::Global;
 /// A resolution: what is found of what a transaction names. It may lack an output or a script; rules 8 to
 /// 18 are then not judged, since on a ledger rule 4 or 7 stands. There is one resolution for the same
 /// outputs and scripts.
-#[derive(Drop)]
 pub struct Resolved<V> {
     /// For each input, in order, the output that it spends, or `None` where it is missing.
     pub outputs: Items<Option<Output>>,
     /// The scripts that the transaction's outputs and those outputs name, as far as they were found.
     pub scripts: Scripts<V>,
+}
+
+// The drop is written, not derived: so it is proved here once, and not in each crate that drops a resolution.
+impl<V: Drop> Drop for Resolved<V> {
+    fn drop(self) {
+        let Resolved {
+            outputs: _,
+            scripts: _,
+        } = self;
+    }
 }
 
 impl<V> Resolved<V> {

@@ -40,7 +40,7 @@ fn after_answer(answer: StepAnswer, outputs: &[Output]) -> Option<TxFault>
     ensures { result ≡ after_answer outputs.now answer }
 {
     match answer {
-        StepAnswer::Refused(fault) => Some(fault),
+        StepAnswer::Refused(fault) => Some(TxFault::from(fault)),
         StepAnswer::GoesOn => stray_after(1, outputs),
         StepAnswer::Ends => stray_after(0, outputs),
     }

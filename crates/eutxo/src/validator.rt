@@ -8,18 +8,18 @@ ghost use Rattle.eutxo.specs.declared.validator.StepAnswer.{StepAnswer};
 ghost use Rattle.eutxo.specs.Asked.{Stepping};
 
 use crate::spent::Spent;
+use crate::step_fault::StepFault;
 use bundle::Bundle;
 use collections::{Bytes, Memory, Text};
 use contract::Input;
-use eutxo_types::{Datum, Tx, TxFault};
+use eutxo_types::{Datum, Tx};
 use std::alloc::Global;
 
 /// What a script answers to a step of its contract.
 #[derive(Debug, PartialEq, Eq, Drop)]
 pub enum StepAnswer {
-    /// It refuses, by the rules that are its own, 12 to 15: Semantics, NotAuthorised, WrongContinuation
-    /// or WrongPayment.
-    Refused(TxFault),
+    /// It refuses, by one of the rules that are its own, 12 to 15.
+    Refused(StepFault),
     /// The contract goes on in output 0.
     GoesOn,
     /// The contract is over.

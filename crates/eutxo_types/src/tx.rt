@@ -7,12 +7,23 @@ use contract::Interval;
 /// A transaction on the ledger (The Extended UTXO Model, "Extended UTXO model: EUTXO"): the outputs that it spends,
 /// those that it makes, in order, the ticks at which it may happen, both ends included and in POSIX milliseconds,
 /// and the addresses that signed it. No signature is checked: the list is taken as true.
-#[derive(Drop)]
 pub struct Tx {
     pub inputs: Items<Spend>,
     pub outputs: Items<Output>,
     pub interval: Interval,
     pub signers: Items<Text>,
+}
+
+// The drop is written, not derived: so it is proved here once, and not in each crate that drops a transaction.
+impl Drop for Tx {
+    fn drop(self) {
+        let Tx {
+            inputs: _,
+            outputs: _,
+            interval: _,
+            signers: _,
+        } = self;
+    }
 }
 
 impl TryClone for Tx {

@@ -7,7 +7,6 @@ use eutxo_types::{Tx, TxFault, Verdict};
 use roles::CompileFault;
 
 /// What a caller asks of the chain.
-#[derive(Drop)]
 pub enum Call {
     /// To publish a contract with the currency symbol of its roles' tokens (Marlowe specification version 3,
     /// "Participants, roles and public keys").
@@ -32,7 +31,6 @@ pub struct Ticketed {
 }
 
 /// What the chain answers to a call.
-#[derive(Drop)]
 pub enum Reply {
     /// To Publish: the id of the contract's script, also where the same was published before.
     Published([u8; 32]),
@@ -59,12 +57,58 @@ pub enum Reply {
 }
 
 /// An answered call: who made it, how many entries of the same seat stand before it, the call and the reply.
-#[derive(Drop)]
 pub struct Entry {
     pub seat: u64,
     pub number: u64,
     pub call: Call,
     pub reply: Reply,
+}
+
+// The drops of calls, replies and entries are written, not derived: so each is proved here once, and not in each crate
+// that drops one.
+impl Drop for Call {
+    fn drop(self) {
+        match self {
+            Call::Publish {
+                contract: _,
+                currency: _,
+            } => {}
+            Call::Advance(_) => {}
+            Call::Look(_) => {}
+            Call::Submit(_) => {}
+            Call::Enqueue(_) => {}
+            Call::Round(_) => {}
+        }
+    }
+}
+
+impl Drop for Reply {
+    fn drop(self) {
+        match self {
+            Reply::Published(_) => {}
+            Reply::NotCompiled(_) => {}
+            Reply::IdInUse => {}
+            Reply::Advanced => {}
+            Reply::Backward => {}
+            Reply::Look(_) => {}
+            Reply::Accepted(_) => {}
+            Reply::Refused(_) => {}
+            Reply::Ticket(_) => {}
+            Reply::Full => {}
+            Reply::Round(_) => {}
+        }
+    }
+}
+
+impl Drop for Entry {
+    fn drop(self) {
+        let Entry {
+            seat: _,
+            number: _,
+            call: _,
+            reply: _,
+        } = self;
+    }
 }
 
 impl TryClone for Call {

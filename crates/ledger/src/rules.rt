@@ -1,15 +1,17 @@
 //! The judgement.
-ghost use Rattle.std.specs.Prelude.{◌≡◌, ◌∷◌, IfOk, position, is_none};
+ghost use Rattle.std.specs.Prelude.{◌≡◌, ◌∷◌, Option, IfOk, position, is_none};
+ghost use Rattle.eutxo_types.specs.declared.fault.TxFault.{TxFault as ATxFault};
 ghost use Rattle.eutxo_types.specs.Ids.{id_of};
 ghost use Rattle.eutxo.specs.Asked.{judges_of};
 ghost use Rattle.eutxo.specs.Found.{is_known};
+ghost use Rattle.eutxo.specs.Local.{verdict_of};
 ghost use Rattle.eutxo.specs.Judgement.{not_unspent, outside_interval, is_unknown, unknown_script, judge};
 
 use crate::found::resolve;
 use crate::ledger::Ledger;
 use collections::Memory;
-use eutxo::{Validator, local_fault, tx_fault};
-use eutxo_types::{Lock, Output, Spend, Tx, TxFault};
+use eutxo::{Checked, Validator, recheck, tx_fault};
+use eutxo_types::{Lock, Output, Spend, Tx, TxFault, Verdict};
 use std::alloc::Global;
 
 fn missing_index<V, L: Ledger<V>>(ledger: &L, inputs: &[Spend]) -> Option<usize>
@@ -65,13 +67,26 @@ fn unknown_script<V, L: Ledger<V>>(ledger: &L, tx: &Tx) -> Option<TxFault>
     }
 }
 
+// The fault with which a verdict refuses.
+fn fault_in(verdict: Verdict) -> Option<TxFault>
+    ensures { (fault : Option ATxFault) → verdict ≡ verdict_of fault → result ≡ fault }
+{
+    match verdict {
+        Verdict::Accepted => None,
+        Verdict::Refused(fault) => Some(fault),
+    }
+}
+
 /// The judgement of a transaction, whose id is lent, on a ledger: the fault of the first of all rules that
-/// refuses, or `None`. Answers `Memory` only where a growth was refused.
+/// refuses, or `None`. `cache` has checks that were made before: where one is of this transaction with a resolution
+/// equal to what is found here, no script is asked again. They change no answer. Answers `Memory` only where a growth
+/// was refused.
 pub fn judge<V: Validator + Drop, L: Ledger<V>>(
     alloc: Global,
     ledger: &L,
     tx: &Tx,
     id: &[u8; 32],
+    cache: &[Checked<V>],
 ) -> Result<Option<TxFault>, Memory>
     requires { id.now ≡ id_of tx.now }
     ensures { IfOk result (λ fault. fault ≡ judge (judges_of V.step_gives V.starts V.claims) (L.moment ledger.now) tx.now) }
@@ -92,5 +107,5 @@ pub fn judge<V: Validator + Drop, L: Ledger<V>>(
         return Ok(Some(fault));
     }
     let found = resolve(alloc, ledger, tx)?;
-    local_fault(alloc, tx, &found)
+    Ok(fault_in(recheck(alloc, tx, &found, cache)?))
 }

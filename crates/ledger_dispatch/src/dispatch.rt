@@ -10,8 +10,8 @@ ghost use Rattle.ledger_spec.specs.Calls.{publish_reply, fault_on, submit_reply,
 
 use collections::{Bytes, Items, Memory, TryClone};
 use contract::Contract;
-use eutxo::Shared;
-use eutxo_types::{Tx, TxFault, Verdict, tx_id};
+use eutxo::{Shared, verdict_of};
+use eutxo_types::{Tx, TxFault, tx_id};
 use ledger::{Ask, Call, Ledger, Reply, Ticketed};
 use ledger_replay::{PendingTx, World};
 use ledger_views::show;
@@ -80,14 +80,13 @@ fn judge_one<'a>(
     ensures world { OnOk result (world.new ≡ with_accepted_unless world.old tx.now (fault_on world.old tx.now)) }
 {
     let (fault, _) = judge_and_accept(alloc, world, tx)?;
-    let verdict = match fault {
-        Some(fault) => Verdict::Refused(fault),
-        None => Verdict::Accepted,
-    };
-    Ok(Ticketed { ticket, verdict })
+    Ok(Ticketed {
+        ticket,
+        verdict: verdict_of(fault),
+    })
 }
 
-fn first_of(pending: &[PendingTx<'_>], count: u64) -> usize
+pub(crate) fn first_of(pending: &[PendingTx<'_>], count: u64) -> usize
     ensures most { result ≤ length pending.now }
     ensures same { take result pending.now ≡ take count pending.now }
 {

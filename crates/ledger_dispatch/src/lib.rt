@@ -2,12 +2,12 @@
 //!
 //! The table of calls (`Calls` of `ledger_spec`) gives the reply of each call from what stands after a history, and
 //! nothing else: `answer` finds it in a `World`, which accepts what the call accepts. Who keeps the entries adds
-//! what the call published. `resolution` and `records` answer what is asked without an entry: what is found of what a
-//! transaction names, and the records of a thread.
+//! what the call published. `resolution`, `front` and `records` answer what is asked without an entry: what is found of
+//! what a transaction names, the same for the first of the pending transactions, and the records of a thread.
 #![tactic(auto)]
 
 mod dispatch;
 mod questions;
 
 pub use dispatch::answer;
-pub use questions::{records, resolution};
+pub use questions::{front, records, resolution};

@@ -14,8 +14,9 @@ use Rattle.semantics.specs.Walk.{Standing, standing, Walk, answer_of}
 use Rattle.semantics.specs.Laws.{TurnsLead}
 use Rattle.nodes.specs.declared.cont.Cont.{Cont}
 use Rattle.machine.specs.declared.datum.Datum.{Datum}
-use Rattle.eutxo_types.specs.declared.fault.TxFault.{TxFault}
-use Rattle.eutxo_types.specs.declared.fault.TxFault.TheVariants.{Semantics, NotAuthorised, WrongContinuation, WrongPayment, StrayContract}
+use Rattle.eutxo_types.specs.declared.fault.TxFault.TheVariants.{StrayContract}
+use Rattle.eutxo.specs.declared.step_fault.StepFault.{StepFault}
+use Rattle.eutxo.specs.declared.step_fault.StepFault.TheVariants.{Semantics, NotAuthorised, WrongContinuation, WrongPayment}
 use Rattle.eutxo_types.specs.declared.lock.Lock.{Lock}
 use Rattle.eutxo_types.specs.declared.lock.Lock.TheVariants.{Key, Payout, Contract}
 use Rattle.eutxo_types.specs.declared.output.Output.{Output}
@@ -85,7 +86,7 @@ no_contract : (i : ℕ) (os : List Output) (o : Output) (other : List ℕ) (d : 
 no_contract i os o other d h e l = not_both (ap is_contract l) (each_at (λ o. is_contract o.lock) i os o h e)
 
 -- an answer that doesn't refuse
-passed : (f : Option TxFault) (closed : Bool) (os : List Output) → after_answer os (answer_by f closed) ≡ None → (f ≡ None) × (stray_after (outputs_before closed) os ≡ None)
+passed : (f : Option StepFault) (closed : Bool) (os : List Output) → after_answer os (answer_by f closed) ≡ None → (f ≡ None) × (stray_after (outputs_before closed) os ≡ None)
 passed (Some f) closed os h = cc
 passed None true os h = (refl, h)
 passed None false os h = (refl, h)
@@ -95,7 +96,7 @@ passed None false os h = (refl, h)
 abbrev pub there_of : Terms → Stepping → Cont
 there_of t s = t.at s.datum.cont (walk_of t s).turns
 
-abbrev pub rules_after : Terms → Stepping → Standing → List (Option TxFault)
+abbrev pub rules_after : Terms → Stepping → Standing → List (Option StepFault)
 rules_after t s a =
     not_authorised t.currency s ∷ wrong_continuation (is_close a.contract) (there_of t s) a.state s ∷ wrong_payment t.currency (is_close a.contract) (walk_of t s).payments s ∷ []
 

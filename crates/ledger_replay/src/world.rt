@@ -13,18 +13,20 @@ use crate::counting::count_tickets;
 use crate::replay::{Replay, replay_entries};
 use crate::transactions::{AcceptedTx, PendingTx, with_ids};
 use collections::Memory;
-use eutxo::{Shared, is_same};
+use eutxo::{Checked, Shared, is_same};
 use eutxo_types::{Output, OutputRef, Tx, TxFault};
 use ledger::{Entry, Ledger, judge};
 use roles::Published;
 use std::alloc::Global;
 use std::marker::Model;
 
-/// What stands after a history.
+/// What stands after a history. It judges by checks that were made before, where one is of what it judges; which checks
+/// it has, clauses don't see.
 #[derive(Drop)]
 pub struct World<'a> {
     genesis: &'a [Output],
     published: &'a [Shared<Published>],
+    cache: &'a [Checked<Published>],
     tick: i64,
     accepted: Vec<AcceptedTx<'a>>,
     pending: Vec<PendingTx<'a>>,
@@ -46,6 +48,7 @@ impl<'a> Model for World<'a> {
 }
 
 /// What stands after these entries, where the ids are those of the accepted transactions, in order. Hashes nothing.
+/// `cache` has checks that were made before, by which it judges.
 pub fn world_after<'a>(
     alloc: Global,
     genesis: &'a [Output],
@@ -53,6 +56,7 @@ pub fn world_after<'a>(
     published: &'a [Shared<Published>],
     entries: &'a [Entry],
     ids: &[[u8; 32]],
+    cache: &'a [Checked<Published>],
 ) -> Result<World<'a>, Memory>
     requires { ids.now ≡ map id_of (replay tick entries.now).accepted }
     ensures { IfOk result (λ w. w ≡ record { genesis = genesis.now; published = published.now; replay = replay tick entries.now; tickets = tickets entries.now }) }
@@ -66,6 +70,7 @@ pub fn world_after<'a>(
     Ok(World {
         genesis,
         published,
+        cache,
         tick,
         accepted,
         pending,
@@ -206,7 +211,7 @@ impl<'a> World<'a> {
         requires { id.now ≡ id_of tx.now }
         ensures { IfOk result (λ fault. fault ≡ judge marlowe (moment_of self.now) tx.now) }
     {
-        judge(alloc, self, tx, id)
+        judge(alloc, self, tx, id, self.cache)
     }
 }
 

@@ -1,5 +1,5 @@
--- What a look shows.
-use Rattle.std.specs.Prelude.{ℕ, Bool, false, not, ◌&&◌, if◌then◌else◌, List, map, filter, Option, Some, None, is_some}
+-- What is shown of what stands: looks, and the front of the pool.
+use Rattle.std.specs.Prelude.{ℕ, Bool, false, not, ◌&&◌, if◌then◌else◌, List, map, filter, take, Option, Some, None, is_some}
 use Rattle.std.specs.List.{list_any}
 use Rattle.machine.specs.declared.datum.Datum.{Datum}
 use Rattle.eutxo_types.specs.declared.lock.Lock.{Lock}
@@ -8,6 +8,8 @@ use Rattle.eutxo_types.specs.declared.output.Output.{Output}
 use Rattle.eutxo_types.specs.declared.output_ref.OutputRef.{OutputRef}
 use Rattle.eutxo_types.specs.declared.output_ref.OutputRef.TheVariants.{Genesis, Made}
 use Rattle.eutxo_types.specs.declared.tx.Tx.{Tx}
+use Rattle.eutxo.specs.declared.resolved.Resolved.{Resolved}
+use Rattle.eutxo.specs.Judgement.{found}
 use Rattle.eutxo.specs.Parts.{same_bytes, contract_in, contract_at}
 use Rattle.roles.specs.declared.published.Published.{Published}
 use Rattle.ledger.specs.declared.ask.Ask.{Ask}
@@ -17,7 +19,7 @@ use Rattle.ledger.specs.declared.look.ThreadOutput.{ThreadOutput}
 use Rattle.ledger.specs.declared.look.Unspent.{Unspent}
 use Rattle.ledger_laws.specs.Past.{Past, unspent, unspent_at, has_id}
 use Rattle.ledger_laws.specs.Threads.{thread, ends, steps}
-use Rattle.ledger_spec.specs.Replay.{World, past_of, published_at}
+use Rattle.ledger_spec.specs.Replay.{World, past_of, published_at, moment_of}
 
 -- ---- the unspent outputs under a lock
 
@@ -77,3 +79,13 @@ thread_shown w (Some r) = thread_output_at w (end_of (past_of w) r)
 
 abbrev pub look : World → Ask → Look
 look w ask = record { tick = w.replay.tick; thread = thread_shown w ask.thread; keys = under_locks (is_key_of ask.keys) (past_of w); payouts = under_locks (is_payout_of ask.payouts) (past_of w) }
+
+-- ---- the front of the pool
+
+-- a transaction with what is found of what it names
+abbrev pub with_found : World → Tx → Tx × Resolved Published
+with_found w tx = (tx, found (moment_of w) tx)
+
+-- the first k of the pending transactions, in order, each with what is found now of what it names
+abbrev pub front : World → ℕ → List (Tx × Resolved Published)
+front w k = map (λ p. with_found w p.1) (take k w.replay.pending)

@@ -22,8 +22,8 @@ use Rattle.bundle.specs.Bundles.{Amounts, amount_of}
 use Rattle.bundle.specs.contracts.bundle.Bundle as bundles
 use Rattle.nodes.specs.declared.cont.Cont.{Cont}
 use Rattle.machine.specs.declared.datum.Datum.{Datum}
-use Rattle.eutxo_types.specs.declared.fault.TxFault.{TxFault}
-use Rattle.eutxo_types.specs.declared.fault.TxFault.TheVariants.{Semantics, NotAuthorised, WrongContinuation, WrongPayment}
+use Rattle.eutxo.specs.declared.step_fault.StepFault.{StepFault}
+use Rattle.eutxo.specs.declared.step_fault.StepFault.TheVariants.{Semantics, NotAuthorised, WrongContinuation, WrongPayment}
 use Rattle.eutxo_types.specs.declared.lock.Lock.{Lock}
 use Rattle.eutxo_types.specs.declared.lock.Lock.TheVariants.{Key, Payout, Contract}
 use Rattle.eutxo_types.specs.declared.output.Output.{Output}
@@ -134,11 +134,11 @@ is_close close = true
 is_close c = false
 
 -- 13: of the parties that act, the first that isn't authorised
-abbrev pub not_authorised : List ℕ → Stepping → Option TxFault
+abbrev pub not_authorised : List ℕ → Stepping → Option StepFault
 not_authorised currency s = option_map NotAuthorised (unauthorised currency s.tx.signers s.spent s.inputs)
 
 -- 14: the contract goes on, and output 0 isn't the one in which it does
-abbrev pub wrong_continuation : Bool → Cont → StateMaps → Stepping → Option TxFault
+abbrev pub wrong_continuation : Bool → Cont → StateMaps → Stepping → Option StepFault
 wrong_continuation closed there state s = fault_if WrongContinuation (not (closed || is_first (continuation s.script there state) s.tx.outputs))
 
 -- how many outputs stand before the payments
@@ -146,10 +146,10 @@ abbrev pub outputs_before : Bool → ℕ
 outputs_before closed = if closed then 0 else 1
 
 -- 15: the first place at which an output that is due for a payment isn't
-abbrev pub wrong_payment : List ℕ → Bool → List Payment → Stepping → Option TxFault
+abbrev pub wrong_payment : List ℕ → Bool → List Payment → Stepping → Option StepFault
 wrong_payment currency closed ps s = option_map WrongPayment (first_unpaid (outputs_before closed) (due_outputs currency ps) (outputs_from (outputs_before closed) s.tx.outputs))
 
-abbrev pub answer_by : Option TxFault → Bool → StepAnswer
+abbrev pub answer_by : Option StepFault → Bool → StepAnswer
 answer_by (Some f) closed = answers.Refused f
 answer_by None true = answers.Ends
 answer_by None false = answers.GoesOn

@@ -1,7 +1,9 @@
 //! What holds of every published contract: laws, each the contract of a function that does nothing.
 ghost use Rattle.roles.specs.Publications.{PublishedAreTables, PublishedTellApart};
 
+use crate::published::Published;
 use compiler::codes_stand;
+use eutxo::checks_cross_threads;
 
 /// What is published is a table: its root is one of the numbers and stands for the contract, and turns
 /// that the contract of a number has lead to a number, which stands for the part that they lead to. So
@@ -19,4 +21,9 @@ pub fn published_tell_contracts_apart()
     ensures { PublishedTellApart }
 {
     codes_stand();
+}
+
+/// Published contracts, and checks by them, can be handed to other threads, and lent to several. It does nothing.
+pub fn published_cross_threads() {
+    checks_cross_threads::<Published>();
 }

@@ -13,7 +13,7 @@ mod step;
 
 pub use authorise::actor;
 pub use compiler::CompileFault;
-pub use laws::{published_are_tables, published_tell_contracts_apart};
+pub use laws::{published_are_tables, published_cross_threads, published_tell_contracts_apart};
 pub use layout::due_to;
 pub use published::Published;
 pub use publishing::publish;

@@ -6,7 +6,7 @@ ghost use Rattle.roles.specs.Sums.{sums_of};
 use crate::amounts::is_sums;
 use crate::authorise::holds_role;
 use crate::published::Published;
-use crate::step::{Asked, step_of};
+use crate::step::{StepParts, step_of};
 use bundle::Bundle;
 use collections::{Bytes, Memory, Text};
 use contract::{Input, State};
@@ -66,7 +66,7 @@ impl Validator for Published {
         tx: &Tx,
         spent: &[Spent<'_>],
     ) -> Result<StepAnswer, Memory> {
-        let asked = Asked {
+        let asked = StepParts {
             script,
             datum,
             inputs,

@@ -10,8 +10,8 @@ use crate::layout::{goes_on, unpaid_index};
 use crate::published::Published;
 use collections::{Bytes, Memory, TryClone};
 use contract::{Input, Outcome, SemFault};
-use eutxo::{Spent, StepAnswer};
-use eutxo_types::{Cont, Datum, Tx, TxFault};
+use eutxo::{Spent, StepAnswer, StepFault};
+use eutxo_types::{Cont, Datum, Tx};
 use machine::compute;
 use semantics::Steps;
 use std::alloc::{AllocError, Global};
@@ -19,7 +19,7 @@ use table::Table;
 
 // What is asked about a step, but for what the transaction spends.
 #[derive(Clone, Copy)]
-pub struct Asked<'a> {
+pub struct StepParts<'a> {
     pub script: &'a [u8; 32],
     pub datum: &'a Datum,
     pub inputs: &'a [Input],
@@ -31,7 +31,7 @@ pub struct Asked<'a> {
 fn outcome_answer(
     alloc: Global,
     currency: &Bytes,
-    asked: Asked<'_>,
+    asked: StepParts<'_>,
     spent: &[Spent<'_>],
     closed: bool,
     outcome: &Outcome<Cont>,
@@ -41,14 +41,14 @@ fn outcome_answer(
     let tx = asked.tx;
     let outputs = tx.outputs.as_slice();
     if let Some(party) = unauthorised(currency, tx.signers.as_slice(), spent, asked.inputs) {
-        return Ok(StepAnswer::Refused(TxFault::NotAuthorised(party.try_clone()?)));
+        return Ok(StepAnswer::Refused(StepFault::NotAuthorised(party.try_clone()?)));
     }
     if !closed && !goes_on(alloc, asked.script, outcome.place, &outcome.state, outputs)? {
-        return Ok(StepAnswer::Refused(TxFault::WrongContinuation));
+        return Ok(StepAnswer::Refused(StepFault::WrongContinuation));
     }
     let from = if closed { 0 } else { 1 };
     match unpaid_index(currency, from, outcome.payments.as_slice(), outputs) {
-        Some(i) => Ok(StepAnswer::Refused(TxFault::WrongPayment(i as u64))),
+        Some(i) => Ok(StepAnswer::Refused(StepFault::WrongPayment(i as u64))),
         None => Ok(if closed {
             StepAnswer::Ends
         } else {
@@ -79,7 +79,7 @@ fn is_closed(table: &Table, cont: Cont) -> bool
 pub fn step_of(
     alloc: Global,
     published: &Published,
-    asked: Asked<'_>,
+    asked: StepParts<'_>,
     spent: &[Spent<'_>],
 ) -> Result<StepAnswer, Memory>
     ensures { IfOk result (λ answer. answer ≡ step_of (terms_of published.now) (record { script = asked.entry.script.now; datum = asked.entry.datum.now; inputs = asked.entry.inputs.now; tx = asked.entry.tx.now; spent = spent.now })) }
@@ -87,7 +87,7 @@ pub fn step_of(
     let table = &published.table;
     let datum = asked.datum;
     if !has_cont(table, datum.cont) {
-        return Ok(StepAnswer::Refused(TxFault::Semantics(SemFault::NoMatch)));
+        return Ok(StepAnswer::Refused(StepFault::Semantics(SemFault::NoMatch)));
     }
     match compute(alloc, table, datum, asked.tx.interval, asked.inputs) {
         Ok(outcome) => {
@@ -95,6 +95,6 @@ pub fn step_of(
             outcome_answer(alloc, &published.currency, asked, spent, closed, &outcome)
         }
         Err(SemFault::Memory) => Err(AllocError),
-        Err(fault) => Ok(StepAnswer::Refused(TxFault::Semantics(fault))),
+        Err(fault) => Ok(StepAnswer::Refused(StepFault::Semantics(fault))),
     }
 }

@@ -55,7 +55,8 @@ pub fn resolved_lines<V: Drop>(
     Ok(lines)
 }
 
-fn put_found(
+/// A line for each input with what is found.
+pub fn put_found(
     alloc: Global,
     lines: &mut String,
     known: &Known,
@@ -84,7 +85,8 @@ fn put_one_found(
     }
 }
 
-fn put_scripts<V>(
+/// A line for each script that is found, in the order of their publishing.
+pub fn put_scripts<V>(
     alloc: Global,
     lines: &mut String,
     known: &Known,

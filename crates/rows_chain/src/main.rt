@@ -40,6 +40,10 @@
 //!   script; it leaves the transaction as it is;
 //! - `seen` prints, of the same, what the last look holds;
 //! - `check` prints the verdict on that transaction and what is found, and keeps both at hand for the calls below, as a cache;
+//! - `recheck` prints the verdict on the same by the checks at hand, behind `at hand` where one is of this transaction with an equal
+//!   resolution, else `anew`;
+//! - `front COUNT` prints how many of the pending transactions a round would take out, each by its name with what is found of
+//!   what it names, as `resolve` does; `checks COUNT` checks these, prints the verdicts, and keeps the checks at hand;
 //! - `steps_of REFERENCE` prints the number of steps of the thread that starts there, and for each its interval and the number
 //!   where the contract went on, then a line for each input, warning and payment, and the state;
 //! - `build step CHANGE INPUT ..` builds a step of the thread that the last look shows, with inputs as `rows_text` has
@@ -52,6 +56,7 @@
 #![tactic(auto)]
 
 mod asked;
+mod at_hand;
 mod built;
 mod offers;
 mod played;

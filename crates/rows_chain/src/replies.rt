@@ -1,7 +1,7 @@
 //! Replies as they are printed.
 use crate::shown::put_look;
 use chain::{Call, Reply, Ticketed};
-use collections::Memory;
+use collections::{Memory, TryClone};
 use ledger::Look;
 use rows_text::{Known, RowFault, refusal_line, replace, verdict_line, word_of_id};
 use std::alloc::{AllocError, Global};
@@ -10,8 +10,8 @@ use std::alloc::{AllocError, Global};
 pub trait Printed: Drop {
     fn lines(&self, alloc: Global, known: &Known) -> Result<String, AllocError>;
 
-    /// Keeps the look that it is, if it is one.
-    fn keep(self, place: &mut Option<Look>);
+    /// Keeps a copy of the look that it is, if it is one.
+    fn keep(&self, place: &mut Option<Look>) -> Result<(), AllocError>;
 }
 
 impl Printed for Reply {
@@ -23,10 +23,11 @@ impl Printed for Reply {
         Ok(lines)
     }
 
-    fn keep(self, place: &mut Option<Look>) {
+    fn keep(&self, place: &mut Option<Look>) -> Result<(), AllocError> {
         if let Reply::Look(look) = self {
-            replace(place, Some(look));
+            replace(place, Some(look.try_clone()?));
         }
+        Ok(())
     }
 }
 
@@ -39,7 +40,7 @@ pub fn reply_lines<P: Printed>(
 ) -> Result<String, RowFault> {
     let (mine, told) = replies?;
     let lines = mine.lines(alloc, known)?;
-    told.keep(place);
+    told.keep(place)?;
     Ok(lines)
 }
 

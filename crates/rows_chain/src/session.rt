@@ -1,5 +1,6 @@
 //! A session: a chain, and what is written for it.
 use crate::asked::{history_lines, keep_check, resolved_lines};
+use crate::at_hand::{front_lines, keep_checks, recheck_line};
 use crate::built::build;
 use crate::offers::{Handed, hand_in};
 use crate::played::played;
@@ -168,6 +169,19 @@ fn answered(
             &mut desk.checks,
             &desk.tx,
             chain.resolve(alloc, &desk.tx),
+        ),
+        "recheck" => recheck_line(
+            alloc,
+            &desk.checks,
+            &desk.tx,
+            chain.resolve(alloc, &desk.tx),
+        ),
+        "front" => Ok(front_lines(alloc, &desk.known, chain.front(alloc, number(rest)?))?),
+        "checks" => keep_checks(
+            alloc,
+            &desk.known,
+            &mut desk.checks,
+            chain.front(alloc, number(rest)?),
         ),
         "build" => build(alloc, desk, rest),
         _ => played(alloc, chain, desk, word, rest),

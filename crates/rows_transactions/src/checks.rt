@@ -9,7 +9,7 @@ use std::alloc::{AllocError, Global};
 use std::sync::Arc;
 
 /// A validator that a row can ask for: what it is for something published.
-trait Asked: Validator + Drop {
+pub trait Asked: Validator + Drop {
     fn of(alloc: Global, named: &Named) -> Result<Shared<Self>, Memory>;
 }
 
@@ -56,7 +56,8 @@ fn judged<V: Asked>(alloc: Global, tx: &Tx, found: Resolved<V>) -> Result<String
     verdict_line(alloc, checked.verdict())
 }
 
-fn scripts_of<V: Asked>(alloc: Global, names: &[Named]) -> Result<Scripts<V>, Memory> {
+/// All that has a name, under its id.
+pub fn scripts_of<V: Asked>(alloc: Global, names: &[Named]) -> Result<Scripts<V>, Memory> {
     let mut scripts = Scripts::new(alloc);
     for named in names {
         scripts.insert(named.id(), V::of(alloc, named)?)?;

@@ -1,22 +1,28 @@
 //! What is written for the next row, and what is printed for lines.
+use crate::at_hand::{found, kept, rechecked};
 use crate::checks::check_line;
 use crate::finds::{found_of, put_found};
 use crate::sums::{added, subtracted};
 use collections::Items;
+use eutxo::Checked;
 use eutxo_types::{Output, Tx, encode_tx, tx_id};
+use roles::Published;
 use rows_text::{
-    Answers, Known, RowFault, first, named_of, nothing, number, parts, put, put_in, put_keys,
-    replace, write,
+    Answers, Known, Named, RowFault, first, named_of, nothing, number, parts, put, put_in,
+    put_keys, replace, write,
 };
 use std::alloc::{AllocError, Global};
 use std::mem;
 
-/// What is written so far: a transaction, what its inputs find, and what is published.
+/// What is written so far: a transaction, what its inputs find, what is published, what is found instead of it, and the checks
+/// at hand.
 #[derive(Drop)]
 pub struct Desk {
     tx: Tx,
     finds: Items<Option<Output>>,
     known: Known,
+    others: Vec<Named>,
+    checks: Vec<Checked<Published>>,
 }
 
 impl Answers for Desk {
@@ -25,6 +31,8 @@ impl Answers for Desk {
             tx: nothing(alloc),
             finds: Items::new(alloc),
             known: Known::new(alloc),
+            others: Vec::new(alloc),
+            checks: Vec::new(alloc),
         }
     }
 
@@ -35,6 +43,7 @@ impl Answers for Desk {
             "#" => Ok(Some(String::from_str(alloc, line)?)),
             "transaction" => Ok(Some(finished(alloc, &mut self.tx)?)),
             "check" => Ok(Some(checked(alloc, self, rest)?)),
+            "keep" | "recheck" => Ok(Some(at_hand(alloc, self, word)?)),
             "add" => Ok(Some(added(alloc, rest)?)),
             "subtract" => Ok(Some(subtracted(alloc, rest)?)),
             _ => {
@@ -60,6 +69,15 @@ fn checked(alloc: Global, desk: &mut Desk, word: &str) -> Result<String, RowFaul
     line
 }
 
+// The verdict on the transaction, which is kept at hand or found there. What is written stays.
+fn at_hand(alloc: Global, desk: &mut Desk, word: &str) -> Result<String, RowFault> {
+    let found = found(alloc, &desk.finds, &desk.known, &desk.others);
+    match word {
+        "keep" => kept(alloc, &mut desk.checks, &desk.tx, found),
+        _ => rechecked(alloc, &desk.checks, &desk.tx, found),
+    }
+}
+
 // The bytes of a transaction and its id, a line for each.
 fn spelled(alloc: Global, tx: &Tx) -> Result<String, AllocError> {
     let bytes = encode_tx(alloc, tx)?;
@@ -75,6 +93,11 @@ fn written(alloc: Global, desk: &mut Desk, word: &str, rest: &str) -> Result<(),
         "publish" => {
             let named = named_of(alloc, &desk.known, rest);
             put_in(&mut desk.known.published, named)
+        }
+        "instead" => put_in(&mut desk.others, named_of(alloc, &desk.known, rest)),
+        "again" => {
+            replace(&mut desk.finds, Items::new(alloc));
+            Ok(())
         }
         "finds" => put(&mut desk.finds, found_of(alloc, &desk.known, rest)),
         "many" => many(alloc, desk, rest),

@@ -2,8 +2,8 @@
 use bundle::Bundle;
 use collections::{Bytes, Memory, Text};
 use contract::Input;
-use eutxo::{Spent, StepAnswer, Validator};
-use eutxo_types::{Datum, Tx, TxFault};
+use eutxo::{Spent, StepAnswer, StepFault, Validator};
+use eutxo_types::{Datum, Tx};
 use std::alloc::Global;
 
 /// It refuses each step with WrongContinuation, takes every output for a start, and grants no payout.
@@ -12,7 +12,7 @@ pub struct Stubborn;
 
 impl Validator for Stubborn {
     ghost use Rattle.std.specs.Prelude.{true, false, refl};
-    ghost use Rattle.eutxo_types.specs.declared.fault.TxFault.TheVariants.{WrongContinuation};
+    ghost use Rattle.eutxo.specs.declared.step_fault.StepFault.TheVariants.{WrongContinuation};
     ghost use Rattle.eutxo.specs.declared.validator.StepAnswer.TheVariants.{Refused};
 
     ghost step_gives = { λ s step. Refused WrongContinuation };
@@ -32,7 +32,7 @@ impl Validator for Stubborn {
         _tx: &Tx,
         _spent: &[Spent<'_>],
     ) -> Result<StepAnswer, Memory> {
-        Ok(StepAnswer::Refused(TxFault::WrongContinuation))
+        Ok(StepAnswer::Refused(StepFault::WrongContinuation))
     }
 
     fn start(&self, _alloc: Global, _datum: &Datum, _amount: &Bundle) -> Result<bool, Memory> {

@@ -1,0 +1,98 @@
+//! Checks at hand, and the front of the pool. What owns checks and resolutions is generic in their scripts, so that no proof walks
+//! through the drop of these.
+use crate::asked::{keep_check, put_found, put_scripts};
+use collections::Memory;
+use eutxo::{Checked, Resolved, Validator, recheck};
+use eutxo_types::{Tx, tx_id};
+use rows_text::{Known, RowFault, verdict_line, word_of_id};
+use std::alloc::{AllocError, Global};
+
+/// How many of the pending transactions come first, and for each its name, then a line for each input with what is found, and
+/// one for each script.
+pub fn front_lines<V: Drop>(
+    alloc: Global,
+    known: &Known,
+    jobs: Result<Vec<(Tx, Resolved<V>)>, Memory>,
+) -> Result<String, AllocError> {
+    let jobs = jobs?;
+    let mut lines = format!(in alloc; "front {}", jobs.len())?;
+    for job in &jobs {
+        put_job(alloc, &mut lines, known, &job.0, &job.1)?;
+    }
+    Ok(lines)
+}
+
+fn put_job<V>(
+    alloc: Global,
+    lines: &mut String,
+    known: &Known,
+    tx: &Tx,
+    found: &Resolved<V>,
+) -> Result<(), AllocError> {
+    put_name(alloc, lines, known, tx)?;
+    put_found(
+        alloc,
+        lines,
+        known,
+        tx.inputs.as_slice(),
+        found.outputs.as_slice(),
+    )?;
+    put_scripts(alloc, lines, known, &found.scripts)
+}
+
+fn put_name(alloc: Global, lines: &mut String, known: &Known, tx: &Tx) -> Result<(), AllocError> {
+    let id = tx_id(alloc, tx)?;
+    let name = word_of_id(alloc, &known.sent, &id)?;
+    lines.push_str("\n ")?;
+    lines.push_str(name.as_str())
+}
+
+/// Checks these transactions with what is found of each, and keeps the checks at hand: how many, and a line for each with its
+/// name and verdict.
+pub fn keep_checks<V: Validator + Drop>(
+    alloc: Global,
+    known: &Known,
+    checks: &mut Vec<Checked<V>>,
+    jobs: Result<Vec<(Tx, Resolved<V>)>, Memory>,
+) -> Result<String, RowFault> {
+    let jobs = jobs?;
+    let mut lines = format!(in alloc; "checked {}", jobs.len())?;
+    for (tx, found) in jobs {
+        put_name(alloc, &mut lines, known, &tx)?;
+        put_verdict(&mut lines, keep_check(alloc, checks, &tx, Ok(found))?)?;
+    }
+    Ok(lines)
+}
+
+fn put_verdict(lines: &mut String, verdict: String) -> Result<(), AllocError> {
+    lines.push(' ')?;
+    lines.push_str(verdict.as_str())
+}
+
+/// The verdict on a transaction and what is found, by the checks at hand: behind `at hand` where one is of this transaction with
+/// an equal resolution, else `anew`.
+pub fn recheck_line<V: Validator + Drop>(
+    alloc: Global,
+    checks: &[Checked<V>],
+    tx: &Tx,
+    found: Result<Resolved<V>, Memory>,
+) -> Result<String, RowFault> {
+    let found = found?;
+    let how = if is_at_hand(checks, tx, &found) {
+        "at hand"
+    } else {
+        "anew"
+    };
+    let verdict = recheck(alloc, tx, &found, checks)?;
+    let line = verdict_line(alloc, &verdict)?;
+    Ok(format!(in alloc; "{how} {line}")?)
+}
+
+fn is_at_hand<V: Validator>(checks: &[Checked<V>], tx: &Tx, found: &Resolved<V>) -> bool {
+    for checked in checks {
+        if checked.is_of(tx, found) {
+            return true;
+        }
+    }
+    false
+}
