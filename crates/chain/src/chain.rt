@@ -52,7 +52,6 @@ fn add_found(
 /// The ledger of one thread: what it began with, what was published, its history, and the ids of what was
 /// accepted, each of which is computed once. It finds everything else by walking over the entries. Clauses
 /// see the outputs and the tick that it began with, and the entries.
-#[derive(Drop)]
 pub struct Chain {
     genesis: Items<Output>,
     tick: i64,
@@ -79,6 +78,19 @@ impl Model for Chain {
     ghost view = { λ a. record { genesis = a.genesis; first_tick = a.tick; entries = a.entries.items } };
 
     ghost invariant = { λ a. IsKept a.published.items a.ids.items (record { genesis = a.genesis; first_tick = a.tick; entries = a.entries.items }) };
+}
+
+// The drop is written, not derived: so it is proved here once, and not in each crate that drops a chain.
+impl Drop for Chain {
+    fn drop(self) {
+        let Chain {
+            genesis: _,
+            tick: _,
+            published: _,
+            ids: _,
+            entries: _,
+        } = self;
+    }
 }
 
 // What is found for one call: its reply, that reply in two copies, what it publishes, and the ids of the
