@@ -9,7 +9,7 @@ ghost use Rattle.ledger_spec.specs.Headline.{FirstHalf, SecondHalf};
 ghost use Rattle.ledger_spec.specs.Calls.{reply_to, published_with};
 ghost use Rattle.ledger_spec.specs.Legal.{entry_of, with_entry, IsLegal};
 ghost use Rattle.ledger_spec.specs.Records.{AreSteps};
-ghost use Rattle.ledger_spec.specs.Views.{front};
+ghost use Rattle.ledger_spec.specs.Views.{pool_front};
 
 use builder_laws::{
     claims_are_accepted, shown_threads_are_current, starts_are_accepted, steps_are_accepted,
@@ -293,7 +293,7 @@ impl Chain {
     /// now of what it names: what a round would judge first, for checks that are made before it. Answers `Memory` only
     /// where a growth was refused.
     pub fn front(&self, alloc: Global, count: u64) -> Result<Vec<(Tx, Resolved<Published>)>, Memory>
-        ensures { IfOk result (λ jobs. jobs.items ≡ front (world self.now) count) }
+        ensures { IfOk result (λ jobs. jobs.items ≡ pool_front (world self.now) count) }
     {
         let world = self.world(alloc, &[])?;
         front(alloc, &world, count)

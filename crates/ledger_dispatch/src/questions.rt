@@ -5,7 +5,7 @@ ghost use Rattle.ledger_laws.specs.Laws.{marlowe, AreTables};
 ghost use Rattle.ledger_laws.specs.Sound.{IsSound};
 ghost use Rattle.ledger_spec.specs.Replay.{past_of, published_at, moment_of};
 ghost use Rattle.ledger_spec.specs.Records.{AreSteps};
-ghost use Rattle.ledger_spec.specs.Views.{with_found, front};
+ghost use Rattle.ledger_spec.specs.Views.{with_found, pool_front};
 
 use crate::dispatch::first_of;
 use collections::{Items, Memory, TryClone};
@@ -55,7 +55,7 @@ pub fn front(
     world: &World<'_>,
     count: u64,
 ) -> Result<Vec<(Tx, Resolved<Published>)>, Memory>
-    ensures { IfOk result (λ jobs. jobs.items ≡ front world.now count) }
+    ensures { IfOk result (λ jobs. jobs.items ≡ pool_front world.now count) }
 {
     let pending = world.pending();
     jobs_of(alloc, world, &pending[..first_of(pending, count)])

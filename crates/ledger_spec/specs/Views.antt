@@ -87,5 +87,5 @@ abbrev pub with_found : World → Tx → Tx × Resolved Published
 with_found w tx = (tx, found (moment_of w) tx)
 
 -- the first k of the pending transactions, in order, each with what is found now of what it names
-abbrev pub front : World → ℕ → List (Tx × Resolved Published)
-front w k = map (λ p. with_found w p.1) (take k w.replay.pending)
+abbrev pub pool_front : World → ℕ → List (Tx × Resolved Published)
+pool_front w k = map (λ p. with_found w p.1) (take k w.replay.pending)
