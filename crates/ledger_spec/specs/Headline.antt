@@ -30,7 +30,7 @@ pub record IsSoundLedger (named : List ℕ → Option Published) (past : Past) :
   -- with the run's warnings, payments, states and remaining contracts
   pub runs : EachIsARun named past
   -- a thread that isn't over ends where its run stands: the same remaining contract, in the same state
-  pub stand : EndsWithItsRun named past
+  pub ends_with_run : EndsWithItsRun named past
   -- every accepted step stands on exactly one thread
   pub steps : EachStepHasItsThread past
   -- and a contract output is spent by a step alone

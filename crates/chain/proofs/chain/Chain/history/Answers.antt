@@ -8,7 +8,7 @@ returns-clause-first c =
     rw (← c.self.view_is)
     (record {
       runs = c.threads_are_runs.ensures.run _ _ c.self.invariant.tables c.self.invariant.sound;
-      stand = c.threads_are_runs.ensures.end _ _ c.self.invariant.tables c.self.invariant.sound;
+      ends_with_run = c.threads_are_runs.ensures.end _ _ c.self.invariant.tables c.self.invariant.sound;
       steps = c.steps_stand_on_threads.ensures.thread _ _ c.self.invariant.sound;
       stepped = c.steps_stand_on_threads.ensures.spends _ _ c.self.invariant.sound;
       authorised = c.parties_are_authorised.ensures _ _ c.self.invariant.sound;
