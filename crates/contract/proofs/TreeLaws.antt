@@ -20,9 +20,13 @@ use Rattle.contract.specs.declared.tree.Contract as made
 use Rattle.contract.specs.declared.tree.Case.{Case}
 use Rattle.contract.specs.declared.tree.Contract.TheOpen.{Contract-F}
 use Rattle.contract.specs.declared.tree.Contract.TheViews.{roll-Contract, roll-Case}
-use Rattle.contract.specs.declared.tree.Contract.TheFolds.{map-Contract, fold-roll-Contract, fold_out-Case, ind-Contract}
+use Rattle.contract.specs.declared.tree.Contract.TheFolds.{map-Contract}
 use Rattle.contract.specs.declared.tree.Contract.TheVariants.{rolls-Close, rolls-Pay, rolls-If, rolls-When, rolls-Let, rolls-Assert}
-use Rattle.contract.specs.Tree.{ValueTree, available_money, constant, neg_value, add_value, sub_value, mul_value, div_value, choice_value, time_interval_start, time_interval_end, use_value, cond_value, ObservationTree, and_obs, or_obs, not_obs, chose_something, value_ge, value_gt, value_lt, value_le, value_eq, true_obs, false_obs, ActionTree, deposit, choice, notify, ContractTree, CaseTrees, close, pay, if_obs, when, let_be, assert, no_cases, case_then, value_tree, value_level, observation_tree, observation_level, action_tree, case_trees, contract_tree, contract_level, case_tree, case_level}
+use Rattle.contract.specs.declared.tree.Contract.TheFolds.{fold-roll-Contract, fold_out-Case, ind-Contract}
+use Rattle.contract.specs.Tree.{ValueTree, available_money, constant, neg_value, add_value, sub_value, mul_value, div_value, choice_value, time_interval_start, time_interval_end, use_value, cond_value}
+use Rattle.contract.specs.Tree.{ObservationTree, and_obs, or_obs, not_obs, chose_something, value_ge, value_gt, value_lt, value_le, value_eq, true_obs, false_obs}
+use Rattle.contract.specs.Tree.{ActionTree, deposit, choice, notify, ContractTree, CaseTrees, close, pay, if_obs, when, let_be, assert, no_cases, case_then}
+use Rattle.contract.specs.Tree.{value_tree, value_level, observation_tree, observation_level, action_tree, case_trees, contract_tree, contract_level, case_tree, case_level}
 use Rattle.contract.specs.TreeInverse.{value_of, observation_of, action_of, contract_of, cases_of}
 
 -- ---- the tree of each form of value and observation

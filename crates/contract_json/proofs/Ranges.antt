@@ -1,10 +1,11 @@
 -- The numbers of what `serde_json` reads lie in their ranges.
 use Rattle.std.proofs.Common.{◌≡◌, ℕ, ℤ, pos, drop, zero, suc, ◌^◌, Bool, true, false, cond, ◌&&◌, List, Option, Some, None, option_map, option_and_then, Ok, Err, refl, subst, ap, arith, Ordering, Less, Equal, Greater}
 use Rattle.std.proofs.lemmas.Bool.{and_parts}
-use Rattle.std.specs.Prelude.{⊤, nat_lt, nat_le, slice_index, ◌==◌}
+use Rattle.std.specs.Prelude.{⊤, nat_lt, nat_le}
 use Rattle.std.specs.Ordering.{nat_cmp, match_ordering}
 use Rattle.std.specs.Cmp.Lexicographic.{slice_cmp}
 use Rattle.std.specs.Float.{float_is_finite, binary64}
+use Rattle.std.specs.Prelude.{slice_index, ◌==◌}
 use Rattle.fast_float.specs.Text.{minus, Parts, scan, digits_of, nearest, with_sign}
 use Rattle.json.specs.Lex.{tokens}
 use Rattle.json.specs.Json as json

@@ -17,14 +17,16 @@ use Rattle.names.proofs.Exact.{bytes_exact, account_exact, choice_id_exact}
 use Rattle.states.specs.States.{StateMaps, AllPositive}
 use Rattle.collections.specs.Repeats.{has_key, has_repeat}
 use Rattle.std.specs.Fmt.{signed_decimal}
-use Rattle.serde_json.specs.Data.{Data, string, Items, no_items, item, array}
+use Rattle.serde_json.specs.Data.{Data, string, Items, no_items, item}
 use Rattle.serde_json.specs.Find.{as_array}
 use Rattle.collections.specs.Answers.{◌>>=◌}
-use Rattle.json_names.specs.Parts.{Reading, found, all_items, list, time, text, whole}
+use Rattle.json_names.specs.Parts.{Reading, found, all_items, list, time}
 use Rattle.json_states.specs.ReadsState.{account_row, choice_row, bound_row, rows_into, rows, state}
 use Rattle.json_states.specs.Rows.{and_then, until_fault}
 use Rattle.names.specs.declared.choice_id.ChoiceId.{ChoiceId}
+use Rattle.serde_json.specs.Data.{array}
 use Rattle.serde_json.specs.View.{items_of}
+use Rattle.json_names.specs.Parts.{text, whole}
 use Rattle.json_names.specs.ReadsNames.{party, token, choice_id}
 use Rattle.json_writers.specs.Written.{four, pair_json, number_json, wide_json, party_json, token_json, choice_id_json, number_fits, time_fits}
 use Rattle.json_outcomes.specs.Each.{Each, HasBytes}

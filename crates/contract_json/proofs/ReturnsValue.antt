@@ -9,8 +9,10 @@ use Rattle.contract.specs.declared.value.Value.{Value}
 use Rattle.contract.specs.declared.value.Value as values
 use Rattle.contract.specs.declared.value.Observation.{Observation}
 use Rattle.contract.specs.declared.value.Observation as observations
-use Rattle.contract.specs.Tree.{ValueTree, available_money, constant, neg_value, add_value, sub_value, mul_value, div_value, choice_value, time_interval_start, time_interval_end, use_value, cond_value, ObservationTree, and_obs, or_obs, not_obs, chose_something, value_ge, value_gt, value_lt, value_le, value_eq, true_obs, false_obs}
-use Rattle.contract.specs.TreeInverse.{value_of, observation_of}
+use Rattle.contract.specs.Tree.{ValueTree, available_money, constant, neg_value, add_value, sub_value, mul_value, div_value, choice_value, time_interval_start, time_interval_end, use_value, cond_value}
+use Rattle.contract.specs.TreeInverse.{value_of}
+use Rattle.contract.specs.Tree.{ObservationTree, and_obs, or_obs, not_obs, chose_something, value_ge, value_gt, value_lt, value_le, value_eq, true_obs, false_obs}
+use Rattle.contract.specs.TreeInverse.{observation_of}
 use Rattle.json_names.specs.Forms.{value_form, observation_form}
 use Rattle.json_names.specs.ReadsNames.{party, token, choice_id}
 use Rattle.json_values.specs.ReadsValue.{value, value_by, observation, observation_by}

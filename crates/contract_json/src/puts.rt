@@ -6,7 +6,8 @@ ghost use Rattle.contract.specs.Tree.{value_tree, observation_tree, action_tree,
 ghost use Rattle.json_outcomes.specs.Each.{Each, HasBytes};
 ghost use Rattle.json_writers.specs.Symbols.{ValueSymbols, ObservationSymbols, ActionSymbols, CaseSymbols, ContractSymbols};
 ghost use Rattle.contract_json.specs.InputSymbols.{InputSymbols};
-ghost use Rattle.contract_json.specs.ReadableLaws.{party-readable, token-readable, choice_id-readable, payee-readable, bound-readable, value-readable, observation-readable, action-readable, case-readable, contract-readable, input-readable, transaction-readable, payment-readable, warning-readable, state-readable, outcome-readable};
+ghost use Rattle.contract_json.specs.ReadableLaws.{party-readable, token-readable, choice_id-readable, payee-readable, bound-readable, value-readable, observation-readable, action-readable, case-readable, contract-readable};
+ghost use Rattle.contract_json.specs.ReadableLaws.{input-readable, transaction-readable, payment-readable, warning-readable, state-readable, outcome-readable};
 ghost use Rattle.contract_json.specs.Written as written;
 ghost use Rattle.contract_json.specs.Written.{bound_fits, value_fits, observation_fits, action_fits, case_fits, contract_fits, input_fits, transaction_fits, time_fits};
 

@@ -8,7 +8,8 @@ use Rattle.contract.specs.declared.fault.SemFault.{SemFault}
 use Rattle.contract.specs.declared.fault.SemFault.TheVariants.{Leaves128}
 use Rattle.contract.specs.declared.interval.Interval.{Interval}
 use Rattle.states.specs.States.{StateMaps}
-use Rattle.contract.specs.Tree.{ValueTree, available_money, constant, add_value, mul_value, div_value, choice_value, use_value, cond_value, ObservationTree, and_obs, or_obs, value_ge, true_obs, false_obs}
+use Rattle.contract.specs.Tree.{ValueTree, available_money, constant, add_value, mul_value, div_value, choice_value, use_value, cond_value}
+use Rattle.contract.specs.Tree.{ObservationTree, and_obs, or_obs, value_ge, true_obs, false_obs}
 use Rattle.evaluation.specs.Numbers.{within}
 use Rattle.evaluation.specs.Evaluation.{quotient, eval, holds, visited, looked}
 

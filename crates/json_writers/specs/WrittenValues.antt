@@ -2,7 +2,8 @@
 -- and observations"), and whether JSON has their numbers.
 use Rattle.std.specs.Prelude.{Bool, true, false, ◌&&◌, codes}
 use Rattle.serde_json.specs.Data.{Data, boolean, string}
-use Rattle.contract.specs.Tree.{ValueTree, available_money, constant, neg_value, add_value, sub_value, mul_value, div_value, choice_value, time_interval_start, time_interval_end, use_value, cond_value, ObservationTree, and_obs, or_obs, not_obs, chose_something, value_ge, value_gt, value_lt, value_le, value_eq, true_obs, false_obs}
+use Rattle.contract.specs.Tree.{ValueTree, available_money, constant, neg_value, add_value, sub_value, mul_value, div_value, choice_value, time_interval_start, time_interval_end, use_value, cond_value}
+use Rattle.contract.specs.Tree.{ObservationTree, and_obs, or_obs, not_obs, chose_something, value_ge, value_gt, value_lt, value_le, value_eq, true_obs, false_obs}
 use Rattle.json_writers.specs.WrittenNames.{one, two, three, number_json, number_fits, party_json, token_json, choice_id_json}
 
 abbrev mutual

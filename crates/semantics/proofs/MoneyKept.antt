@@ -14,7 +14,7 @@ use Rattle.contract.specs.declared.fault.SemFault.TheVariants.{InvalidInterval, 
 use Rattle.contract.specs.declared.input.Input.{Input}
 use Rattle.contract.specs.declared.input.Input.TheVariants.{Deposit, Choice, Notify}
 use Rattle.contract.specs.declared.interval.Interval.{Interval}
-use Rattle.states.specs.States.{StateMaps, with_money, total_of, counted}
+use Rattle.states.specs.States.{StateMaps, with_money, total_of}
 use Rattle.contract.specs.Tree.{ContractTree, close, pay, if_obs, when, let_be, assert}
 use Rattle.evaluation.specs.Evaluation.{eval, visited, holds, looked}
 use Rattle.semantics.specs.Walk.{then_branch, else_branch, Standing, standing, Walk, ended, then_from, then_walk}
@@ -24,6 +24,7 @@ use Rattle.semantics.specs.Settling.{reduction_then}
 use Rattle.semantics.specs.Applying.{taken, unmatched}
 use Rattle.semantics.specs.Transaction.{trimmed}
 use Rattle.semantics.specs.Computed.{pay_step, refunds, settled, first_match, first_match_index, tried_to_match, take_match, applied, one_input, all_inputs, from_start}
+use Rattle.states.specs.States.{counted}
 use Rattle.semantics.specs.Money.{brought, deposited, paid_out, MoneyIsKept}
 use Rattle.semantics.proofs.Computing.{computed_by}
 use Rattle.semantics.proofs.MoneySums.{no_more, no_first, grows, shrinks, paid_out_append, refunds_pay_all, nothing_left}

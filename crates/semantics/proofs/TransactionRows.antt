@@ -14,7 +14,8 @@ use Rattle.semantics.specs.Reduction.{account_of, balance}
 use Rattle.evaluation.specs.Evaluation.{quotient}
 use Rattle.semantics.specs.Computed.{applied, one_input, from_start, computed}
 use Rattle.names.specs.Equal.{ada}
-use Rattle.semantics.specs.Rows.{party_a, party_b, party_x, name_x, a_has_three, two_accounts, nothing, PaysWhatThereIs, PaysNothing, PaysZero, PaysItself, EntersNothing, MinusSevenByTwoIsBound, SevenByZeroIsBound, LeastIsBound, LeastByMinusOneIsRefused, CondIsBound, CondIsRefused, LaterIsBound, IfChooses, FalseAndFails, TrueAndIsRefused, TrueOrIsSilent, FirstIsTaken, EndsAreChosen, OutsideIsNoMatch, ZeroIsDeposited, RefundsInOrder, CloseIsUseless}
+use Rattle.semantics.specs.Rows.{party_a, party_b, party_x, name_x, a_has_three, two_accounts, nothing}
+use Rattle.semantics.specs.Rows.{PaysWhatThereIs, PaysNothing, PaysZero, PaysItself, EntersNothing, MinusSevenByTwoIsBound, SevenByZeroIsBound, LeastIsBound, LeastByMinusOneIsRefused, CondIsBound, CondIsRefused, LaterIsBound, IfChooses, FalseAndFails, TrueAndIsRefused, TrueOrIsSilent, FirstIsTaken, EndsAreChosen, OutsideIsNoMatch, ZeroIsDeposited, RefundsInOrder, CloseIsUseless}
 use Rattle.semantics.proofs.Refunds.{entries-refund}
 
 -- ---- maps of no entry and of one

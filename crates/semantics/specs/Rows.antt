@@ -16,7 +16,8 @@ use Rattle.contract.specs.declared.payment.Payment.{Payment}
 use Rattle.contract.specs.declared.warning.Warning.{Warning}
 use Rattle.contract.specs.declared.warning.Warning.TheVariants.{NonPositiveDeposit, NonPositivePay, PartialPay, Shadowing, AssertionFailed}
 use Rattle.states.specs.States.{StateMaps}
-use Rattle.contract.specs.Tree.{ValueTree, constant, div_value, cond_value, ObservationTree, and_obs, or_obs, value_ge, true_obs, false_obs, deposit, choice, notify, ContractTree, close, pay, if_obs, when, let_be, assert, no_cases, case_then}
+use Rattle.contract.specs.Tree.{ValueTree, constant, div_value, cond_value, ObservationTree, and_obs, or_obs, value_ge, true_obs, false_obs}
+use Rattle.contract.specs.Tree.{deposit, choice, notify, ContractTree, close, pay, if_obs, when, let_be, assert, no_cases, case_then}
 use Rattle.evaluation.specs.EvaluationRows.{too_large, least}
 use Rattle.semantics.specs.Walk.{Turn, refund, timed_out, in_case, standing, Walk, answer_of}
 use Rattle.semantics.specs.Reduction.{refund_of}

@@ -11,7 +11,8 @@ use Rattle.nodes.specs.declared.case_node.CaseNode.TheVariants.{Deposit, Choice,
 use Rattle.nodes.specs.declared.cont_node.ContNode.{ContNode}
 use Rattle.nodes.specs.declared.cont_node.ContNode.TheVariants.{Close, Pay, If, When, Let, Assert}
 use Rattle.table.specs.Heights.{greatest, above, value_height, observation_height, case_height, case_heights, contract_height}
-use Rattle.table.specs.Flat.{Flat, Trees, value_of, observation_of, case_of, cont_of, value_entry, observation_entry, case_entry, cont_entry, trees, Part, a_value, an_observation, a_case, a_cont, value_parts, observation_parts, case_parts, cont_parts, Stands, AllStand, height_of, parts_of, height_above, IsFlat}
+use Rattle.table.specs.Flat.{Flat, Trees, value_of, observation_of, case_of, cont_of, value_entry, observation_entry, case_entry, cont_entry, trees}
+use Rattle.table.specs.Flat.{Part, a_value, an_observation, a_case, a_cont, value_parts, observation_parts, case_parts, cont_parts, Stands, AllStand, height_of, parts_of, height_above, IsFlat}
 use Rattle.table.specs.LevelLaws.{tree_is}
 
 abbrev pub tree_height : Trees → Part → ℕ

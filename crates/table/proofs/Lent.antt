@@ -7,7 +7,8 @@ use Rattle.nodes.specs.declared.case_node.CaseNode.{CaseNode}
 use Rattle.nodes.specs.declared.cont_node.ContNode.{ContNode}
 use Rattle.nodes.specs.declared.entry.Entry.{Entry}
 use Rattle.table.specs.Heights.{value_height, observation_height, case_height, contract_height}
-use Rattle.table.specs.Flat.{Flat, value_of, observation_of, case_of, cont_of, value_entry, observation_entry, case_entry, cont_entry, trees, value_tree, observation_tree, case_tree, cont_tree, Part, a_value, an_observation, a_case, a_cont, value_parts, observation_parts, case_parts, cont_parts, AllStand, IsFlat}
+use Rattle.table.specs.Flat.{Flat, value_of, observation_of, case_of, cont_of, value_entry, observation_entry, case_entry, cont_entry, trees, value_tree, observation_tree, case_tree, cont_tree}
+use Rattle.table.specs.Flat.{Part, a_value, an_observation, a_case, a_cont, value_parts, observation_parts, case_parts, cont_parts, AllStand, IsFlat}
 use Rattle.table.specs.LevelLaws.{tree_is}
 use Rattle.table.proofs.HeightLaws.{height_is}
 

@@ -6,7 +6,8 @@ use Rattle.nodes.specs.declared.observation_node.ObservationNode.{ObservationNod
 use Rattle.nodes.specs.declared.case_node.CaseNode.{CaseNode}
 use Rattle.nodes.specs.declared.cont_node.ContNode.{ContNode}
 use Rattle.nodes.specs.declared.entry.Entry.{Entry}
-use Rattle.table.specs.Flat.{Flat, value_of, observation_of, case_of, cont_of, trees, value_tree, observation_tree, case_tree, cont_tree, a_value, an_observation, a_case, a_cont, value_parts, observation_parts, case_parts, cont_parts, AllStand, height_above, IsFlat}
+use Rattle.table.specs.Flat.{Flat, value_of, observation_of, case_of, cont_of, trees, value_tree, observation_tree, case_tree, cont_tree}
+use Rattle.table.specs.Flat.{a_value, an_observation, a_case, a_cont, value_parts, observation_parts, case_parts, cont_parts, AllStand, height_above, IsFlat}
 use Rattle.table.specs.Heights.{value_height, observation_height, case_height, contract_height}
 use Rattle.table.proofs.HeightLaws.{value_above, observation_above, case_above, cont_above, above_is}
 use Rattle.table.specs.Pushing.{with_value, with_observation, with_case, with_cont}

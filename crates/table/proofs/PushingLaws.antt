@@ -9,7 +9,8 @@ use Rattle.nodes.specs.declared.case_node.CaseNode.{CaseNode}
 use Rattle.nodes.specs.declared.cont_node.ContNode.{ContNode}
 use Rattle.nodes.specs.declared.entry.Entry.{Entry}
 use Rattle.table.specs.Heights.{above}
-use Rattle.table.specs.Flat.{Flat, Trees, value_of, observation_of, case_of, cont_of, value_entry, observation_entry, case_entry, cont_entry, next_level, levels, deepest, trees, value_tree, observation_tree, case_tree, cont_tree, Part, a_value, an_observation, a_case, a_cont, value_parts, observation_parts, case_parts, cont_parts, Stands, AllStand, height_of, parts_of, height_above, Fine, IsFlat, Agrees, Extends}
+use Rattle.table.specs.Flat.{Flat, Trees, value_of, observation_of, case_of, cont_of, value_entry, observation_entry, case_entry, cont_entry, next_level, levels, deepest, trees, value_tree, observation_tree, case_tree, cont_tree}
+use Rattle.table.specs.Flat.{Part, a_value, an_observation, a_case, a_cont, value_parts, observation_parts, case_parts, cont_parts, Stands, AllStand, height_of, parts_of, height_above, Fine, IsFlat, Agrees, Extends}
 use Rattle.table.specs.LevelLaws.{AllAgree, value_agrees, observation_agrees, case_agrees, cont_agrees, tree_is}
 use Rattle.table.specs.Pushing.{with_value, with_observation, with_case, with_cont}
 

@@ -13,7 +13,8 @@ use Rattle.nodes.specs.declared.cont_node.ContNode.{ContNode}
 use Rattle.nodes.specs.declared.cont_node.ContNode.TheVariants.{Close, Pay, If, When, Let, Assert}
 use Rattle.table.specs.Flat.{Flat, Trees, trees, a_case, a_cont, Stands, AllStand, IsFlat, Has, case_of, cont_of, cont_tree, case_tree, cont_entry, case_entry, cont_parts, case_parts, follows}
 use Rattle.table.specs.LevelLaws.{tree_is}
-use Rattle.evaluation.specs.Path.{Turn, refund, next, then_branch, else_branch, timed_out, in_case, part, along, case_list, waits_for}
+use Rattle.evaluation.specs.Path.{Turn, refund, next, then_branch, else_branch, timed_out, in_case}
+use Rattle.evaluation.specs.Path.{part, along, case_list, waits_for}
 use Rattle.table.specs.Along.{node_turn, next_cont, cont_along, cont_at, has_cont, TurnsLead}
 
 -- what follows a case

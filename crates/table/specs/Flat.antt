@@ -1,7 +1,9 @@
 -- What the numbers of a table stand for.
 use Rattle.std.specs.Prelude.{◌≡◌, ℕ, suc, zero, ◌<◌, ◌≤◌, pos, List, [], ◌∷◌, length, map}
 use Rattle.std.proofs.Math.ListN.{get_or}
-use Rattle.contract.specs.Tree.{ValueTree, available_money, constant, neg_value, add_value, sub_value, mul_value, div_value, choice_value, time_interval_start, time_interval_end, use_value, cond_value, ObservationTree, and_obs, or_obs, not_obs, chose_something, value_ge, value_gt, value_lt, value_le, value_eq, true_obs, false_obs, ActionTree, deposit, choice, notify, ContractTree, close, pay, if_obs, when, let_be, assert, case_trees}
+use Rattle.contract.specs.Tree.{ValueTree, available_money, constant, neg_value, add_value, sub_value, mul_value, div_value, choice_value, time_interval_start, time_interval_end, use_value, cond_value}
+use Rattle.contract.specs.Tree.{ObservationTree, and_obs, or_obs, not_obs, chose_something, value_ge, value_gt, value_lt, value_le, value_eq, true_obs, false_obs}
+use Rattle.contract.specs.Tree.{ActionTree, deposit, choice, notify, ContractTree, close, pay, if_obs, when, let_be, assert, case_trees}
 use Rattle.nodes.specs.declared.value_node.ValueNode.{ValueNode}
 use Rattle.nodes.specs.declared.value_node.ValueNode.TheVariants.{AvailableMoney, Constant, NegValue, AddValue, SubValue, MulValue, DivValue, ChoiceValue, TimeIntervalStart, TimeIntervalEnd, UseValue, Cond}
 use Rattle.nodes.specs.declared.observation_node.ObservationNode.{ObservationNode}

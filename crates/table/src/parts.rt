@@ -1,7 +1,8 @@
 //! A table's contracts by their parts.
 ghost use Rattle.std.specs.Prelude.{◌≡◌, ◌<◌, ℕ, length, Some, refl, map, slice_get, option_map};
 ghost use Rattle.table.specs.Flat.{Flat, Trees, trees, IsFlat, Has, AllStand, a_value, an_observation, a_case, a_cont, value_tree, observation_tree, cont_tree, case_of, case_entry, case_parts, follows};
-ghost use Rattle.evaluation.specs.Path.{in_case, waits_for};
+ghost use Rattle.evaluation.specs.Path.{in_case};
+ghost use Rattle.evaluation.specs.Path.{waits_for};
 ghost use Rattle.evaluation.specs.Parts.{case_tree_of, StandsWait};
 ghost use Rattle.table.specs.Along.{next_cont, cont_along};
 ghost use Rattle.table.specs.AlongLaws.{along_more, along_tree, along_some, along_one, same_cont_tree, same_number, Numbered};

@@ -4,8 +4,9 @@ use Rattle.nodes.specs.declared.cont.Cont.{Cont}
 use Rattle.table_builder.specs.Putting.{put_cont}
 use Rattle.contract.specs.declared.tree.Case.{Case}
 use Rattle.contract.specs.Tree.{contract_tree}
-use Rattle.listing.proofs.Trees.{high-first, conts-first, others-first, is-Pay, is-Let, is-Assert, is-If, is-When}
+use Rattle.listing.proofs.Trees.{high-first, conts-first, others-first}
 use Rattle.listing.proofs.Cases.{Progress, progress-start, progress-at, progress-step, progress-end}
+use Rattle.listing.proofs.Trees.{is-Pay, is-Let, is-Assert, is-If, is-When}
 use Rattle.listing.proofs.Codes.{next-Pay, next-Let, next-Assert, next-then, next-otherwise, next-When, next-case, fits-Pay, fits-Let, fits-Assert, fits-If, fits-When, fits-case, codes-Pay, codes-Let, codes-Assert, codes-If, codes-When, codes-case}
 use Rattle.nodes.specs.declared.cont_node.ContNode.{ContNode}
 use Rattle.table.specs.Heights.{contract_height}

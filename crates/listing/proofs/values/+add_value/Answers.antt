@@ -4,10 +4,13 @@ use Rattle.table.specs.Flat.{Flat}
 use Rattle.contract.specs.Tree.{value_tree, observation_tree, neg_value, not_obs, cond_value}
 use Rattle.table.specs.Heights.{value_height, observation_height}
 use Rattle.listing.specs.Sizes.{value_size, observation_size}
-use Rattle.contract.proofs.TreeLaws.{value_tree-NegValue, value_tree-AddValue, value_tree-SubValue, value_tree-MulValue, value_tree-DivValue, value_tree-Cond, observation_tree-AndObs, observation_tree-OrObs, observation_tree-NotObs, observation_tree-ValueGE, observation_tree-ValueGT, observation_tree-ValueLT, observation_tree-ValueLE, observation_tree-ValueEQ}
+use Rattle.contract.proofs.TreeLaws.{value_tree-NegValue, value_tree-AddValue, value_tree-SubValue, value_tree-MulValue, value_tree-DivValue, value_tree-Cond}
+use Rattle.contract.proofs.TreeLaws.{observation_tree-AndObs, observation_tree-OrObs, observation_tree-NotObs, observation_tree-ValueGE, observation_tree-ValueGT, observation_tree-ValueLT, observation_tree-ValueLE, observation_tree-ValueEQ}
 use Rattle.listing.specs.Code.{code_value, code_observation}
 use Rattle.listing.proofs.Forms.{code-TimeIntervalStart, code-TimeIntervalEnd, code-TrueObs, code-FalseObs, high-Cond, size-Cond, value-some, observation-some}
-use Rattle.listing.proofs.Made.{at-value, at-observation, fits-NegValue, fits-AddValue, fits-SubValue, fits-MulValue, fits-DivValue, fits-Cond, fits-AndObs, fits-OrObs, fits-NotObs, fits-ValueGE, fits-ValueGT, fits-ValueLT, fits-ValueLE, fits-ValueEQ, codes-NegValue, codes-AddValue, codes-SubValue, codes-MulValue, codes-DivValue, codes-Cond, codes-AndObs, codes-OrObs, codes-NotObs, codes-ValueGE, codes-ValueGT, codes-ValueLT, codes-ValueLE, codes-ValueEQ, room-AddValue, room-SubValue, room-MulValue, room-DivValue, room-AndObs, room-OrObs, room-ValueGE, room-ValueGT, room-ValueLT, room-ValueLE, room-ValueEQ}
+use Rattle.listing.proofs.Made.{at-value, at-observation, fits-NegValue, fits-AddValue, fits-SubValue, fits-MulValue, fits-DivValue, fits-Cond, fits-AndObs, fits-OrObs, fits-NotObs, fits-ValueGE, fits-ValueGT, fits-ValueLT, fits-ValueLE, fits-ValueEQ}
+use Rattle.listing.proofs.Made.{codes-NegValue, codes-AddValue, codes-SubValue, codes-MulValue, codes-DivValue, codes-Cond, codes-AndObs, codes-OrObs, codes-NotObs, codes-ValueGE, codes-ValueGT, codes-ValueLT, codes-ValueLE, codes-ValueEQ}
+use Rattle.listing.proofs.Made.{room-AddValue, room-SubValue, room-MulValue, room-DivValue, room-AndObs, room-OrObs, room-ValueGE, room-ValueGT, room-ValueLT, room-ValueLE, room-ValueEQ}
 use Rattle.listing.proofs.values.«+add_value».Goals as goal
 
 pub add_value-put_value-requires-in-AddValue : goal.add_value-put_value-requires-in-AddValue
