@@ -1,5 +1,5 @@
 -- The code of a contract stands for it.
-use Rattle.std.proofs.Common.{◌≡◌, refl, sym, ap, ◌∙◌, subst, ℕ, ℤ, ◌+◌, ◌<◌, ◌≤◌, List, [], ◌∷◌, length, length-append, map, arith}
+use Rattle.std.proofs.Common.{◌≡◌, refl, sym, ap, ◌∙◌, subst, ℕ, ℤ, ◌+◌, ◌<◌, ◌≤◌, List, [], ◌∷◌, length, map, arith}
 use Rattle.contract.specs.Tree.{ValueTree, ObservationTree, ActionTree, deposit, choice, notify, ContractTree, close, pay, if_obs, when, let_be, assert, CaseTrees, no_cases, case_then, case_trees}
 use Rattle.names.specs.declared.party.Party.{Party}
 use Rattle.names.specs.declared.payee.Payee.{Payee}
@@ -8,10 +8,10 @@ use Rattle.nodes.specs.declared.cont.Cont.{Cont}
 use Rattle.nodes.specs.declared.cont_node.ContNode.{ContNode}
 use Rattle.nodes.specs.declared.cont_node.ContNode.TheVariants as conts_nodes
 use Rattle.table.specs.Heights.{case_over, case_height, contract_height}
-use Rattle.table.specs.Flat.{Flat, nothing, trees, case_of, cont_of, case_parts, cont_parts, Part, a_value, an_observation, a_case, a_cont, Stands, AllStand, Fine, parts_of, height_of, height_above, IsFlat}
+use Rattle.table.specs.Flat.{Flat, nothing, trees, case_of, cont_of, case_parts, cont_parts, Part, a_value, an_observation, a_case, a_cont, Stands, AllStand, Fine, parts_of, height_of, IsFlat}
 use Rattle.table.proofs.HeightLaws.{case_above, cont_above, above_is}
-use Rattle.table.proofs.PushingLaws.{pushed_case, pushed_cont}
 use Rattle.table_builder.specs.Putting.{put_case, put_cont, others_in}
+use Rattle.table_builder.proofs.PuttingLaws.{case_put, cont_put, one_case, one_cont}
 use Rattle.lowering.specs.Sizes.{action_size, conts, conts_of, others, others_of}
 use Rattle.lowering.specs.Code.{code_value, code_observation, code_action, case_node, code_case, code_contract, code_cases, code}
 use Rattle.lowering.specs.Building.{cases_height, ActionStands}
@@ -73,16 +73,16 @@ pub record ReadyCont (f g : Flat) (n : ContNode) (c : ContractTree) : Type 0 whe
   pub conts : length g.conts + 1 ≤ length f.conts + conts c
 
 join-cont : (f g : Flat) (n : ContNode) (c : ContractTree) → ReadyCont f g n c → contract_height c ≤ 999 → MadeCont f (put_cont g n).0 (put_cont g n).1 c
-unfolding put_cont
 join-cont f g n c r l =
-    let p = pushed_cont g n r.flat r.stand (omega (arith, l, ap contract_height r.tree, above_is g (cont_parts n) r.flat r.stand, cont_above (trees g) n)) in
+    let m = one_cont g n in
+    let p = cont_put g r.flat n r.stand (omega (arith, l, ap contract_height r.tree, above_is g (cont_parts n) r.flat r.stand, cont_above (trees g) n)) in
     record {
       flat = p.flat;
       keeps = keeps-trans f g _ r.keeps (kept g _ p.keeps);
       stands = p.stands;
       tree = p.tree ∙ r.tree;
-      others = r.others;
-      conts = omega (arith, r.conts, length-append g.conts (record { node = n; height = height_above g (cont_parts n) } ∷ []));
+      others = omega (arith, r.others, m.others);
+      conts = omega (arith, r.conts, m.conts);
     }
 
 case_names_stand : (a : ActionTree) (f : Flat) (n : ℕ) (k : Cont) → ActionStands f a n → k.0 < length f.conts → AllStand f (case_parts (case_node a n k))
@@ -98,19 +98,19 @@ case-stands (notify o) f n k c s e = λ i. (notify (s.1 i), e i)
 -- what an action waits for and its continuation stand in h
 join-case : (f g h : Flat) (n : ℕ) (k : Cont) (a : ActionTree) (c : ContractTree) → MadeAction f g n a → MadeCont g h k c → case_over a (contract_height c) ≤ 999
     → MadeCase f (put_case h (case_node a n k)).0 (put_case h (case_node a n k)).1 a c
-unfolding put_case
 join-case f g h n k a c x y l =
+    let m = one_case h (case_node a n k) in
     let s = action-lasts g h a n y.keeps x.stands in
     let stand = case_names_stand a h n k s y.stands in
     let tree = case-stands a h n k c s y.tree in
-    let p = pushed_case h (case_node a n k) y.flat stand (omega (arith, l, ap case_height tree, above_is h (case_parts (case_node a n k)) y.flat stand, case_above (trees h) (case_node a n k))) in
+    let p = case_put h y.flat (case_node a n k) stand (omega (arith, l, ap case_height tree, above_is h (case_parts (case_node a n k)) y.flat stand, case_above (trees h) (case_node a n k))) in
     record {
       flat = p.flat;
       keeps = keeps-trans f h _ (keeps-trans f g h x.keeps y.keeps) (kept h _ p.keeps);
       stands = p.stands;
       tree = p.tree ∙ tree;
-      others = omega (arith, x.others, y.others, length-append h.cases (record { node = case_node a n k; height = height_above h (case_parts (case_node a n k)) } ∷ []));
-      conts = omega (arith, x.conts, y.conts);
+      others = omega (arith, x.others, y.others, m.others);
+      conts = omega (arith, x.conts, y.conts, ap length m.conts);
     }
 
 -- ---- what each form has to have stand before

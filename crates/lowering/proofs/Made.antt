@@ -1,5 +1,5 @@
 -- The code of a value and of an observation stands for it.
-use Rattle.std.proofs.Common.{◌≡◌, refl, sym, ap, ◌∙◌, subst, ℕ, ◌+◌, ◌<◌, ◌≤◌, [], ◌∷◌, length, length-append, arith}
+use Rattle.std.proofs.Common.{◌≡◌, refl, sym, ap, ◌∙◌, subst, ℕ, ◌+◌, ◌<◌, ◌≤◌, [], ◌∷◌, length, arith}
 use Rattle.contract.specs.Tree.{ValueTree, available_money, constant, neg_value, add_value, sub_value, mul_value, div_value, choice_value, time_interval_start, time_interval_end, use_value, cond_value}
 use Rattle.contract.specs.Tree.{ObservationTree, and_obs, or_obs, not_obs, chose_something, value_ge, value_gt, value_lt, value_le, value_eq, true_obs, false_obs}
 use Rattle.nodes.specs.declared.value_node.ValueNode.{ValueNode}
@@ -7,10 +7,10 @@ use Rattle.nodes.specs.declared.value_node.ValueNode.TheVariants as values
 use Rattle.nodes.specs.declared.observation_node.ObservationNode.{ObservationNode}
 use Rattle.nodes.specs.declared.observation_node.ObservationNode.TheVariants as observations
 use Rattle.table.specs.Heights.{value_height, observation_height}
-use Rattle.table.specs.Flat.{Flat, trees, value_of, observation_of, value_parts, observation_parts, a_value, an_observation, AllStand, height_above, IsFlat}
+use Rattle.table.specs.Flat.{Flat, trees, value_of, observation_of, value_parts, observation_parts, a_value, an_observation, AllStand, IsFlat}
 use Rattle.table.proofs.HeightLaws.{value_above, observation_above, above_is}
-use Rattle.table.proofs.PushingLaws.{pushed_value, pushed_observation}
 use Rattle.table_builder.specs.Putting.{put_value, put_observation, others_in}
+use Rattle.table_builder.proofs.PuttingLaws.{value_put, observation_put, one_value, one_observation}
 use Rattle.lowering.specs.Sizes.{value_size, observation_size}
 use Rattle.lowering.specs.Code.{code_value, code_observation}
 use Rattle.lowering.proofs.Keeping.{Keeps, kept, keeps-refl, keeps-trans}
@@ -54,29 +54,29 @@ pub record ReadyObservation (f g : Flat) (n : ObservationNode) (t : ObservationT
   pub conts : length g.conts ≤ length f.conts
 
 join-value : (f g : Flat) (n : ValueNode) (t : ValueTree) → ReadyValue f g n t → value_height t ≤ 999 → MadeValue f (put_value g n).0 (put_value g n).1 t
-unfolding put_value
 join-value f g n t r l =
-    let p = pushed_value g n r.flat r.stand (omega (arith, l, ap value_height r.tree, above_is g (value_parts n) r.flat r.stand, value_above (trees g) n)) in
+    let m = one_value g n in
+    let p = value_put g r.flat n r.stand (omega (arith, l, ap value_height r.tree, above_is g (value_parts n) r.flat r.stand, value_above (trees g) n)) in
     record {
       flat = p.flat;
       keeps = keeps-trans f g _ r.keeps (kept g _ p.keeps);
       stands = p.stands;
       tree = p.tree ∙ r.tree;
-      others = omega (arith, r.others, length-append g.values (record { node = n; height = height_above g (value_parts n) } ∷ []));
-      conts = r.conts;
+      others = omega (arith, r.others, m.others);
+      conts = omega (arith, r.conts, ap length m.conts);
     }
 
 join-observation : (f g : Flat) (n : ObservationNode) (t : ObservationTree) → ReadyObservation f g n t → observation_height t ≤ 999 → MadeObservation f (put_observation g n).0 (put_observation g n).1 t
-unfolding put_observation
 join-observation f g n t r l =
-    let p = pushed_observation g n r.flat r.stand (omega (arith, l, ap observation_height r.tree, above_is g (observation_parts n) r.flat r.stand, observation_above (trees g) n)) in
+    let m = one_observation g n in
+    let p = observation_put g r.flat n r.stand (omega (arith, l, ap observation_height r.tree, above_is g (observation_parts n) r.flat r.stand, observation_above (trees g) n)) in
     record {
       flat = p.flat;
       keeps = keeps-trans f g _ r.keeps (kept g _ p.keeps);
       stands = p.stands;
       tree = p.tree ∙ r.tree;
-      others = omega (arith, r.others, length-append g.observations (record { node = n; height = height_above g (observation_parts n) } ∷ []));
-      conts = r.conts;
+      others = omega (arith, r.others, m.others);
+      conts = omega (arith, r.conts, ap length m.conts);
     }
 
 -- ---- two trees, one after the other

@@ -7,5 +7,5 @@ mod sizes;
 mod values;
 
 pub use contracts::add_contract;
-pub use laws::codes_stand;
+pub use laws::{codes_stand, worked_tables};
 pub use sizes::{conts_left, is_low_contract, others_left};
