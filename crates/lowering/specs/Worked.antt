@@ -7,7 +7,7 @@ use Rattle.names.specs.declared.token.Token.{Token}
 use Rattle.names.specs.declared.choice_id.ChoiceId.{ChoiceId}
 use Rattle.names.specs.declared.bound.Bound.{Bound}
 use Rattle.names.specs.Equal.{ada}
-use Rattle.contract.specs.Tree.{ValueTree, available_money, constant, add_value, cond_value, true_obs, ActionTree, deposit, choice, notify, close, pay, if_obs, when, let_be, CaseTrees, no_cases, case_then}
+use Rattle.contract.specs.Tree.{available_money, constant, add_value, cond_value, true_obs, deposit, choice, notify, ContractTree, close, pay, if_obs, when, let_be, no_cases, case_then}
 use Rattle.nodes.specs.declared.entry.Entry.{Entry}
 use Rattle.nodes.specs.declared.cont.Cont.{Cont}
 use Rattle.nodes.specs.declared.cont_node.ContNode.{ContNode}
@@ -19,25 +19,25 @@ use Rattle.lowering.specs.Code.{code}
 
 -- ---- the roles a, b and s, a choice of b, bounds, and nodes with their heights
 
-abbrev a : Party
+abbrev pub a : Party
 a = parties.Role (97 ∷ [])
 
-abbrev b : Party
+abbrev pub b : Party
 b = parties.Role (98 ∷ [])
 
-abbrev s : Party
+abbrev pub s : Party
 s = parties.Role (115 ∷ [])
 
-abbrev r : ChoiceId
+abbrev pub r : ChoiceId
 r = record { name = 114 ∷ []; owner = b }
 
-abbrev up_to : ℕ → List Bound
+abbrev pub up_to : ℕ → List Bound
 up_to n = record { from = pos 0; to = pos n } ∷ []
 
-abbrev k : ℕ → Cont
+abbrev pub k : ℕ → Cont
 k n = record { 0 = n }
 
-abbrev entry : {N : Type 0} → N → ℕ → Entry N
+abbrev pub entry : {N : Type 0} → N → ℕ → Entry N
 entry n h = record { node = n; height = h }
 
 -- ---- small contracts
@@ -96,10 +96,13 @@ EqualCases = code (when (case_then (notify true_obs) close (case_then (choice r 
 -- the escrow: b deposits 50 for s before 50; then b chooses before 100 whether that is paid back.
 -- v0 constant 50; c0 choice r [0 to 1] k1, c1 deposit s b ada v0 k2; k0 close, k1 pay v0 of ada from s to the account of b, then k0,
 -- k2 when [c0] 100 k0, k3 when [c1] 50 k0; root k3
-abbrev pub Escrow : Type 0
-Escrow = code (when (case_then (deposit s b ada (constant (pos 50)))
+abbrev pub escrow : ContractTree
+escrow = when (case_then (deposit s b ada (constant (pos 50)))
     (when (case_then (choice r (up_to 1)) (pay s (payees.Account b) ada (constant (pos 50)) close) no_cases) (pos 100) close)
-    no_cases) (pos 50) close) ≡ (
+    no_cases) (pos 50) close
+
+abbrev pub Escrow : Type 0
+Escrow = code escrow ≡ (
       record {
         values = entry (values.Constant (pos 50)) 0 ∷ [];
         observations = [];
@@ -114,14 +117,17 @@ Escrow = code (when (case_then (deposit s b ada (constant (pos 50)))
 
 -- ---- nodes that differ in one term alone stay two
 
-abbrev named : ℕ → Token
+abbrev pub named : ℕ → Token
 named n = record { symbol = 1 ∷ []; name = n ∷ [] }
 
--- amounts of two tokens whose names differ: v0, v1 the two, v2 add v0 v1
-abbrev pub TokensDiffer : Type 0
-TokensDiffer = code (let_be (120 ∷ []) (add_value (available_money a (named 1)) (available_money a (named 2))) close) ≡ (
+-- the sum of what two parties hold of two tokens: v0, v1 the two amounts, v2 add v0 v1
+abbrev pub two_amounts : Party → Token → Party → Token → ContractTree
+two_amounts p t q u = let_be (120 ∷ []) (add_value (available_money p t) (available_money q u)) close
+
+abbrev pub TwoAmounts : Party → Token → Party → Token → Type 0
+TwoAmounts p t q u = code (two_amounts p t q u) ≡ (
   record {
-    values = entry (values.AvailableMoney a (named 1)) 0 ∷ entry (values.AvailableMoney a (named 2)) 0 ∷ entry (values.AddValue 0 1) 1 ∷ [];
+    values = entry (values.AvailableMoney p t) 0 ∷ entry (values.AvailableMoney q u) 0 ∷ entry (values.AddValue 0 1) 1 ∷ [];
     observations = [];
     cases = [];
     conts = entry conts.Close 0 ∷ entry (conts.Let (120 ∷ []) 2 (k 0)) 2 ∷ [];
@@ -129,21 +135,20 @@ TokensDiffer = code (let_be (120 ∷ []) (add_value (available_money a (named 1)
   k 1,
 )
 
--- amounts of two parties
+-- of two tokens whose names differ
+abbrev pub TokensDiffer : Type 0
+TokensDiffer = TwoAmounts a (named 1) a (named 2)
+
+-- of two parties
 abbrev pub PartiesDiffer : Type 0
-PartiesDiffer = code (let_be (120 ∷ []) (add_value (available_money a ada) (available_money b ada)) close) ≡ (
-  record {
-    values = entry (values.AvailableMoney a ada) 0 ∷ entry (values.AvailableMoney b ada) 0 ∷ entry (values.AddValue 0 1) 1 ∷ [];
-    observations = [];
-    cases = [];
-    conts = entry conts.Close 0 ∷ entry (conts.Let (120 ∷ []) 2 (k 0)) 2 ∷ [];
-  },
-  k 1,
-)
+PartiesDiffer = TwoAmounts a ada b ada
 
 -- two cases whose bounds end at 1 and 2
+abbrev pub two_choices : ContractTree
+two_choices = when (case_then (choice r (up_to 1)) close (case_then (choice r (up_to 2)) close no_cases)) (pos 7) close
+
 abbrev pub BoundsDiffer : Type 0
-BoundsDiffer = code (when (case_then (choice r (up_to 1)) close (case_then (choice r (up_to 2)) close no_cases)) (pos 7) close) ≡ (
+BoundsDiffer = code two_choices ≡ (
   record {
     values = [];
     observations = [];
@@ -154,8 +159,11 @@ BoundsDiffer = code (when (case_then (choice r (up_to 1)) close (case_then (choi
 )
 
 -- an If of two Whens whose timeouts are 100 and 200
+abbrev pub two_whens : ContractTree
+two_whens = if_obs true_obs (when no_cases (pos 100) close) (when no_cases (pos 200) close)
+
 abbrev pub TimeoutsDiffer : Type 0
-TimeoutsDiffer = code (if_obs true_obs (when no_cases (pos 100) close) (when no_cases (pos 200) close)) ≡ (
+TimeoutsDiffer = code two_whens ≡ (
   record {
     values = [];
     observations = entry observations.TrueObs 0 ∷ [];

@@ -1,4 +1,4 @@
-use Rattle.lowering.proofs.Examples.{empty_when, partial_pay, cond_let, equal_cases, escrow, tokens_differ, parties_differ, bounds_differ, timeouts_differ}
+use Rattle.lowering.proofs.Examples.{empty_when, partial_pay, cond_let, equal_cases, escrow_table, tokens_differ, parties_differ, bounds_differ, timeouts_differ}
 use Rattle.lowering.proofs.laws.worked_tables.Goals as goal
 
 pub returns : goal.returns
@@ -7,7 +7,7 @@ returns c = record {
   pays = partial_pay;
   lets = cond_let;
   cases = equal_cases;
-  escrow = escrow;
+  escrow = escrow_table;
   tokens = tokens_differ;
   parties = parties_differ;
   bounds = bounds_differ;
