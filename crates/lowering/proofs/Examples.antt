@@ -1,5 +1,5 @@
 -- The worked tables come out as they should. Most compute; where two nodes that have lists are compared, that they differ is shown.
-use Rattle.std.proofs.Common.{◌≡◌, refl, sym, ap, ◌∙◌, ℕ, ℤ, pos, negsuc, Bool, true, false, true≢false, ◌||◌, List, [], ◌∷◌, length, position, Option, Some, None, arith}
+use Rattle.std.proofs.Common.{◌≡◌, refl, sym, ap, ◌∙◌, ℕ, ℤ, pos, negsuc, Bool, true, false, true≢false, ◌||◌, List, [], ◌∷◌, length, Option, Some, None, arith}
 use Rattle.std.specs.List.{list_any}
 use Rattle.std.proofs.lemmas.List.Quantifiers.{position-Some}
 use Rattle.std.proofs.lemmas.List.Folds.{list_any_at}
@@ -25,7 +25,7 @@ use Rattle.nodes.specs.contracts.value_node.ValueNode as value
 use Rattle.nodes.specs.contracts.case_node.CaseNode as case
 use Rattle.nodes.specs.contracts.cont_node.ContNode as cont
 use Rattle.std.specs.Prelude.{option_map}
-use Rattle.table.specs.Flat.{Flat, nothing}
+use Rattle.table.specs.Flat.{Flat}
 use Rattle.table.specs.Pushing.{with_value, with_case, with_cont}
 use Rattle.table_builder.specs.Putting.{nodes_of, standing, found_or, put_value, put_observation, put_case, put_cont}
 use Rattle.lowering.specs.Code.{code_value, code_action, code_contract, code}
@@ -145,8 +145,10 @@ escrow_before = refl
 pub escrow_table : Escrow
 escrow_table = escrow_before ∙ new_cont all_but_root (conts.When (1 ∷ []) (pos 50) (k 0)) (
   (λ e. true≢false (ap is_when e)),
-  ((λ e. true≢false (ap is_when e)),
-  ((λ e. absurd (omega (arith, ap timeout_of e))), tt)),
+  (
+    (λ e. true≢false (ap is_when e)),
+    ((λ e. absurd (omega (arith, ap timeout_of e))), tt),
+  ),
 )
 
 -- ---- nodes that differ in one term

@@ -1,5 +1,6 @@
--- The table of a contract. Each form makes what it names first, from the left, and then its own node, which goes
--- to the end of its list. So children stand before their parent, and each of the four lists counts from 0.
+-- The table of a contract. Each form puts what it names first, from the left, and then its own node: an equal one that
+-- stands serves, else it goes to the end of its list. So children stand before their parent, and each of the four lists
+-- counts from 0.
 use Rattle.std.specs.Prelude.{ℕ, List, [], ◌∷◌}
 use Rattle.contract.specs.Tree.{ValueTree, available_money, constant, neg_value, add_value, sub_value, mul_value, div_value, choice_value, time_interval_start, time_interval_end, use_value, cond_value}
 use Rattle.contract.specs.Tree.{ObservationTree, and_obs, or_obs, not_obs, chose_something, value_ge, value_gt, value_lt, value_le, value_eq, true_obs, false_obs}

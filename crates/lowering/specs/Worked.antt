@@ -10,7 +10,6 @@ use Rattle.names.specs.Equal.{ada}
 use Rattle.contract.specs.Tree.{available_money, constant, add_value, cond_value, true_obs, deposit, choice, notify, ContractTree, close, pay, if_obs, when, let_be, no_cases, case_then}
 use Rattle.nodes.specs.declared.entry.Entry.{Entry}
 use Rattle.nodes.specs.declared.cont.Cont.{Cont}
-use Rattle.nodes.specs.declared.cont_node.ContNode.{ContNode}
 use Rattle.nodes.specs.declared.value_node.ValueNode.TheVariants as values
 use Rattle.nodes.specs.declared.observation_node.ObservationNode.TheVariants as observations
 use Rattle.nodes.specs.declared.case_node.CaseNode.TheVariants as cases
@@ -103,17 +102,17 @@ escrow = when (case_then (deposit s b ada (constant (pos 50)))
 
 abbrev pub Escrow : Type 0
 Escrow = code escrow ≡ (
-      record {
-        values = entry (values.Constant (pos 50)) 0 ∷ [];
-        observations = [];
-        cases = entry (cases.Choice r (up_to 1) (k 1)) 2 ∷ entry (cases.Deposit s b ada 0 (k 2)) 4 ∷ [];
-        conts = entry conts.Close 0
-            ∷ entry (conts.Pay s (payees.Account b) ada 0 (k 0)) 1
-            ∷ entry (conts.When (0 ∷ []) (pos 100) (k 0)) 3
-            ∷ entry (conts.When (1 ∷ []) (pos 50) (k 0)) 5 ∷ [];
-      },
-      k 3,
-    )
+  record {
+    values = entry (values.Constant (pos 50)) 0 ∷ [];
+    observations = [];
+    cases = entry (cases.Choice r (up_to 1) (k 1)) 2 ∷ entry (cases.Deposit s b ada 0 (k 2)) 4 ∷ [];
+    conts = entry conts.Close 0
+        ∷ entry (conts.Pay s (payees.Account b) ada 0 (k 0)) 1
+        ∷ entry (conts.When (0 ∷ []) (pos 100) (k 0)) 3
+        ∷ entry (conts.When (1 ∷ []) (pos 50) (k 0)) 5 ∷ [];
+  },
+  k 3,
+)
 
 -- ---- nodes that differ in one term alone stay two
 

@@ -1,5 +1,5 @@
 -- What an index has after a node was inserted that it didn't have; and how the numbers that it finds are those of the definition.
-use Rattle.std.proofs.Common.{◌≡◌, refl, sym, ap, ◌∙◌, rules, ℕ, Bool, true, false, true≢false, IsTrue, ◌↔◌, if◌then◌else◌, List, [], ◌∷◌, ◌++◌, length, map, slice_get, Option, Some, None, position, arith}
+use Rattle.std.proofs.Common.{◌≡◌, refl, sym, ap, ◌∙◌, rules, ℕ, Bool, false, true≢false, IsTrue, ◌↔◌, if◌then◌else◌, List, [], ◌∷◌, ◌++◌, length, slice_get, Option, Some, None, position, arith}
 use Rattle.std.specs.Prelude.{option_map}
 use Rattle.std.specs.Option.{unwrap_or}
 use Rattle.std.specs.List.{list_any, position_or_len}
@@ -25,7 +25,7 @@ use Rattle.nodes.specs.contracts.case_node.CaseNodePartialEq.TheImpl as case_eq
 use Rattle.nodes.specs.contracts.cont_node.ContNodePartialEq.TheImpl as cont_eq
 use Rattle.table.specs.Flat.{Flat}
 use Rattle.table.specs.Pushing.{with_value, with_observation, with_case, with_cont}
-use Rattle.table_builder.specs.Putting.{nodes_of, standing, found_or, put_value, put_observation, put_case, put_cont}
+use Rattle.table_builder.specs.Putting.{nodes_of, found_or, put_value, put_observation, put_case, put_cont}
 
 -- ---- a node that was inserted
 

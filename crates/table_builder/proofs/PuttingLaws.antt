@@ -1,6 +1,6 @@
 -- What a put has done, for the proofs of this crate and those above it: the number that it gives stands in the table that it
 -- gives, for the node over what stood before; every older number keeps its tree; and one node is made at most.
-use Rattle.std.specs.Prelude.{◌≡◌, ℕ, suc, zero, ◌+◌, ◌<◌, ◌≤◌, pos, List, [], ◌∷◌, Option, Some, None, length, map, refl, option_map}
+use Rattle.std.specs.Prelude.{◌≡◌, ℕ, suc, zero, ◌+◌, ◌<◌, ◌≤◌, pos, List, [], ◌∷◌, Option, Some, None, length, refl, option_map}
 use Rattle.std.proofs.Common.{sym, ap, ◌∙◌, arith, length-append}
 use Rattle.std.proofs.Math.ListN.{get_or}
 use Rattle.std.proofs.lemmas.List.Quantifiers.{position-Some}
@@ -22,7 +22,7 @@ use Rattle.nodes.specs.contracts.observation_node.ObservationNode as observation
 use Rattle.nodes.specs.contracts.case_node.CaseNode as case
 use Rattle.nodes.specs.contracts.cont_node.ContNode as cont
 use Rattle.table.specs.Flat.{Flat, Trees, trees, value_of, observation_of, case_of, cont_of, value_tree, observation_tree, case_tree, cont_tree}
-use Rattle.table.specs.Flat.{Part, a_value, an_observation, a_case, a_cont, value_parts, observation_parts, case_parts, cont_parts, Stands, AllStand, height_above, IsFlat, Agrees, Extends}
+use Rattle.table.specs.Flat.{Part, a_value, an_observation, a_case, a_cont, value_parts, observation_parts, case_parts, cont_parts, Stands, AllStand, height_above, IsFlat, Agrees}
 use Rattle.table.specs.LevelLaws.{tree_is}
 use Rattle.table.specs.Pushing.{with_value, with_observation, with_case, with_cont}
 use Rattle.table.proofs.PushingLaws.{Pushed, pushed_value, pushed_observation, pushed_case, pushed_cont}

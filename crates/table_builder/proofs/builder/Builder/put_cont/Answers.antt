@@ -1,4 +1,4 @@
-use Rattle.std.proofs.Common.{rules, ◌≡◌, ◌∙◌, sym, ap, subst, ℕ, length, position, Option, Some, None, IfOk}
+use Rattle.std.proofs.Common.{rules, ◌≡◌, ◌∙◌, sym, ap, subst, length, position, Some, None, IfOk}
 use Rattle.nodes.specs.contracts.cont_node.ContNodePartialEq.TheImpl as cont_eq
 use Rattle.nodes.specs.declared.cont.Cont.{Cont}
 use Rattle.table.specs.Flat.{Flat}

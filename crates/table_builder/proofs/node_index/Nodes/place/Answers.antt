@@ -1,6 +1,5 @@
-use Rattle.std.proofs.Common.{rules, ◌≡◌, ◌∙◌, sym, ap, subst, List, Option, Some, slice_get, position, ℕ, Bool, true, false}
+use Rattle.std.proofs.Common.{rules, ◌≡◌, false}
 use Rattle.std.specs.List.{list_any}
-use Rattle.table_builder.specs.Indexing.{IsPlace, with_node}
 use Rattle.table_builder.proofs.IndexingLemmas.{Inserted, inserted}
 use Rattle.table_builder.proofs.node_index.Nodes.place.Goals as goal
 
