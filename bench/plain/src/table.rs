@@ -1,9 +1,12 @@
-//! Contracts as flat tables of numbered nodes, and their text: children first, from the left, each list counted from 0.
+//! Contracts as flat tables of numbered nodes, equal ones once, and their text: children first, from the left, each list counted from 0.
 use crate::tree::*;
 use crate::writing::{choice_id, party, payee, token};
 use serde_json::Value as Json;
+use std::collections::HashMap;
+use std::hash::Hash;
 use std::io::Write;
 
+#[derive(Clone, PartialEq, Eq, Hash)]
 enum ValueNode<'a> {
     AvailableMoney(&'a Token, &'a Party),
     Constant(i128),
@@ -15,6 +18,7 @@ enum ValueNode<'a> {
     Cond(u32, u32, u32),
 }
 
+#[derive(Clone, PartialEq, Eq, Hash)]
 enum ObservationNode<'a> {
     Not(u32),
     Both(&'static str, u32, u32),
@@ -23,12 +27,14 @@ enum ObservationNode<'a> {
     Word(&'static str),
 }
 
+#[derive(Clone, PartialEq, Eq, Hash)]
 enum CaseNode<'a> {
     Deposit(&'a Party, &'a Party, &'a Token, u32, u32),
     Choice(&'a ChoiceId, &'a [(i128, i128)], u32),
     Notify(u32, u32),
 }
 
+#[derive(Clone, PartialEq, Eq, Hash)]
 enum ContNode<'a> {
     Close,
     Pay(u32, &'a Token, &'a Party, &'a Payee, u32),
@@ -40,15 +46,34 @@ enum ContNode<'a> {
 
 #[derive(Default)]
 pub struct Table<'a> {
-    values: Vec<ValueNode<'a>>,
-    observations: Vec<ObservationNode<'a>>,
-    cases: Vec<CaseNode<'a>>,
-    conts: Vec<ContNode<'a>>,
+    values: Nodes<ValueNode<'a>>,
+    observations: Nodes<ObservationNode<'a>>,
+    cases: Nodes<CaseNode<'a>>,
+    conts: Nodes<ContNode<'a>>,
 }
 
-fn push<T>(list: &mut Vec<T>, node: T) -> u32 {
-    list.push(node);
-    (list.len() - 1) as u32
+struct Nodes<N> {
+    list: Vec<N>,
+    index: HashMap<N, u32>,
+}
+
+impl<N> Default for Nodes<N> {
+    fn default() -> Self {
+        Nodes { list: Vec::new(), index: HashMap::new() }
+    }
+}
+
+impl<N: Clone + Eq + Hash> Nodes<N> {
+    // The number of the node, which is new or stands already.
+    fn put(&mut self, node: N) -> u32 {
+        if let Some(number) = self.index.get(&node) {
+            return *number;
+        }
+        let number = self.list.len() as u32;
+        self.list.push(node.clone());
+        self.index.insert(node, number);
+        number
+    }
 }
 
 impl<'a> Table<'a> {
@@ -67,7 +92,7 @@ impl<'a> Table<'a> {
             Value::Use(name) => ValueNode::Use(name),
             Value::Cond(o, a, b) => ValueNode::Cond(self.observation(o), self.value(a), self.value(b)),
         };
-        push(&mut self.values, node)
+        self.values.put(node)
     }
 
     fn observation(&mut self, o: &'a Observation) -> u32 {
@@ -84,7 +109,7 @@ impl<'a> Table<'a> {
             Observation::True => ObservationNode::Word("true"),
             Observation::False => ObservationNode::Word("false"),
         };
-        push(&mut self.observations, node)
+        self.observations.put(node)
     }
 
     fn case(&mut self, action: &'a Action, then: &'a Contract) -> u32 {
@@ -99,7 +124,7 @@ impl<'a> Table<'a> {
                 CaseNode::Notify(o, self.cont(then))
             }
         };
-        push(&mut self.cases, node)
+        self.cases.put(node)
     }
 
     pub fn cont(&mut self, contract: &'a Contract) -> u32 {
@@ -117,12 +142,12 @@ impl<'a> Table<'a> {
             Contract::Let(name, value, then) => ContNode::Let(name, self.value(value), self.cont(then)),
             Contract::Assert(o, then) => ContNode::Assert(self.observation(o), self.cont(then)),
         };
-        push(&mut self.conts, node)
+        self.conts.put(node)
     }
 
     pub fn text(&self, root: u32) -> std::io::Result<Vec<u8>> {
         let mut out = Vec::new();
-        for (i, node) in self.values.iter().enumerate() {
+        for (i, node) in self.values.list.iter().enumerate() {
             write!(out, "v{i} ")?;
             match node {
                 ValueNode::AvailableMoney(t, p) => writeln!(out, "amount_of_token {} {}", token(t), party(p))?,
@@ -135,7 +160,7 @@ impl<'a> Table<'a> {
                 ValueNode::Cond(o, a, b) => writeln!(out, "if o{o} v{a} v{b}")?,
             }
         }
-        for (i, node) in self.observations.iter().enumerate() {
+        for (i, node) in self.observations.list.iter().enumerate() {
             write!(out, "o{i} ")?;
             match node {
                 ObservationNode::Not(a) => writeln!(out, "not o{a}")?,
@@ -145,7 +170,7 @@ impl<'a> Table<'a> {
                 ObservationNode::Word(word) => writeln!(out, "{word}")?,
             }
         }
-        for (i, node) in self.cases.iter().enumerate() {
+        for (i, node) in self.cases.list.iter().enumerate() {
             write!(out, "c{i} ")?;
             match node {
                 CaseNode::Deposit(a, p, t, v, k) => writeln!(out, "deposit {} {} {} v{v} k{k}", party(a), party(p), token(t))?,
@@ -156,7 +181,7 @@ impl<'a> Table<'a> {
                 CaseNode::Notify(o, k) => writeln!(out, "notify o{o} k{k}")?,
             }
         }
-        for (i, node) in self.conts.iter().enumerate() {
+        for (i, node) in self.conts.list.iter().enumerate() {
             write!(out, "k{i} ")?;
             match node {
                 ContNode::Close => writeln!(out, "close")?,

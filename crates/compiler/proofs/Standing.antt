@@ -6,8 +6,8 @@ use Rattle.contract.specs.Tree.{ContractTree}
 use Rattle.nodes.specs.declared.cont.Cont.{Cont}
 use Rattle.table.specs.Heights.{contract_height}
 use Rattle.table.specs.Flat.{Flat, nothing, Has, a_cont, cont_tree}
-use Rattle.listing.specs.Code.{code_contract, code}
-use Rattle.listing.specs.Laws.{CodesStand}
+use Rattle.lowering.specs.Code.{code_contract, code}
+use Rattle.lowering.specs.Laws.{CodesStand}
 use Rattle.compiler.specs.declared.fault.CompileFault.{CompileFault}
 use Rattle.compiler.specs.declared.fault.CompileFault.TheVariants.{TooDeep}
 use Rattle.compiler.specs.Limits.{compile_fault}

@@ -5,7 +5,7 @@ use Rattle.contract.specs.Tree.{ContractTree}
 use Rattle.table.specs.Heights.{contract_height}
 use Rattle.compiler.specs.declared.fault.CompileFault.{CompileFault}
 use Rattle.compiler.specs.declared.fault.CompileFault.TheVariants.{TooManyNodes, TooDeep}
-use Rattle.listing.specs.Sizes.{conts, others}
+use Rattle.lowering.specs.Sizes.{conts, others}
 
 -- the fault of a contract, memory aside
 unfoldable pub compile_fault : ContractTree → Option CompileFault

@@ -3,13 +3,13 @@ ghost use Rattle.std.specs.Prelude.{◌≡◌, IfOk, MatchOption, Err};
 ghost use Rattle.std.specs.Result.{IsOkUnless};
 ghost use Rattle.contract.specs.Tree.{contract_tree};
 ghost use Rattle.table.specs.Flat.{Has, a_cont, cont_tree};
-ghost use Rattle.listing.specs.Code.{code};
+ghost use Rattle.lowering.specs.Code.{code};
 ghost use Rattle.compiler.specs.Limits.{compile_fault};
 
 use crate::fault::CompileFault;
 use crate::limits::limit_fault;
 use contract::Contract;
-use listing::{add_contract, codes_stand};
+use lowering::{add_contract, codes_stand};
 use std::alloc::Global;
 use table::{Cont, Table};
 use table_builder::Builder;
@@ -18,7 +18,7 @@ use table_builder::Builder;
 /// than 999 (`TooDeep`), else one of more than 65,535 continuations or more than 1,000,000 values, observations and
 /// cases (`TooManyNodes`): that is judged first, takes no memory, and goes at most 1,000 deep into any tree. Else only
 /// a growth that was refused gives `Memory`. Equal contracts give equal tables.
-#[tactic(auto, unfolding(crate::specs::Limits::compile_fault, listing::specs::Code::code))]
+#[tactic(auto, unfolding(crate::specs::Limits::compile_fault, lowering::specs::Code::code))]
 pub fn compile(alloc: Global, contract: &Contract) -> Result<(Table, Cont), CompileFault>
     ensures fault { MatchOption (compile_fault (contract_tree contract.now)) (IsOkUnless result CompileFault.Memory) (λ fault. result ≡ Err fault) }
     ensures code { IfOk result (λ made. made ≡ code (contract_tree contract.now)) }

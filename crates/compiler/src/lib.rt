@@ -7,4 +7,4 @@ mod limits;
 
 pub use compiling::compile;
 pub use fault::CompileFault;
-pub use listing::codes_stand;
+pub use lowering::codes_stand;

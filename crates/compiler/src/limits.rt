@@ -5,7 +5,7 @@ ghost use Rattle.compiler.specs.Limits.{compile_fault};
 
 use crate::fault::CompileFault;
 use contract::Contract;
-use listing::{conts_left, is_low_contract, others_left};
+use lowering::{conts_left, is_low_contract, others_left};
 
 /// The fault of a contract that is too deep or has too many nodes.
 #[tactic(auto, unfolding(crate::specs::Limits::compile_fault))]

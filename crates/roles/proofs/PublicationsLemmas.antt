@@ -8,9 +8,9 @@ use Rattle.table.specs.Heights.{contract_height}
 use Rattle.table.specs.AlongLaws.{has_is, turns_lead}
 use Rattle.compiler.specs.declared.fault.CompileFault.{CompileFault}
 use Rattle.compiler.specs.declared.fault.CompileFault.TheVariants.{TooDeep}
-use Rattle.listing.specs.Code.{code}
+use Rattle.lowering.specs.Code.{code}
 use Rattle.compiler.specs.Limits.{compile_fault}
-use Rattle.listing.specs.Laws.{CodesStand}
+use Rattle.lowering.specs.Laws.{CodesStand}
 use Rattle.roles.specs.Publications.{PublishedAreTables, PublishedTellApart}
 
 passes : (b : Bool) (o : Option CompileFault) → (if b then o else Some TooDeep) ≡ None → b ≡ true

@@ -4,7 +4,7 @@ use Rattle.sha2.specs.Sha256.{sha256}
 use Rattle.contract.specs.Tree.{ContractTree}
 use Rattle.contract_bytes.specs.Numbers.{text_bytes}
 use Rattle.contract_bytes.specs.Trees.{contract_bytes}
-use Rattle.listing.specs.Code.{code}
+use Rattle.lowering.specs.Code.{code}
 use Rattle.compiler.specs.Limits.{compile_fault}
 use Rattle.roles.specs.declared.published.Published.{Published}
 use Rattle.roles.specs.Terms.{IsTable, terms_of}

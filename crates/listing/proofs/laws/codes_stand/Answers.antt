@@ -1,8 +1,0 @@
-use Rattle.listing.proofs.Codes as codes
-use Rattle.listing.proofs.laws.codes_stand.Goals as goal
-
-pub returns-clause-stand : goal.returns-clause-stand
-returns-clause-stand c = codes.codes_stand
-
-pub returns-clause-tell_apart : goal.returns-clause-tell_apart
-returns-clause-tell_apart c = codes.codes_tell_apart

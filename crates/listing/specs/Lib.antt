@@ -1,4 +1,0 @@
-pub mod Code
-pub mod Sizes
-pub mod Laws
-pub mod Building

@@ -1,0 +1,5 @@
+pub mod Code
+pub mod Sizes
+pub mod Laws
+pub mod Worked
+pub mod Building
