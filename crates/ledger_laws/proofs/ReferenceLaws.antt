@@ -161,7 +161,7 @@ pub record Maker (txs : List Tx) (r : OutputRef) (o : Output) : Type 0 where
   pub tx : Tx
   pub accepted : slice_get txs number ≡ Some tx
   pub index : ℕ
-  pub created_by : slice_get tx.outputs index ≡ Some o
+  pub made : slice_get tx.outputs index ≡ Some o
   pub name : r ≡ Made (id_of tx) index
 
 -- where a list of outputs with references has one
@@ -181,11 +181,11 @@ made_maker r (tx ∷ txs) o h = by (lookup (same_ref r) (created_by tx)) refl (m
     by : (z : Option Output) → lookup (same_ref r) (created_by tx) ≡ z → (lookup (same_ref r) (created_by_all txs) ≡ Some o → Maker txs r o) → Maker (tx ∷ txs) r o
     by None e go =
         let m = go (sym (lookup_back (same_ref r) (created_by tx) (created_by_all txs) e) ∙ h) in
-        record { number = suc m.number; tx = m.tx; accepted = m.accepted; index = m.index; created_by = m.made; name = m.name }
+        record { number = suc m.number; tx = m.tx; accepted = m.accepted; index = m.index; made = m.made; name = m.name }
     by (Some x) e go =
         let same : x ≡ o = same_some x o (sym (lookup_front (same_ref r) (created_by tx) (created_by_all txs) x e) ∙ h) in
         let q = in_referred (λ j. Made (id_of tx) j) r 0 tx.outputs x e in
-        record { number = 0; tx = tx; accepted = refl; index = q.0; created_by = q.1 ∙ ap Some same; name = q.2 ∙ ap (λ (j : ℕ). Made (id_of tx) j) (sym (zero_plus q.0)) }
+        record { number = 0; tx = tx; accepted = refl; index = q.0; made = q.1 ∙ ap Some same; name = q.2 ∙ ap (λ (j : ℕ). Made (id_of tx) j) (sym (zero_plus q.0)) }
 
 -- what was created was there at first, or a transaction made it
 pub maker : (past : Past) (r : OutputRef) (o : Output) → lookup (same_ref r) (created past) ≡ Some o → ((i : ℕ) × (slice_get past.genesis i ≡ Some o)) ⊎ Maker past.accepted r o
