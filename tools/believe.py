@@ -60,6 +60,7 @@ CALLS = [
     ("`eutxo::Resolved`, `Scripts`, `Shared`, `Spent` and `Checked`", "eutxo/src/resolved.rt: equals; eutxo/src/scripts.rt: new from_entries get insert equals; "
      "eutxo/src/shared.rt: new get; eutxo/src/spent.rt: new spend output; eutxo/src/checked.rt: tx id found verdict"),
     ("`eutxo::Validator`", "eutxo/src/validator.rt: step start claim Validator"),
+    ("`parallel_check::check_all`", "parallel_check/src/workers.rt: check_all"),
     ("`roles::publish`", "roles/src/publishing.rt: publish"),
     ("`roles::Published` as a `Validator`", "roles/src/step.rt: step_of; roles/src/script.rt: starts_from; roles/src/authorise.rt: holds_role"),
     ("`ledger::judge` and `resolve`", "ledger/src/rules.rt: judge; ledger/src/found.rt: resolve"),

@@ -1,0 +1,2 @@
+mod DealingLemmas
+mod JobsLemmas

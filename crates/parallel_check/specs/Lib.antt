@@ -1,0 +1,3 @@
+pub mod Jobs
+-- for the proofs alone
+pub mod DealingSupport

@@ -1,0 +1,129 @@
+//! Payments with what they find. Each is put together by functions that are generic in the parts, so that no proof walks
+//! through the drop of a transaction.
+ghost use Rattle.std.specs.Prelude.{IsTrue};
+ghost use Rattle.bundle.specs.Bundles.{AllPositive};
+
+use crate::no_script::NoScript;
+use crate::row::Row;
+use bundle::Bundle;
+use collections::{Bytes, Entries, Items, Memory, Text};
+use contract::Interval;
+use eutxo::{Resolved, Scripts};
+use eutxo_types::{Lock, Output, OutputRef, Redeemer, Spend, Tx};
+use names::Token;
+use std::alloc::Global;
+
+/// The payments of a row, told apart by the ticks from which they may happen, with what they find: each spends outputs of one
+/// lovelace under a key, and pays all of it to that key.
+pub fn payments(alloc: Global, row: Row) -> Result<Vec<(Tx, Resolved<NoScript>)>, Memory> {
+    let jobs = list(
+        alloc,
+        row.jobs,
+        &|number| { both(payment(alloc, number, row.inputs), found(alloc, row.inputs)) },
+    )?;
+    Ok(jobs.into_vec())
+}
+
+fn payment(alloc: Global, number: u32, inputs: u32) -> Result<Tx, Memory> {
+    let spends = list(alloc, inputs, &|place| Ok(spend(number, place)));
+    let outputs = list(alloc, 1, &|_| key_output(alloc, inputs));
+    let signers = list(alloc, 1, &|_| key(alloc));
+    let (inputs, (outputs, signers)) = both(spends, both(outputs, signers))?;
+    Ok(Tx {
+        inputs,
+        outputs,
+        interval: Interval {
+            from: i64::from(number),
+            to: i64::MAX,
+        },
+        signers,
+    })
+}
+
+fn found(alloc: Global, inputs: u32) -> Result<Resolved<NoScript>, Memory> {
+    let outputs = list(alloc, inputs, &|_| some(key_output(alloc, 1)))?;
+    Ok(Resolved {
+        outputs,
+        scripts: Scripts::new(alloc),
+    })
+}
+
+fn spend(number: u32, place: u32) -> Spend {
+    Spend {
+        reference: OutputRef::Genesis {
+            index: u64::from(number) << 32 | u64::from(place),
+        },
+        redeemer: Redeemer::None,
+    }
+}
+
+fn key(alloc: Global) -> Result<Text, Memory> {
+    Ok(Text::from_string(String::from_str(alloc, "x")?))
+}
+
+fn key_output(alloc: Global, amount: u32) -> Result<Output, Memory> {
+    let (address, amount) = both(key(alloc), lovelace(alloc, amount))?;
+    Ok(Output {
+        lock: Lock::Key(address),
+        amount,
+    })
+}
+
+// So many lovelace, or nothing.
+fn lovelace(alloc: Global, amount: u32) -> Result<Bundle, Memory> {
+    let ada = Token {
+        symbol: Bytes::from_vec(Vec::new(alloc)),
+        name: Text::from_string(String::new(alloc)),
+    };
+    let mut entries = Vec::new(alloc);
+    entries.push((ada, i128::from(amount)))?;
+    match Entries::from_vec(entries) {
+        Some(entries) => Ok(positive(alloc, entries)),
+        None => Ok(Bundle::new(alloc)),
+    }
+}
+
+fn positive(alloc: Global, entries: Entries<Token, i128>) -> Bundle {
+    if are_positive(entries.as_slice()) {
+        Bundle::from_entries(entries)
+    } else {
+        Bundle::new(alloc)
+    }
+}
+
+fn are_positive(entries: &[(Token, i128)]) -> bool
+    ensures { IsTrue result → AllPositive entries.now }
+{
+    match entries.split_first() {
+        Some((first, rest)) => first.1 > 0 && are_positive(rest),
+        None => true,
+    }
+}
+
+// So many items, each made for its place.
+fn list<T: Drop, F: Fn(u32) -> Result<T, Memory>>(
+    alloc: Global,
+    count: u32,
+    item: &F,
+) -> Result<Items<T>, Memory>
+    requires { F.IsAlwaysCallable item.now }
+{
+    let mut items = Items::new(alloc);
+    for place in 0..count {
+        items.push(item(place)?)?;
+    }
+    Ok(items)
+}
+
+fn both<A: Drop, B: Drop>(a: Result<A, Memory>, b: Result<B, Memory>) -> Result<(A, B), Memory> {
+    let a = a?;
+    let b = b?;
+    Ok((a, b))
+}
+
+fn some<T>(item: Result<T, Memory>) -> Result<Option<T>, Memory> {
+    match item {
+        Ok(item) => Ok(Some(item)),
+        Err(memory) => Err(memory),
+    }
+}

@@ -1,0 +1,37 @@
+//! Rows as they are read.
+ghost use Rattle.std.specs.Prelude.{◌<◌, ◌≤◌};
+
+/// How many workers check, how many payments, of how many inputs each.
+#[derive(Clone, Copy)]
+pub struct Row {
+    workers: u32,
+    pub jobs: u32,
+    pub inputs: u32,
+}
+
+impl Row {
+    /// How many workers check: the number that the row has, or the nearest from 1 to 16.
+    pub fn workers(self) -> usize
+        ensures some { 0 < result }
+        ensures few { result ≤ 16 }
+    {
+        self.workers.clamp(1, 16) as usize
+    }
+}
+
+/// The row that three numbers spell.
+pub fn row_of(words: &str) -> Option<Row> {
+    let mut words = words.split_whitespace();
+    let workers = number(words.next()?)?;
+    let jobs = number(words.next()?)?;
+    let inputs = number(words.next()?)?;
+    Some(Row {
+        workers,
+        jobs,
+        inputs,
+    })
+}
+
+fn number(word: &str) -> Option<u32> {
+    word.parse().ok()
+}

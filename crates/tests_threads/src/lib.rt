@@ -1,0 +1,12 @@
+//! Tests of what no clause says where threads run and scripts are asked: that two workers check at once, and how often a
+//! script is called. They stand apart from `tests`, which starts no thread, and in a crate without edits.
+#![tactic(auto)]
+
+#[cfg(test)]
+mod asked;
+#[cfg(test)]
+mod counting;
+#[cfg(test)]
+mod jobs;
+#[cfg(test)]
+mod meeting;
