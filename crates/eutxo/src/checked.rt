@@ -62,9 +62,21 @@ pub fn check<V: Validator + Drop>(
 ) -> Result<Checked<V>, Memory>
     ensures { IfOk result (λ c. c ≡ check_of (judges_of V.step_gives V.starts V.claims) tx.now found) }
 {
-    let id = tx_id(alloc, tx)?;
-    let fault = local_fault(alloc, tx, &found)?;
     let tx = tx.try_clone()?;
+    check_owned(alloc, tx, found)
+}
+
+/// The same for a transaction that is handed over: it is kept without a copy. So a worker who checks what another
+/// thread has made frees nothing of it.
+pub fn check_owned<V: Validator + Drop>(
+    alloc: Global,
+    tx: Tx,
+    found: Resolved<V>,
+) -> Result<Checked<V>, Memory>
+    ensures { IfOk result (λ c. c ≡ check_of (judges_of V.step_gives V.starts V.claims) tx found) }
+{
+    let id = tx_id(alloc, &tx)?;
+    let fault = local_fault(alloc, &tx, &found)?;
     Ok(Checked {
         tx,
         id,

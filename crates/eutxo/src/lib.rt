@@ -27,7 +27,7 @@ mod tx_rules;
 mod validator;
 
 pub use at_hand::recheck;
-pub use checked::{Checked, check, verdict_of};
+pub use checked::{Checked, check, check_owned, verdict_of};
 pub use laws::{
     checks_cross_threads, checks_decide, equal_resolutions_decide_alike, found_is_enough,
     sums_are_preserved, worked_judgements,

@@ -8,7 +8,7 @@ use crate::batch::Batch;
 use crate::dealing::{all_ok, deal, gather};
 use crate::gate::Gate;
 use collections::Memory;
-use eutxo::{Checked, Resolved, Validator, check};
+use eutxo::{Checked, Resolved, Validator, check_owned};
 use eutxo_types::Tx;
 use std::alloc::Global;
 use std::thread;
@@ -25,7 +25,7 @@ fn check_one<V: Validator + Drop, G: Gate>(
 {
     let (tx, found) = job;
     gate.enter(place);
-    let checked = check(alloc, &tx, found);
+    let checked = check_owned(alloc, tx, found);
     gate.leave(place);
     checked
 }
