@@ -11,6 +11,7 @@ use collections::Memory;
 use eutxo::{Checked, Resolved, Validator, check_owned};
 use eutxo_types::Tx;
 use std::alloc::Global;
+use std::sync::Wait;
 use std::thread;
 use std::thread::Threads;
 
@@ -57,7 +58,7 @@ fn check_batch<V: Validator + Drop, G: Gate>(
 /// The gate is called round each check, with the job's place.
 ///
 /// `Memory` where a growth was refused, to whichever worker; then no check is answered.
-pub fn check_all<R: Threads + Sync, V: Validator + Drop + Send + Sync, G: Gate>(
+pub fn check_all<R: Threads + Wait + Sync, V: Validator + Drop + Send + Sync, G: Gate>(
     rt: &R,
     alloc: Global,
     gate: &G,

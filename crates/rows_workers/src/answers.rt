@@ -8,11 +8,15 @@ use parallel_check::{NoGate, check_all};
 use std::alloc::Global;
 use std::io;
 use std::rt::Clock;
+use std::sync::Wait;
 use std::thread::Threads;
 use std::time::Instant;
 
 /// The line that is printed for a row.
-pub fn answer<R: Clock + AllocGlobal + Threads + Sync>(rt: &R, line: &str) -> io::Result<String> {
+pub fn answer<R: Clock + AllocGlobal + Threads + Wait + Sync>(
+    rt: &R,
+    line: &str,
+) -> io::Result<String> {
     let (word, rest) = line.split_once(' ').unwrap_or((line, ""));
     match (word, row_of(rest)) {
         ("#", _) => Ok(String::from_str(rt.alloc(), line)?),
@@ -22,13 +26,16 @@ pub fn answer<R: Clock + AllocGlobal + Threads + Sync>(rt: &R, line: &str) -> io
     }
 }
 
-fn check_line<R: AllocGlobal + Threads + Sync>(rt: &R, row: Row) -> io::Result<String> {
+fn check_line<R: AllocGlobal + Threads + Wait + Sync>(rt: &R, row: Row) -> io::Result<String> {
     let jobs = payments(rt.alloc(), row)?;
     let checks = check_all(rt, rt.alloc(), &NoGate, row.workers(), jobs)?;
     Ok(line_of(rt.alloc(), row, &checks)?)
 }
 
-fn time_line<R: Clock + AllocGlobal + Threads + Sync>(rt: &R, row: Row) -> io::Result<String> {
+fn time_line<R: Clock + AllocGlobal + Threads + Wait + Sync>(
+    rt: &R,
+    row: Row,
+) -> io::Result<String> {
     let jobs = payments(rt.alloc(), row)?;
     let start = Instant::now(rt)?;
     let _checks = check_all(rt, rt.alloc(), &NoGate, row.workers(), jobs)?;

@@ -19,6 +19,7 @@ mod row;
 use crate::answers::answer;
 use std::process::ExitCode;
 use std::rt::{Clock, Env, Files};
+use std::sync::Wait;
 use std::thread::Threads;
 use std::{env, fs, io};
 
@@ -30,7 +31,7 @@ fn main(rt: HostRuntime) -> ExitCode {
 }
 
 // The rows of each file that the command line names.
-fn print_files<R: Env + Files + Clock + Print + AllocGlobal + Threads + Sync>(
+fn print_files<R: Env + Files + Clock + Print + AllocGlobal + Threads + Wait + Sync>(
     rt: &R,
 ) -> io::Result<()> {
     let words: Vec<String> = env::args(rt)?.collect(rt.alloc())?;
@@ -41,7 +42,7 @@ fn print_files<R: Env + Files + Clock + Print + AllocGlobal + Threads + Sync>(
     Ok(())
 }
 
-fn print_rows<R: Clock + Print + AllocGlobal + Threads + Sync>(
+fn print_rows<R: Clock + Print + AllocGlobal + Threads + Wait + Sync>(
     rt: &R,
     text: &str,
 ) -> io::Result<()> {

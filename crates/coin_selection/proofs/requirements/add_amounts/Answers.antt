@@ -3,7 +3,7 @@ use Rattle.builder_spec.specs.Holding.{wanted}
 use Rattle.coin_selection.specs.RequiredSupport.{IsMissing}
 use Rattle.coin_selection.proofs.ListLaws.{back}
 use Rattle.coin_selection.proofs.RequiredLemmas.{add_more, Within, within_more}
-use Rattle.coin_selection.proofs.actor.add_amounts.Goals as goal
+use Rattle.coin_selection.proofs.requirements.add_amounts.Goals as goal
 
 one_before : (l i : ℕ) → 0 < i → i ≤ l → (l - i) + 1 ≡ l - (i - 1)
 one_before l i h k = omega arith

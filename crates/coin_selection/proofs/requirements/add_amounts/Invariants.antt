@@ -2,7 +2,7 @@ use Rattle.std.proofs.Common.{◌-◌, drop, length}
 use Rattle.builder_spec.specs.Holding.{wanted}
 use Rattle.coin_selection.specs.RequiredSupport.{IsMissing}
 use Rattle.coin_selection.proofs.RequiredLemmas.{Within}
-use Rattle.coin_selection.proofs.actor.add_amounts.Given as goal
+use Rattle.coin_selection.proofs.requirements.add_amounts.Given as goal
 
 -- those from a place on are counted, and they come to no more than there is room for
 abbrev pub invariant-loop-i : goal.invariant-loop-i

@@ -2,7 +2,7 @@ use Rattle.std.proofs.Common.{◌∷◌, drop, sym, ◌∙◌, ap, subst, arith}
 use Rattle.coin_selection.specs.RequiredSupport.{required_amount, IsMissing}
 use Rattle.coin_selection.proofs.ListLaws.{back}
 use Rattle.coin_selection.proofs.RequiredLemmas.{add_role}
-use Rattle.coin_selection.proofs.actor.add_roles.Goals as goal
+use Rattle.coin_selection.proofs.requirements.add_roles.Goals as goal
 
 pub loop-i-preserved : goal.loop-i-preserved
 loop-i-preserved c = λ ns s.

@@ -5,7 +5,7 @@ use Rattle.coin_selection.specs.RequiredSupport.{IsMissing}
 use Rattle.coin_selection.proofs.ListLaws.{up_to}
 use Rattle.coin_selection.proofs.HalvesLemmas.{bundle_at}
 use Rattle.coin_selection.proofs.RequiredLemmas.{meet_more}
-use Rattle.coin_selection.proofs.actor.meet_all.Goals as goal
+use Rattle.coin_selection.proofs.requirements.meet_all.Goals as goal
 
 pub loop-output-preserved : goal.loop-output-preserved
 loop-output-preserved c = λ f s.
