@@ -16,7 +16,7 @@ pub trait Counted {
 impl Counted for Entry {
     ghost ticket = { λ e. gives_ticket e };
 
-    #[tactic(auto, unfolding(crate::specs::Standing::gives_ticket))]
+    #[tactic(auto, unfolding(ledger_spec::specs::Replay::gives_ticket))]
     fn has_ticket(&self) -> bool {
         ticket_in(&self.reply).is_some()
     }
