@@ -55,9 +55,8 @@ impl Builder {
         table
     }
 
-    /// Puts a value's node into the table, and answers its number: that of an equal node where one stands, and else a
-    /// new one. What it names stands already, it is at most 999 high, and the table has fewer than 1,000,000 values,
-    /// observations and cases. Or memory is refused, and the table stays as it was.
+    /// Puts a value's node into the table, and answers its number. What it names stands already, it is at most
+    /// 999 high, and the table has fewer than 1,000,000 values, observations and cases. Or memory is refused.
     #[tactic(auto, unfolding(crate::specs::Putting::put_value))]
     pub fn put_value(&mut self, node: ValueNode) -> Result<u32, Memory>
         requires stand { AllStand self.old (value_parts node) }
