@@ -146,19 +146,15 @@ fn without(mut all: Bundle, taken: &Bundle) -> Bundle
 }
 
 /// What is spent and not made, where what is spent covers what is made. It is refused only for memory.
-pub(crate) fn rest(
-    alloc: Global,
-    all: Bundle,
-    step_outputs: &[Output],
-) -> Result<Bundle, BuildFault>
+pub(crate) fn rest(alloc: Global, all: Bundle, made: &[Output]) -> Result<Bundle, BuildFault>
     requires { covers all (sums (λ o. o.amount) made.now) ≡ true }
     ensures ok { IfOk result (λ rest. rest ≡ minus all (sums (λ o. o.amount) made.now)) }
     ensures err { IfErr result (λ fault. fault ≡ BuildFault.Memory) }
 {
-    see_all(step_outputs);
+    see_all(made);
     see_room(&all);
     let _ = all.entries();
-    match sum(alloc, step_outputs) {
+    match sum(alloc, made) {
         Ok(sum) => Ok(without(all, &sum)),
         Err(BundleFault::Memory) => Err(BuildFault::Memory),
         Err(_) => unreachable!(),

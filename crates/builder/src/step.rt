@@ -143,7 +143,7 @@ fn finish(
     let published = thread.published.get();
     let closed = is_closed(&published.table, outcome.place);
     match step_outputs(alloc, published, closed, outcome) {
-        Ok(step_outputs) => lay_out(alloc, asked, thread, funds, step_outputs),
+        Ok(made) => lay_out(alloc, asked, thread, funds, made),
         Err(fault) => Err(fault),
     }
 }

@@ -7,5 +7,5 @@ use Rattle.builder.proofs.outputs.rest.Goals as goal
 
 pub unreachable-requires : goal.unreachable-requires
 unreachable-requires c =
-    let room : is_much (sums amount c.args.step_outputs.now) ≡ false = covered_room c.args.all (sums amount c.args.step_outputs.now) c.entries.ensures.positive c.see_room.ensures c.requires in
+    let room : is_much (sums amount c.args.made.now) ≡ false = covered_room c.args.all (sums amount c.args.made.now) c.entries.ensures.positive c.see_room.ensures c.requires in
     search (rules, room)

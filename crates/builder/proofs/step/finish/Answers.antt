@@ -10,8 +10,8 @@ use Rattle.builder_spec.specs.Requests.{request}
 use Rattle.builder.proofs.CoveredLemmas.{step_room, step_covers}
 use Rattle.builder.proofs.step.finish.Goals as goal
 
-pub made-requires : goal.step_outputs-requires
-made-requires c =
+pub step_outputs-requires : goal.step_outputs-requires
+step_outputs-requires c =
     let asked = c.args.asked in
     let r = request asked.interval asked.inputs.now asked.signers.now asked.offered.now asked.change.now in
     let e : Thread = (c.args.thread.now, c.args.datum.now) in
@@ -30,7 +30,7 @@ lay_out-requires c =
     let a = standing c.args.outcome.state (cont_tree c.args.thread.now.published.table c.args.outcome.place.0) in
     let us = c.args.funds.front.now in
     let all = c.requires.all ∙ ap (λ vs. sums amount_in (own_output e ∷ vs)) (sym c.requires.front) in
-    let is : c.in-Ok.step_outputs ≡ step_outputs_of e (step_walk r e) (Ok a) = search rules in
-    subst (λ m. covers m (sums amount c.in-Ok.step_outputs) ≡ true) (sym all) (subst (λ os. covers (sums amount_in (own_output e ∷ us)) (sums amount os) ≡ true) (sym is)
+    let is : c.in-Ok.made ≡ step_outputs_of e (step_walk r e) (Ok a) = search rules in
+    subst (λ m. covers m (sums amount c.in-Ok.made) ≡ true) (sym all) (subst (λ os. covers (sums amount_in (own_output e ∷ us)) (sums amount os) ≡ true) (sym is)
     (step_covers c.money_is_kept.ensures c.transactions_end_quiet.ensures c.payments_are_natural.ensures r e a us
     (record { sums = c.requires.sums; ended = c.requires.ended; accounts = c.accounts.ensures.positive; covered = c.requires.covered; bundles = (c.entries.ensures.positive, c.requires.bundles) })))
