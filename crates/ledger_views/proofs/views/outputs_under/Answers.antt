@@ -7,7 +7,7 @@ use Rattle.ledger_views.proofs.views.outputs_under.Goals as goal
 
 pub loop-k-preserved : goal.loop-k-preserved
 loop-k-preserved g c =
-    let asks = g.A.Asked.asks c.args.asked.now in
+    let asks = g.A.LockFilter.asks c.args.asked.now in
     let all = c.accepted-accepted.result.now in
     let spent = is_among c.args.spent.now in
     let rest = under asks spent (created_by_all (drop (c.loop-k.k-index + 1) all)) in

@@ -6,5 +6,5 @@ use Rattle.ledger_views.proofs.views.outputs_under.Given as goal
 
 abbrev pub invariant-loop-k : goal.invariant-loop-k
 invariant-loop-k g l =
-    under (g.A.Asked.asks l.asked) (is_among l.spent) (created (past_of l.world))
-    ≡ l.found ++ under (g.A.Asked.asks l.asked) (is_among l.spent) (created_by_all (drop l.k-index l.accepted))
+    under (g.A.LockFilter.asks l.asked) (is_among l.spent) (created (past_of l.world))
+    ≡ l.found ++ under (g.A.LockFilter.asks l.asked) (is_among l.spent) (created_by_all (drop l.k-index l.accepted))
