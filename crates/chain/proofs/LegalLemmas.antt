@@ -34,9 +34,9 @@ get_grown (z ∷ xs) y (suc n) x h =
       | inr p ↦ inr (p.0, ap (λ (l : List _). z ∷ l) p.1)
     ]
 
-published_after : (ps : List Published) (es : List Entry) (e : Entry) → published_from ps (es ++ e ∷ []) ≡ published_after (published_from ps es) e.call e.reply
-published_after ps [] e = refl
-published_after ps (x ∷ es) e = published_after (published_after ps x.call x.reply) es e
+published_more : (ps : List Published) (es : List Entry) (e : Entry) → published_from ps (es ++ e ∷ []) ≡ published_after (published_from ps es) e.call e.reply
+published_more ps [] e = refl
+published_more ps (x ∷ es) e = published_more (published_after ps x.call x.reply) es e
 
 -- what is published by the reply of the table
 new_if : (w : World) (p : Published) (known : Option Published) → published_at w.published p.id ≡ known →
@@ -72,7 +72,7 @@ pub kept_more : AfterIsSound marlowe → LaterIsSound marlowe → PublishedAreTa
     map id_of (world c).replay.accepted ++ more ≡ map id_of (after_call (world c).replay call (reply_to (world c) call)).accepted → IsKept later (ids ++ more) (with_entry c (entry_of c seat call))
 kept_more law law_later law_tables ps later ids more c seat call kept h k =
     let e = entry_of c seat call in
-    let all : published (c.entries ++ e ∷ []) ≡ published_with (published c.entries) call = published_after [] c.entries e ∙ new_is (world c) call in
+    let all : published (c.entries ++ e ∷ []) ≡ published_with (published c.entries) call = published_more [] c.entries e ∙ new_is (world c) call in
     record {
       objects = h ∙ sym all;
       used = ap (λ (l : List (List ℕ)). l ++ more) kept.used ∙ k ∙ ap (λ (s : Replay). map id_of s.accepted) (sym (replay_after (record { tick = c.first_tick; accepted = []; pending = [] }) c.entries e));
