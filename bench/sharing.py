@@ -2,8 +2,8 @@
 """Compiles wide contracts by the program of table rows, as this checkout builds it and as an earlier one does, and prints the least
 processor time and the memory of a table of each, with the ratios; then how the time of `marlowe table` grows with the text.
 
-Build the programs first: (cd crates/table_rows && rt run) here and in a checkout of the earlier commit, and (cd crates/marlowe && rt run -- --version) here.
-Usage: sharing.py EARLIER   (as ../earlier/crates/table_rows/out/table_rows)
+Build the programs first: (cd crates/rows_tables && rt run) here and in a checkout of the earlier commit, and (cd crates/marlowe && rt run -- --version) here.
+Usage: sharing.py EARLIER   (as ../earlier/crates/rows_tables/out/rows_tables)
 
 A row `wide 65533` is the widest contract: 65,533 cases that wait for what is true and are each followed by close, so all closes are equal, and all
 cases. `wide 65534` makes the same tree and one case more, and is refused before a table is begun. So what the first takes more is the table's.
@@ -16,7 +16,7 @@ import tempfile
 from growth import TIME, many_forms, measure, wide_when
 
 HERE = os.path.dirname(os.path.abspath(__file__))
-OURS = os.path.join(HERE, "..", "crates", "table_rows", "out", "table_rows")
+OURS = os.path.join(HERE, "..", "crates", "rows_tables", "out", "rows_tables")
 RUNS = 5
 TIMES = 20
 

@@ -1,5 +1,5 @@
 """Spells transactions in bytes by the tables of docs/formats.md, "Bytes", and adds and subtracts amounts, apart from the
-programs: prints what `transaction_rows` must print for its data without checks, in the order of its `args`. These are the
+programs: prints what `rows_transactions` must print for its data without checks, in the order of its `args`. These are the
 first lines of its stdout.
 
 Call it: transactions.py | cmp -n $(transactions.py | wc -c) - ../crates/rows_transactions/stdout
