@@ -11,10 +11,10 @@ import sys
 
 from chain_growth import seconds
 
-RUNS = 5
+RUNS = 9
 PAYMENTS = 1000
 INPUTS = 16
-TIMES = 100
+TIMES = 1000
 CASES = 14500
 
 
