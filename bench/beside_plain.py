@@ -2,10 +2,12 @@
 """Runs the built program and a plain Rust program over `serde_json::Value` (`plain/`) on the same texts of up to 1 MiB, sees that both print
 the same, and prints the least processor time and the peak memory of each, with the ratios: of runs, and then of tables.
 
-Build both first: (cd crates/marlowe && rt run -- --version), and, with Debian's package librust-serde-json-dev,
-(cd bench/plain && CARGO_TARGET_DIR=/tmp/plain cargo build --release --offline \\
-   --config 'source.crates-io.replace-with="debian"' --config 'source.debian.directory="/usr/share/cargo/registry"')
-Usage: beside_plain.py PLAIN   (as /tmp/plain/release/plain)
+Needs    (cd crates/marlowe && rt run -- --version), and, with Debian's packages `time` and librust-serde-json-dev,
+         (cd bench/plain && CARGO_TARGET_DIR=/tmp/plain cargo build --release --offline \\
+            --config 'source.crates-io.replace-with="debian"' --config 'source.debian.directory="/usr/share/cargo/registry"')
+Usage    beside_plain.py PLAIN   (as /tmp/plain/release/plain)
+Expect   a line for each family of texts: the time and memory of both programs and the ratios, runs first. No ratio is promised.
+Else     a text that the two print otherwise, and status 1.
 """
 import json
 import os

@@ -1,8 +1,10 @@
 #!/usr/bin/env python3
 """Builds on n, 2n and 4n offers and accounts by the program of rows, counts what a build costs by valgrind, and prints it with the ratios.
 
-Build the program first: (cd crates/rows_chain && rt run)
-The cost of a build is what MORE of them add to the instructions of a run. It has the program's own reading of what is offered.
+Needs    (cd crates/rows_chain && rt run), and valgrind
+Usage    building_growth.py
+Expect   steps and starts, three sizes each, and ratios a little above 2: a builder takes n log n in what is wanted and offered.
+Mind     the cost is what MORE builds add to the instructions of a run, with the program's own reading of what is offered.
 """
 import json
 

@@ -1,12 +1,12 @@
 #!/usr/bin/env python3
 """Makes chains of n, 2n and 4n entries by the program of rows, measures what a Submit and a look cost after them, and prints both with the ratios.
 
-Build the program first: (cd crates/rows_chain && rt run)
-Each entry accepts a transaction of one input and one output, so the history's inputs and outputs grow as its entries do.
-The cost of a call is what MORE of them add to the processor time of a run, each of which answers the same and adds an entry. It has
-the program's own search for the name of what is spent or shown, one pass over the names. Of RUNS runs the least time is taken. Times
-waver on a busy machine, and grow faster than the work once a history no longer fits a processor's cache; so where valgrind is
-there, the instructions are counted too.
+Needs    (cd crates/rows_chain && rt run); where valgrind is there, instructions are counted too
+Usage    chain_growth.py
+Expect   after 1,000, 2,000 and 4,000 entries the cost of each call, and a ratio near 2: a chain walks over its history, once for each output that a
+         Submit spends, a few times for a look. Each entry accepts a transaction of one input and one output.
+Mind     the cost is what MORE calls add to the processor time of a run, the least of RUNS runs, with the program's own search for a name, one pass
+         over the names. Times grow faster than the work once a history no longer fits a processor's cache; instructions don't.
 """
 import os
 import re

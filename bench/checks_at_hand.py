@@ -1,10 +1,12 @@
 #!/usr/bin/env python3
-"""Measures by the program of rows what checks at hand spare, and prints each as a ratio: a round of payments with all checks at hand beside
-none, and the judgement of a step on a contract of many parts with an equal check beside judging it anew.
+"""Measures by the program of rows what checks at hand spare: a round of payments with all checks at hand beside none, and the judgement of a step on a
+contract of many parts with an equal check beside judging it anew.
 
-Build the program first: (cd crates/rows_chain && rt run)
-A cost is what something adds to the processor time of a run; of RUNS runs the least time is taken. The judgement of a step is what a `recheck`
-adds to a `resolve`, which makes the resolution that both need.
+Needs    (cd crates/rows_chain && rt run)
+Usage    checks_at_hand.py
+Expect   two rounds of 1,000 payments in milliseconds, two judgements of a step in microseconds, and the ratio of these two, which is far above 1: an equal
+         check costs a comparison of the published objects in full, and spares the script alone (docs/DECISIONS.md, "Checks at hand").
+Mind     a cost is what something adds to the processor time of a run, the least of RUNS runs. The judgement of a step is what a `recheck` adds to a `resolve`.
 """
 import json
 import sys

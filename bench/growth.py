@@ -1,8 +1,11 @@
 #!/usr/bin/env python3
 """Makes inputs of n, 2n and 4n, runs the built program on them, prints their tables with it, and prints time, peak memory and the ratios.
 
-Build the program first: (cd crates/marlowe && rt run -- --version)
-Start-up, the time and memory of the smallest run, is taken off before a ratio is formed.
+Needs    (cd crates/marlowe && rt run -- --version), and Debian's package `time`
+Usage    growth.py
+Expect   seven families, for each a run and a table (of the last two a run alone) of three sizes, the largest near 1 MiB of text; after the first size
+         each ratio of time and memory near 2, since work and memory grow as the text does, and what reading its JSON alone takes.
+Mind     start-up, the time and memory of the smallest run, is taken off before a ratio is formed. A busy machine makes times waver.
 """
 import json
 import os

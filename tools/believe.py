@@ -1,17 +1,20 @@
 #!/usr/bin/env python3
-"""Which definitions a reader has to believe, for each public call of the list CALLS.
+"""Which definitions a reader has to believe, for each face of the list FACES.
 
-    tools/believe.py            prints the lines that each call rests on
-    tools/believe.py --write    writes the tables into docs/BELIEVE.md, between its two marks
-    tools/believe.py --check    ends with status 1 where the page is out of date
-    tools/believe.py --unused   prints the definitions of specs/ that no call of the list reaches, by file
+    tools/believe.py                prints how many lines and files each face rests on
+    tools/believe.py CALL..         prints what these calls rest on, file by file: CRATE, CRATE::FUNCTION, CRATE::TYPE or CRATE::TYPE::METHOD,
+                                    with (CLAUSE ..) behind it for some of its clauses alone
+    tools/believe.py --write        writes the tables into docs/BELIEVE.md, between its two marks
+    tools/believe.py --check        ends with status 1 where the page is out of date
+    tools/believe.py --unused       prints the definitions of specs/ that no face reaches, by file
 
-A definition is believed if a clause of the call names it (`requires`, `ensures`, the laws of its trait, what clauses see of the
+A definition is believed if a clause of a call names it (`requires`, `ensures`, the laws of its trait, what clauses see of the
 types in its signature), or if a believed definition names it. So no lemma counts: nothing that is believed names one.
 Lines are those of the definition with its type, without comments, blank lines and imports.
 
-Names are followed by their spelling, through the lines `use` and `ghost use`. Names that a definition binds itself (its
-arguments, `λ x.`, `(x : A)`, `x ←`, `let x`), fields and projections are no names of definitions.
+The calls of a crate are those that its lib.rt passes on, and the methods of the types and traits that it passes on; worked rows
+(`worked_..`) are none. Names are followed by their spelling, through the lines `use` and `ghost use`. Names that a definition binds itself
+(its arguments, `λ x.`, `(x : A)`, `x ←`, `let x`), fields and projections are no names of definitions.
 """
 
 import re
@@ -22,62 +25,21 @@ TOP = Path(__file__).resolve().parent.parent
 PAGE = TOP / "docs" / "BELIEVE.md"
 BEGIN, END = "<!-- written by tools/believe.py -->", "<!-- to here -->"
 
-# What the page has a table for: a title, and the calls as `FILE: CALL CALL; FILE: ..`. A trait's name stands for its laws.
-CALLS = [
-    ("`marlowe_run::run`", "marlowe_run/src/transaction.rt: run"),
-    ("`marlowe_run::table_text`", "marlowe_run/src/tables.rt: table_text"),
-    ("`marlowe_run::refusal`", "marlowe_run/src/refusal_line.rt: refusal"),
-    ("`semantics::Steps::compute`", "semantics/src/steps.rt: compute"),
-    ("`semantics::Steps`, with `is_closed` and the laws", "semantics/src/steps.rt: compute is_closed Steps"),
-    ("`semantics::matching_case`", "semantics/src/apply.rt: matching_case"),
-    ("`evaluation::value` and `holds`", "evaluation/src/evaluate.rt: value holds"),
-    ("`states::State`", "states/src/start.rt: start; states/src/state.rt: new from_entries money choice bound min_time accounts first_account take_accounts "
-     "choices bound_values set_money set_choice set_bound set_min_time"),
-    ("`contract_json::read_contract`", "contract_json/src/texts.rt: read_contract"),
-    ("`contract_json::read_state`", "contract_json/src/texts.rt: read_state"),
-    ("`contract_json::read_transaction`", "contract_json/src/texts.rt: read_transaction"),
-    ("`contract_json::read_input`", "contract_json/src/texts.rt: read_input"),
-    ("`contract_json::write_contract`", "contract_json/src/texts.rt: write_contract"),
-    ("`contract_json::write_outcome`", "contract_json/src/texts.rt: write_outcome"),
-    ("`contract_bytes::encode_contract`", "contract_bytes/src/encode.rt: encode_contract"),
-    ("`contract_bytes::encode_state`", "contract_bytes/src/encode.rt: encode_state"),
-    ("`contract_bytes::encode_party`, `encode_token`, `encode_input`", "contract_bytes/src/encode.rt: encode_party encode_token encode_input"),
-    ("`table::Table`: what stands, and the nodes that it lends", "table/src/table.rt: new contains has_value has_observation has_case; "
-     "table/src/table/lend.rt: value_node observation_node case_node cont_node"),
-    ("`table::Table`: `turns_lead`", "table/src/table.rt: turns_lead"),
-    ("`table::Table`: the pushes", "table/src/table/push.rt: push_value push_observation push_case push_cont"),
-    ("`table::Table`: `value` and `holds`", "table/src/table/evaluate.rt: value holds"),
-    ("`table::Table`: `last_timeout`", "table/src/table/timeout.rt: last_timeout"),
-    ("`table::Table`: `decompile`", "table/src/table/decompile.rt: decompile"),
-    ("`compiler::compile`", "compiler/src/compiling.rt: compile"),
-    ("`machine::compute`", "machine/src/machine.rt: compute"),
-    ("`machine::matching_case`", "machine/src/machine.rt: matching_case"),
-    ("`bundle::Bundle`", "bundle/src/bundle.rt: new from_entries entries is_empty amount amount_by covers add reduce subtract"),
-    ("`bundle::WideSum` and `total_of`", "bundle/src/wide_sum.rt: zero add is_at_most; bundle/src/total.rt: total_of"),
-    ("`eutxo_types::encode_tx` and `tx_id`", "eutxo_types/src/encode.rt: encode_tx; eutxo_types/src/id.rt: tx_id"),
-    ("`eutxo::check` and `recheck`", "eutxo/src/checked.rt: check; eutxo/src/at_hand.rt: recheck"),
-    ("`eutxo::local_fault`, `spent_fault`, `tx_fault` and `has_signed`", "eutxo/src/local.rt: local_fault spent_fault; eutxo/src/tx_rules.rt: tx_fault has_signed"),
-    ("`eutxo::Resolved`, `Scripts`, `Shared`, `Spent` and `Checked`", "eutxo/src/resolved.rt: equals; eutxo/src/scripts.rt: new from_entries get insert equals; "
-     "eutxo/src/shared.rt: new get; eutxo/src/spent.rt: new spend output; eutxo/src/checked.rt: tx id found verdict is_of"),
-    ("`eutxo::Validator`", "eutxo/src/validator.rt: step start claim Validator"),
-    ("`parallel_check::check_all`", "parallel_check/src/workers.rt: check_all"),
-    ("`roles::publish`", "roles/src/publishing.rt: publish"),
-    ("`roles::Published` as a `Validator`", "roles/src/step.rt: step_of; roles/src/script.rt: starts_from; roles/src/authorise.rt: holds_role"),
-    ("`ledger::judge` and `resolve`", "ledger/src/rules.rt: judge; ledger/src/found.rt: resolve"),
-    ("`ledger::Look::resolve`", "ledger/src/shown.rt: resolve"),
-    ("`chain::Chain`", "chain/src/chain.rt: genesis step tick entries resolve front steps_of"),
-    ("`chain::Chain::history`, with its laws", "chain/src/chain.rt: history"),
-    ("`builder::build_step`", "builder/src/step.rt: build_step"),
-    ("`builder::build_start` and `build_claim`", "builder/src/start.rt: build_start; builder/src/claim.rt: build_claim"),
-    ("`builder_laws::steps_are_accepted`", "builder_laws/src/accepted.rt: steps_are_accepted"),
-    ("the laws of `semantics`", "semantics/src/laws.rt: reductions_have_one_result contracts_settle_in_one_way transactions_have_one_answer "
-     "turns_lead_to_the_remaining_contract transactions_end_quiet time_never_goes_back payments_are_natural accounts_stay_above_zero "
-     "contracts_close_after_the_last_timeout; semantics/src/money.rt: money_is_kept"),
-    ("the laws of `eutxo`", "eutxo/src/laws.rt: equal_resolutions_decide_alike checks_decide found_is_enough sums_are_preserved"),
-    ("the laws of `roles`", "roles/src/laws.rt: published_are_tables published_tell_contracts_apart"),
-    ("the laws of `ledger_laws`, whatever the scripts", "ledger_laws/src/ledger.rt: steps_stand_on_threads contracts_end_threads tokens_are_preserved "
-     "outputs_are_spent_once starting_is_sound accepting_is_sound publishing_is_sound"),
-    ("the laws of `ledger_laws` on Marlowe's contracts", "ledger_laws/src/threads.rt: threads_are_runs contracts_are_funded parties_are_authorised"),
+# The faces of the page: a title, and the calls. What a crate passes on is read off its lib.rt.
+FACES = [
+    ("`marlowe run`, and the texts that it reads and writes", "marlowe_run::run marlowe_run::refusal contract_json::read_contract contract_json::read_input contract_json::read_state "
+     "contract_json::read_transaction contract_json::write_contract contract_json::write_outcome"),
+    ("The transaction function on a tree, its laws, and states", "evaluation::value evaluation::holds semantics states"),
+    ("Tables: what compiles to which, and runs on them", "marlowe_run::table_text compiler table machine"),
+    ("Bytes and ids", "contract_bytes eutxo_types"),
+    ("The check of a transaction, over any script, and its laws", "bundle eutxo parallel_check::check_all"),
+    ("Marlowe as a script", "roles"),
+    ("The chain: each call and its reply", "ledger chain::Chain::genesis chain::Chain::step(entry,mine,told,err) chain::Chain::tick chain::Chain::entries chain::Chain::history(all,legal) "
+     "chain::Chain::resolve chain::Chain::front chain::Chain::steps_of"),
+    ("The headline's first half: what holds after every history", "chain::Chain::history(first)"),
+    ("Its laws, over every list of accepted transactions", "ledger_laws"),
+    ("The builders", "builder"),
+    ("The headline's second half: what is built is accepted", "chain::Chain::step(second) builder_laws"),
 ]
 
 # words of the language, and names that are there without an import
@@ -265,27 +227,23 @@ class Code:
                     value = re.search(r"ghost Value = (\{.*\});", text[found.start():])
                     self.models.setdefault(found.group(2), {})[crate] = (path, value.group(1), set(re.findall(r"\w+", found.group(1) or "")))
 
-    def clauses(self, file, call):
-        """A call's file with its scope, its clauses, its signature, and the names of its arguments."""
-        path = TOP / "crates" / file
+    def laws(self, path, trait):
+        """The laws of a trait, as a call's clauses."""
         text = self.texts[path]
-        ghosts = set(re.findall(r"^    ghost (\w+): ", text, re.M))
-        if call[0].isupper():
-            start = text.index("pub trait " + call)
-            return path, Scope(text.splitlines()), re.findall(r"ghost \w+: (\{.*?\});", text[start:text.index("\n}\n", start)], re.S), "", ghosts
-        found = re.search(r"^ *(?:pub )?fn " + call + r"\b", text, re.M)
-        if not found:
-            sys.exit(f"{file} has no {call}")
-        return self.clauses_at(path, text, found)
+        start = text.index("pub trait " + trait)
+        generics = re.match(r"[^{]*", text[start:]).group()
+        ghosts = set(re.findall(r"^    ghost (\w+): ", text, re.M)) | set(re.findall(r"\b[A-Z]\w*", generics))
+        return path, Scope(text.splitlines()), re.findall(r"ghost \w+: (\{.*?\});", text[start:text.index("\n}\n", start)], re.S), "", ghosts
 
-    def clauses_at(self, path, text, found):
+    def clauses_at(self, path, text, found, wanted=()):
         """The same for a function that was found in a file."""
         ghosts = set(re.findall(r"^    ghost (\w+): ", text, re.M)) | {"self"}
         end = self.end_of(text, found.end(), r"\{|;|\s(ensures|requires)\b")
         signature, clauses = text[found.end():end], []
-        while clause := re.compile(r"\s*(?:ensures|requires)\*?\s*\w*\s*\{").match(text, end):
+        while clause := re.compile(r"\s*(?:ensures|requires)\*?\s*(\w*)\s*\{").match(text, end):
             end = self.end_of(text, clause.end(), r"\}") + 1
-            clauses.append(text[clause.end():end - 1])
+            if not wanted or clause.group(1) in wanted:
+                clauses.append(text[clause.end():end - 1])
         owner = re.findall(r"^impl(?:<.*?>)? (\w+)", text[:found.start()], re.M)
         generics = re.findall(r"\b([A-Z]\w*): ", text)
         arguments = ghosts | set(re.findall(r"(\w+):", signature)) | set(generics)
@@ -317,15 +275,12 @@ class Code:
 class Beliefs:
     """All that some calls rest on: definitions, names of the kit, and types of the code with their lines."""
 
-    def __init__(self, places):
+    def __init__(self, calls=()):
         self.reached, self.kit, self.types, self.unknown = {}, {}, {}, set()
-        for place in filter(None, places.split("; ")):
-            file, _, calls = place.partition(": ")
-            for call in calls.split():
-                path, scope, clauses, signature, arguments = CODE.clauses(file, call)
-                for clause in clauses:
-                    self.follow(clause, scope, arguments | binders(clause), path)
-                self.follow_types(signature, crate_of(path))
+        for path, scope, clauses, signature, arguments in calls:
+            for clause in clauses:
+                self.follow(clause, scope, arguments | binders(clause), path)
+            self.follow_types(signature, crate_of(path))
 
     def lines(self, module=None):
         """How many lines of definitions are reached, in one file or in all."""
@@ -404,63 +359,101 @@ def listed(names):
     return ", ".join(f"`{name}`" for name in names)
 
 
+def public_functions():
+    """All functions that a crate passes on, and methods of what it passes on: the crate, the type or trait, the name, the file, its text and the place there."""
+    for path, text in CODE.texts.items():
+        lib = CODE.texts.get(TOP / "crates" / crate_of(path) / "src" / "lib.rt", "")
+        passed_on = set(re.findall(r"\w+", " ".join(re.findall(r"^pub use [\w:]*::(.*?);", lib, re.M | re.S))))
+        for found in re.finditer(r"^( *)(pub )?fn (\w+)", text, re.M):
+            owner = re.findall(r"^(impl|pub trait)(?:<.*?>)? (\w+)", text[:found.start()], re.M)[-1:] if found.group(1) else []
+            is_public = found.group(2) or owner and owner[0][0] == "pub trait"
+            name = owner[0][1] if owner else found.group(3)
+            if is_public and name in passed_on and not name.startswith("worked_"):
+                yield crate_of(path), owner[0][1] if owner else "", found.group(3), path, text, found
+
+
+def calls_of(words):
+    """The calls that the words name, each with its clauses."""
+    calls = []
+    for word in words.split():
+        word, _, wanted = word.rstrip(")").partition("(")
+        crate, *names = word.split("::")
+        before = len(calls)
+        traits = set()
+        for home, owner, name, path, text, found in PUBLIC:
+            path_of = ([owner] if owner else []) + [name]
+            if home == crate and path_of[:len(names)] == names:
+                calls.append(CODE.clauses_at(path, text, found, wanted.split(",") if wanted else ()))
+                if owner and "pub trait " + owner in text and (path, owner) not in traits:
+                    traits.add((path, owner))
+                    calls.append(CODE.laws(path, owner))
+        if len(calls) == before:
+            sys.exit(f"no crate passes on {word}")
+    return calls
+
+
+PUBLIC = list(public_functions())
+
+
 def section(title, beliefs):
-    """What the page says of some calls."""
-    rows = [f"### {title}", "", f"{beliefs.lines()} lines of definitions.", "", "| File | Lines | Of it |", "|---|---|---|"]
+    """What some calls rest on, file by file."""
+    rows = [f"{title}: {beliefs.lines()} lines of definitions", ""]
     for module in LIBRARY.order():
         here = [d.name for (home, _), d in beliefs.reached.items() if home == module]
         if here:
             file = LIBRARY.files[module]
             names = [name for name in file.definitions if name in here]
-            parts = "all" if len(names) == len(file.definitions) else listed(names)
-            rows.append(f"| {file.path.relative_to(TOP / 'crates')} | {beliefs.lines(module)} | {parts} |")
-    kit = [f"{short(module)} ({listed(sorted(names))})" for module, names in sorted(beliefs.kit.items()) if module != PRELUDE]
-    rows += ["", "Of the kit: " + ("; ".join(kit) if kit else "the Prelude alone") + "."]
+            parts = "all" if len(names) == len(file.definitions) else ", ".join(names)
+            rows.append(f"  {beliefs.lines(module):4} {file.path.relative_to(TOP / 'crates')}: {parts}")
+    kit = [f"{short(module)} ({', '.join(sorted(names))})" for module, names in sorted(beliefs.kit.items())]
+    rows += ["", "Of the kit: " + "; ".join(kit)]
     plain = sorted(name for (_, name), count in beliefs.types.items() if not count)
-    types = [f"`{crate}` " + ", ".join(name for home, name in beliefs.types if home == crate and name not in plain)
+    types = [f"{crate} " + ", ".join(name for home, name in beliefs.types if home == crate and name not in plain)
              for crate in CRATES if any(home == crate and name not in plain for home, name in beliefs.types)]
-    rows += ["", f"Types of the code, {sum(beliefs.types.values())} lines: " + "; ".join(types) + "." + (f" Seen as plain data: {', '.join(plain)}." if plain else "")]
-    return rows + [""]
+    rows += [f"Types of the code, {sum(beliefs.types.values())} lines: " + "; ".join(types) + (f"; seen as plain data: {', '.join(plain)}" if plain else "")]
+    return "\n".join(rows)
+
+
+def first_words(file):
+    """What the first comment of a file says, up to the end of its first sentence."""
+    words = []
+    for line in file.path.read_text().splitlines():
+        if not line.startswith("--"):
+            break
+        words.append(line.lstrip("- "))
+    said = re.match(r".*?(?:\.(?= [A-Z(])|:(?= )|$)", " ".join(words)).group().rstrip(".: ")
+    return said.replace("|", "\\|")
 
 
 def page():
     """The tables of the page."""
-    everything = [(title, Beliefs(places)) for title, places in CALLS]
-    unknown = sorted(set().union(*(beliefs.unknown for _, beliefs in everything)))
+    faces = [(title, Beliefs(calls_of(words))) for title, words in FACES]
+    unknown = sorted(set().union(*(beliefs.unknown for _, beliefs in faces)))
     if unknown:
         sys.exit("names that have no meaning here:\n" + "\n".join(unknown))
-    rows = ["## All calls", "", "| Call | Lines | Files | Lines of types |", "|---|---|---|---|"]
-    for title, beliefs in everything:
-        rows.append(f"| {title} | {beliefs.lines()} | {len({module for module, _ in beliefs.reached})} | {sum(beliefs.types.values())} |")
-    prelude = set().union(*(beliefs.kit.get(PRELUDE, set()) for _, beliefs in everything))
-    rows += ["", "All of them stand on words of the standard library's Prelude: " + listed(sorted(prelude)) + ".", "", "## Call by call", ""]
-    for title, beliefs in everything:
-        rows += section(title, beliefs)
-    return "\n".join(rows)
-
-
-def public_functions():
-    """All functions that a crate passes on, and methods of what it passes on: as `Code.clauses_at` takes them."""
-    for path, text in CODE.texts.items():
-        lib = CODE.texts.get(TOP / "crates" / crate_of(path) / "src" / "lib.rt", "")
-        for found in re.finditer(r"^( *)(pub )?fn (\w+)", text, re.M):
-            owner = re.findall(r"^(?:impl(?:<.*?>)?|pub trait) (\w+)", text[:found.start()], re.M)
-            name = owner[-1] if found.group(1) and owner else found.group(3)
-            if re.search(rf"\b{name}\b", lib) and (found.group(2) or found.group(1)):
-                yield path, text, found
+    rows = ["## Faces", "", "| | Face | Lines | Files | Lines of types |", "|---|---|---|---|---|"]
+    for mark, (title, beliefs) in enumerate(faces, 1):
+        rows.append(f"| {mark} | {title} | {beliefs.lines()} | {len({module for module, _ in beliefs.reached})} | {sum(beliefs.types.values())} |")
+    rows += ["", "## Files, in reading order", "", "| File | Lines | Faces | It has |", "|---|---|---|---|"]
+    for module in LIBRARY.order():
+        lines = {(d.file.module, number) for _, beliefs in faces for d in beliefs.reached.values() for number, _ in d.above + d.lines if d.file.module == module}
+        if lines:
+            file = LIBRARY.files[module]
+            marks = " ".join(str(mark) for mark, (_, beliefs) in enumerate(faces, 1) if beliefs.lines(module))
+            rows.append(f"| {str(file.path.relative_to(TOP / 'crates')).replace('/specs/', ' ')} | {len(lines)} | {marks} | {first_words(file)} |")
+    rows += ["", "## Words of the kit", ""]
+    for module in sorted(set().union(*(beliefs.kit for _, beliefs in faces))):
+        rows.append(f"- {short(module)}: " + listed(sorted(set().union(*(beliefs.kit.get(module, set()) for _, beliefs in faces)))))
+    return "\n".join(rows) + "\n"
 
 
 def unused():
-    """Prints what no call of the list reaches, by file: with `+` where another public clause does."""
+    """Prints what no face reaches, by file: with `+` where another public clause does."""
     believed, others = {}, {}
-    for _, places in CALLS:
-        believed.update(Beliefs(places).reached)
-    for call in public_functions():
-        beliefs = Beliefs("")
-        path, scope, clauses, _, arguments = CODE.clauses_at(*call)
-        for clause in clauses:
-            beliefs.follow(clause, scope, arguments | binders(clause), path)
-        others.update(beliefs.reached)
+    for _, words in FACES:
+        believed.update(Beliefs(calls_of(words)).reached)
+    for _, _, _, path, text, found in PUBLIC:
+        others.update(Beliefs([CODE.clauses_at(path, text, found)]).reached)
     for module in LIBRARY.order():
         left = [name for name in LIBRARY.files[module].definitions if (module, name) not in believed]
         if left:
@@ -468,18 +461,20 @@ def unused():
 
 
 def main():
-    argument = " ".join(sys.argv[1:])
-    if argument == "--unused":
+    arguments = sys.argv[1:]
+    if arguments == ["--unused"]:
         return unused()
+    if arguments and not arguments[0].startswith("-"):
+        return print("\n\n".join(section(call, Beliefs(calls_of(call))) for call in arguments))
     text = PAGE.read_text() if PAGE.exists() else f"{BEGIN}\n{END}\n"
     head, rest = text.split(BEGIN)
     new = head + BEGIN + "\n" + page() + END + rest.split(END)[1]
-    if argument == "--write":
+    if arguments == ["--write"]:
         PAGE.write_text(new)
-    elif argument == "--check":
+    elif arguments == ["--check"]:
         sys.exit(0 if new == text else "docs/BELIEVE.md is out of date: tools/believe.py --write")
-    elif argument == "":
-        print(page().split("## Call by call")[0])
+    elif not arguments:
+        print(page().split("## Files")[0])
     else:
         sys.exit(__doc__)
 

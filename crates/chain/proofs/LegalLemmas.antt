@@ -60,6 +60,10 @@ new_is w (on.Submit tx) = refl
 new_is w (on.Enqueue tx) = refl
 new_is w (on.Round k) = refl
 
+-- what is published after one call more
+pub published_after_one : (c : Course) (seat : ℕ) (call : Call) → published (with_entry c (entry_of c seat call)).entries ≡ published_with (published c.entries) call
+published_after_one c seat call = published_more [] c.entries (entry_of c seat call) ∙ new_is (world c) call
+
 legal_more : (c : Course) (seat : ℕ) (call : Call) → IsLegal c → IsLegal (with_entry c (entry_of c seat call))
 legal_more c seat call legal n e h =
     elim (get_grown c.entries (entry_of c seat call) n e h) [
@@ -72,7 +76,7 @@ pub kept_more : AfterIsSound marlowe → LaterIsSound marlowe → PublishedAreTa
     map id_of (world c).replay.accepted ++ more ≡ map id_of (after_call (world c).replay call (reply_to (world c) call)).accepted → IsKept later (ids ++ more) (with_entry c (entry_of c seat call))
 kept_more law law_later law_tables ps later ids more c seat call kept h k =
     let e = entry_of c seat call in
-    let all : published (c.entries ++ e ∷ []) ≡ published_with (published c.entries) call = published_more [] c.entries e ∙ new_is (world c) call in
+    let all : published (c.entries ++ e ∷ []) ≡ published_with (published c.entries) call = published_after_one c seat call in
     record {
       objects = h ∙ sym all;
       used = ap (λ (l : List (List ℕ)). l ++ more) kept.used ∙ k ∙ ap (λ (s : Replay). map id_of s.accepted) (sym (replay_after (record { tick = c.first_tick; accepted = []; pending = [] }) c.entries e));

@@ -3,3 +3,4 @@ mod PublishedLemmas
 mod SoundLemmas
 mod LegalLemmas
 mod HeadlineLemmas
+mod ShownLemmas

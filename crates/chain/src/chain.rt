@@ -9,13 +9,14 @@ ghost use Rattle.ledger_spec.specs.Headline.{FirstHalf, SecondHalf};
 ghost use Rattle.ledger_spec.specs.Calls.{reply_to, published_with};
 ghost use Rattle.ledger_spec.specs.Legal.{entry_of, with_entry, IsLegal};
 ghost use Rattle.ledger_spec.specs.Records.{AreSteps};
+ghost use Rattle.ledger_spec.specs.Shown.{ShowsWhatWasMade};
 ghost use Rattle.ledger_spec.specs.Views.{pool_front};
 
 use builder_laws::{
     claims_are_accepted, shown_threads_are_current, starts_are_accepted, steps_are_accepted,
 };
 use collections::{Items, Memory, TryClone};
-use eutxo::{Checked, Resolved, Shared};
+use eutxo::{Checked, Resolved, Shared, found_is_enough};
 use eutxo_types::{Output, OutputRef, Tx};
 use ledger::{Call, Entry, Reply};
 use ledger_dispatch::{answer, front, records, resolution};
@@ -265,11 +266,21 @@ impl Chain {
     /// exactly one thread, and each thread's end is an unspent contract output. Such an output holds just the
     /// sums of its accounts, and stands at a number of the table that was published under its script. No output is
     /// spent twice. Of each token the unspent outputs hold together what the first outputs held.
+    ///
+    /// What is built of a request that nothing hinders would be accepted now, as `step` says. And a Look that comes after an accepted Submit shows what
+    /// that made, where it asks for it and nothing that was accepted between the two spent it.
     pub fn history(&self) -> &[Entry]
         ensures all { result.now ≡ self.now.entries }
         ensures legal { IsLegal self.now }
         ensures first { FirstHalf self.now }
+        ensures second { SecondHalf self.now }
+        ensures shown { ShowsWhatWasMade self.now }
     {
+        self.layouts_are_accepted();
+        found_is_enough::<Published>();
+        starting_is_sound::<Published>();
+        accepting_is_sound::<Published>();
+        publishing_is_sound::<Published>();
         threads_are_runs();
         steps_stand_on_threads::<Published>();
         contracts_end_threads::<Published>();

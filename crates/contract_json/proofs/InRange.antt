@@ -2,10 +2,10 @@
 use Rattle.std.proofs.Common.{◌≡◌, ◌≢◌, Bool, true, false, Ok, Err, refl, sym, ap}
 use Rattle.json.specs.Written as json
 use Rattle.serde_json.specs.Data.{Data}
-use Rattle.json_writers.specs.declared.fault.WriteFault.{WriteFault}
-use Rattle.json_writers.specs.declared.fault.WriteFault.TheVariants.{OutOfRange, Memory}
-use Rattle.json_writers.specs.Tokens.{PutsFitting}
-use Rattle.json_writers.specs.Written.{in_range}
+use Rattle.json_write_contracts.specs.declared.fault.WriteFault.{WriteFault}
+use Rattle.json_write_contracts.specs.declared.fault.WriteFault.TheVariants.{OutOfRange, Memory}
+use Rattle.json_write_contracts.specs.Tokens.{PutsFitting}
+use Rattle.json_write_contracts.specs.Written.{in_range}
 
 -- JSON has all numbers
 pub fitting : {W : Type 0} (fits : Bool) (w x : W) → fits ≡ true → x ≡ w → in_range fits w ≡ Ok x

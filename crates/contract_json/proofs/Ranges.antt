@@ -13,9 +13,9 @@ use Rattle.serde_json.specs.Data.{Num, unsigned, negative, float, Data, null, bo
 use Rattle.serde_json.specs.Find.{get_member}
 use Rattle.serde_json.specs.Read.{read, max_depth, is_integer, float_of, number_from, number_of, of_json, of_items, of_members}
 use Rattle.collections.specs.Answers.{◌>>=◌}
-use Rattle.json_names.specs.Parts.{Reading, found, whole, time, member_at, reading_at}
-use Rattle.json_names.specs.declared.fault.JsonFault.TheVariants.{OutOfRange}
-use Rattle.json_writers.specs.Written.{number_fits, time_fits}
+use Rattle.json_read_names.specs.Parts.{Reading, found, whole, time, member_at, reading_at}
+use Rattle.json_read_names.specs.declared.fault.JsonFault.TheVariants.{OutOfRange}
+use Rattle.json_write_contracts.specs.Written.{number_fits, time_fits}
 
 abbrev pub NumInRange : Num → Type 0
 NumInRange (unsigned n) = number_fits (pos n) ≡ true

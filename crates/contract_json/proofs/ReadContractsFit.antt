@@ -13,22 +13,22 @@ use Rattle.contract.specs.declared.tree.Case.{Case}
 use Rattle.contract.specs.declared.tree.Contract.{Contract}
 use Rattle.contract.specs.Tree.{action_tree, case_trees, case_tree, contract_tree}
 use Rattle.contract.proofs.TreeLaws as laws
-use Rattle.json_names.specs.Forms.{has_two, contract_form, case_form, action_form}
+use Rattle.json_read_names.specs.Forms.{has_two, contract_form, case_form, action_form}
 use Rattle.collections.specs.Answers.{◌>>=◌}
-use Rattle.json_names.specs.Parts.{ByKey, reading_at, both_readings, nowhere, text, whole, time, all_items, list}
-use Rattle.json_names.specs.ReadsNames.{party, payee, token, choice_id, bound}
-use Rattle.json_names.specs.ReadsText.{json_of, json_or_not, of_text}
-use Rattle.json_names.specs.declared.fault.JsonFault.TheVariants.{NoForm, NotJson, TooLong}
-use Rattle.json_names.specs.declared.forms.ContractForm.{ContractForm}
-use Rattle.json_names.specs.declared.forms.ContractForm.TheVariants as contract_forms
-use Rattle.json_names.specs.declared.forms.CaseForm.{CaseForm}
-use Rattle.json_names.specs.declared.forms.CaseForm.TheVariants as case_forms
-use Rattle.json_names.specs.declared.forms.ActionForm.{ActionForm}
-use Rattle.json_names.specs.declared.forms.ActionForm.TheVariants as action_forms
-use Rattle.json_values.specs.ReadsAction.{action, action_by}
-use Rattle.json_values.specs.ReadsValue.{value, observation}
-use Rattle.json_contracts.specs.ReadsContract.{contract, contract_by, contract_in, case, case_by, cases, all_cases, cases_in}
-use Rattle.json_writers.specs.Written.{number_fits, time_fits, bound_fits, action_fits, case_fits, cases_fit, contract_fits}
+use Rattle.json_read_names.specs.Parts.{ByKey, reading_at, both_readings, nowhere, text, whole, time, all_items, list}
+use Rattle.json_read_names.specs.ReadsNames.{party, payee, token, choice_id, bound}
+use Rattle.json_read_names.specs.ReadsText.{json_of, json_or_not, of_text}
+use Rattle.json_read_names.specs.declared.fault.JsonFault.TheVariants.{NoForm, NotJson, TooLong}
+use Rattle.json_read_names.specs.declared.forms.ContractForm.{ContractForm}
+use Rattle.json_read_names.specs.declared.forms.ContractForm.TheVariants as contract_forms
+use Rattle.json_read_names.specs.declared.forms.CaseForm.{CaseForm}
+use Rattle.json_read_names.specs.declared.forms.CaseForm.TheVariants as case_forms
+use Rattle.json_read_names.specs.declared.forms.ActionForm.{ActionForm}
+use Rattle.json_read_names.specs.declared.forms.ActionForm.TheVariants as action_forms
+use Rattle.json_read_values.specs.ReadsAction.{action, action_by}
+use Rattle.json_read_values.specs.ReadsValue.{value, observation}
+use Rattle.json_read_contracts.specs.ReadsContract.{contract, contract_by, contract_in, case, case_by, cases, all_cases, cases_in}
+use Rattle.json_write_contracts.specs.Written.{number_fits, time_fits, bound_fits, action_fits, case_fits, cases_fit, contract_fits}
 use Rattle.contract_json.proofs.Ranges.{InRange, ItemsInRange, MembersInRange, bind_ok, ok-same, at-fits, whole-fits, time-fits, read-in-range}
 use Rattle.contract_json.proofs.ReadValuesFit.{VF, OF, value-read-fits, observation-read-fits, both-ok, either}
 

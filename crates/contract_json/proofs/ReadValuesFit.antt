@@ -8,15 +8,15 @@ use Rattle.contract.specs.declared.value.Value.{Value}
 use Rattle.contract.specs.declared.value.Observation.{Observation}
 use Rattle.contract.specs.Tree.{value_tree, observation_tree}
 use Rattle.contract.proofs.TreeLaws as laws
-use Rattle.json_names.specs.Forms.{value_form, observation_form}
-use Rattle.json_names.specs.Parts.{Reading, ByKey, reading_at, both_readings, nowhere, text, whole}
-use Rattle.json_names.specs.ReadsNames.{party, token, choice_id}
-use Rattle.json_names.specs.declared.forms.ValueForm.{ValueForm}
-use Rattle.json_names.specs.declared.forms.ValueForm.TheVariants as value_forms
-use Rattle.json_names.specs.declared.forms.ObservationForm.{ObservationForm}
-use Rattle.json_names.specs.declared.forms.ObservationForm.TheVariants as observation_forms
-use Rattle.json_values.specs.ReadsValue.{value_by, observation_by, value, value_in, observation, observation_in}
-use Rattle.json_writers.specs.Written.{value_fits, observation_fits}
+use Rattle.json_read_names.specs.Forms.{value_form, observation_form}
+use Rattle.json_read_names.specs.Parts.{Reading, ByKey, reading_at, both_readings, nowhere, text, whole}
+use Rattle.json_read_names.specs.ReadsNames.{party, token, choice_id}
+use Rattle.json_read_names.specs.declared.forms.ValueForm.{ValueForm}
+use Rattle.json_read_names.specs.declared.forms.ValueForm.TheVariants as value_forms
+use Rattle.json_read_names.specs.declared.forms.ObservationForm.{ObservationForm}
+use Rattle.json_read_names.specs.declared.forms.ObservationForm.TheVariants as observation_forms
+use Rattle.json_read_values.specs.ReadsValue.{value_by, observation_by, value, value_in, observation, observation_in}
+use Rattle.json_write_contracts.specs.Written.{value_fits, observation_fits}
 use Rattle.contract_json.proofs.Ranges.{InRange, MembersInRange, bind_ok, ok-same, whole-fits}
 
 abbrev pub VF : Value → Type 0

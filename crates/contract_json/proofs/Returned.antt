@@ -18,18 +18,18 @@ use Rattle.collections.specs.Answers.{◌>>=◌}
 use Rattle.contract.specs.Tree.{value_tree, observation_tree, action_tree, case_tree, contract_tree}
 use Rattle.contract.specs.TreeInverse.{action_of, contract_of}
 use Rattle.contract.proofs.TreeLaws.{value_of-value_tree, observation_of-observation_tree, action_of-action_tree, case_tree-parts, contract_of-contract_tree}
-use Rattle.json_names.specs.Parts.{Reading}
-use Rattle.json_names.specs.ReadsNames.{party, choice_id, payee, bound}
-use Rattle.json_names.specs.ReadsText.{of_text}
-use Rattle.json_names.proofs.TextLaws.{json_of-read}
-use Rattle.json_values.specs.ReadsAction.{action}
-use Rattle.json_values.specs.ReadsValue.{value, observation}
-use Rattle.json_contracts.specs.ReadsContract.{contract, case}
-use Rattle.json_states.specs.ReadsInput.{input, transaction}
-use Rattle.json_states.specs.declared.transaction.Transaction.{Transaction}
-use Rattle.json_outcomes.specs.Each.{Each}
-use Rattle.json_writers.specs.Symbols.{ValueSymbols, ObservationSymbols, ActionSymbols, CaseSymbols, ContractSymbols}
-use Rattle.json_writers.specs.Written.{party_json, choice_id_json, payee_json, bound_json, value_json, observation_json, action_json, action_fits, case_json, case_fits, contract_json, contract_fits, time_fits}
+use Rattle.json_read_names.specs.Parts.{Reading}
+use Rattle.json_read_names.specs.ReadsNames.{party, choice_id, payee, bound}
+use Rattle.json_read_names.specs.ReadsText.{of_text}
+use Rattle.json_read_names.proofs.TextLaws.{json_of-read}
+use Rattle.json_read_values.specs.ReadsAction.{action}
+use Rattle.json_read_values.specs.ReadsValue.{value, observation}
+use Rattle.json_read_contracts.specs.ReadsContract.{contract, case}
+use Rattle.json_read_inputs.specs.ReadsInput.{input, transaction}
+use Rattle.contract.specs.declared.transaction.Transaction.{Transaction}
+use Rattle.json_write_outcomes.specs.Each.{Each}
+use Rattle.json_write_contracts.specs.Symbols.{ValueSymbols, ObservationSymbols, ActionSymbols, CaseSymbols, ContractSymbols}
+use Rattle.json_write_contracts.specs.Written.{party_json, choice_id_json, payee_json, bound_json, value_json, observation_json, action_json, action_fits, case_json, case_fits, contract_json, contract_fits, time_fits}
 use Rattle.contract_json.specs.InputSymbols.{InputSymbols}
 use Rattle.contract_json.specs.WrittenInput.{input_json, transaction_json}
 use Rattle.contract_json.proofs.Hexes.{token-token_json}

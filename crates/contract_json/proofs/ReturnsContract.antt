@@ -18,14 +18,14 @@ use Rattle.contract.specs.declared.tree.Contract.{Contract}
 use Rattle.contract.specs.declared.tree.Contract as made
 use Rattle.contract.specs.Tree.{ActionTree, deposit, choice, notify, ContractTree, close, pay, if_obs, when, let_be, assert, CaseTrees, no_cases, case_then}
 use Rattle.contract.specs.TreeInverse.{value_of, observation_of, action_of, contract_of, cases_of}
-use Rattle.json_names.specs.Forms.{contract_form, case_form, action_form}
-use Rattle.json_names.specs.Parts.{time}
-use Rattle.json_names.specs.ReadsNames.{party, payee, token, choice_id}
-use Rattle.json_values.specs.ReadsValue.{value, observation}
-use Rattle.json_values.specs.ReadsAction.{action, action_by}
-use Rattle.json_contracts.specs.ReadsContract.{contract, contract_by, case, case_by, all_cases}
-use Rattle.json_writers.specs.Symbols.{ActionSymbols, ContractSymbols, CasesSymbols}
-use Rattle.json_writers.specs.Written.{one, two, three, four, five, number_json, party_json, payee_json, token_json, choice_id_json, bound_json, value_json, observation_json, action_json, contract_json, cases_json, contract_fits, cases_fit}
+use Rattle.json_read_names.specs.Forms.{contract_form, case_form, action_form}
+use Rattle.json_read_names.specs.Parts.{time}
+use Rattle.json_read_names.specs.ReadsNames.{party, payee, token, choice_id}
+use Rattle.json_read_values.specs.ReadsValue.{value, observation}
+use Rattle.json_read_values.specs.ReadsAction.{action, action_by}
+use Rattle.json_read_contracts.specs.ReadsContract.{contract, contract_by, case, case_by, all_cases}
+use Rattle.json_write_contracts.specs.Symbols.{ActionSymbols, ContractSymbols, CasesSymbols}
+use Rattle.json_write_contracts.specs.Written.{one, two, three, four, five, number_json, party_json, payee_json, token_json, choice_id_json, bound_json, value_json, observation_json, action_json, contract_json, cases_json, contract_fits, cases_fit}
 use Rattle.contract_json.proofs.Hexes.{token-token_json}
 use Rattle.contract_json.proofs.ReturnsNames.{time-number_json, party-party_json, payee-payee_json, choice_id-choice_id_json, bounds-written}
 use Rattle.contract_json.proofs.ReturnsValue.{value-back, observation-back}

@@ -9,13 +9,13 @@ use Rattle.names.specs.declared.choice_id.ChoiceId.{ChoiceId}
 use Rattle.contract.specs.declared.input.Input.{Input}
 use Rattle.contract.specs.declared.input.Input.TheVariants as inputs
 use Rattle.contract.specs.declared.interval.Interval.{Interval}
-use Rattle.json_names.specs.Forms.{input_form}
-use Rattle.json_names.specs.Parts.{whole, all_items, list}
-use Rattle.json_names.specs.ReadsNames.{party, token, choice_id}
-use Rattle.json_states.specs.ReadsInput.{input, input_by, interval, transaction}
-use Rattle.json_states.specs.declared.transaction.Transaction.{Transaction}
-use Rattle.json_outcomes.specs.Each.{Each}
-use Rattle.json_writers.specs.Written.{two, four, number_json, time_fits, party_json, token_json, choice_id_json}
+use Rattle.json_read_names.specs.Forms.{input_form}
+use Rattle.json_read_names.specs.Parts.{whole, all_items, list}
+use Rattle.json_read_names.specs.ReadsNames.{party, token, choice_id}
+use Rattle.json_read_inputs.specs.ReadsInput.{input, input_by, interval, transaction}
+use Rattle.contract.specs.declared.transaction.Transaction.{Transaction}
+use Rattle.json_write_outcomes.specs.Each.{Each}
+use Rattle.json_write_contracts.specs.Written.{two, four, number_json, time_fits, party_json, token_json, choice_id_json}
 use Rattle.contract_json.specs.WrittenInput.{input_json, interval_json, transaction_json}
 use Rattle.contract_json.specs.InputSymbols.{InputSymbols}
 use Rattle.contract_json.proofs.Hexes.{token-token_json}

@@ -20,22 +20,22 @@ use Rattle.std.specs.Fmt.{signed_decimal}
 use Rattle.serde_json.specs.Data.{Data, string, Items, no_items, item}
 use Rattle.serde_json.specs.Find.{as_array}
 use Rattle.collections.specs.Answers.{◌>>=◌}
-use Rattle.json_names.specs.Parts.{Reading, found, all_items, list, time}
-use Rattle.json_states.specs.ReadsState.{account_row, choice_row, bound_row, rows_into, rows, state}
-use Rattle.json_states.specs.Rows.{and_then, until_fault}
+use Rattle.json_read_names.specs.Parts.{Reading, found, all_items, list, time}
+use Rattle.json_read_inputs.specs.ReadsState.{account_row, choice_row, bound_row, rows_into, rows, state}
+use Rattle.json_read_inputs.specs.Rows.{and_then, until_fault}
 use Rattle.names.specs.declared.choice_id.ChoiceId.{ChoiceId}
 use Rattle.serde_json.specs.Data.{array}
 use Rattle.serde_json.specs.View.{items_of}
-use Rattle.json_names.specs.Parts.{text, whole}
-use Rattle.json_names.specs.ReadsNames.{party, token, choice_id}
-use Rattle.json_writers.specs.Written.{four, pair_json, number_json, wide_json, party_json, token_json, choice_id_json, number_fits, time_fits}
-use Rattle.json_outcomes.specs.Each.{Each, HasBytes}
-use Rattle.json_outcomes.specs.WrittenOutcome.{account_row_json, choice_row_json, bound_row_json, state_json, state_fits}
+use Rattle.json_read_names.specs.Parts.{text, whole}
+use Rattle.json_read_names.specs.ReadsNames.{party, token, choice_id}
+use Rattle.json_write_contracts.specs.Written.{four, pair_json, number_json, wide_json, party_json, token_json, choice_id_json, number_fits, time_fits}
+use Rattle.json_write_outcomes.specs.Each.{Each, HasBytes}
+use Rattle.json_write_outcomes.specs.WrittenOutcome.{account_row_json, choice_row_json, bound_row_json, state_json, state_fits}
 use Rattle.contract_json.proofs.Hexes.{token-token_json}
 use Rattle.contract_json.proofs.ReturnsNames.{time-number_json, whole-number_json, party-party_json, choice_id-choice_id_json}
-use Rattle.json_names.specs.declared.fault.JsonFault.{JsonFault}
-use Rattle.json_names.specs.declared.fault.JsonFault.TheVariants.{BadState}
-use Rattle.json_states.proofs.RowLaws.{looked_at, rows_into-until_fault}
+use Rattle.json_read_names.specs.declared.fault.JsonFault.{JsonFault}
+use Rattle.json_read_names.specs.declared.fault.JsonFault.TheVariants.{BadState}
+use Rattle.json_read_inputs.proofs.RowLaws.{looked_at, rows_into-until_fault}
 
 both : (a b : Bool) → (a && b) ≡ true → (a ≡ true) × (b ≡ true)
 both true b h = (refl, h)

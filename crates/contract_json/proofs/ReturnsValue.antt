@@ -13,11 +13,11 @@ use Rattle.contract.specs.Tree.{ValueTree, available_money, constant, neg_value,
 use Rattle.contract.specs.TreeInverse.{value_of}
 use Rattle.contract.specs.Tree.{ObservationTree, and_obs, or_obs, not_obs, chose_something, value_ge, value_gt, value_lt, value_le, value_eq, true_obs, false_obs}
 use Rattle.contract.specs.TreeInverse.{observation_of}
-use Rattle.json_names.specs.Forms.{value_form, observation_form}
-use Rattle.json_names.specs.ReadsNames.{party, token, choice_id}
-use Rattle.json_values.specs.ReadsValue.{value, value_by, observation, observation_by}
-use Rattle.json_writers.specs.Symbols.{ValueSymbols, ObservationSymbols}
-use Rattle.json_writers.specs.Written.{one, two, three, number_json, party_json, token_json, choice_id_json, value_json, observation_json}
+use Rattle.json_read_names.specs.Forms.{value_form, observation_form}
+use Rattle.json_read_names.specs.ReadsNames.{party, token, choice_id}
+use Rattle.json_read_values.specs.ReadsValue.{value, value_by, observation, observation_by}
+use Rattle.json_write_contracts.specs.Symbols.{ValueSymbols, ObservationSymbols}
+use Rattle.json_write_contracts.specs.Written.{one, two, three, number_json, party_json, token_json, choice_id_json, value_json, observation_json}
 use Rattle.contract_json.proofs.Hexes.{token-token_json}
 use Rattle.contract_json.proofs.ReturnsNames.{party-party_json, choice_id-choice_id_json}
 

@@ -9,7 +9,7 @@ use Rattle.serde_json.specs.Read.{read, max_depth}
 use Rattle.serde_json.specs.Written.{compact_text}
 use Rattle.serde_json.proofs.Texts.{print-outline}
 use Rattle.json_tree.specs.View.{read_within}
-use Rattle.json_writers.specs.Tokens.{Puts, data_tokens}
+use Rattle.json_write_contracts.specs.Tokens.{Puts, data_tokens}
 use Rattle.contract_json.specs.Readable.{Readable}
 use Rattle.contract_json.proofs.ReadBack.{back-within, depth-text}
 

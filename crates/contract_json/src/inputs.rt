@@ -4,17 +4,18 @@ ghost use Rattle.std.specs.List.{list_all};
 ghost use Rattle.hex.specs.Hex.{IsBytes};
 ghost use Rattle.serde_json.specs.Data.{array, string};
 ghost use Rattle.serde_json.specs.View.{items_of};
-ghost use Rattle.json_outcomes.specs.Each.{Each};
-ghost use Rattle.json_writers.specs.Tokens.{Puts, PutsFitting};
+ghost use Rattle.json_write_outcomes.specs.Each.{Each};
+ghost use Rattle.json_write_contracts.specs.Tokens.{Puts, PutsFitting};
 ghost use Rattle.contract_json.specs.InputSymbols.{InputSymbols};
 ghost use Rattle.contract_json.specs.Written as written;
 ghost use Rattle.contract_json.specs.Written.{number_fits, time_fits, input_fits, transaction_fits};
 
 use collections::{Items, Memory};
-use contract::{Input, Interval};
+use contract::{Input, Interval, Transaction};
 use json::Writer;
-use json_states::Transaction;
-use json_writers::{WriteFault, put_choice_id, put_number, put_party, put_time, put_token, word};
+use json_write_contracts::{
+    WriteFault, put_choice_id, put_number, put_party, put_time, put_token, word,
+};
 use names::{ChoiceId, Party, Token};
 use std::alloc::Global;
 

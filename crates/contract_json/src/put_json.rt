@@ -6,14 +6,14 @@ ghost use Rattle.serde_json.specs.Read.{read, max_depth};
 ghost use Rattle.serde_json.specs.View.{view};
 ghost use Rattle.serde_json.specs.Written.{compact_text};
 ghost use Rattle.json_tree.specs.View.{read_within};
-ghost use Rattle.json_writers.specs.Tokens.{PutsFitting};
-ghost use Rattle.json_writers.specs.Written.{in_range};
+ghost use Rattle.json_write_contracts.specs.Tokens.{PutsFitting};
+ghost use Rattle.json_write_contracts.specs.Written.{in_range};
 ghost use Rattle.contract_json.specs.Readable.{Readable};
 
 use collections::Memory;
 use json::Writer;
 use json_tree::{Refusal, value_of_text};
-use json_writers::WriteFault;
+use json_write_contracts::WriteFault;
 use serde_json::Value;
 use std::alloc::{AllocError, Global};
 

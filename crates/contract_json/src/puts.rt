@@ -3,8 +3,8 @@ ghost use Rattle.std.specs.Prelude.{◌≡◌, true, ⊤};
 ghost use Rattle.std.specs.FinMap.{entries};
 ghost use Rattle.hex.specs.Hex.{IsBytes};
 ghost use Rattle.contract.specs.Tree.{value_tree, observation_tree, action_tree, case_tree, contract_tree};
-ghost use Rattle.json_outcomes.specs.Each.{Each, HasBytes};
-ghost use Rattle.json_writers.specs.Symbols.{ValueSymbols, ObservationSymbols, ActionSymbols, CaseSymbols, ContractSymbols};
+ghost use Rattle.json_write_outcomes.specs.Each.{Each, HasBytes};
+ghost use Rattle.json_write_contracts.specs.Symbols.{ValueSymbols, ObservationSymbols, ActionSymbols, CaseSymbols, ContractSymbols};
 ghost use Rattle.contract_json.specs.InputSymbols.{InputSymbols};
 ghost use Rattle.contract_json.specs.ReadableLaws.{party-readable, token-readable, choice_id-readable, payee-readable, bound-readable, value-readable, observation-readable, action-readable, case-readable, contract-readable};
 ghost use Rattle.contract_json.specs.ReadableLaws.{input-readable, transaction-readable, payment-readable, warning-readable, state-readable, outcome-readable};
@@ -14,15 +14,15 @@ ghost use Rattle.contract_json.specs.Written.{bound_fits, value_fits, observatio
 use crate::inputs::{put_input, put_transaction};
 use crate::put_json::PutJson;
 use contract::{
-    Action, Case, Contract, Input, Observation, Outcome, Payment, State, Value, Warning,
+    Action, Case, Contract, Input, Observation, Outcome, Payment, State, Transaction, Value,
+    Warning,
 };
 use json::Writer;
-use json_outcomes::{put_outcome, put_payment, put_state, put_warning};
-use json_states::Transaction;
-use json_writers::{
+use json_write_contracts::{
     WriteFault, put_action, put_bound, put_case, put_choice_id, put_contract, put_observation,
     put_party, put_payee, put_token, put_value,
 };
+use json_write_outcomes::{put_outcome, put_payment, put_state, put_warning};
 use names::{Bound, ChoiceId, Party, Payee, Token};
 use std::alloc::Global;
 

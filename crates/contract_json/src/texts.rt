@@ -13,12 +13,12 @@ ghost use Rattle.contract_json.specs.Written as written;
 ghost use Rattle.contract_json.specs.Written.{in_range, contract_fits};
 
 use crate::put_json::text_of;
-use contract::{Contract, Input, Outcome, State};
+use contract::{Contract, Input, Outcome, State, Transaction};
 use json::Scratch;
-use json_contracts::contract_from_json;
-use json_names::{JsonFault, json_of};
-use json_states::{Transaction, input_from_json, state_from_json, transaction_from_json};
-use json_writers::WriteFault;
+use json_read_contracts::contract_from_json;
+use json_read_inputs::{input_from_json, state_from_json, transaction_from_json};
+use json_read_names::{JsonFault, json_of};
+use json_write_contracts::WriteFault;
 use std::alloc::Global;
 
 /// Reads the text of a contract.

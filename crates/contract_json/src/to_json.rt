@@ -14,10 +14,10 @@ ghost use Rattle.contract_json.specs.Written.{in_range, bound_fits, value_fits, 
 use crate::put_json::{sure_value_of, value_of};
 use collections::Memory;
 use contract::{
-    Action, Case, Contract, Input, Observation, Outcome, Payment, State, Value, Warning,
+    Action, Case, Contract, Input, Observation, Outcome, Payment, State, Transaction, Value,
+    Warning,
 };
-use json_states::Transaction;
-use json_writers::WriteFault;
+use json_write_contracts::WriteFault;
 use names::{Bound, ChoiceId, Party, Payee, Token};
 use serde_json::Value as Json;
 use std::alloc::Global;

@@ -3,7 +3,7 @@ pub mod ReferenceLaws
 pub mod JudgedLemmas
 pub mod PairedLemmas
 pub mod AcceptedLaws
-pub mod SpineLemmas
+pub mod SpineLaws
 pub mod ThreadLemmas
 pub mod SoundLemmas
 pub mod LaterLemmas

@@ -28,7 +28,7 @@ use Rattle.ledger_laws.proofs.ReferenceLaws.{maker, unspent_is, unspent_so, afte
 use Rattle.ledger_laws.proofs.JudgedLemmas.{nowhere}
 use Rattle.ledger_laws.proofs.PairedLemmas.{stepped_some, stepping_found}
 use Rattle.ledger_laws.proofs.AcceptedLaws.{still_there, no_contract_first, spent_at, published, one_place, made_there, names_contract, step_at, names_one, steps_one}
-use Rattle.ledger_laws.proofs.SpineLemmas.{reached, moved, reached_more, spine_append, ends_reached, stays, member_stood, led}
+use Rattle.ledger_laws.proofs.SpineLaws.{reached, moved, reached_more, spine_append, ends_reached, stays, member_stood, led}
 
 -- ---- the contract outputs of a step
 

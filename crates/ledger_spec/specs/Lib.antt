@@ -4,5 +4,6 @@ pub mod Views
 pub mod Records
 pub mod Calls
 pub mod Legal
+pub mod Shown
 pub mod Open
 pub mod Headline

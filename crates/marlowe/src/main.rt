@@ -7,7 +7,8 @@
 
 use clap::Error;
 use clap::error::ErrorKind;
-use marlowe_cli::{LoadFault, Task, WordsFault, line, load, words};
+use marlowe_cli::{Task, WordsFault, line, words};
+use marlowe_io::{LoadFault, emit_output, load_file};
 use marlowe_run::{Fault, RunFault, refusal, run, table_text};
 use std::alloc::Global;
 use std::process::ExitCode;
@@ -75,7 +76,7 @@ fn table_of_file<'a, R: Files + AllocGlobal>(
 
 // What a file holds, as far as it is read.
 fn text_of<'a, R: Files + AllocGlobal>(rt: &R, path: &'a str) -> Result<Vec<u8>, Stop<'a>> {
-    match load(rt, path) {
+    match load_file(rt, path) {
         Ok(text) => Ok(text),
         Err(LoadFault::Unreadable) => Err(Stop::Unreadable(path)),
         Err(LoadFault::Memory) => Err(Stop::Refused(Fault::Run(RunFault::Memory))),
@@ -96,7 +97,7 @@ fn tell_answer(rt: &HostRuntime, answer: Result<Vec<u8>, Stop<'_>>) -> ExitCode 
 
 // Prints a text.
 fn print(rt: &(impl Print + Eprint), text: &[u8]) -> ExitCode {
-    match rt.write_all(text) {
+    match emit_output(rt, text) {
         Ok(()) => ExitCode::SUCCESS,
         Err(_) => {
             let _ = eprintln!(rt; "unwritable");

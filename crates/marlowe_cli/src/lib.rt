@@ -1,10 +1,8 @@
-//! What the command line of `marlowe` asks for, and what the files that it names hold.
+//! What the command line of `marlowe` asks for.
 #![tactic(auto)]
 
 mod arguments;
-mod file;
 mod task;
 
 pub use arguments::{WordsFault, words};
-pub use file::{LONGEST, LoadFault, load};
 pub use task::{Task, line};

@@ -1,6 +1,6 @@
 -- The faults of a table's text: want of memory is one of its own, whatever it befell.
-use Rattle.json_names.specs.declared.fault.JsonFault.{JsonFault}
-use Rattle.json_names.specs.declared.fault.JsonFault.TheVariants as json
+use Rattle.json_read_names.specs.declared.fault.JsonFault.{JsonFault}
+use Rattle.json_read_names.specs.declared.fault.JsonFault.TheVariants as json
 use Rattle.compiler.specs.declared.fault.CompileFault.{CompileFault}
 use Rattle.compiler.specs.declared.fault.CompileFault.TheVariants as compile
 use Rattle.marlowe_run.specs.declared.table_fault.TableFault.{TableFault}

@@ -1,5 +1,5 @@
 //! What one worker gets.
-ghost use Rattle.std.specs.Prelude.{◌≡◌, ◌++◌, ◌∷◌, [], OnOk, MatchOption, length};
+ghost use Rattle.std.specs.Prelude.{◌≡◌, ◌++◌, ◌∷◌, [], IfOk, OnOk, MatchOption, length};
 
 use collections::Memory;
 use std::alloc::Global;
@@ -25,13 +25,13 @@ impl<T> Model for Batch<T> {
 }
 
 impl<T> Batch<T> {
-    /// Nothing yet, in a batch that will take memory from `alloc`.
-    pub fn new(alloc: Global) -> Batch<T>
-        ensures { result ≡ [] }
+    /// Nothing yet, with room for so many items from the start: no push of that many moves the others.
+    pub fn with_capacity(alloc: Global, count: usize) -> Result<Batch<T>, Memory>
+        ensures { IfOk result (λ batch. batch ≡ []) }
     {
-        Batch {
-            placed: VecDeque::new(alloc),
-        }
+        Ok(Batch {
+            placed: VecDeque::with_capacity(alloc, count)?,
+        })
     }
 
     /// How many items there are.

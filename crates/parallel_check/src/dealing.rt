@@ -6,14 +6,14 @@ use crate::batch::Batch;
 use collections::Memory;
 use std::alloc::Global;
 
-// So many batches with nothing in them.
+// So many batches with nothing in them, each with room for so many items.
 #[tactic(auto, using(crate::proofs::DealingLemmas::one_more_empty))]
-fn empty_batches<T: Drop>(alloc: Global, count: usize) -> Result<Vec<Batch<T>>, Memory>
+fn empty_batches<T: Drop>(alloc: Global, count: usize, room: usize) -> Result<Vec<Batch<T>>, Memory>
     ensures { IfOk result (λ batches. IsDealt count 0 [] batches.items) }
 {
     let mut batches = Vec::with_capacity(alloc, count)?;
     for _ in 0..count {
-        batches.push(Batch::new(alloc))?;
+        batches.push(Batch::with_capacity(alloc, room)?)?;
     }
     Ok(batches)
 }
@@ -36,7 +36,7 @@ pub fn deal<T: Drop>(alloc: Global, items: Vec<T>, workers: usize) -> Result<Vec
     requires { 0 < workers }
     ensures { IfOk result (λ batches. IsDealt workers 0 items.items batches.items) }
 {
-    let mut batches = empty_batches(alloc, workers)?;
+    let mut batches = empty_batches(alloc, workers, items.len().div_ceil(workers))?;
     let mut place = 0;
     for item in items {
         put_next(&mut batches, place, item)?;

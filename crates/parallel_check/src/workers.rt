@@ -39,7 +39,7 @@ fn check_batch<V: Validator + Drop, G: Gate>(
 ) -> Result<Batch<Checked<V>>, Memory>
     ensures { IfOk result (λ checks. checks ≡ checks_of (judges_of V.step_gives V.starts V.claims) jobs) }
 {
-    let mut checks = Batch::new(alloc);
+    let mut checks = Batch::with_capacity(alloc, jobs.len())?;
     for _ in 0..jobs.len() {
         if let Some((place, job)) = jobs.pop() {
             checks.push(place, check_one(alloc, gate, place, job)?)?;

@@ -3,9 +3,9 @@ use crate::replies::{headline, word_of_call};
 use crate::shown::put_output;
 use chain::Entry;
 use collections::Memory;
-use eutxo::{Checked, Resolved, Scripts, Validator, check};
+use eutxo::{Resolved, Scripts};
 use eutxo_types::{Output, Spend, Tx};
-use rows_text::{Known, RowFault, verdict_line, word_of_reference};
+use rows_text::{Known, word_of_reference};
 use std::alloc::{AllocError, Global};
 
 /// A line for each entry: its place, its seat and number, the call, and the first line of the reply.
@@ -99,18 +99,4 @@ pub fn put_scripts<V>(
         }
     }
     Ok(())
-}
-
-/// Checks a transaction with what is found, and keeps both at hand: the line for the verdict. It is generic in the scripts, so
-/// that no proof walks through their drop.
-pub fn keep_check<V: Validator + Drop>(
-    alloc: Global,
-    checks: &mut Vec<Checked<V>>,
-    tx: &Tx,
-    found: Result<Resolved<V>, Memory>,
-) -> Result<String, RowFault> {
-    let checked = check(alloc, tx, found?)?;
-    let line = verdict_line(alloc, checked.verdict())?;
-    checks.push(checked)?;
-    Ok(line)
 }

@@ -1,7 +1,7 @@
-//! `rows_chain`: worked rows of a chain as data. It reads the files that its arguments name, line by line, and prints what the
-//! chain answers; `stdout` has what it must print.
+//! `rows_chain`: worked rows of a chain as data. It plays the files that its arguments name, line by line, as `rows_text` says:
+//! below each row stands its answer.
 //!
-//! A paragraph is a session of its own. It begins with a line `# SUBJECT`, which is printed. Then `genesis` and an output, a
+//! A paragraph is a session of its own. It begins with a line `# SUBJECT`. Then `genesis` and an output, a
 //! line each, have the outputs that the chain begins with, `geneses COUNT` and an output has it so many times, and `begin TICK`
 //! begins it; from there on each line is a call, a question, or one that writes a transaction.
 //!
@@ -51,13 +51,12 @@
 //!   `built from` and the references of the inputs, then a line for each output; or `refused FAULT`;
 //! - `history` prints a line for each entry: its place, `SEAT.NUMBER`, the call, and the reply without what a look shows.
 //!
-//! A line that begins with `- ` says what follows, and is printed. An empty line is nothing. Any other line prints
-//! `no such row`.
+//! A line that begins with `- ` says what follows, and an empty line is nothing. Any other line prints `no such row`.
 #![tactic(auto)]
 
 mod asked;
-mod at_hand;
 mod built;
+mod front;
 mod offers;
 mod played;
 mod recorded;
@@ -71,8 +70,5 @@ use rows_text::print_rows;
 use std::process::ExitCode;
 
 fn main(rt: HostRuntime) -> ExitCode {
-    match print_rows::<Session, HostRuntime>(&rt) {
-        Ok(()) => ExitCode::SUCCESS,
-        Err(_) => ExitCode::from(2),
-    }
+    print_rows::<Session, HostRuntime>(&rt)
 }

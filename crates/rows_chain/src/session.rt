@@ -1,7 +1,7 @@
 //! A session: a chain, and what is written for it.
-use crate::asked::{history_lines, keep_check, resolved_lines};
-use crate::at_hand::{front_lines, keep_checks, recheck_line};
+use crate::asked::{history_lines, resolved_lines};
 use crate::built::build;
+use crate::front::{front_lines, keep_checks};
 use crate::offers::{Handed, hand_in};
 use crate::played::played;
 use crate::recorded::steps_lines;
@@ -13,8 +13,8 @@ use eutxo_types::{Output, Tx};
 use ledger::Look;
 use roles::Published;
 use rows_text::{
-    Answers, Known, RowFault, first, named_text_of, nothing, number, output_of, parts, put, put_in,
-    reference_of, replace, write,
+    Answers, Known, RowFault, first, in_bytes, keep_check, named_text_of, nothing, number,
+    output_of, parts, put, put_in, recheck_line, reference_of, replace, write,
 };
 use std::alloc::Global;
 use std::mem;
@@ -50,50 +50,59 @@ fn empty_desk(alloc: Global) -> Desk {
     }
 }
 
-impl Answers for Session {
-    fn begin(alloc: Global) -> Session {
-        Session {
-            chain: None,
-            desk: empty_desk(alloc),
-        }
+impl<R: AllocGlobal> Answers<R> for Session {
+    fn begin(rt: &R) -> Session {
+        empty(rt.alloc())
     }
 
-    fn take(&mut self, alloc: Global, line: &str) -> Result<Option<String>, RowFault> {
-        let (word, rest) = first(line);
-        match word {
-            "" => Ok(None),
-            "-" => Ok(Some(String::from_str(alloc, line)?)),
-            "#" => {
-                begin_anew(alloc, self);
-                Ok(Some(String::from_str(alloc, line)?))
-            }
-            "begin" => Ok(Some(begun(alloc, &mut self.chain, &mut self.desk, rest)?)),
-            "let"
-            | "genesis"
-            | "geneses"
-            | "in"
-            | "keys"
-            | "out"
-            | "from"
-            | "signer"
-            | "offer"
-            | "offers"
-            | "claim" => {
-                written(alloc, &mut self.desk, word, rest)?;
-                Ok(None)
-            }
-            _ => match &mut self.chain {
-                Some(chain) => Ok(Some(answered(alloc, chain, &mut self.desk, word, rest)?)),
-                None => Err(RowFault::NoSuchRow),
-            },
+    fn take(&mut self, rt: &R, line: &str) -> Result<Option<Vec<u8>>, RowFault> {
+        in_bytes(taken(rt.alloc(), self, line))
+    }
+}
+
+// Takes no memory.
+fn empty(alloc: Global) -> Session {
+    Session {
+        chain: None,
+        desk: empty_desk(alloc),
+    }
+}
+
+// What is printed for a line, if anything.
+fn taken(alloc: Global, session: &mut Session, line: &str) -> Result<Option<String>, RowFault> {
+    let (word, rest) = first(line);
+    match word {
+        "" | "-" => Ok(None),
+        "#" => {
+            begin_anew(alloc, session);
+            Ok(None)
         }
+        "begin" => Ok(Some(begun(alloc, &mut session.chain, &mut session.desk, rest)?)),
+        "let"
+        | "genesis"
+        | "geneses"
+        | "in"
+        | "keys"
+        | "out"
+        | "from"
+        | "signer"
+        | "offer"
+        | "offers"
+        | "claim" => {
+            written(alloc, &mut session.desk, word, rest)?;
+            Ok(None)
+        }
+        _ => match &mut session.chain {
+            Some(chain) => Ok(Some(answered(alloc, chain, &mut session.desk, word, rest)?)),
+            None => Err(RowFault::NoSuchRow),
+        },
     }
 }
 
 // Leaves nothing but the texts that have a name.
 fn begin_anew(alloc: Global, session: &mut Session) {
     let texts = mem::replace(&mut session.desk.known.texts, Vec::new(alloc));
-    replace(session, Session::begin(alloc));
+    replace(session, empty(alloc));
     replace(&mut session.desk.known.texts, texts);
 }
 

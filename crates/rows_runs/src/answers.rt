@@ -10,23 +10,24 @@ use contract::{
 use contract_json::{JsonFault, Transaction, WriteFault};
 use marlowe_cli::{Task, line};
 use marlowe_run::{Fault, json_fault_name, refusal, run, write_fault_name};
+use rows_text::{RowFault, first};
 use std::alloc::{AllocError, Global};
 
-/// What is printed for a row, without a line feed.
-pub fn answer(alloc: Global, given: &Given<'_>, row: Row<'_>) -> Result<Vec<u8>, AllocError> {
-    let (sort, text) = row.rest.split_once(' ').unwrap_or((row.rest, ""));
-    match row.word {
-        "#" => bytes(alloc, row.line),
-        "run" => run_row(alloc, given, row.rest),
-        "line" => line_row(alloc, row.rest),
-        "read" => read_row(alloc, sort, given.text(text)),
-        "back" => back_row(alloc, sort, given.text(text)),
-        "form" => form_row(alloc, sort, given.text(text)),
-        "spell" => spell_row(alloc, sort, given.text(text)),
-        "copy" => copy_row(alloc, sort, given.text(text)),
-        "compare" => compare_row(alloc, sort, given.built.as_slice(), text.as_bytes()),
-        _ => bytes(alloc, "no such row"),
-    }
+/// The answer to a row.
+pub fn answer(alloc: Global, given: &Given, row: Row<'_>) -> Result<Vec<u8>, RowFault> {
+    let (sort, text) = first(row.rest);
+    let answer = match row.word {
+        "run" => run_row(alloc, given, row.rest)?,
+        "line" => line_row(alloc, row.rest)?,
+        "read" => read_row(alloc, sort, given.text(text))?,
+        "back" => back_row(alloc, sort, given.text(text))?,
+        "form" => form_row(alloc, sort, given.text(text))?,
+        "spell" => spell_row(alloc, sort, given.text(text))?,
+        "copy" => copy_row(alloc, sort, given.text(text))?,
+        "compare" => compare_row(alloc, sort, given.built.as_slice(), text.as_bytes())?,
+        _ => return Err(RowFault::NoSuchRow),
+    };
+    Ok(answer)
 }
 
 fn bytes(alloc: Global, text: &str) -> Result<Vec<u8>, AllocError> {
@@ -42,7 +43,7 @@ fn same_or_other(same: bool) -> &'static str {
 }
 
 // The outcome of a transaction, or the line of its refusal.
-fn run_row(alloc: Global, given: &Given<'_>, text: &str) -> Result<Vec<u8>, AllocError> {
+fn run_row(alloc: Global, given: &Given, text: &str) -> Result<Vec<u8>, AllocError> {
     let contract = given.contract.as_bytes();
     let state = given.state.as_bytes();
     let transaction = given.text(text);

@@ -1,46 +1,73 @@
 //! What the lines before a row have given.
+use crate::answers::answer;
+use crate::examples::examples;
+use crate::files::{loaded, removed, saved};
+use rows_text::{Answers, RowFault, first, replace};
 use std::alloc::{AllocError, Global};
+use std::rt::Files;
 
 /// What a row asks for, and the text that it is about.
 #[derive(Clone, Copy)]
 pub struct Row<'t> {
-    pub line: &'t str,
     pub word: &'t str,
     pub rest: &'t str,
 }
 
 /// The texts that lines gave so far.
 #[derive(Drop)]
-pub struct Given<'t> {
-    pub contract: &'t str,
-    pub state: &'t str,
+pub struct Given {
+    pub contract: String,
+    pub state: String,
     /// The longer text.
     pub built: Vec<u8>,
 }
 
-impl<'t> Given<'t> {
-    pub fn new(alloc: Global) -> Given<'t> {
+impl<R: Files + AllocGlobal + Clone + Drop> Answers<R> for Given {
+    fn begin(rt: &R) -> Given {
         Given {
-            contract: "",
-            state: "",
-            built: Vec::new(alloc),
+            contract: String::new(rt.alloc()),
+            state: String::new(rt.alloc()),
+            built: Vec::new(rt.alloc()),
         }
     }
 
-    /// Takes a line in: a row that is to be answered, or none.
-    pub fn take(&mut self, alloc: Global, line: &'t str) -> Result<Option<Row<'t>>, AllocError> {
-        let (word, rest) = line.split_once(' ').unwrap_or((line, ""));
+    fn take(&mut self, rt: &R, line: &str) -> Result<Option<Vec<u8>>, RowFault> {
+        let (word, rest) = first(line);
+        if self.keeps(rt.alloc(), word, rest)? {
+            return Ok(None);
+        }
+        Ok(Some(row_answer(rt, self, Row { word, rest })?))
+    }
+}
+
+fn row_answer<R: Files + AllocGlobal + Clone + Drop>(
+    rt: &R,
+    given: &mut Given,
+    row: Row<'_>,
+) -> Result<Vec<u8>, RowFault> {
+    match row.word {
+        "examples" => Ok(examples(rt, row.rest)?),
+        "save" => Ok(saved(rt, given, row.rest)?),
+        "remove" => Ok(removed(rt, row.rest)?),
+        "load" => Ok(loaded(rt, given, row.rest)?),
+        _ => answer(rt.alloc(), given, row),
+    }
+}
+
+impl Given {
+    // Whether a line is no row but gives a text, which it keeps, or nothing.
+    fn keeps(&mut self, alloc: Global, word: &str, rest: &str) -> Result<bool, AllocError> {
         match word {
-            "" => {}
-            "contract" => self.contract = rest,
-            "state" => self.state = rest,
-            "text" => self.begin(rest)?,
+            "" | "#" => {}
+            "contract" => replace(&mut self.contract, String::from_str(alloc, rest)?),
+            "state" => replace(&mut self.state, String::from_str(alloc, rest)?),
+            "text" => self.start_text(rest)?,
             "more" => self.built.extend_from_slice(rest.as_bytes())?,
             "times" => self.add_times(rest)?,
             "hex" => self.add_hex(alloc, rest)?,
-            _ => return Ok(Some(Row { line, word, rest })),
+            _ => return Ok(false),
         }
-        Ok(None)
+        Ok(true)
     }
 
     /// The text of a row, or the longer text where the row has none.
@@ -52,7 +79,7 @@ impl<'t> Given<'t> {
         }
     }
 
-    fn begin(&mut self, text: &str) -> Result<(), AllocError> {
+    fn start_text(&mut self, text: &str) -> Result<(), AllocError> {
         self.built.clear();
         self.built.extend_from_slice(text.as_bytes())?;
         Ok(())

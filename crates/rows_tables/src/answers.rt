@@ -4,25 +4,35 @@ use compiler::{CompileFault, compile};
 use contract::Contract;
 use contract_json::read_contract;
 use marlowe_run::{Fault, compile_fault_name, refusal, table_text};
+use rows_text::{Answers, RowFault, first};
 use std::alloc::{AllocError, Global};
 use table::{Cont, Table};
 
-/// What is printed for a row, each line with a line feed.
-pub fn answer(alloc: Global, line: &str) -> Result<Vec<u8>, AllocError> {
-    let (word, rest) = line.split_once(' ').unwrap_or((line, ""));
-    match word {
-        "#" => told(alloc, line),
-        "table" => table_row(alloc, rest),
-        "last" => last_row(alloc, rest),
-        "nested" => nested_row(alloc, rest),
-        "wide" => wide_row(alloc, rest),
-        _ => told(alloc, "no such row"),
+/// Rows of tables, none of which is about what stands before it.
+#[derive(Drop)]
+pub struct Rows;
+
+impl<R: AllocGlobal> Answers<R> for Rows {
+    fn begin(_rt: &R) -> Rows {
+        Rows
+    }
+
+    fn take(&mut self, rt: &R, line: &str) -> Result<Option<Vec<u8>>, RowFault> {
+        let (word, rest) = first(line);
+        let answer = match word {
+            "" | "#" => return Ok(None),
+            "table" => table_row(rt.alloc(), rest)?,
+            "last" => last_row(rt.alloc(), rest)?,
+            "nested" => nested_row(rt.alloc(), rest)?,
+            "wide" => wide_row(rt.alloc(), rest)?,
+            _ => return Err(RowFault::NoSuchRow),
+        };
+        Ok(Some(answer))
     }
 }
 
 fn told(alloc: Global, line: &str) -> Result<Vec<u8>, AllocError> {
-    let told = format!(in alloc; "{line}\n")?;
-    Ok(told.into_bytes())
+    Vec::from_slice(alloc, line.as_bytes())
 }
 
 fn told_fault(alloc: Global, fault: CompileFault) -> Result<Vec<u8>, AllocError> {
@@ -38,12 +48,11 @@ fn lent<T: Drop, U, F: FnOnce(&T) -> U>(thing: T, lend: F) -> U
 
 fn table_row(alloc: Global, text: &str) -> Result<Vec<u8>, AllocError> {
     match table_text(alloc, text.as_bytes()) {
-        Ok(text) => Ok(text),
-        Err(fault) => {
-            let mut line = refusal(alloc, &Fault::Table(fault))?;
-            line.push(b'\n')?;
-            Ok(line)
+        Ok(mut text) => {
+            text.pop();
+            Ok(text)
         }
+        Err(fault) => refusal(alloc, &Fault::Table(fault)),
     }
 }
 
@@ -99,7 +108,7 @@ fn last(alloc: Global, table: &Table, root: Cont) -> Result<Vec<u8>, AllocError>
     }
     match table.last_timeout(root) {
         Some(time) => {
-            let line = format!(in alloc; "{time}\n")?;
+            let line = format!(in alloc; "{time}")?;
             Ok(line.into_bytes())
         }
         None => told(alloc, "none"),
@@ -111,12 +120,12 @@ fn height(alloc: Global, table: &Table, root: Cont) -> Result<Vec<u8>, AllocErro
         return told(alloc, "no such number");
     }
     let height = table.cont_node(root).height;
-    let line = format!(in alloc; "height {height}\n")?;
+    let line = format!(in alloc; "height {height}")?;
     Ok(line.into_bytes())
 }
 
 fn number(alloc: Global, root: Cont) -> Result<Vec<u8>, AllocError> {
     let number = root.0;
-    let line = format!(in alloc; "root k{number}\n")?;
+    let line = format!(in alloc; "root k{number}")?;
     Ok(line.into_bytes())
 }

@@ -1,63 +1,120 @@
-//! What is printed for lines.
+//! Rows, and what is printed for them.
 use crate::fault::RowFault;
-use std::alloc::{AllocError, Global};
+use crate::report::Report;
+use std::alloc::AllocError;
+use std::process::ExitCode;
 use std::rt::{Env, Files};
 use std::{env, fs, io};
 
 /// What answers lines. The function that owns it is generic in it, so that no proof walks through its drop.
-pub trait Answers: Drop {
+pub trait Answers<R>: Drop {
     /// What answers before the first line. Takes no memory.
-    fn begin(alloc: Global) -> Self;
+    fn begin(rt: &R) -> Self;
 
-    /// What is printed for a line, if anything.
-    fn take(&mut self, alloc: Global, line: &str) -> Result<Option<String>, RowFault>;
+    /// The answer to a line, if it is a row: one or several lines, without a line feed at the end.
+    fn take(&mut self, rt: &R, line: &str) -> Result<Option<Vec<u8>>, RowFault>;
 }
 
-/// Prints the rows of each file that the command line names.
-pub fn print_rows<S: Answers, R: Env + Files + Print + AllocGlobal>(rt: &R) -> io::Result<()> {
+/// Plays each file that the command line names, and prints of each whether its rows are answered as it says. The status is 0
+/// where all are, 1 where one is not, and 2 where a file can't be read or memory is refused.
+pub fn print_rows<S: Answers<R>, R: Env + Files + Print + AllocGlobal>(rt: &R) -> ExitCode {
+    match print_files::<S, R>(rt) {
+        Ok(true) => ExitCode::SUCCESS,
+        Ok(false) => ExitCode::from(1),
+        Err(_) => ExitCode::from(2),
+    }
+}
+
+// Whether the rows of all files are answered as the files say.
+fn print_files<S: Answers<R>, R: Env + Files + Print + AllocGlobal>(rt: &R) -> io::Result<bool> {
     let words: Vec<String> = env::args(rt)?.collect(rt.alloc())?;
+    let mut as_written = true;
     for path in words.iter().skip(1) {
-        print_file::<S, R>(rt, path.as_str())?;
+        let text = fs::read_to_string(rt, path.as_str())?;
+        let report = report_of(rt, S::begin(rt), path.as_str(), text.as_str())?;
+        rt.write_all(report.text())?;
+        as_written = as_written && report.is_as_written();
     }
-    Ok(())
+    Ok(as_written)
 }
 
-fn print_file<S: Answers, R: Files + Print + AllocGlobal>(rt: &R, path: &str) -> io::Result<()> {
-    let text = fs::read_to_string(rt, path)?;
-    let printed = rows_of(rt.alloc(), S::begin(rt.alloc()), text.as_str())?;
-    rt.write_all(printed.as_slice())
+fn report_of<'t, S: Answers<R>, R: Files + AllocGlobal>(
+    rt: &R,
+    mut session: S,
+    path: &'t str,
+    text: &'t str,
+) -> io::Result<Report<'t>> {
+    let mut report = Report::new(rt.alloc(), path, text);
+    take_lines(rt, &mut session, &mut report, text)?;
+    report.finish(rt.alloc())?;
+    Ok(report)
 }
 
-fn rows_of<S: Answers>(alloc: Global, mut session: S, text: &str) -> Result<Vec<u8>, AllocError> {
-    answers_of(alloc, &mut session, text)
-}
-
-fn answers_of<S: Answers>(
-    alloc: Global,
+fn take_lines<S: Answers<R>, R: Files + AllocGlobal>(
+    rt: &R,
     session: &mut S,
+    report: &mut Report<'_>,
     text: &str,
-) -> Result<Vec<u8>, AllocError> {
-    let mut printed = Vec::new(alloc);
+) -> io::Result<()> {
     for line in text.lines() {
-        put_answer(&mut printed, session.take(alloc, line))?;
+        if report.take(rt.alloc(), line)? {
+            take_line(rt, session, report, line)?;
+        }
     }
-    Ok(printed)
-}
-
-fn put_answer(
-    printed: &mut Vec<u8>,
-    answer: Result<Option<String>, RowFault>,
-) -> Result<(), AllocError> {
-    match answer {
-        Ok(Some(answer)) => put_line(printed, answer.as_bytes()),
-        Ok(None) => Ok(()),
-        Err(RowFault::NoSuchRow) => put_line(printed, b"no such row"),
-        Err(RowFault::Memory) => Err(AllocError),
-    }
-}
-
-fn put_line(printed: &mut Vec<u8>, line: &[u8]) -> Result<(), AllocError> {
-    printed.extend_from_slice(line)?;
-    printed.push(b'\n')?;
     Ok(())
+}
+
+// A line that is no answer: the name of a file whose lines stand for it, or one for the session.
+fn take_line<S: Answers<R>, R: Files + AllocGlobal>(
+    rt: &R,
+    session: &mut S,
+    report: &mut Report<'_>,
+    line: &str,
+) -> io::Result<()> {
+    match line.strip_prefix("use ") {
+        Some(name) => take_file(rt, session, report, name),
+        None => put_answer(report, session.take(rt, line)),
+    }
+}
+
+// The lines of the file of that name which lies beside the one that names it.
+fn take_file<S: Answers<R>, R: Files + AllocGlobal>(
+    rt: &R,
+    session: &mut S,
+    report: &mut Report<'_>,
+    name: &str,
+) -> io::Result<()> {
+    let folder = match report.path().rsplit_once('/') {
+        Some((folder, _)) => folder,
+        None => ".",
+    };
+    let path = format!(in rt.alloc(); "{folder}/{name}")?;
+    let text = fs::read_to_string(rt, path.as_str())?;
+    for line in text.lines() {
+        put_answer(report, session.take(rt, line))?;
+    }
+    Ok(())
+}
+
+/// Puts the answer to a line beside what is wanted.
+pub fn put_answer(
+    report: &mut Report<'_>,
+    answer: Result<Option<Vec<u8>>, RowFault>,
+) -> io::Result<()> {
+    match answer {
+        Ok(Some(answer)) => Ok(report.come(answer.as_slice())?),
+        Ok(None) => Ok(()),
+        Err(RowFault::NoSuchRow) => Ok(report.come(b"no such row")?),
+        Err(RowFault::Memory) => Err(io::Error::from(AllocError)),
+        Err(RowFault::Failed) => Err(io::Error::from(io::ErrorKind::Other)),
+    }
+}
+
+/// An answer that is a text, as bytes.
+pub fn in_bytes(answer: Result<Option<String>, RowFault>) -> Result<Option<Vec<u8>>, RowFault> {
+    match answer {
+        Ok(Some(text)) => Ok(Some(text.into_bytes())),
+        Ok(None) => Ok(None),
+        Err(fault) => Err(fault),
+    }
 }

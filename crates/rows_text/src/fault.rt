@@ -3,6 +3,7 @@ use compiler::CompileFault;
 use contract_json::JsonFault;
 use hex::FromHexError;
 use std::alloc::{AllocError, AllocFailed};
+use std::io;
 
 /// Why a line isn't answered.
 #[derive(Clone, Copy, Debug, PartialEq, Eq)]
@@ -11,6 +12,8 @@ pub enum RowFault {
     NoSuchRow,
     /// Memory was refused.
     Memory,
+    /// A file couldn't be read or written, or no thread could be had.
+    Failed,
 }
 
 impl From<AllocError> for RowFault {
@@ -22,6 +25,15 @@ impl From<AllocError> for RowFault {
 impl<T: Drop> From<AllocFailed<T>> for RowFault {
     fn from(_error: AllocFailed<T>) -> RowFault {
         RowFault::Memory
+    }
+}
+
+impl From<io::Error> for RowFault {
+    fn from(error: io::Error) -> RowFault {
+        match error.kind() {
+            io::ErrorKind::OutOfMemory => RowFault::Memory,
+            _ => RowFault::Failed,
+        }
     }
 }
 

@@ -1,7 +1,17 @@
-//! Transactions as text: how the row programs read what a line says of one, and how they print verdicts and amounts.
+//! Rows beside their answers, and transactions as text: how the row programs read a file, and what its lines say.
 //!
-//! A program answers a text line by line (`Answers`), and what is written so far belongs to it. These lines write a
-//! transaction, and print nothing:
+//! A program plays each file that its arguments name (`print_rows`), a session for each. Of these lines every file may have some:
+//!
+//! - `= TEXT` is what the row before must answer. A row that answers several lines has several of them below it;
+//! - `use NAME` has the lines of the file of that name beside this one stand in its place: texts that several files name. They
+//!   answer nothing;
+//! - `#` begins a comment, most often the subject of the rows below it.
+//!
+//! Any other line is the session's (`Answers`): one that answers is a row. Of each file is printed `FILE ok N rows`, and where
+//! a row answers otherwise, or a row has no answer, its `FILE:LINE` with what was wanted and what came; then the status is 1.
+//! Of a file without any `=` all that its rows answer is printed: so one sees what rows that are still to be written down answer.
+//!
+//! These lines write a transaction, and answer nothing:
 //!
 //! - `in REFERENCE REDEEMER` puts an input behind the others. A reference is `ORIGIN.PLACE`: the origin is `genesis`, the
 //!   name of a transaction or an id. The redeemer is `none`, `claim`, `step` and inputs of the contract, each in JSON
@@ -21,24 +31,28 @@
 
 mod amounts;
 mod answers;
+mod checks;
 mod drafts;
 mod fault;
 mod known;
 mod outputs;
 mod publications;
 mod references;
+mod report;
 mod spends;
 mod verdicts;
 mod words;
 
 pub use amounts::{bundle_of, put_amounts, word_of};
-pub use answers::{Answers, print_rows};
+pub use answers::{Answers, in_bytes, print_rows, put_answer};
+pub use checks::{keep_check, recheck_line};
 pub use drafts::{nothing, write};
 pub use fault::RowFault;
 pub use known::{Known, NamedText, named_text_of};
 pub use outputs::{locked, output_of, state_of};
 pub use publications::{Named, named_of};
 pub use references::{Sent, reference_of, sent_of, word_of_id, word_of_reference};
+pub use report::Report;
 pub use spends::{inputs_of, put_keys};
 pub use verdicts::{refusal_line, verdict_line};
 pub use words::{bytes, first, number, parts, put, put_in, replace, text};

@@ -1,15 +1,15 @@
 //! What is written for the next row, and what is printed for lines.
-use crate::at_hand::{found, kept, rechecked};
 use crate::checks::check_line;
 use crate::finds::{found_of, put_found};
+use crate::found::found;
 use crate::sums::{added, subtracted};
 use collections::Items;
 use eutxo::Checked;
 use eutxo_types::{Output, Tx, encode_tx, tx_id};
 use roles::Published;
 use rows_text::{
-    Answers, Known, Named, RowFault, first, named_of, nothing, number, parts, put, put_in,
-    put_keys, replace, write,
+    Answers, Known, Named, RowFault, first, in_bytes, keep_check, named_of, nothing, number, parts,
+    put, put_in, put_keys, recheck_line, replace, write,
 };
 use std::alloc::{AllocError, Global};
 use std::mem;
@@ -25,31 +25,35 @@ pub struct Desk {
     checks: Vec<Checked<Published>>,
 }
 
-impl Answers for Desk {
-    fn begin(alloc: Global) -> Desk {
+impl<R: AllocGlobal> Answers<R> for Desk {
+    fn begin(rt: &R) -> Desk {
         Desk {
-            tx: nothing(alloc),
-            finds: Items::new(alloc),
-            known: Known::new(alloc),
-            others: Vec::new(alloc),
-            checks: Vec::new(alloc),
+            tx: nothing(rt.alloc()),
+            finds: Items::new(rt.alloc()),
+            known: Known::new(rt.alloc()),
+            others: Vec::new(rt.alloc()),
+            checks: Vec::new(rt.alloc()),
         }
     }
 
-    fn take(&mut self, alloc: Global, line: &str) -> Result<Option<String>, RowFault> {
-        let (word, rest) = first(line);
-        match word {
-            "" => Ok(None),
-            "#" => Ok(Some(String::from_str(alloc, line)?)),
-            "transaction" => Ok(Some(finished(alloc, &mut self.tx)?)),
-            "check" => Ok(Some(checked(alloc, self, rest)?)),
-            "keep" | "recheck" => Ok(Some(at_hand(alloc, self, word)?)),
-            "add" => Ok(Some(added(alloc, rest)?)),
-            "subtract" => Ok(Some(subtracted(alloc, rest)?)),
-            _ => {
-                written(alloc, self, word, rest)?;
-                Ok(None)
-            }
+    fn take(&mut self, rt: &R, line: &str) -> Result<Option<Vec<u8>>, RowFault> {
+        in_bytes(answered(rt.alloc(), self, line))
+    }
+}
+
+// What is printed for a line, if anything.
+fn answered(alloc: Global, desk: &mut Desk, line: &str) -> Result<Option<String>, RowFault> {
+    let (word, rest) = first(line);
+    match word {
+        "" | "#" => Ok(None),
+        "transaction" => Ok(Some(finished(alloc, &mut desk.tx)?)),
+        "check" => Ok(Some(checked(alloc, desk, rest)?)),
+        "keep" | "recheck" => Ok(Some(at_hand(alloc, desk, word)?)),
+        "add" => Ok(Some(added(alloc, rest)?)),
+        "subtract" => Ok(Some(subtracted(alloc, rest)?)),
+        _ => {
+            written(alloc, desk, word, rest)?;
+            Ok(None)
         }
     }
 }
@@ -73,8 +77,8 @@ fn checked(alloc: Global, desk: &mut Desk, word: &str) -> Result<String, RowFaul
 fn at_hand(alloc: Global, desk: &mut Desk, word: &str) -> Result<String, RowFault> {
     let found = found(alloc, &desk.finds, &desk.known, &desk.others);
     match word {
-        "keep" => kept(alloc, &mut desk.checks, &desk.tx, found),
-        _ => rechecked(alloc, &desk.checks, &desk.tx, found),
+        "keep" => keep_check(alloc, &mut desk.checks, &desk.tx, found),
+        _ => recheck_line(alloc, &desk.checks, &desk.tx, found),
     }
 }
 

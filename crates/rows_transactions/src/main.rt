@@ -1,5 +1,5 @@
-//! `rows_transactions`: worked rows of transactions, of their checks and of amounts as data. It reads the files that its
-//! arguments name, line by line, and prints a line or two for each row; `stdout` has what it must print.
+//! `rows_transactions`: worked rows of transactions, of their checks and of amounts as data. It plays the files that its
+//! arguments name, line by line, as `rows_text` says: below each row stands its answer.
 //!
 //! A transaction is written as `rows_text` says, and begins without anything, from 0 to 0. These lines print nothing
 //! either:
@@ -18,16 +18,15 @@
 //!   `at hand` where one of them is of this transaction with an equal resolution, else `anew`. The transaction and what its
 //!   inputs find stay as they are, and `again` drops what they find;
 //! - `add AMOUNTS / AMOUNTS` and `subtract AMOUNTS / AMOUNTS` print `done` or the fault with its token, and then what is in the
-//!   first bundle afterwards, in the order of the tokens;
-//! - `#` prints the line.
+//!   first bundle afterwards, in the order of the tokens.
 //!
-//! An empty line is nothing. Any other line prints `no such row`.
+//! `#` begins a comment, and an empty line is nothing. Any other line prints `no such row`.
 #![tactic(auto)]
 
-mod at_hand;
 mod checks;
 mod desk;
 mod finds;
+mod found;
 mod stubborn;
 mod sums;
 
@@ -36,8 +35,5 @@ use rows_text::print_rows;
 use std::process::ExitCode;
 
 fn main(rt: HostRuntime) -> ExitCode {
-    match print_rows::<Desk, HostRuntime>(&rt) {
-        Ok(()) => ExitCode::SUCCESS,
-        Err(_) => ExitCode::from(2),
-    }
+    print_rows::<Desk, HostRuntime>(&rt)
 }

@@ -1,10 +1,12 @@
 //! What is printed for a row.
 use crate::payments::payments;
 use crate::row::{Row, row_of};
+use crate::seats::{Played, admit, pay};
 use collections::Memory;
 use eutxo::{Checked, Validator};
 use eutxo_types::Verdict;
 use parallel_check::{NoGate, check_all};
+use rows_text::{RowFault, first};
 use std::alloc::Global;
 use std::io;
 use std::rt::Clock;
@@ -12,17 +14,20 @@ use std::sync::Wait;
 use std::thread::Threads;
 use std::time::Instant;
 
-/// The line that is printed for a row.
+/// The answer to a line, if it is a row.
 pub fn answer<R: Clock + AllocGlobal + Threads + Wait + Sync>(
     rt: &R,
     line: &str,
-) -> io::Result<String> {
-    let (word, rest) = line.split_once(' ').unwrap_or((line, ""));
+) -> Result<Option<Vec<u8>>, RowFault> {
+    let (word, rest) = first(line);
     match (word, row_of(rest)) {
-        ("#", _) => Ok(String::from_str(rt.alloc(), line)?),
-        ("check", Some(row)) => check_line(rt, row),
-        ("time", Some(row)) => time_line(rt, row),
-        _ => Ok(String::from_str(rt.alloc(), "no such row")?),
+        ("" | "#", _) => Ok(None),
+        ("check", Some(row)) => Ok(Some(check_line(rt, row)?.into_bytes())),
+        ("time", Some(row)) => Ok(Some(time_line(rt, row)?.into_bytes())),
+        ("seats", Some(row)) => Ok(Some(seats_line(rt, row)?.into_bytes())),
+        ("time_calls", Some(row)) => Ok(Some(micros_line(rt, pay(rt, row)?)?.into_bytes())),
+        ("time_admits", Some(row)) => Ok(Some(micros_line(rt, admit(rt, row)?)?.into_bytes())),
+        _ => Err(RowFault::NoSuchRow),
     }
 }
 
@@ -41,6 +46,24 @@ fn time_line<R: Clock + AllocGlobal + Threads + Wait + Sync>(
     let _checks = check_all(rt, rt.alloc(), &NoGate, row.workers(), jobs)?;
     let took = start.elapsed(rt)?;
     Ok(format!(in rt.alloc(); "{}", took.as_micros())?)
+}
+
+fn seats_line<R: Clock + AllocGlobal + Threads + Wait + Sync>(
+    rt: &R,
+    row: Row,
+) -> Result<String, RowFault> {
+    let played = pay(rt, row)?;
+    Ok(format!(in rt.alloc();
+        "seats {}, payments {} each: {} entries, {} accepted",
+        row.seats(),
+        row.jobs,
+        played.entries,
+        played.accepted
+    )?)
+}
+
+fn micros_line<R: AllocGlobal>(rt: &R, played: Played) -> Result<String, RowFault> {
+    Ok(format!(in rt.alloc(); "{}", played.micros)?)
 }
 
 fn line_of<V: Validator>(alloc: Global, row: Row, checks: &[Checked<V>]) -> Result<String, Memory> {

@@ -24,8 +24,10 @@ pub fn payments(alloc: Global, row: Row) -> Result<Vec<(Tx, Resolved<NoScript>)>
     Ok(jobs.into_vec())
 }
 
-fn payment(alloc: Global, number: u32, inputs: u32) -> Result<Tx, Memory> {
-    let spends = list(alloc, inputs, &|place| Ok(spend(number, place)));
+/// The payment of a number: of the outputs that come after those of the payments before it.
+pub fn payment(alloc: Global, number: u32, inputs: u32) -> Result<Tx, Memory> {
+    let first = u64::from(number) * u64::from(inputs);
+    let spends = list(alloc, inputs, &|place| Ok(spend(first, place)));
     let outputs = list(alloc, 1, &|_| key_output(alloc, inputs));
     let signers = list(alloc, 1, &|_| key(alloc));
     let (inputs, (outputs, signers)) = both(spends, both(outputs, signers))?;
@@ -40,7 +42,8 @@ fn payment(alloc: Global, number: u32, inputs: u32) -> Result<Tx, Memory> {
     })
 }
 
-fn found(alloc: Global, inputs: u32) -> Result<Resolved<NoScript>, Memory> {
+/// What a payment finds.
+pub fn found<V: Drop>(alloc: Global, inputs: u32) -> Result<Resolved<V>, Memory> {
     let outputs = list(alloc, inputs, &|_| some(key_output(alloc, 1)))?;
     Ok(Resolved {
         outputs,
@@ -48,10 +51,10 @@ fn found(alloc: Global, inputs: u32) -> Result<Resolved<NoScript>, Memory> {
     })
 }
 
-fn spend(number: u32, place: u32) -> Spend {
+fn spend(first: u64, place: u32) -> Spend {
     Spend {
         reference: OutputRef::Genesis {
-            index: u64::from(number) << 32 | u64::from(place),
+            index: first.saturating_add(u64::from(place)),
         },
         redeemer: Redeemer::None,
     }
@@ -61,7 +64,8 @@ fn key(alloc: Global) -> Result<Text, Memory> {
     Ok(Text::from_string(String::from_str(alloc, "x")?))
 }
 
-fn key_output(alloc: Global, amount: u32) -> Result<Output, Memory> {
+/// So many lovelace under the key of the payments.
+pub fn key_output(alloc: Global, amount: u32) -> Result<Output, Memory> {
     let (address, amount) = both(key(alloc), lovelace(alloc, amount))?;
     Ok(Output {
         lock: Lock::Key(address),
@@ -100,8 +104,8 @@ fn are_positive(entries: &[(Token, i128)]) -> bool
     }
 }
 
-// So many items, each made for its place.
-fn list<T: Drop, F: Fn(u32) -> Result<T, Memory>>(
+/// So many items, each made for its place.
+pub fn list<T: Drop, F: Fn(u32) -> Result<T, Memory>>(
     alloc: Global,
     count: u32,
     item: &F,

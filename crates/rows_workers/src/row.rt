@@ -1,7 +1,7 @@
 //! Rows as they are read.
 ghost use Rattle.std.specs.Prelude.{◌<◌, ◌≤◌};
 
-/// How many workers check, how many payments, of how many inputs each.
+/// How many workers check, or seats pay; how many payments, of how many inputs each.
 #[derive(Clone, Copy)]
 pub struct Row {
     workers: u32,
@@ -16,6 +16,14 @@ impl Row {
         ensures few { result ≤ 16 }
     {
         self.workers.clamp(1, 16) as usize
+    }
+
+    /// How many seats pay: the same number, or the nearest from 1 to 64.
+    pub fn seats(self) -> u32
+        ensures some { 0 < result }
+        ensures few { result ≤ 64 }
+    {
+        self.workers.clamp(1, 64)
     }
 }
 

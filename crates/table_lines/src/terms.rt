@@ -3,7 +3,7 @@ ghost use Rattle.std.specs.Prelude.{◌≡◌, OnOk};
 
 use collections::{Memory, Text};
 use json::Writer;
-use json_writers::{put_choice_id, put_party, put_payee, put_text, put_token};
+use json_write_contracts::{put_choice_id, put_party, put_payee, put_text, put_token};
 use names::{Bound, ChoiceId, Party, Payee, Token};
 use std::alloc::Global;
 

@@ -7,6 +7,16 @@ mod asked;
 #[cfg(test)]
 mod counting;
 #[cfg(test)]
+mod deal;
+#[cfg(test)]
 mod jobs;
 #[cfg(test)]
+mod many;
+#[cfg(test)]
 mod meeting;
+#[cfg(test)]
+mod party;
+#[cfg(test)]
+mod racing;
+#[cfg(test)]
+mod rounds;

@@ -9,24 +9,29 @@ const TURNS: u64 = 10_000_000;
 
 /// Lets job 0 go on once another job has come, and any other once job 0 has, and counts those that gave up waiting.
 #[derive(Drop)]
-struct Meeting {
+pub struct Meeting {
     first: AtomicU64,
     second: AtomicU64,
     gave_up: AtomicU64,
 }
 
 impl Meeting {
-    fn new() -> Meeting {
+    pub fn new() -> Meeting {
         Meeting {
             first: AtomicU64::new(0),
             second: AtomicU64::new(0),
             gave_up: AtomicU64::new(0),
         }
     }
+
+    /// Whether nobody gave up waiting.
+    pub fn met(&self) -> bool {
+        self.gave_up.load(Ordering::SeqCst) == 0
+    }
 }
 
-// Whether one comes within the turns.
-fn comes(flag: &AtomicU64) -> bool {
+/// Whether one comes within the turns.
+pub fn comes(flag: &AtomicU64) -> bool {
     for _ in 0..TURNS {
         if flag.load(Ordering::SeqCst) != 0 {
             return true;
@@ -58,9 +63,5 @@ fn two_workers_check_at_once(rt: HostRuntime) {
     let jobs = idle_jobs(&rt, 2);
     let checks = check_all(&rt, rt.alloc(), &meeting, 2, jobs).expect(&rt, "memory");
     assert_eq!(rt; checks.len(), 2);
-    assert_eq!(rt;
-        meeting.gave_up.load(Ordering::SeqCst),
-        0,
-        "each met the other"
-    );
+    assert!(rt; meeting.met(), "each met the other");
 }

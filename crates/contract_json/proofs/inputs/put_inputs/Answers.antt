@@ -1,6 +1,6 @@
-use Rattle.json_outcomes.proofs.EachLaws.{each-more, each-over-same}
-use Rattle.json_writers.proofs.AddsLaws.{wrote}
-use Rattle.json_writers.proofs.ListedLaws.{listed, closed, all-more, all-over}
+use Rattle.json_write_outcomes.proofs.EachLaws.{each-more, each-over-same}
+use Rattle.json_write_contracts.proofs.AddsLaws.{wrote}
+use Rattle.json_write_contracts.proofs.ListedLaws.{listed, closed, all-more, all-over}
 use Rattle.contract_json.specs.InputSymbols.{InputSymbols}
 use Rattle.contract_json.specs.WrittenInput.{input_json, input_fits}
 use Rattle.contract_json.proofs.inputs.put_inputs.Goals as goal

@@ -1,8 +1,8 @@
 use Rattle.std.proofs.Common.{◌≡◌, true, take, map}
 use Rattle.std.specs.List.{list_all}
-use Rattle.json_outcomes.specs.Each.{Each}
-use Rattle.json_writers.proofs.ListedLaws.{front}
-use Rattle.json_writers.specs.Tokens.{Adds}
+use Rattle.json_write_outcomes.specs.Each.{Each}
+use Rattle.json_write_contracts.proofs.ListedLaws.{front}
+use Rattle.json_write_contracts.specs.Tokens.{Adds}
 use Rattle.contract_json.specs.InputSymbols.{InputSymbols}
 use Rattle.contract_json.specs.WrittenInput.{input_json, input_fits}
 use Rattle.contract_json.proofs.inputs.put_inputs.Given as goal

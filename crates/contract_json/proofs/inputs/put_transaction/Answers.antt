@@ -1,4 +1,4 @@
-use Rattle.json_writers.proofs.AddsLaws.{then, wrote}
+use Rattle.json_write_contracts.proofs.AddsLaws.{then, wrote}
 use Rattle.contract_json.proofs.inputs.put_transaction.Goals as goal
 
 pub returns-clause-put : goal.returns-clause-put

@@ -1,3 +1,4 @@
+use Rattle.chain.proofs.ShownLemmas.{shows}
 use Rattle.chain.proofs.chain.Chain.history.Goals as goal
 
 pub returns-clause-legal : goal.returns-clause-legal
@@ -19,3 +20,8 @@ returns-clause-first c =
       once = c.outputs_are_spent_once.ensures _ _ c.self.invariant.sound;
       preserved = c.tokens_are_preserved.ensures _ _ c.self.invariant.sound;
     })
+
+pub returns-clause-shown : goal.returns-clause-shown
+returns-clause-shown c =
+    rw (← c.self.view_is)
+    (shows c.found_is_enough.ensures c.starting_is_sound.ensures c.accepting_is_sound.ensures c.publishing_is_sound.ensures c.contracts_end_threads.ensures.unspent _ _ c.self.invariant.sound c.self.invariant.legal)

@@ -1,0 +1,3 @@
+pub mod HubSupport
+pub mod Seats
+pub mod Session

@@ -1,0 +1,231 @@
+//! What lies under the lock.
+ghost use Rattle.std.specs.Prelude.{◌≡◌, ◌<◌, ◌++◌, [], ◌∷◌, ℕ, length, IfOk, OnOk, OnErr};
+ghost use Rattle.ledger.specs.declared.call.Call.TheVariants as on;
+ghost use Rattle.ledger_spec.specs.Legal.{entry_of, with_entry};
+ghost use Rattle.ledger_spec.specs.Replay.{world};
+ghost use Rattle.ledger_spec.specs.Views.{pool_front};
+ghost use Rattle.hub.specs.Seats.{WasTold};
+
+use crate::answer::Answer;
+use crate::receipt::Receipt;
+use crate::seat::Seat;
+use crate::session::{Session, Tokens};
+use chain::{Call, Chain, Entry, Reply};
+use collections::Memory;
+use eutxo::{Checked, Resolved};
+use eutxo_types::Tx;
+use journal::Journal;
+use roles::Published;
+use std::alloc::Global;
+use std::marker::{Model, PhantomData};
+use std::slice;
+use std::sync::ledger::{Book, Share};
+
+/// What lies under the lock: the chain, the count of its entries, its history as receipts know it, and what is left of the shares. Clauses see the chain.
+#[derive(Drop)]
+pub(crate) struct Desk<J: Session> {
+    pub(crate) chain: Chain,
+    pub(crate) calls: Book<Tokens<J>>,
+    pub(crate) journal: Journal<Entry, Tokens<J>>,
+    pub(crate) rest: Share<Tokens<J>>,
+    pub(crate) of: PhantomData<J>,
+}
+
+impl<J: Session> Model for Desk<J> {
+    ghost use Rattle.std.specs.Prelude.{◌≡◌, length};
+    ghost use Rattle.std.specs.Coded.{codes};
+    ghost use Rattle.contract.specs.contracts.tree.Contract as trees;
+    ghost use Rattle.eutxo_types.specs.contracts.output.Output as outputs;
+    ghost use Rattle.eutxo_types.specs.contracts.tx.Tx as txs;
+    ghost use Rattle.ledger.specs.contracts.ask.Ask as ask_rows;
+    ghost use Rattle.ledger.specs.contracts.look.Look as look_rows;
+    ghost use Rattle.ledger_spec.specs.Replay.{Course};
+
+    ghost Value = { Course };
+
+    ghost coded = { Prim.hlevel (codes, outputs.the_row.coded, txs.the_row.coded, trees.the_row.coded, ask_rows.the_row.coded, look_rows.the_row.coded) };
+
+    ghost view = { λ d. d.chain };
+
+    // it began as the session says; the book counts its entries; the journal has them; nothing is left in the share
+    ghost invariant = { λ d. (d.chain.genesis ≡ (J.session).genesis) × (d.chain.first_tick ≡ (J.session).first_tick) × (d.calls.total ≡ length d.chain.entries) × (d.journal ≡ d.chain.entries) × (d.rest.parts ≡ 0) × (d.rest.amount ≡ 0) };
+}
+
+/// The parts of a desk.
+#[derive(Drop)]
+pub(crate) struct Parts<J: Session> {
+    pub(crate) chain: Chain,
+    pub(crate) calls: Book<Tokens<J>>,
+    pub(crate) journal: Journal<Entry, Tokens<J>>,
+    pub(crate) rest: Share<Tokens<J>>,
+}
+
+// What one entry was told: its place and number, and its reply twice.
+#[derive(Drop)]
+struct Made {
+    place: u64,
+    number: u64,
+    mine: Reply,
+    told: Reply,
+}
+
+// Makes the entry of one call, and writes it into the journal.
+fn enter<J: Session>(
+    alloc: Global,
+    chain: &mut Chain,
+    journal: &mut Journal<Entry, Tokens<J>>,
+    seat: u64,
+    call: Call,
+    cache: &[Checked<Published>],
+) -> Result<Made, Memory>
+    requires { journal.old ≡ chain.old.entries }
+    ensures chain { OnOk result (chain.new ≡ with_entry chain.old (entry_of chain.old seat call)) }
+    ensures journal { OnOk result (journal.new ≡ chain.new.entries) }
+    ensures place { IfOk result (λ m. m.place ≡ length chain.old.entries) }
+    ensures number { IfOk result (λ m. m.number ≡ (entry_of chain.old seat call).number) }
+    ensures replies { IfOk result (λ m. (m.mine ≡ (entry_of chain.old seat call).reply) × (m.told ≡ (entry_of chain.old seat call).reply)) }
+    ensures err { OnErr result ((chain.new ≡ chain.old) × (journal.new ≡ journal.old)) }
+{
+    let place = chain.entries().len();
+    let (mine, told) = chain.step(alloc, seat, call, cache)?;
+    let made = &chain.entries()[place];
+    journal.add(made);
+    Ok(Made {
+        place: place as u64,
+        number: made.number,
+        mine,
+        told,
+    })
+}
+
+impl<J: Session> Desk<J> {
+    // Makes the entry of a call in the seat's name. `kept` is the call for the seat's list.
+    pub(crate) fn call(
+        &mut self,
+        alloc: Global,
+        seat: &mut Seat<J>,
+        call: Call,
+        kept: Call,
+        cache: &[Checked<Published>],
+    ) -> Result<Receipt<J>, Memory>
+        requires { kept ≡ call }
+        ensures told { IfOk result (λ r. WasTold seat.old call r seat.new) }
+        ensures err { OnErr result (seat.new ≡ seat.old) }
+    {
+        let Seat {
+            number: me,
+            answers,
+            share,
+            seen,
+        } = seat;
+        let Desk {
+            chain,
+            calls,
+            journal,
+            rest: _,
+            of: _,
+        } = self;
+        answers.reserve(1)?;
+        journal.covers(seen);
+        let made = enter(alloc, chain, journal, *me, call, cache)?;
+        calls.add(share, 1);
+        *seen = journal.beginning();
+        answers.push_reserved(Answer {
+            place: made.place,
+            number: made.number,
+            call: kept,
+            reply: made.mine,
+        });
+        Ok(Receipt {
+            entry: made.place,
+            seat: *me,
+            number: made.number,
+            reply: made.told,
+            seen: journal.beginning(),
+        })
+    }
+
+    // Makes the entry of the Submit of a checked transaction, with that check at hand. `tx` is the transaction for the entry; the seat's list keeps the
+    // one that was checked.
+    pub(crate) fn admit(
+        &mut self,
+        alloc: Global,
+        seat: &mut Seat<J>,
+        tx: Tx,
+        checked: Checked<Published>,
+    ) -> Result<Receipt<J>, Memory>
+        requires { tx ≡ checked.tx }
+        ensures told { IfOk result (λ r. WasTold seat.old (on.Submit checked.tx) r seat.new) }
+        ensures err { OnErr result (seat.new ≡ seat.old) }
+    {
+        let Seat {
+            number: me,
+            answers,
+            share,
+            seen,
+        } = seat;
+        let Desk {
+            chain,
+            calls,
+            journal,
+            rest: _,
+            of: _,
+        } = self;
+        answers.reserve(1)?;
+        journal.covers(seen);
+        let made = enter(
+            alloc,
+            chain,
+            journal,
+            *me,
+            Call::Submit(tx),
+            slice::from_ref(&checked),
+        )?;
+        calls.add(share, 1);
+        *seen = journal.beginning();
+        answers.push_reserved(Answer {
+            place: made.place,
+            number: made.number,
+            call: Call::Submit(checked.into_tx()),
+            reply: made.mine,
+        });
+        Ok(Receipt {
+            entry: made.place,
+            seat: *me,
+            number: made.number,
+            reply: made.told,
+            seen: journal.beginning(),
+        })
+    }
+
+    // The first so many of the pending transactions, each with what is found now of what it names. It makes no entry.
+    pub(crate) fn front(
+        &self,
+        alloc: Global,
+        count: u64,
+    ) -> Result<Vec<(Tx, Resolved<Published>)>, Memory> {
+        self.chain.front(alloc, count)
+    }
+
+    // Its parts.
+    pub(crate) fn into_parts(self) -> Parts<J>
+        ensures start { (result.chain.genesis ≡ (J.session).genesis) × (result.chain.first_tick ≡ (J.session).first_tick) }
+        ensures counted { result.calls.total ≡ length result.chain.entries }
+        ensures written { result.journal ≡ result.chain.entries }
+        ensures rest { (result.rest.parts ≡ 0) × (result.rest.amount ≡ 0) }
+    {
+        let Desk {
+            chain,
+            calls,
+            journal,
+            rest,
+            of: _,
+        } = self;
+        Parts {
+            chain,
+            calls,
+            journal,
+            rest,
+        }
+    }
+}

@@ -1,0 +1,24 @@
+//! One ledger for many threads: the lock, the seats by which threads call, the receipts of what they were told, and what the
+//! history is once all seats are back.
+//!
+//! `Opening::new` takes a chain without entries and makes what names a session; `open` gives the hub and its seats. Each thread has a seat, and calls
+//! through the shared hub with it (`call`, `admit`, `round`). `close` takes all seats back: then the history is legal, each seat's entries are just
+//! what that seat was told, and each receipt's entry stands at its place (`specs/Seats.antt`). docs/threads.md explains it.
+#![tactic(auto)]
+
+mod answer;
+mod closed;
+mod desk;
+mod hub;
+mod opening;
+mod receipt;
+mod seat;
+mod session;
+
+pub use answer::Answer;
+pub use closed::Closed;
+pub use hub::Hub;
+pub use opening::Opening;
+pub use receipt::Receipt;
+pub use seat::Seat;
+pub use session::{Session, Tokens};

@@ -1,0 +1,16 @@
+-- No reader needs this file: it serves the proofs of this crate and those above it.
+-- How the rows of a map are read in one pass, and their keys looked at after it.
+use Rattle.std.specs.Prelude.{List, [], ◌∷◌, ◌++◌, Option, Some, None, Ok, Err}
+use Rattle.serde_json.specs.Data.{Data, Items, no_items, item}
+use Rattle.json_read_names.specs.Parts.{Reading}
+use Rattle.json_read_names.specs.declared.fault.JsonFault.{JsonFault}
+
+-- with a row behind those before, or at a fault
+abbrev pub and_then : {E : Type 0} → List E → Reading E → (List E → List E × Option JsonFault) → List E × Option JsonFault
+and_then before (Ok e) go_on = go_on (before ++ e ∷ [])
+and_then before (Err fault) go_on = (before, Some fault)
+
+-- the rows up to the first that stands for nothing, behind those before, and its fault
+abbrev pub until_fault : {E : Type 0} → (Data → Reading E) → List E → Items → List E × Option JsonFault
+until_fault row before no_items = (before, None)
+until_fault row before (item d ds) = and_then before (row d) (λ now. until_fault row now ds)

@@ -1,0 +1,33 @@
+//! From a text to its JSON value.
+ghost use Rattle.std.specs.Prelude.{Ok};
+ghost use Rattle.collections.specs.Answers.{AsideBy};
+ghost use Rattle.json_tree.specs.View.{view};
+ghost use Rattle.json_read_names.specs.ReadsText.{json_of};
+
+use crate::fault::JsonFault;
+use json::Scratch;
+use json_tree::{Json, Refusal, from_slice};
+use std::alloc::Global;
+
+// The longest text that is read, in bytes.
+const MAX_LEN: usize = 1_048_576;
+
+/// The JSON value of a text of at most 1,048,576 bytes. Its texts are borrowed, from the text where they have no
+/// escape, and else from `scratch`.
+#[tactic(auto, using(crate::proofs::TextLaws::text_steps))]
+pub fn json_of<'a>(
+    alloc: Global,
+    text: &'a [u8],
+    scratch: &'a mut Scratch,
+) -> Result<Json<'a>, JsonFault>
+    ensures { AsideBy JsonFault.Memory view result (json_of text.now) }
+{
+    if text.len() > MAX_LEN {
+        return Err(JsonFault::TooLong);
+    }
+    match from_slice(alloc, text, scratch) {
+        Ok(json) => Ok(json),
+        Err(Refusal::NotJson) => Err(JsonFault::NotJson),
+        Err(Refusal::Memory) => Err(JsonFault::Memory),
+    }
+}

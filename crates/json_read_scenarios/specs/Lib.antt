@@ -1,0 +1,3 @@
+pub mod Names
+pub mod ReadsPlan
+pub mod ReadsScenario

@@ -1,0 +1,15 @@
+//! Readers of scenarios: from a text or a JSON value to contracts, threads and plans, in which names have become places.
+#![tactic(auto)]
+
+mod contracts;
+mod funds;
+mod intent_forms;
+mod intents;
+mod name_list;
+mod numbers;
+mod plan_forms;
+mod scenarios;
+mod threads;
+
+pub use intent_forms::{IntentForm, intent_form};
+pub use scenarios::{read_scenario, scenario_from_json};

@@ -1,0 +1,47 @@
+//! Scenarios as JSON values and as texts.
+ghost use Rattle.collections.specs.Answers.{Aside};
+ghost use Rattle.json_read_names.specs.ReadsText.{of_text};
+ghost use Rattle.json_read_scenarios.specs.ReadsScenario as reads;
+
+use crate::contracts::contracts_from_json;
+use crate::funds::genesis_from_json;
+use crate::plan_forms::plans_from_json;
+use crate::threads::threads_from_json;
+use json::Scratch;
+use json_read_names::{JsonFault, has_three, has_two, json_of, member, read_time};
+use json_tree::JsonValue;
+use plans::Scenario;
+use std::alloc::Global;
+
+/// The scenario that a JSON value stands for, in which a thread's contract, and the thread or contract of an intent, are
+/// places in the scenario's lists. A name that is unknown or that stands twice in its list, a number of workers outside of
+/// 1 to 16 and a 64th plan are `NoForm`; a round of fewer than 0 transactions, and a stop after fewer than 0 or more than
+/// 2^63 - 1 calls, are `OutOfRange`. It takes n log n steps in what is read.
+pub fn scenario_from_json<J: JsonValue>(alloc: Global, json: &J) -> Result<Scenario, JsonFault>
+    ensures reading { Aside JsonFault.Memory result (reads.scenario (J.json json.now)) }
+{
+    if !(has_three(json, "tick", "genesis", "contracts") && has_two(json, "threads", "plans")) {
+        return Err(JsonFault::NoForm);
+    }
+    let tick = read_time(member(json, "tick")?)?;
+    let genesis = genesis_from_json(alloc, member(json, "genesis")?)?;
+    let contracts = contracts_from_json(alloc, member(json, "contracts")?)?;
+    let threads = threads_from_json(alloc, &contracts, member(json, "threads")?)?;
+    let plans = plans_from_json(alloc, &contracts, &threads, member(json, "plans")?)?;
+    Ok(Scenario {
+        tick,
+        genesis,
+        contracts: contracts.into_items(),
+        threads: threads.into_items(),
+        plans: plans.into_items(),
+    })
+}
+
+/// Reads the text of a scenario.
+pub fn read_scenario(alloc: Global, text: &[u8]) -> Result<Scenario, JsonFault>
+    ensures reading { Aside JsonFault.Memory result (of_text reads.scenario text.now) }
+{
+    let mut scratch = Scratch::new(alloc);
+    let json = json_of(alloc, text, &mut scratch)?;
+    scenario_from_json(alloc, &json)
+}

@@ -1,0 +1,17 @@
+-- Laws for writers: tokens behind tokens.
+use Rattle.std.proofs.Common.{◌≡◌, List, [], ◌∷◌, ◌++◌, ap, ◌∙◌, append_assoc, Ok}
+use Rattle.json.specs.Token.{Token}
+use Rattle.std.specs.declared.alloc.AllocError.{AllocError}
+use Rattle.json.specs.Written.{Written, Writes}
+use Rattle.json_write_contracts.specs.Tokens.{Adds}
+
+pub flat : (xs ys zs : List Token) → (xs ++ ys) ++ zs ≡ xs ++ (ys ++ zs)
+flat xs ys zs = append_assoc xs ys zs
+
+-- first these, then those
+pub then : {a b c : Written} {xs ys : List Token} → Adds a b xs → Adds b c ys → Adds a c (xs ++ ys)
+then {a} {b} {c} {xs} {ys} h k = record { tokens = k.tokens ∙ ap (λ ts. ts ++ ys) h.tokens ∙ append_assoc a.tokens xs ys; before = k.before ∙ h.before }
+
+-- one token was written
+pub wrote : {old new : Written} {t : Token} → Writes {E = AllocError} (Ok tt) old new t → Adds old new (t ∷ [])
+wrote w = record { tokens = w.ok; before = w.room.0 }

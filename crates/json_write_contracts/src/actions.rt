@@ -1,0 +1,109 @@
+//! Bounds and actions.
+ghost use Rattle.std.specs.Prelude.{◌≡◌, ◌&&◌, map, codes, OnOk};
+ghost use Rattle.std.specs.List.{list_all};
+ghost use Rattle.serde_json.specs.Data.{array};
+ghost use Rattle.serde_json.specs.View.{items_of};
+ghost use Rattle.hex.specs.Hex.{IsBytes};
+ghost use Rattle.contract.specs.Tree.{action_tree, value_tree, observation_tree};
+ghost use Rattle.json_write_contracts.specs.Symbols.{ValueSymbols, ObservationSymbols, ActionSymbols};
+ghost use Rattle.json_write_contracts.specs.Tokens.{Puts, PutsFitting};
+ghost use Rattle.json_write_contracts.specs.Written as written;
+ghost use Rattle.json_write_contracts.specs.Written.{bound_fits, action_fits, value_fits, observation_fits};
+
+use crate::fault::WriteFault;
+use crate::name_forms::{put_choice_id, put_party, put_token};
+use crate::numbers::put_number;
+use crate::values::{put_observation, put_value};
+use collections::Items;
+use contract::{Action, Observation, Value};
+use json::Writer;
+use names::{Bound, ChoiceId, Party, Token};
+use std::alloc::Global;
+
+/// Writes a bound. An end that doesn't lie from -2^63 to 2^64 - 1 is out of range.
+pub fn put_bound(out: &mut Writer, bound: &Bound) -> Result<(), WriteFault>
+    ensures { PutsFitting result out.old out.new (bound_fits bound.now) (written.bound_json bound.now) }
+{
+    out.begin_object()?;
+    out.key("from")?;
+    put_number(out, bound.from)?;
+    out.key("to")?;
+    put_number(out, bound.to)?;
+    out.end_object()?;
+    Ok(())
+}
+
+fn put_bounds(out: &mut Writer, bounds: &Items<Bound>) -> Result<(), WriteFault>
+    ensures { PutsFitting result out.old out.new (list_all bound_fits bounds.now) (array (items_of (map written.bound_json bounds.now))) }
+{
+    out.begin_array()?;
+    for bound in bounds.as_slice() {
+        put_bound(out, bound)?;
+    }
+    out.end_array()?;
+    Ok(())
+}
+
+fn put_deposit(
+    alloc: Global,
+    out: &mut Writer,
+    account: &Party,
+    party: &Party,
+    token: &Token,
+    value: &Value,
+) -> Result<(), WriteFault>
+    ensures put { PutsFitting result out.old out.new (value_fits (value_tree value.now)) (written.four (codes "deposits") (written.value_json (value_tree value.now))
+        (codes "into_account") (written.party_json account.now) (codes "of_token") (written.token_json token.now) (codes "party") (written.party_json party.now)) }
+    ensures value_symbols { OnOk result (ValueSymbols (value_tree value.now)) }
+    ensures symbol { OnOk result (IsBytes token.now.symbol) }
+{
+    out.begin_object()?;
+    out.key("deposits")?;
+    put_value(alloc, out, value)?;
+    out.key("into_account")?;
+    put_party(out, account)?;
+    out.key("of_token")?;
+    put_token(alloc, out, token)?;
+    out.key("party")?;
+    put_party(out, party)?;
+    out.end_object()?;
+    Ok(())
+}
+
+fn put_choice(out: &mut Writer, id: &ChoiceId, bounds: &Items<Bound>) -> Result<(), WriteFault>
+    ensures { PutsFitting result out.old out.new (list_all bound_fits bounds.now) (written.two (codes "choose_between") (array (items_of (map written.bound_json bounds.now)))
+        (codes "for_choice") (written.choice_id_json id.now)) }
+{
+    out.begin_object()?;
+    out.key("choose_between")?;
+    put_bounds(out, bounds)?;
+    out.key("for_choice")?;
+    put_choice_id(out, id)?;
+    out.end_object()?;
+    Ok(())
+}
+
+fn put_notify(alloc: Global, out: &mut Writer, observation: &Observation) -> Result<(), WriteFault>
+    ensures put { PutsFitting result out.old out.new (observation_fits (observation_tree observation.now)) (written.one (codes "notify_if") (written.observation_json (observation_tree observation.now))) }
+    ensures symbols { OnOk result (ObservationSymbols (observation_tree observation.now)) }
+{
+    out.begin_object()?;
+    out.key("notify_if")?;
+    put_observation(alloc, out, observation)?;
+    out.end_object()?;
+    Ok(())
+}
+
+/// Writes an action. A number in it that doesn't lie from -2^63 to 2^64 - 1 is out of range.
+pub fn put_action(alloc: Global, out: &mut Writer, action: &Action) -> Result<(), WriteFault>
+    ensures put { PutsFitting result out.old out.new (action_fits (action_tree action.now)) (written.action_json (action_tree action.now)) }
+    ensures symbols { OnOk result (ActionSymbols (action_tree action.now)) }
+{
+    match action {
+        Action::Deposit(account, party, token, value) => {
+            put_deposit(alloc, out, account, party, token, value)
+        }
+        Action::Choice(id, bounds) => put_choice(out, id, bounds),
+        Action::Notify(observation) => put_notify(alloc, out, observation),
+    }
+}

@@ -1,0 +1,213 @@
+//! Cases and contracts.
+ghost use Rattle.std.specs.Prelude.{◌≡◌, true, ◌&&◌, codes, map, OnOk};
+ghost use Rattle.std.specs.List.{list_all};
+ghost use Rattle.hex.specs.Hex.{IsBytes};
+ghost use Rattle.serde_json.specs.Data.{array, string};
+ghost use Rattle.serde_json.specs.View.{items_of};
+ghost use Rattle.contract.specs.Tree.{value_tree, observation_tree, contract_tree, case_tree};
+ghost use Rattle.json_write_contracts.specs.Symbols.{ValueSymbols, ObservationSymbols, ContractSymbols, CaseSymbols, ListSymbols};
+ghost use Rattle.json_write_contracts.specs.Tokens.{Puts, PutsFitting};
+ghost use Rattle.json_write_contracts.specs.Written as written;
+ghost use Rattle.json_write_contracts.specs.Written.{value_fits, observation_fits, contract_fits, case_fits, time_fits};
+
+use crate::actions::put_action;
+use crate::fault::WriteFault;
+use crate::name_forms::{put_party, put_payee, put_text, put_token};
+use crate::numbers::put_time;
+use crate::values::{put_observation, put_value, word};
+use collections::{Boxed, Items, Memory, Text};
+use contract::{Case, Contract, Observation, Value};
+use json::Writer;
+use names::{Party, Payee, Token};
+use std::alloc::Global;
+
+/// Writes a contract: compact, with each object's keys in the order of their bytes. A number in it that doesn't lie
+/// from -2^63 to 2^64 - 1 is out of range.
+#[cycle(put_contract)]
+#[tactic(auto, using(crate::proofs::ListedContract::contract_writes, crate::proofs::SymbolsOf::contract_symbols))]
+pub fn put_contract(alloc: Global, out: &mut Writer, contract: &Contract) -> Result<(), WriteFault>
+    ensures put { PutsFitting result out.old out.new (contract_fits (contract_tree contract.now)) (written.contract_json (contract_tree contract.now)) }
+    ensures symbols { OnOk result (ContractSymbols (contract_tree contract.now)) }
+{
+    match contract {
+        Contract::Close => Ok(word(out, "close")?),
+        Contract::Pay(from, to, token, pay, then) => put_pay(
+            alloc, out, from, to, token, pay, then,
+        ),
+        Contract::If(condition, then, otherwise) => put_if(alloc, out, condition, then, otherwise),
+        Contract::When(cases, timeout, then) => put_when(alloc, out, cases, timeout, then),
+        Contract::Let(name, value, then) => put_let(alloc, out, name, value, then),
+        Contract::Assert(condition, then) => put_assert(alloc, out, condition, then),
+    }
+}
+
+#[cycle(put_contract)]
+fn put_pay(
+    alloc: Global,
+    out: &mut Writer,
+    from: &Party,
+    to: &Payee,
+    token: &Token,
+    pay: &Value,
+    then: &Boxed<Contract>,
+) -> Result<(), WriteFault>
+    ensures put { PutsFitting result out.old out.new (value_fits (value_tree pay.now) && contract_fits (contract_tree then.now))
+        (written.five (codes "from_account") (written.party_json from.now) (codes "pay") (written.value_json (value_tree pay.now)) (codes "then") (written.contract_json (contract_tree then.now))
+        (codes "to") (written.payee_json to.now) (codes "token") (written.token_json token.now)) }
+    ensures token_symbol { OnOk result (IsBytes token.now.symbol) }
+    ensures value_symbols { OnOk result (ValueSymbols (value_tree pay.now)) }
+    ensures then_symbols { OnOk result (ContractSymbols (contract_tree then.now)) }
+{
+    out.begin_object()?;
+    out.key("from_account")?;
+    put_party(out, from)?;
+    out.key("pay")?;
+    put_value(alloc, out, pay)?;
+    out.key("then")?;
+    put_boxed(alloc, out, then)?;
+    out.key("to")?;
+    put_payee(out, to)?;
+    out.key("token")?;
+    put_token(alloc, out, token)?;
+    out.end_object()?;
+    Ok(())
+}
+
+#[cycle(put_contract)]
+fn put_if(
+    alloc: Global,
+    out: &mut Writer,
+    condition: &Observation,
+    then: &Boxed<Contract>,
+    otherwise: &Boxed<Contract>,
+) -> Result<(), WriteFault>
+    ensures put { PutsFitting result out.old out.new (observation_fits (observation_tree condition.now) && contract_fits (contract_tree then.now) && contract_fits (contract_tree otherwise.now))
+        (written.three (codes "else") (written.contract_json (contract_tree otherwise.now)) (codes "if") (written.observation_json (observation_tree condition.now)) (codes "then") (written.contract_json (contract_tree then.now))) }
+    ensures condition_symbols { OnOk result (ObservationSymbols (observation_tree condition.now)) }
+    ensures then_symbols { OnOk result (ContractSymbols (contract_tree then.now)) }
+    ensures otherwise_symbols { OnOk result (ContractSymbols (contract_tree otherwise.now)) }
+{
+    out.begin_object()?;
+    out.key("else")?;
+    put_boxed(alloc, out, otherwise)?;
+    out.key("if")?;
+    put_observation(alloc, out, condition)?;
+    out.key("then")?;
+    put_boxed(alloc, out, then)?;
+    out.end_object()?;
+    Ok(())
+}
+
+#[cycle(put_contract)]
+fn put_when(
+    alloc: Global,
+    out: &mut Writer,
+    cases: &Items<Case>,
+    timeout: &i64,
+    then: &Boxed<Contract>,
+) -> Result<(), WriteFault>
+    ensures put { PutsFitting result out.old out.new (list_all (λ k. case_fits (case_tree k)) cases.now && time_fits timeout.now && contract_fits (contract_tree then.now))
+        (written.three (codes "timeout") (written.number_json timeout.now) (codes "timeout_continuation") (written.contract_json (contract_tree then.now))
+        (codes "when") (array (items_of (map (λ k. written.case_json (case_tree k)) cases.now)))) }
+    ensures case_symbols { OnOk result (ListSymbols (map (λ k. case_tree k) cases.now)) }
+    ensures then_symbols { OnOk result (ContractSymbols (contract_tree then.now)) }
+{
+    out.begin_object()?;
+    out.key("timeout")?;
+    put_timeout(out, timeout)?;
+    out.key("timeout_continuation")?;
+    put_boxed(alloc, out, then)?;
+    out.key("when")?;
+    put_cases(alloc, out, cases)?;
+    out.end_object()?;
+    Ok(())
+}
+
+#[cycle(put_contract)]
+fn put_let(
+    alloc: Global,
+    out: &mut Writer,
+    name: &Text,
+    value: &Value,
+    then: &Boxed<Contract>,
+) -> Result<(), WriteFault>
+    ensures put { PutsFitting result out.old out.new (value_fits (value_tree value.now) && contract_fits (contract_tree then.now))
+        (written.three (codes "be") (written.value_json (value_tree value.now)) (codes "let") (string name.now) (codes "then") (written.contract_json (contract_tree then.now))) }
+    ensures value_symbols { OnOk result (ValueSymbols (value_tree value.now)) }
+    ensures then_symbols { OnOk result (ContractSymbols (contract_tree then.now)) }
+{
+    out.begin_object()?;
+    out.key("be")?;
+    put_value(alloc, out, value)?;
+    out.key("let")?;
+    put_text(out, name)?;
+    out.key("then")?;
+    put_boxed(alloc, out, then)?;
+    out.end_object()?;
+    Ok(())
+}
+
+#[cycle(put_contract)]
+fn put_assert(
+    alloc: Global,
+    out: &mut Writer,
+    condition: &Observation,
+    then: &Boxed<Contract>,
+) -> Result<(), WriteFault>
+    ensures put { PutsFitting result out.old out.new (observation_fits (observation_tree condition.now) && contract_fits (contract_tree then.now))
+        (written.two (codes "assert") (written.observation_json (observation_tree condition.now)) (codes "then") (written.contract_json (contract_tree then.now))) }
+    ensures condition_symbols { OnOk result (ObservationSymbols (observation_tree condition.now)) }
+    ensures then_symbols { OnOk result (ContractSymbols (contract_tree then.now)) }
+{
+    out.begin_object()?;
+    out.key("assert")?;
+    put_observation(alloc, out, condition)?;
+    out.key("then")?;
+    put_boxed(alloc, out, then)?;
+    out.end_object()?;
+    Ok(())
+}
+
+/// Writes a case: its action, and the contract that is gone on with.
+#[cycle(put_contract)]
+#[tactic(auto, using(crate::proofs::ListedContract::contract_writes, crate::proofs::SymbolsOf::contract_symbols))]
+pub fn put_case(alloc: Global, out: &mut Writer, case: &Case) -> Result<(), WriteFault>
+    ensures put { PutsFitting result out.old out.new (case_fits (case_tree case.now)) (written.case_json (case_tree case.now)) }
+    ensures symbols { OnOk result (CaseSymbols (case_tree case.now)) }
+{
+    out.begin_object()?;
+    out.key("case")?;
+    put_action(alloc, out, &case.action)?;
+    out.key("then")?;
+    put_contract(alloc, out, &case.then)?;
+    out.end_object()?;
+    Ok(())
+}
+
+#[cycle(put_contract)]
+fn put_cases(alloc: Global, out: &mut Writer, cases: &Items<Case>) -> Result<(), WriteFault>
+    ensures put { PutsFitting result out.old out.new (list_all (λ k. case_fits (case_tree k)) cases.now) (array (items_of (map (λ k. written.case_json (case_tree k)) cases.now))) }
+    ensures symbols { OnOk result (ListSymbols (map (λ k. case_tree k) cases.now)) }
+{
+    out.begin_array()?;
+    for case in cases.as_slice() {
+        put_case(alloc, out, case)?;
+    }
+    out.end_array()?;
+    Ok(())
+}
+
+#[cycle(put_contract)]
+fn put_boxed(alloc: Global, out: &mut Writer, contract: &Boxed<Contract>) -> Result<(), WriteFault>
+    ensures put { PutsFitting result out.old out.new (contract_fits (contract_tree contract.now)) (written.contract_json (contract_tree contract.now)) }
+    ensures symbols { OnOk result (ContractSymbols (contract_tree contract.now)) }
+{
+    put_contract(alloc, out, contract.get())
+}
+
+fn put_timeout(out: &mut Writer, timeout: &i64) -> Result<(), Memory>
+    ensures put { OnOk result (Puts out.old out.new (written.number_json timeout.now)) }
+    ensures fits { time_fits timeout.now ≡ true }
+{
+    put_time(out, *timeout)
+}

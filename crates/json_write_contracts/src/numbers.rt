@@ -1,0 +1,51 @@
+//! Numbers and times.
+ghost use Rattle.std.specs.Prelude.{◌≡◌, true, OnOk};
+ghost use Rattle.json_write_contracts.specs.Tokens.{Puts, PutsFitting};
+ghost use Rattle.json_write_contracts.specs.Written.{number_json, wide_json, number_fits, time_fits};
+
+use crate::fault::WriteFault;
+use collections::Memory;
+use json::Writer;
+use std::alloc::Global;
+
+/// Writes a time.
+pub fn put_time(out: &mut Writer, time: i64) -> Result<(), Memory>
+    ensures put { OnOk result (Puts out.old out.new (number_json time)) }
+    ensures fits { time_fits time ≡ true }
+{
+    out.i64(time)
+}
+
+/// Writes a number from -2^63 to 2^64 - 1; another is out of range.
+pub fn put_number(out: &mut Writer, n: i128) -> Result<(), WriteFault>
+    ensures { PutsFitting result out.old out.new (number_fits n) (number_json n) }
+{
+    if let Ok(n) = u64::try_from(n) {
+        Ok(out.u64(n)?)
+    } else if let Ok(n) = i64::try_from(n) {
+        Ok(out.i64(n)?)
+    } else {
+        Err(WriteFault::OutOfRange)
+    }
+}
+
+// A number of any size: where JSON doesn't have it, a text of its decimal digits.
+fn put_wide(alloc: Global, out: &mut Writer, n: i128) -> Result<(), Memory>
+    ensures { OnOk result (Puts out.old out.new (wide_json n)) }
+{
+    if let Ok(n) = u64::try_from(n) {
+        out.u64(n)
+    } else if let Ok(n) = i64::try_from(n) {
+        out.i64(n)
+    } else {
+        let digits = format!(in alloc; "{n}")?;
+        out.string(digits.as_str())
+    }
+}
+
+/// Writes an amount of any size: where JSON doesn't have the number, a text of its decimal digits.
+pub fn put_amount(alloc: Global, out: &mut Writer, amount: &i128) -> Result<(), Memory>
+    ensures { OnOk result (Puts out.old out.new (wide_json amount.now)) }
+{
+    put_wide(alloc, out, *amount)
+}

@@ -1,0 +1,223 @@
+//! Values and observations.
+ghost use Rattle.std.specs.Prelude.{◌≡◌, ◌&&◌, codes, OnOk};
+ghost use Rattle.serde_json.specs.Data.{string};
+ghost use Rattle.hex.specs.Hex.{IsBytes};
+ghost use Rattle.contract.specs.Tree.{value_tree, observation_tree};
+ghost use Rattle.json_write_contracts.specs.Symbols.{ValueSymbols, ObservationSymbols};
+ghost use Rattle.json_write_contracts.specs.Tokens.{Puts, PutsFitting};
+ghost use Rattle.json_write_contracts.specs.Written as written;
+ghost use Rattle.json_write_contracts.specs.Written.{value_fits, observation_fits};
+
+use crate::fault::WriteFault;
+use crate::name_forms::{put_choice_id, put_party, put_text, put_token};
+use crate::numbers::put_number;
+use collections::{Boxed, Memory, Text};
+use contract::{Observation, Value};
+use json::Writer;
+use names::{ChoiceId, Party, Token};
+use std::alloc::Global;
+
+fn put_available(
+    alloc: Global,
+    out: &mut Writer,
+    party: &Party,
+    token: &Token,
+) -> Result<(), Memory>
+    ensures put { OnOk result (Puts out.old out.new (written.two (codes "amount_of_token") (written.token_json token.now) (codes "in_account") (written.party_json party.now))) }
+    ensures symbol { OnOk result (IsBytes token.now.symbol) }
+{
+    out.begin_object()?;
+    out.key("amount_of_token")?;
+    put_token(alloc, out, token)?;
+    out.key("in_account")?;
+    put_party(out, party)?;
+    out.end_object()?;
+    Ok(())
+}
+
+// An object of one key, beside a choice.
+fn one_choice(out: &mut Writer, key: &str, id: &ChoiceId) -> Result<(), Memory>
+    ensures { OnOk result (Puts out.old out.new (written.one key.now (written.choice_id_json id.now))) }
+{
+    out.begin_object()?;
+    out.key(key)?;
+    put_choice_id(out, id)?;
+    out.end_object()?;
+    Ok(())
+}
+
+// An object of one key, beside a text.
+fn one_text(out: &mut Writer, key: &str, text: &Text) -> Result<(), Memory>
+    ensures { OnOk result (Puts out.old out.new (written.one key.now (string text.now))) }
+{
+    out.begin_object()?;
+    out.key(key)?;
+    put_text(out, text)?;
+    out.end_object()?;
+    Ok(())
+}
+
+/// Writes a word of its own.
+pub fn word(out: &mut Writer, word: &str) -> Result<(), Memory>
+    ensures { OnOk result (Puts out.old out.new (string word.now)) }
+{
+    out.string(word)
+}
+
+/// Writes a value: a constant as a number, and each other form as an object or a word of its own. A constant that
+/// doesn't lie from -2^63 to 2^64 - 1 is out of range.
+#[cycle(put_value)]
+#[tactic(auto, using(crate::proofs::ListedValues::value_writes, crate::proofs::SymbolsOf::value_symbols))]
+pub fn put_value(alloc: Global, out: &mut Writer, value: &Value) -> Result<(), WriteFault>
+    ensures put { PutsFitting result out.old out.new (value_fits (value_tree value.now)) (written.value_json (value_tree value.now)) }
+    ensures symbols { OnOk result (ValueSymbols (value_tree value.now)) }
+{
+    match value {
+        Value::AvailableMoney(party, token) => Ok(put_available(alloc, out, party, token)?),
+        Value::Constant(n) => put_number(out, *n),
+        Value::NegValue(v) => one_value(alloc, out, "negate", v),
+        Value::AddValue(v, w) => two_values(alloc, out, "add", v, "and", w),
+        Value::SubValue(v, w) => two_values(alloc, out, "minus", w, "value", v),
+        Value::MulValue(v, w) => two_values(alloc, out, "multiply", v, "times", w),
+        Value::DivValue(v, w) => two_values(alloc, out, "by", w, "divide", v),
+        Value::ChoiceValue(id) => Ok(one_choice(out, "value_of_choice", id)?),
+        Value::TimeIntervalStart => Ok(word(out, "time_interval_start")?),
+        Value::TimeIntervalEnd => Ok(word(out, "time_interval_end")?),
+        Value::UseValue(name) => Ok(one_text(out, "use_value", name)?),
+        Value::Cond(condition, then, otherwise) => {
+            put_cond(alloc, out, condition, then, otherwise)
+        }
+    }
+}
+
+/// Writes an observation: `true`, `false`, or an object. A constant in it that doesn't lie from -2^63 to 2^64 - 1 is
+/// out of range.
+#[cycle(put_value)]
+#[tactic(auto, using(crate::proofs::ListedValues::observation_writes, crate::proofs::SymbolsOf::observation_symbols))]
+pub fn put_observation(
+    alloc: Global,
+    out: &mut Writer,
+    observation: &Observation,
+) -> Result<(), WriteFault>
+    ensures put { PutsFitting result out.old out.new (observation_fits (observation_tree observation.now)) (written.observation_json (observation_tree observation.now)) }
+    ensures symbols { OnOk result (ObservationSymbols (observation_tree observation.now)) }
+{
+    match observation {
+        Observation::AndObs(o, p) => two_observations(alloc, out, "and", p, "both", o),
+        Observation::OrObs(o, p) => two_observations(alloc, out, "either", o, "or", p),
+        Observation::NotObs(o) => one_observation(alloc, out, "not", o),
+        Observation::ChoseSomething(id) => Ok(one_choice(out, "chose_something_for", id)?),
+        Observation::ValueGE(v, w) => two_values(alloc, out, "ge_than", w, "value", v),
+        Observation::ValueGT(v, w) => two_values(alloc, out, "gt", w, "value", v),
+        Observation::ValueLT(v, w) => two_values(alloc, out, "lt", w, "value", v),
+        Observation::ValueLE(v, w) => two_values(alloc, out, "le_than", w, "value", v),
+        Observation::ValueEQ(v, w) => two_values(alloc, out, "equal_to", w, "value", v),
+        Observation::TrueObs => Ok(out.boolean(true)?),
+        Observation::FalseObs => Ok(out.boolean(false)?),
+    }
+}
+
+#[cycle(put_value)]
+fn one_value(
+    alloc: Global,
+    out: &mut Writer,
+    key: &str,
+    value: &Boxed<Value>,
+) -> Result<(), WriteFault>
+    ensures put { PutsFitting result out.old out.new (value_fits (value_tree value.now)) (written.one key.now (written.value_json (value_tree value.now))) }
+    ensures symbols { OnOk result (ValueSymbols (value_tree value.now)) }
+{
+    out.begin_object()?;
+    out.key(key)?;
+    put_value(alloc, out, value.get())?;
+    out.end_object()?;
+    Ok(())
+}
+
+#[cycle(put_value)]
+fn one_observation(
+    alloc: Global,
+    out: &mut Writer,
+    key: &str,
+    observation: &Boxed<Observation>,
+) -> Result<(), WriteFault>
+    ensures put { PutsFitting result out.old out.new (observation_fits (observation_tree observation.now)) (written.one key.now (written.observation_json (observation_tree observation.now))) }
+    ensures symbols { OnOk result (ObservationSymbols (observation_tree observation.now)) }
+{
+    out.begin_object()?;
+    out.key(key)?;
+    put_observation(alloc, out, observation.get())?;
+    out.end_object()?;
+    Ok(())
+}
+
+#[cycle(put_value)]
+fn two_values(
+    alloc: Global,
+    out: &mut Writer,
+    a: &str,
+    v: &Boxed<Value>,
+    b: &str,
+    w: &Boxed<Value>,
+) -> Result<(), WriteFault>
+    ensures put { PutsFitting result out.old out.new (value_fits (value_tree v.now) && value_fits (value_tree w.now))
+        (written.two a.now (written.value_json (value_tree v.now)) b.now (written.value_json (value_tree w.now))) }
+    ensures first_symbols { OnOk result (ValueSymbols (value_tree v.now)) }
+    ensures second_symbols { OnOk result (ValueSymbols (value_tree w.now)) }
+{
+    out.begin_object()?;
+    out.key(a)?;
+    put_value(alloc, out, v.get())?;
+    out.key(b)?;
+    put_value(alloc, out, w.get())?;
+    out.end_object()?;
+    Ok(())
+}
+
+#[cycle(put_value)]
+fn two_observations(
+    alloc: Global,
+    out: &mut Writer,
+    a: &str,
+    o: &Boxed<Observation>,
+    b: &str,
+    p: &Boxed<Observation>,
+) -> Result<(), WriteFault>
+    ensures put { PutsFitting result out.old out.new (observation_fits (observation_tree o.now) && observation_fits (observation_tree p.now))
+        (written.two a.now (written.observation_json (observation_tree o.now)) b.now (written.observation_json (observation_tree p.now))) }
+    ensures first_symbols { OnOk result (ObservationSymbols (observation_tree o.now)) }
+    ensures second_symbols { OnOk result (ObservationSymbols (observation_tree p.now)) }
+{
+    out.begin_object()?;
+    out.key(a)?;
+    put_observation(alloc, out, o.get())?;
+    out.key(b)?;
+    put_observation(alloc, out, p.get())?;
+    out.end_object()?;
+    Ok(())
+}
+
+#[cycle(put_value)]
+fn put_cond(
+    alloc: Global,
+    out: &mut Writer,
+    condition: &Boxed<Observation>,
+    then: &Boxed<Value>,
+    otherwise: &Boxed<Value>,
+) -> Result<(), WriteFault>
+    ensures put { PutsFitting result out.old out.new (observation_fits (observation_tree condition.now) && value_fits (value_tree then.now) && value_fits (value_tree otherwise.now))
+        (written.three (codes "else") (written.value_json (value_tree otherwise.now)) (codes "if") (written.observation_json (observation_tree condition.now)) (codes "then") (written.value_json (value_tree then.now))) }
+    ensures condition_symbols { OnOk result (ObservationSymbols (observation_tree condition.now)) }
+    ensures then_symbols { OnOk result (ValueSymbols (value_tree then.now)) }
+    ensures otherwise_symbols { OnOk result (ValueSymbols (value_tree otherwise.now)) }
+{
+    out.begin_object()?;
+    out.key("else")?;
+    put_value(alloc, out, otherwise.get())?;
+    out.key("if")?;
+    put_observation(alloc, out, condition.get())?;
+    out.key("then")?;
+    put_value(alloc, out, then.get())?;
+    out.end_object()?;
+    Ok(())
+}

@@ -1,0 +1,53 @@
+//! Outcomes.
+ghost use Rattle.std.specs.Prelude.{◌≡◌, true, map, OnOk};
+ghost use Rattle.serde_json.specs.Data.{array};
+ghost use Rattle.serde_json.specs.View.{items_of};
+ghost use Rattle.contract.specs.Tree.{contract_tree};
+ghost use Rattle.json_write_contracts.specs.Tokens.{Puts, PutsFitting};
+ghost use Rattle.json_write_contracts.specs.Written.{contract_fits, time_fits};
+ghost use Rattle.json_write_outcomes.specs.WrittenOutcome.{payment_json, warning_json, outcome_json};
+
+use crate::lists::put_list;
+use crate::state_forms::put_state;
+use collections::{Items, Memory};
+use contract::{Contract, Outcome, Payment, Warning};
+use json::Writer;
+use json_write_contracts::{WriteFault, put_contract};
+use std::alloc::Global;
+
+fn put_payments(alloc: Global, out: &mut Writer, payments: &Items<Payment>) -> Result<(), Memory>
+    ensures { OnOk result (Puts out.old out.new (array (items_of (map payment_json payments.now)))) }
+{
+    put_list(alloc, out, payments.as_slice())
+}
+
+fn put_warnings(alloc: Global, out: &mut Writer, warnings: &Items<Warning>) -> Result<(), Memory>
+    ensures { OnOk result (Puts out.old out.new (array (items_of (map warning_json warnings.now)))) }
+{
+    put_list(alloc, out, warnings.as_slice())
+}
+
+/// Writes an outcome: the contract that remains, the payments and the warnings in order, and the state. A number
+/// of the contract that doesn't lie from -2^63 to 2^64 - 1 is out of range; elsewhere such a number is a text of
+/// its decimal digits.
+pub fn put_outcome(
+    alloc: Global,
+    out: &mut Writer,
+    outcome: &Outcome<&Contract>,
+) -> Result<(), WriteFault>
+    ensures put { PutsFitting result out.old out.new (contract_fits (contract_tree outcome.now.place.now))
+        (outcome_json outcome.now.warnings outcome.now.payments outcome.now.state (contract_tree outcome.now.place.now)) }
+    ensures time { OnOk result (time_fits outcome.now.state.min_time ≡ true) }
+{
+    out.begin_object()?;
+    out.key("contract")?;
+    put_contract(alloc, out, outcome.place)?;
+    out.key("payments")?;
+    put_payments(alloc, out, &outcome.payments)?;
+    out.key("state")?;
+    put_state(alloc, out, &outcome.state)?;
+    out.key("warnings")?;
+    put_warnings(alloc, out, &outcome.warnings)?;
+    out.end_object()?;
+    Ok(())
+}

@@ -1,0 +1,38 @@
+//! Payments.
+ghost use Rattle.std.specs.Prelude.{⊤, ◌≡◌, OnOk};
+ghost use Rattle.json_write_contracts.specs.Tokens.{Puts};
+ghost use Rattle.json_write_outcomes.specs.WrittenOutcome.{payment_json};
+
+use crate::lists::PutItem;
+use collections::Memory;
+use contract::Payment;
+use json::Writer;
+use json_write_contracts::{put_amount, put_party, put_payee, put_token};
+use std::alloc::Global;
+
+/// Writes a payment. An amount that JSON doesn't have is a text of its decimal digits.
+pub fn put_payment(alloc: Global, out: &mut Writer, payment: &Payment) -> Result<(), Memory>
+    ensures { OnOk result (Puts out.old out.new (payment_json payment.now)) }
+{
+    out.begin_object()?;
+    out.key("amount")?;
+    put_amount(alloc, out, &payment.amount)?;
+    out.key("payment_from")?;
+    put_party(out, &payment.from)?;
+    out.key("to")?;
+    put_payee(out, &payment.to)?;
+    out.key("token")?;
+    put_token(alloc, out, &payment.token)?;
+    out.end_object()?;
+    Ok(())
+}
+
+impl PutItem for Payment {
+    ghost json = { payment_json };
+
+    ghost known = { λ _. ⊤ };
+
+    fn put(&self, alloc: Global, out: &mut Writer) -> Result<(), Memory> {
+        put_payment(alloc, out, self)
+    }
+}

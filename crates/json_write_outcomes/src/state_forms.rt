@@ -1,0 +1,62 @@
+//! States.
+ghost use Rattle.std.specs.Prelude.{◌≡◌, true, map, OnOk};
+ghost use Rattle.std.specs.FinMap.{entries};
+ghost use Rattle.serde_json.specs.Data.{array};
+ghost use Rattle.serde_json.specs.View.{items_of};
+ghost use Rattle.json_write_contracts.specs.Tokens.{Puts};
+ghost use Rattle.json_write_contracts.specs.Written.{number_json, time_fits};
+ghost use Rattle.json_write_outcomes.specs.Each.{Each, HasBytes};
+ghost use Rattle.json_write_outcomes.specs.WrittenOutcome.{account_row_json, choice_row_json, bound_row_json, state_json};
+
+use crate::lists::put_list;
+use collections::Memory;
+use json::Writer;
+use json_write_contracts::put_time;
+use states::State;
+use std::alloc::Global;
+
+fn put_accounts(alloc: Global, out: &mut Writer, state: &State) -> Result<(), Memory>
+    ensures put { OnOk result (Puts out.old out.new (array (items_of (map account_row_json (entries state.now.accounts))))) }
+    ensures symbols { OnOk result (Each HasBytes (entries state.now.accounts)) }
+{
+    put_list(alloc, out, state.accounts())
+}
+
+fn put_bound_values(alloc: Global, out: &mut Writer, state: &State) -> Result<(), Memory>
+    ensures { OnOk result (Puts out.old out.new (array (items_of (map bound_row_json (entries state.now.bound_values))))) }
+{
+    put_list(alloc, out, state.bound_values())
+}
+
+fn put_choices(alloc: Global, out: &mut Writer, state: &State) -> Result<(), Memory>
+    ensures { OnOk result (Puts out.old out.new (array (items_of (map choice_row_json (entries state.now.choices))))) }
+{
+    put_list(alloc, out, state.choices())
+}
+
+fn put_min_time(out: &mut Writer, state: &State) -> Result<(), Memory>
+    ensures put { OnOk result (Puts out.old out.new (number_json state.now.min_time)) }
+    ensures fits { time_fits state.now.min_time ≡ true }
+{
+    put_time(out, state.min_time())
+}
+
+/// Writes a state, the rows of each map in the order of their keys. A number that JSON doesn't have is a text of
+/// its decimal digits; such a state isn't read again.
+pub fn put_state(alloc: Global, out: &mut Writer, state: &State) -> Result<(), Memory>
+    ensures put { OnOk result (Puts out.old out.new (state_json state.now)) }
+    ensures symbols { OnOk result (Each HasBytes (entries state.now.accounts)) }
+    ensures time { OnOk result (time_fits state.now.min_time ≡ true) }
+{
+    out.begin_object()?;
+    out.key("accounts")?;
+    put_accounts(alloc, out, state)?;
+    out.key("boundValues")?;
+    put_bound_values(alloc, out, state)?;
+    out.key("choices")?;
+    put_choices(alloc, out, state)?;
+    out.key("minTime")?;
+    put_min_time(out, state)?;
+    out.end_object()?;
+    Ok(())
+}

@@ -1,0 +1,159 @@
+//! Warnings.
+ghost use Rattle.std.specs.Prelude.{⊤, ◌≡◌, codes, OnOk};
+ghost use Rattle.serde_json.specs.Data.{string};
+ghost use Rattle.json_write_contracts.specs.Tokens.{Puts};
+ghost use Rattle.json_write_contracts.specs.Written as written;
+ghost use Rattle.json_write_outcomes.specs.WrittenOutcome.{warning_json};
+
+use crate::lists::PutItem;
+use collections::{Memory, Text};
+use contract::Warning;
+use json::Writer;
+use json_write_contracts::{put_amount, put_party, put_payee, put_text, put_token, word};
+use names::{Party, Payee, Token};
+use std::alloc::Global;
+
+fn put_deposit_warning(
+    alloc: Global,
+    out: &mut Writer,
+    account: &Party,
+    party: &Party,
+    token: &Token,
+    amount: &i128,
+) -> Result<(), Memory>
+    ensures { OnOk result (Puts out.old out.new (written.five (codes "account") (written.party_json account.now) (codes "amount") (written.wide_json amount.now)
+        (codes "party") (written.party_json party.now) (codes "token") (written.token_json token.now) (codes "warning") (string (codes "NonPositiveDeposit")))) }
+{
+    out.begin_object()?;
+    out.key("account")?;
+    put_party(out, account)?;
+    out.key("amount")?;
+    put_amount(alloc, out, amount)?;
+    out.key("party")?;
+    put_party(out, party)?;
+    out.key("token")?;
+    put_token(alloc, out, token)?;
+    out.key("warning")?;
+    word(out, "NonPositiveDeposit")?;
+    out.end_object()?;
+    Ok(())
+}
+
+fn put_pay_warning(
+    alloc: Global,
+    out: &mut Writer,
+    account: &Party,
+    payee: &Payee,
+    token: &Token,
+    amount: &i128,
+) -> Result<(), Memory>
+    ensures { OnOk result (Puts out.old out.new (written.five (codes "account") (written.party_json account.now) (codes "amount") (written.wide_json amount.now)
+        (codes "payee") (written.payee_json payee.now) (codes "token") (written.token_json token.now) (codes "warning") (string (codes "NonPositivePay")))) }
+{
+    out.begin_object()?;
+    out.key("account")?;
+    put_party(out, account)?;
+    out.key("amount")?;
+    put_amount(alloc, out, amount)?;
+    out.key("payee")?;
+    put_payee(out, payee)?;
+    out.key("token")?;
+    put_token(alloc, out, token)?;
+    out.key("warning")?;
+    word(out, "NonPositivePay")?;
+    out.end_object()?;
+    Ok(())
+}
+
+fn put_partial_warning(
+    alloc: Global,
+    out: &mut Writer,
+    account: &Party,
+    payee: &Payee,
+    token: &Token,
+    paid: &i128,
+    expected: &i128,
+) -> Result<(), Memory>
+    ensures { OnOk result (Puts out.old out.new (written.six (codes "account") (written.party_json account.now) (codes "expected") (written.wide_json expected.now)
+        (codes "paid") (written.wide_json paid.now) (codes "payee") (written.payee_json payee.now) (codes "token") (written.token_json token.now)
+        (codes "warning") (string (codes "PartialPay")))) }
+{
+    out.begin_object()?;
+    out.key("account")?;
+    put_party(out, account)?;
+    out.key("expected")?;
+    put_amount(alloc, out, expected)?;
+    out.key("paid")?;
+    put_amount(alloc, out, paid)?;
+    out.key("payee")?;
+    put_payee(out, payee)?;
+    out.key("token")?;
+    put_token(alloc, out, token)?;
+    out.key("warning")?;
+    word(out, "PartialPay")?;
+    out.end_object()?;
+    Ok(())
+}
+
+fn put_shadowing(
+    alloc: Global,
+    out: &mut Writer,
+    name: &Text,
+    old: &i128,
+    new: &i128,
+) -> Result<(), Memory>
+    ensures { OnOk result (Puts out.old out.new (written.four (codes "name") (string name.now) (codes "new") (written.wide_json new.now) (codes "old") (written.wide_json old.now)
+        (codes "warning") (string (codes "Shadowing")))) }
+{
+    out.begin_object()?;
+    out.key("name")?;
+    put_text(out, name)?;
+    out.key("new")?;
+    put_amount(alloc, out, new)?;
+    out.key("old")?;
+    put_amount(alloc, out, old)?;
+    out.key("warning")?;
+    word(out, "Shadowing")?;
+    out.end_object()?;
+    Ok(())
+}
+
+fn put_failed_assertion(out: &mut Writer) -> Result<(), Memory>
+    ensures { OnOk result (Puts out.old out.new (written.one (codes "warning") (string (codes "AssertionFailed")))) }
+{
+    out.begin_object()?;
+    out.key("warning")?;
+    word(out, "AssertionFailed")?;
+    out.end_object()?;
+    Ok(())
+}
+
+/// Writes a warning (Marlowe specification version 3, "Compute transaction"): an object with its name under the
+/// key `warning`, beside what it says. A number that JSON doesn't have is a text of its decimal digits.
+pub fn put_warning(alloc: Global, out: &mut Writer, warning: &Warning) -> Result<(), Memory>
+    ensures { OnOk result (Puts out.old out.new (warning_json warning.now)) }
+{
+    match warning {
+        Warning::NonPositiveDeposit(account, party, token, amount) => {
+            put_deposit_warning(alloc, out, account, party, token, amount)
+        }
+        Warning::NonPositivePay(account, payee, token, amount) => {
+            put_pay_warning(alloc, out, account, payee, token, amount)
+        }
+        Warning::PartialPay(account, payee, token, paid, expected) => {
+            put_partial_warning(alloc, out, account, payee, token, paid, expected)
+        }
+        Warning::Shadowing(name, old, new) => put_shadowing(alloc, out, name, old, new),
+        Warning::AssertionFailed => put_failed_assertion(out),
+    }
+}
+
+impl PutItem for Warning {
+    ghost json = { warning_json };
+
+    ghost known = { λ _. ⊤ };
+
+    fn put(&self, alloc: Global, out: &mut Writer) -> Result<(), Memory> {
+        put_warning(alloc, out, self)
+    }
+}
