@@ -77,8 +77,8 @@ fn play_on<R: Threads + Wait + Sync, J: Session + Send + Sync, W: Watch + Sync>(
     let Some(mut first) = seats.next() else {
         return Err(PlayFault::Memory);
     };
-    let contracts = publish_all(rt, alloc, &hub, &mut first, contracts)?;
-    let threads = start_all(rt, alloc, &hub, &mut first, contracts.as_slice(), threads)?;
+    let contracts = publish_all(rt, alloc, &hub, &mut first, watch, contracts)?;
+    let threads = start_all(rt, alloc, &hub, &mut first, watch, contracts.as_slice(), threads)?;
     let stage = Stage { contracts, threads };
     let mut turns = Vec::new(alloc);
     for (plan, seat) in plans.into_vec().into_iter().zip(seats) {

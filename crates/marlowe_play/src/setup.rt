@@ -2,6 +2,7 @@
 ghost use Rattle.std.specs.Prelude.{◌≡◌, [], IfOk};
 
 use crate::fault::PlayFault;
+use crate::watch::Watch;
 use chain::{Call, Chain, GenesisFault, Reply};
 use collections::{Items, Memory, TryClone};
 use eutxo_types::{Lock, Output};
@@ -56,31 +57,34 @@ fn genesis_refused(alloc: Global, fault: GenesisFault) -> PlayFault {
 }
 
 // Publishes the contracts in order: as they are published, in the same order.
-pub(crate) fn publish_all<R: Wait, J: Session>(
+pub(crate) fn publish_all<R: Wait, J: Session, W: Watch>(
     rt: &R,
     alloc: Global,
     hub: &Hub<J>,
     seat: &mut Seat<J>,
+    watch: &W,
     contracts: Items<NamedContract>,
 ) -> Result<Vec<Published>, PlayFault> {
     let mut published = Vec::new(alloc);
     for contract in contracts.into_vec() {
-        published.push(publish_one(rt, alloc, hub, seat, contract)?)?;
+        published.push(publish_one(rt, alloc, hub, seat, watch, contract)?)?;
     }
     Ok(published)
 }
 
-fn publish_one<R: Wait, J: Session>(
+fn publish_one<R: Wait, J: Session, W: Watch>(
     rt: &R,
     alloc: Global,
     hub: &Hub<J>,
     seat: &mut Seat<J>,
+    watch: &W,
     named: NamedContract,
 ) -> Result<Published, PlayFault> {
     let (name, currency, contract) = named.into_parts();
     let name = name.as_str();
     let made = publish(alloc, &contract, currency.try_clone()?);
     let receipt = hub.call(rt, alloc, seat, Call::Publish { contract, currency })?;
+    watch.answered(receipt.entry());
     match made {
         Err(fault) => Err(contract_refused(alloc, name, fault)),
         Ok(published) => match receipt.reply() {

@@ -3,6 +3,7 @@ use crate::fault::PlayFault;
 use crate::fault_texts::{build_fault_text, tx_fault_text};
 use crate::setup::refused;
 use crate::stage::Started;
+use crate::watch::Watch;
 use builder::{Ask, BuildFault, Unspent, build_start};
 use chain::{Call, Reply};
 use collections::{Items, Memory, Text, TryClone};
@@ -16,39 +17,42 @@ use std::alloc::Global;
 use std::sync::Wait;
 
 // Starts the threads in order.
-pub(crate) fn start_all<R: Wait, J: Session>(
+pub(crate) fn start_all<R: Wait, J: Session, W: Watch>(
     rt: &R,
     alloc: Global,
     hub: &Hub<J>,
     seat: &mut Seat<J>,
+    watch: &W,
     contracts: &[Published],
     threads: Items<NamedThread>,
 ) -> Result<Vec<Started>, PlayFault> {
     let mut started = Vec::new(alloc);
     for thread in threads.into_vec() {
-        started.push(start_one(rt, alloc, hub, seat, contracts, thread)?)?;
+        started.push(start_one(rt, alloc, hub, seat, watch, contracts, thread)?)?;
     }
     Ok(started)
 }
 
 // Looks at the key of who starts the thread, builds the start and submits it.
-fn start_one<R: Wait, J: Session>(
+fn start_one<R: Wait, J: Session, W: Watch>(
     rt: &R,
     alloc: Global,
     hub: &Hub<J>,
     seat: &mut Seat<J>,
+    watch: &W,
     contracts: &[Published],
     thread: NamedThread,
 ) -> Result<Started, PlayFault> {
     let Some(published) = contracts.get(thread.contract) else {
         return Err(PlayFault::Scenario(JsonFault::NoForm));
     };
-    let shown = look_at(rt, alloc, hub, seat, &thread.by)?;
+    let shown = look_at(rt, alloc, hub, seat, watch, &thread.by)?;
     let tx = match start_of(alloc, published, &thread, shown.reply()) {
         Ok(tx) => tx,
         Err(fault) => return Err(start_refused(alloc, thread.name.as_str(), &fault)),
     };
     let told = hub.call(rt, alloc, seat, Call::Submit(tx))?;
+    watch.answered(told.entry());
     match told.reply() {
         Reply::Accepted(id) => Ok(Started {
             name: thread.name,
@@ -60,11 +64,12 @@ fn start_one<R: Wait, J: Session>(
 }
 
 // A look at the key of an address.
-fn look_at<R: Wait, J: Session>(
+fn look_at<R: Wait, J: Session, W: Watch>(
     rt: &R,
     alloc: Global,
     hub: &Hub<J>,
     seat: &mut Seat<J>,
+    watch: &W,
     address: &Text,
 ) -> Result<Receipt<J>, Memory> {
     let ask = Ask {
@@ -72,7 +77,9 @@ fn look_at<R: Wait, J: Session>(
         keys: only(alloc, address)?,
         payouts: Items::new(alloc),
     };
-    hub.call(rt, alloc, seat, Call::Look(ask))
+    let shown = hub.call(rt, alloc, seat, Call::Look(ask))?;
+    watch.answered(shown.entry());
+    Ok(shown)
 }
 
 fn only(alloc: Global, text: &Text) -> Result<Items<Text>, Memory> {

@@ -1,5 +1,5 @@
 //! Parties with their seats, and how they play.
-use crate::watch::Watch;
+use crate::watch::{Told, Watch};
 use collections::Memory;
 use hub::{Hub, Seat, Session};
 use parties::Party;
@@ -22,7 +22,7 @@ fn played<R: Threads + Wait + Sync, J: Session, W: Watch>(
     turn: Turn<'_, J>,
 ) -> Ended<J> {
     let (hub, party, mut seat) = turn;
-    let told = party.run(rt, alloc, hub, &mut seat);
+    let told = party.run_watched(rt, alloc, hub, &mut seat, &Told { watch });
     watch.ended(seat.number());
     match told {
         Ok(_) => (seat, Ok(())),
