@@ -115,7 +115,7 @@ fn is_over(stage: &Stage<'_>, thread: &NamedThread, steps: &[StepRecord]) -> boo
 
 fn is_close(table: &Table, number: u32) -> bool {
     match table.conts().get(number as usize) {
-        Some(entry) => matches!(entry.node, ContNode::Close),
+        Some(entry) => matches!(&entry.node, ContNode::Close),
         None => false,
     }
 }
