@@ -40,6 +40,7 @@ FACES = [
     ("Its laws, over every list of accepted transactions", "ledger_laws"),
     ("The builders", "builder"),
     ("The headline's second half: what is built is accepted", "chain::Chain::step(second) builder_laws"),
+    ("Many threads: what each was told, one history, and parties", "hub parties"),
 ]
 
 # words of the language, and names that are there without an import
