@@ -1,6 +1,8 @@
 use denote.Exit.{no}
 use denote.Param.{param}
 use denote.Param.Send.{sendable, param_send, arg_send}
+use Rattle.std.proofs.result.Result.TheSendSync as result
+use Rattle.std.proofs.alloc.AllocError.TheSendSync as refused
 use Rattle.hub.proofs.Crossing.{seats_are_sent, at_hubs_are_sent}
 use Rattle.rows_workers.proofs.seats.pay_in_threads.Goals as goal
 
@@ -10,4 +12,4 @@ map_vec-requires-send-J g c κs within = param_send 1 _ (arg_send _ no _ (at_hub
 
 -- and come back
 pub map_vec-requires-send-X : goal.map_vec-requires-send-X
-map_vec-requires-send-X g c κs within = search (seats_are_sent, sendable) depth 60 fits 20000
+map_vec-requires-send-X g c κs within = search (seats_are_sent, result.the_send, refused.the_send, sendable) depth 60 fits 20000

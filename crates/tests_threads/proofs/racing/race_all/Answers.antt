@@ -1,6 +1,7 @@
 use denote.Exit.{no}
 use denote.Param.{param}
 use denote.Param.Send.{sendable, param_send, arg_send}
+use Rattle.std.proofs.option.Option.TheSendSync as option
 use Rattle.hub.proofs.Crossing.{seats_are_sent, at_hubs_are_sent}
 use Rattle.tests_threads.proofs.racing.race_all.Goals as goal
 
@@ -10,4 +11,4 @@ map_vec-requires-send-J g c κs within = param_send 1 _ (arg_send _ no _ (at_hub
 
 -- and come back
 pub map_vec-requires-send-X : goal.map_vec-requires-send-X
-map_vec-requires-send-X g c κs within = search (seats_are_sent, sendable) depth 60 fits 20000
+map_vec-requires-send-X g c κs within = search (seats_are_sent, option.the_send, sendable) depth 60 fits 20000
