@@ -163,6 +163,9 @@ def intent(scenario, play, starts):
         return {"advance": play.chain.tick + R.choice([0, 1, 3, 10, 30, -1])}
     if sort < 0.13:
         return {"round": R.choice([0, 1, 2, 3, 10, 2**64 - 1]), "workers": R.choice([1, 2, 4, 16])}
+    claims = due(scenario, play)
+    if claims and sort > 0.7:
+        return {**R.choice(claims), **interval(play)}
     if sort < 0.2 or not scenario["threads"]:
         return {"claim": R.choice(scenario["contracts"])["name"], "role": R.choice(ROLES), **interval(play)}
     place = R.randrange(len(scenario["threads"]))
@@ -173,6 +176,13 @@ def intent(scenario, play, starts):
     if R.random() < 0.35:
         made["pool"] = R.random() < 0.8
     return made
+
+
+def due(scenario, play):
+    """Claims for which there are payouts."""
+    locks = {output.lock[1:] for output in play.chain.unspent.values() if output.lock[0] == "payout"}
+    return [{"claim": each["name"], "role": role} for each in scenario["contracts"] for currency, role in sorted(locks)
+            if bytes.fromhex(each["currency"]) == currency]
 
 
 def interval(play):
