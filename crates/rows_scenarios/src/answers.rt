@@ -1,10 +1,10 @@
 //! What is printed for a row.
 use crate::given::Given;
-use crate::plays::played;
+use crate::plays::{last_lines, played};
 use crate::readings::told;
 use json_read_scenarios::read_scenario;
 use marlowe_play::play;
-use rows_text::{RowFault, first};
+use rows_text::{RowFault, first, number};
 use std::sync::Wait;
 use std::thread::Threads;
 
@@ -18,18 +18,24 @@ pub fn answer<R: AllocGlobal + Threads + Wait + Sync>(
     if given.keeps(rt.alloc(), word, rest)? {
         return Ok(None);
     }
+    let (count, rest) = if word == "last" { first(rest) } else { ("", rest) };
     let text = given.text(rt.alloc(), rest)?;
-    Ok(Some(row_answer(rt, word, text.as_slice())?))
+    Ok(Some(row_answer(rt, word, count, text.as_slice())?))
 }
 
 fn row_answer<R: AllocGlobal + Threads + Wait + Sync>(
     rt: &R,
     word: &str,
+    count: &str,
     text: &[u8],
 ) -> Result<Vec<u8>, RowFault> {
     match word {
         "read" => told(rt.alloc(), read_scenario(rt.alloc(), text)),
         "play" => played(rt.alloc(), play(rt, rt.alloc(), text, true)),
+        "last" => {
+            let lines = played(rt.alloc(), play(rt, rt.alloc(), text, true))?;
+            Ok(last_lines(rt.alloc(), number(count)?, lines.as_slice())?)
+        }
         "threads" => played(rt.alloc(), play(rt, rt.alloc(), text, false)),
         _ => Err(RowFault::NoSuchRow),
     }

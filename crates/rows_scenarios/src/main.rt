@@ -12,7 +12,8 @@
 //! - `read TEXT` reads the text as a scenario, and prints what is read, a line for the tick, each item and each intent, or the
 //!   name of the fault;
 //! - `play TEXT` plays the scenario, its plans in turn, and prints the lines of the play or of the refusal;
-//! - `threads TEXT` does so with each plan in a thread of its own: it is for scenarios with one plan, whose play is always the same.
+//! - `last COUNT TEXT` does so, and prints the last so many of these lines alone;
+//! - `threads TEXT` plays it with each plan in a thread of its own: it is for scenarios with one plan, whose play is always the same.
 //!
 //! `#` begins a comment, and an empty line is nothing. Any other line prints `no such row`.
 #![tactic(auto)]
