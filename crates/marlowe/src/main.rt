@@ -1,18 +1,26 @@
-//! `marlowe`: what a Marlowe contract pays, and to whom, from JSON files.
+//! `marlowe`: what a Marlowe contract pays, and to whom, from JSON files; and what becomes of contracts that many parties
+//! step on one ledger.
 //!
-//! Status 0: the outcome or the table is on standard output. Status 1: the input is refused, by one line on
-//! standard error. Status 2: a file that can't be read, a fault of the command line, or a standard
+//! Status 0: the outcome, the table or the lines of a play are on standard output, whatever the parties of a play were told.
+//! Status 1: the input is refused, by one line on standard error. Status 2: a file that can't be read, a fault of the command line, or a standard
 //! output that can't be written.
 #![tactic(auto)]
 
+mod progress;
+
+use crate::progress::Progress;
 use clap::Error;
 use clap::error::ErrorKind;
 use marlowe_cli::{Task, WordsFault, line, words};
 use marlowe_io::{LoadFault, emit_output, load_file};
+use marlowe_play::{PlayFault, play_refusal, play_watched};
 use marlowe_run::{Fault, RunFault, refusal, run, table_text};
-use std::alloc::Global;
+use std::alloc::{AllocError, Global};
+use std::io::IsTerminal;
 use std::process::ExitCode;
-use std::rt::Files;
+use std::rt::{Clock, Files};
+use std::sync::Wait;
+use std::thread::Threads;
 
 fn main(rt: HostRuntime) -> ExitCode {
     let words = match words(&rt) {
@@ -32,6 +40,10 @@ fn main(rt: HostRuntime) -> ExitCode {
             },
         ) => tell_answer(&rt, run_files(&rt, contract, state, transaction)),
         Ok(Task::Table { contract }) => tell_answer(&rt, table_of_file(&rt, contract)),
+        Ok(Task::Play { scenario, one }) => {
+            let shown = rt.stderr().is_terminal();
+            tell_answer(&rt, play_file(&rt, scenario, one, shown))
+        }
         Err(error) => match error.kind() {
             ErrorKind::OutOfMemory => refuse_for_memory(rt.alloc(), &rt.stderr()),
             _ => tell_fault(&rt, &error),
@@ -43,6 +55,7 @@ fn main(rt: HostRuntime) -> ExitCode {
 #[derive(Drop)]
 enum Stop<'a> {
     Refused(Fault),
+    NotPlayed(PlayFault),
     Unreadable(&'a str),
 }
 
@@ -74,6 +87,20 @@ fn table_of_file<'a, R: Files + AllocGlobal>(
     table_text(rt.alloc(), contract.as_slice()).map_err(|fault| Stop::Refused(Fault::Table(fault)))
 }
 
+// Reads the file, and then plays its scenario. If wanted, it shows meanwhile how far it is.
+fn play_file<'a, R: Files + AllocGlobal + Clock + Eprint + Threads + Wait + Sync>(
+    rt: &R,
+    scenario: &'a str,
+    one: bool,
+    shown: bool,
+) -> Result<Vec<u8>, Stop<'a>> {
+    let text = text_of(rt, scenario)?;
+    let progress = Progress::new(rt, shown);
+    let played = play_watched(rt, rt.alloc(), text.as_slice(), one, &progress);
+    progress.clear();
+    played.map_err(Stop::NotPlayed)
+}
+
 // What a file holds, as far as it is read.
 fn text_of<'a, R: Files + AllocGlobal>(rt: &R, path: &'a str) -> Result<Vec<u8>, Stop<'a>> {
     match load_file(rt, path) {
@@ -87,7 +114,8 @@ fn text_of<'a, R: Files + AllocGlobal>(rt: &R, path: &'a str) -> Result<Vec<u8>,
 fn tell_answer(rt: &HostRuntime, answer: Result<Vec<u8>, Stop<'_>>) -> ExitCode {
     match answer {
         Ok(text) => print(rt, text.as_slice()),
-        Err(Stop::Refused(fault)) => refuse(rt.alloc(), &rt.stderr(), &fault),
+        Err(Stop::Refused(fault)) => refuse(&rt.stderr(), refusal(rt.alloc(), &fault)),
+        Err(Stop::NotPlayed(fault)) => refuse(&rt.stderr(), play_refusal(rt.alloc(), &fault)),
         Err(Stop::Unreadable(path)) => {
             let _ = eprintln!(rt; "unreadable {path}");
             ExitCode::from(2)
@@ -113,9 +141,9 @@ fn tell_fault(rt: &(impl Print + Eprint), error: &Error) -> ExitCode {
     ExitCode::from(status)
 }
 
-// Tells why the input is refused.
-fn refuse(alloc: Global, to: &impl Print, fault: &Fault) -> ExitCode {
-    let _ = match refusal(alloc, fault) {
+// Tells why the input is refused, by a line that may itself have been refused memory.
+fn refuse(to: &impl Print, line: Result<Vec<u8>, AllocError>) -> ExitCode {
+    let _ = match line {
         Ok(line) => to.write_all(line.as_slice()),
         Err(_) => to.write_all(b"refused Memory"),
     };
@@ -124,5 +152,5 @@ fn refuse(alloc: Global, to: &impl Print, fault: &Fault) -> ExitCode {
 }
 
 fn refuse_for_memory(alloc: Global, to: &impl Print) -> ExitCode {
-    refuse(alloc, to, &Fault::Run(RunFault::Memory))
+    refuse(to, refusal(alloc, &Fault::Run(RunFault::Memory)))
 }

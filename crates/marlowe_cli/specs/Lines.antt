@@ -1,8 +1,9 @@
 -- The command line: its commands and their arguments, as a command of the library that reads the words, and what a task says of them.
-use Rattle.std.specs.Prelude.{◌≡◌, List, Some, None, Option, true, false, codes}
-use Rattle.clap.specs.Words.{App, Row, Rule, Text, first_of, new_app, new_rule, with_rule, with_subcommand}
+use Rattle.std.specs.Prelude.{◌≡◌, Bool, List, Some, None, Option, true, false, codes}
+use Rattle.clap.specs.Words.{App, Row, Rule, Text, first_of, one_of, new_app, new_rule, with_rule, with_subcommand}
+use Rattle.clap.specs.declared.builder.action.ArgAction.TheVariants.{SetTrue}
 use Rattle.marlowe_cli.specs.declared.task.Task.{Task}
-use Rattle.marlowe_cli.specs.declared.task.Task.TheVariants.{Run, Table}
+use Rattle.marlowe_cli.specs.declared.task.Task.TheVariants.{Run, Table, Play}
 
 -- an argument that has to be given, by its place
 abbrev pub given : Text → Rule
@@ -16,6 +17,14 @@ run_command = with_rule (with_rule (with_rule (new_app (codes "run")) (given (co
 abbrev pub table_command : App
 table_command = with_rule (new_app (codes "table")) (given (codes "CONTRACT"))
 
+-- `--one`, which may be left out
+abbrev pub one_flag : Rule
+one_flag = record (new_rule (codes "one")) { long = Some (codes "one"); action = Some SetTrue }
+
+-- `play SCENARIO [--one]`
+abbrev pub play_command : App
+play_command = with_rule (with_rule (new_app (codes "play")) (given (codes "SCENARIO"))) one_flag
+
 -- the program without its commands: it has a version and needs a command
 abbrev pub program : App
 program = record (new_app (codes "marlowe")) {
@@ -24,9 +33,15 @@ program = record (new_app (codes "marlowe")) {
 
 -- the whole command line
 abbrev pub command_line : App
-command_line = with_subcommand (with_subcommand program run_command.top) table_command.top
+command_line = with_subcommand (with_subcommand (with_subcommand program run_command.top) table_command.top) play_command.top
 
--- a task is what is asked: the command's name, and the word that was given for each argument
+-- a flag is set where its text is `true`, and not where that is `false` or there is none
+abbrev pub IsFlag : Option Text → Bool → Type 0
+IsFlag text flag = (text ≡ Some (codes "true") → flag ≡ true)
+    × (text ≡ Some (codes "false") → flag ≡ false)
+    × (text ≡ None → flag ≡ false)
+
+-- a task is what is asked: the command's name, the word that was given for each argument, and the flag
 abbrev pub IsAsked : Option (Text × List Row) → Task → Type 0
 IsAsked None task = ⊥
 IsAsked (Some (name, words)) (Run contract state transaction) = (name ≡ codes "run")
@@ -34,3 +49,5 @@ IsAsked (Some (name, words)) (Run contract state transaction) = (name ≡ codes 
     × (first_of (codes "STATE") words ≡ Some state.now)
     × (first_of (codes "TX") words ≡ Some transaction.now)
 IsAsked (Some (name, words)) (Table contract) = (name ≡ codes "table") × (first_of (codes "CONTRACT") words ≡ Some contract.now)
+IsAsked (Some (name, words)) (Play scenario one) = (name ≡ codes "play") × (first_of (codes "SCENARIO") words ≡ Some scenario.now)
+    × IsFlag (one_of (codes "one") words) one

@@ -78,6 +78,11 @@ fn line_row(alloc: Global, text: &str) -> Result<Vec<u8>, AllocError> {
             let told = format!(in alloc; "table {contract}")?;
             Ok(told.into_bytes())
         }
+        Ok(Task::Play { scenario, one }) => {
+            let how = if one { "one after another" } else { "at once" };
+            let told = format!(in alloc; "play {scenario} {how}")?;
+            Ok(told.into_bytes())
+        }
         Err(error) if error.use_stderr() => bytes(alloc, "on standard error"),
         Err(_) => bytes(alloc, "on standard output"),
     }

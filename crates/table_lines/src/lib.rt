@@ -3,7 +3,6 @@
 
 mod lines;
 mod lists;
-mod terms;
 mod text;
 
 pub use text::table_lines;

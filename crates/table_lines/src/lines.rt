@@ -1,7 +1,7 @@
 //! The line of a node, after its number.
 use crate::lists::in_brackets;
-use crate::terms::term_text;
 use collections::Memory;
+use json_terms::term_text;
 use nodes::{CaseNode, ContNode, ObservationNode, ValueNode};
 use std::alloc::Global;
 use std::fmt::Write;

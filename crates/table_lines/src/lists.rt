@@ -1,5 +1,4 @@
 //! Items in brackets, with commas between them.
-use crate::terms::bound;
 use collections::Memory;
 use names::Bound;
 use std::alloc::Global;
@@ -10,9 +9,12 @@ pub(crate) trait Item {
     fn text(&self, alloc: Global) -> Result<String, Memory>;
 }
 
+// A bound, whose numbers may have any size.
 impl Item for Bound {
     fn text(&self, alloc: Global) -> Result<String, Memory> {
-        bound(alloc, self)
+        let from = self.from;
+        let to = self.to;
+        format!(in alloc; "{{\"from\":{from},\"to\":{to}}}")
     }
 }
 

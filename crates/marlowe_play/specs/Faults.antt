@@ -1,0 +1,18 @@
+-- Why a scenario isn't played, and the line that tells it.
+use Rattle.std.specs.Prelude.{ℕ, List, ◌++◌, codes}
+use Rattle.json_read_names.specs.declared.fault.JsonFault.{JsonFault}
+use Rattle.json_read_names.specs.declared.fault.JsonFault.TheVariants as json
+use Rattle.marlowe_run.specs.Refusals.{json_fault_name}
+use Rattle.marlowe_play.specs.declared.fault.PlayFault.{PlayFault}
+use Rattle.marlowe_play.specs.declared.fault.PlayFault.TheVariants.{Scenario, Setup, Memory}
+
+-- a fault of the text: want of memory is never inside another fault
+abbrev pub scenario_fault : JsonFault → PlayFault
+scenario_fault json.Memory = Memory
+scenario_fault fault = Scenario fault
+
+-- the line of a fault
+abbrev pub play_refusal_text : PlayFault → List ℕ
+play_refusal_text (Scenario fault) = codes "refused scenario " ++ json_fault_name fault
+play_refusal_text (Setup line) = line.items
+play_refusal_text Memory = codes "refused Memory"

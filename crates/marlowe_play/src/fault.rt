@@ -1,0 +1,51 @@
+//! Why a scenario isn't played.
+ghost use Rattle.std.specs.Prelude.{◌≡◌};
+ghost use Rattle.marlowe_play.specs.Faults.{scenario_fault};
+ghost use Rattle.marlowe_play.specs.declared.fault.PlayFault.TheVariants as playing;
+
+use json_read_names::JsonFault;
+use std::alloc::{AllocError, AllocFailed};
+use thiserror::Error;
+
+/// Why `play` gives no text. Of several the first in this order answers. Want of memory is Memory, and never inside another.
+#[derive(Debug, PartialEq, Eq, Drop, Error)]
+pub enum PlayFault {
+    /// The text is no scenario.
+    #[error("scenario: {0}")]
+    Scenario(JsonFault),
+    /// The setup has a fault, and nothing was played: the line that tells it, without a line feed. It is `refused genesis
+    /// FAULT`, `refused contract NAME FAULT` or `refused thread NAME FAULT`, where NAME is the name in the scenario.
+    #[error("the setup is refused")]
+    Setup(Vec<u8>),
+    /// Memory was refused.
+    #[error("memory was refused")]
+    Memory,
+}
+
+impl PlayFault {
+    /// A fault of the text.
+    pub fn of_scenario(fault: JsonFault) -> PlayFault
+        ensures { result ≡ scenario_fault fault }
+    {
+        match fault {
+            JsonFault::Memory => PlayFault::Memory,
+            other => PlayFault::Scenario(other),
+        }
+    }
+}
+
+impl From<AllocError> for PlayFault {
+    ghost from_gives = { λ _ fault. fault ≡ playing.Memory };
+
+    fn from(_error: AllocError) -> PlayFault {
+        PlayFault::Memory
+    }
+}
+
+impl<T: Drop> From<AllocFailed<T>> for PlayFault {
+    ghost from_gives = { λ _ fault. fault ≡ playing.Memory };
+
+    fn from(_error: AllocFailed<T>) -> PlayFault {
+        PlayFault::Memory
+    }
+}

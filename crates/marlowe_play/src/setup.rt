@@ -1,0 +1,105 @@
+//! The setup of a play: the ledger's beginning, and the contracts that are published on it.
+ghost use Rattle.std.specs.Prelude.{◌≡◌, [], IfOk};
+
+use crate::fault::PlayFault;
+use crate::watch::Watch;
+use chain::{Call, Chain, GenesisFault, Reply};
+use collections::{Items, Memory, TryClone};
+use eutxo_types::{Lock, Output};
+use hub::{Hub, Seat, Session};
+use marlowe_run::compile_fault_name;
+use plans::{Funds, NamedContract};
+use roles::{CompileFault, Published, publish};
+use std::alloc::Global;
+use std::sync::Wait;
+
+// The fault of a setup with this line, or that there was no memory for it.
+pub(crate) fn refused(line: Result<String, Memory>) -> PlayFault {
+    match line {
+        Ok(line) => PlayFault::Setup(line.into_bytes()),
+        Err(_) => PlayFault::Memory,
+    }
+}
+
+// A chain that begins with what the scenario's addresses have.
+pub(crate) fn first_chain(
+    alloc: Global,
+    genesis: Items<Funds>,
+    tick: i64,
+) -> Result<Chain, PlayFault>
+    ensures { IfOk result (λ chain. chain.entries ≡ []) }
+{
+    let outputs = key_outputs(alloc, genesis)?;
+    match Chain::genesis(alloc, outputs, tick) {
+        Ok(chain) => Ok(chain),
+        Err(fault) => Err(genesis_refused(alloc, fault)),
+    }
+}
+
+// An output under the key of each address.
+fn key_outputs(alloc: Global, genesis: Items<Funds>) -> Result<Items<Output>, Memory> {
+    let mut outputs = Items::new(alloc);
+    for Funds { address, amount } in genesis.into_vec() {
+        outputs.push(Output {
+            lock: Lock::Key(address),
+            amount,
+        })?;
+    }
+    Ok(outputs)
+}
+
+fn genesis_refused(alloc: Global, fault: GenesisFault) -> PlayFault {
+    match fault {
+        GenesisFault::NotKey => refused(format!(in alloc; "refused genesis NotKey")),
+        GenesisFault::TooLarge => refused(format!(in alloc; "refused genesis TooLarge")),
+        GenesisFault::Memory => PlayFault::Memory,
+    }
+}
+
+// Publishes the contracts in order: as they are published, in the same order.
+pub(crate) fn publish_all<R: Wait, J: Session, W: Watch>(
+    rt: &R,
+    alloc: Global,
+    hub: &Hub<J>,
+    seat: &mut Seat<J>,
+    watch: &W,
+    contracts: Items<NamedContract>,
+) -> Result<Vec<Published>, PlayFault> {
+    let mut published = Vec::new(alloc);
+    for contract in contracts.into_vec() {
+        published.push(publish_one(rt, alloc, hub, seat, watch, contract)?)?;
+    }
+    Ok(published)
+}
+
+fn publish_one<R: Wait, J: Session, W: Watch>(
+    rt: &R,
+    alloc: Global,
+    hub: &Hub<J>,
+    seat: &mut Seat<J>,
+    watch: &W,
+    named: NamedContract,
+) -> Result<Published, PlayFault> {
+    let (name, currency, contract) = named.into_parts();
+    let name = name.as_str();
+    let made = publish(alloc, &contract, currency.try_clone()?);
+    let receipt = hub.call(rt, alloc, seat, Call::Publish { contract, currency })?;
+    watch.answered(receipt.entry());
+    match made {
+        Err(fault) => Err(contract_refused(alloc, name, fault)),
+        Ok(published) => match receipt.reply() {
+            Reply::IdInUse => Err(refused(format!(in alloc; "refused contract {name} IdInUse"))),
+            _ => Ok(published),
+        },
+    }
+}
+
+fn contract_refused(alloc: Global, name: &str, fault: CompileFault) -> PlayFault {
+    match fault {
+        CompileFault::Memory => PlayFault::Memory,
+        fault => {
+            let fault = compile_fault_name(fault);
+            refused(format!(in alloc; "refused contract {name} {fault}"))
+        }
+    }
+}
