@@ -165,28 +165,51 @@ def run_whole(play, seat, calls):
 ENTRY = re.compile(r"[0-9]+ ([0-9]+)\.[0-9]+ ")
 
 
+class Seats:
+    """The seats of a play and the call that each makes next. The plans begin once the setup has ended."""
+
+    def __init__(self, play):
+        self.play, self.calls, self.next = play, [], []
+        self.add(play.setup())
+        self.begin_plans()
+
+    def add(self, calls):
+        self.calls.append(calls)
+        self.next.append(next_call(calls, None))
+
+    def begin_plans(self):
+        if len(self.calls) == 1 and self.next[0] is None:
+            for plan in self.play.scenario["plans"]:
+                self.add(self.play.plan(plan))
+
+    def answer(self, seat):
+        """Makes a seat's next call. Whether it has one."""
+        if seat >= len(self.next) or self.next[seat] is None:
+            return False
+        reply = self.play.answer(seat, self.next[seat])
+        self.next[seat] = next_call(self.calls[seat], reply)
+        self.begin_plans()
+        return True
+
+    def waiting(self):
+        """The seats that have a call left."""
+        return [seat for seat, call in enumerate(self.next) if call]
+
+
 def replayed(text, lines):
     """Makes the calls of a printed play in its order, and gives the number of its entries."""
     play = Play(text)
-    seats = [play.setup()]
-    calls = [next_call(seats[0], None)]
+    seats = Seats(play)
     for line in lines:
         found = ENTRY.match(line)
         if not found:
             break
-        if len(seats) == 1 and calls[0] is None:
-            seats += [play.plan(plan) for plan in play.scenario["plans"]]
-            calls += [next_call(seat, None) for seat in seats[1:]]
-        seat = int(found[1])
-        if seat >= len(seats) or calls[seat] is None:
-            raise Differs(f"{line}\nhere seat {seat} makes no call then")
-        reply = play.answer(seat, calls[seat])
+        if not seats.answer(int(found[1])):
+            raise Differs(f"{line}\nhere that seat makes no call then")
         if play.lines[-1] != line:
             raise Differs(f"{line}\nhere {play.lines[-1]}")
-        calls[seat] = next_call(seats[seat], reply)
-    waiting = [seat for seat, call in enumerate(calls) if call]
-    if waiting:
-        raise Differs(f"the entries end, and here seat {waiting[0]} makes a call then")
+    if seats.waiting():
+        raise Differs(f"the entries end\nhere seat {seats.waiting()[0]} makes a call then")
     rest = play.whole()
     for place in range(max(len(rest), len(lines))):
         theirs, ours = (part[place] if place < len(part) else "(nothing)" for part in (lines, rest))
