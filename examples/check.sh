@@ -17,6 +17,18 @@ for example in crates/rows_runs/data/examples/*/; do
   if [ "$out" = "$want" ] && [ "$status" = "$wanted" ]; then echo "$name: as written"
   else echo "$name: status $status, $out"; failed=1; fi
 done
+for example in examples/plays/*/; do
+  example=${example%/}
+  name=${example##*/}
+  out=$("$program" play "$example/scenario.json" --one 2>&1)
+  status=$?
+  if [ "$out" = "$(cat "$example/output.txt")" ] && [ "$status" = 0 ]; then echo "$name: as written"
+  else echo "$name: status $status, $out"; failed=1; fi
+  # at once, the threads end as they do one after another
+  out=$("$program" play "$example/scenario.json" 2>&1)
+  if [ "$(echo "$out" | grep '^thread ')" = "$(grep '^thread ' "$example/output.txt")" ]; then echo "$name, at once: as written"
+  else echo "$name, at once: $out"; failed=1; fi
+done
 # no file, and a word that is no text in UTF-8
 out=$("$program" run no_such_file no_such_file no_such_file 2>&1)
 status=$?

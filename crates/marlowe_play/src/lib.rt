@@ -8,6 +8,7 @@
 mod fault;
 mod fault_texts;
 mod lines;
+mod naming;
 mod playing;
 mod refusal_line;
 mod setup;

@@ -1,24 +1,26 @@
 //! What is printed of a play: a line for each entry, for each thread, and for the number of entries.
 use crate::fault_texts::tx_fault_text;
-use crate::stage::{Stage, Started};
+use crate::stage::Stage;
 use chain::{Chain, Entry, Reply, StepRecord, Ticketed};
 use collections::Memory;
 use eutxo_types::Verdict;
 use marlowe_run::compile_fault_name;
 use nodes::ContNode;
+use plans::NamedThread;
 use std::alloc::Global;
 use std::fmt::Write;
 use table::Table;
 
 // The whole text. Each line ends in a line feed.
-pub(crate) fn played_text(alloc: Global, chain: &Chain, stage: &Stage) -> Result<Vec<u8>, Memory> {
+pub(crate) fn played_text(alloc: Global, chain: &Chain, stage: &Stage<'_>) -> Result<Vec<u8>, Memory> {
     let entries = chain.entries();
     let mut out = String::new(alloc);
     for (number, entry) in entries.iter().enumerate() {
         print_entry(alloc, &mut out, number, entry)?;
     }
-    for thread in &stage.threads {
-        print_thread(alloc, &mut out, chain, stage, thread)?;
+    for (thread, start) in stage.scenario.threads.as_slice().iter().zip(&stage.starts) {
+        let steps = chain.steps_of(alloc, start)?;
+        print_thread(&mut out, stage, thread, steps.as_slice())?;
     }
     let count = entries.len();
     write!(out, "entries {count}\n")?;
@@ -88,16 +90,14 @@ fn print_place(alloc: Global, out: &mut String, place: &Ticketed) -> Result<(), 
 
 // A thread's line: how many steps of it were accepted, and whether the last left Close.
 fn print_thread(
-    alloc: Global,
     out: &mut String,
-    chain: &Chain,
-    stage: &Stage,
-    thread: &Started,
+    stage: &Stage<'_>,
+    thread: &NamedThread,
+    steps: &[StepRecord],
 ) -> Result<(), Memory> {
-    let steps = chain.steps_of(alloc, &thread.start)?;
     let name = thread.name.as_str();
     let count = steps.len();
-    let end = if is_over(stage, thread, steps.as_slice()) {
+    let end = if is_over(stage, thread, steps) {
         "closed"
     } else {
         "open"
@@ -106,7 +106,7 @@ fn print_thread(
 }
 
 // Whether the last of a thread's steps left Close.
-fn is_over(stage: &Stage, thread: &Started, steps: &[StepRecord]) -> bool {
+fn is_over(stage: &Stage<'_>, thread: &NamedThread, steps: &[StepRecord]) -> bool {
     match (stage.contracts.get(thread.contract), steps.last()) {
         (Some(contract), Some(step)) => is_close(&contract.table, step.number.0),
         _ => false,

@@ -3,18 +3,17 @@ ghost use Rattle.std.specs.Prelude.{◌≡◌};
 
 use crate::fault::PlayFault;
 use crate::lines::played_text;
+use crate::naming::plan_on;
 use crate::setup::{first_chain, publish_all};
 use crate::stage::Stage;
 use crate::starts::start_all;
-use crate::turns::{Ended, Turn, at_once, in_turn};
+use crate::turns::{at_once, in_turn};
 use crate::watch::{Unwatched, Watch};
-use collections::{Bytes, Items, Memory, TryClone};
-use eutxo_types::OutputRef;
-use hub::{Opening, Seat, Session};
+use hub::{Hub, Opening, Seat, Session};
 use json_read_names::JsonFault;
 use json_read_scenarios::read_scenario;
 use parties::Party;
-use plans::{Intent, Parts, Plan};
+use plans::Scenario;
 use std::alloc::Global;
 use std::marker::Brand;
 use std::sync::Wait;
@@ -50,47 +49,25 @@ pub fn play_watched<R: Threads + Wait + Sync, W: Watch + Sync>(
     if 63 < count {
         return Err(PlayFault::Scenario(JsonFault::NoForm));
     }
-    let tick = scenario.tick;
-    let (genesis, parts) = scenario.into_parts();
-    let chain = first_chain(alloc, genesis, tick)?;
+    let chain = first_chain(alloc, scenario.genesis.as_slice(), scenario.tick)?;
     let opening = Opening::new(chain, count as u64 + 1);
-    play_on::<R, Brand, W>(rt, alloc, opening, parts, one, watch)
+    play_on::<R, Brand, W>(rt, alloc, opening, &scenario, one, watch)
 }
 
+// Plays a scenario on its ledger, which has begun.
 fn play_on<R: Threads + Wait + Sync, J: Session + Send + Sync, W: Watch + Sync>(
     rt: &R,
     alloc: Global,
     opening: Opening,
-    parts: Parts,
+    scenario: &Scenario,
     one: bool,
     watch: &W,
 ) -> Result<Vec<u8>, PlayFault>
     requires { opening ≡ J.session }
 {
-    let (hub, seats) = opening.open::<J>(alloc)?;
-    let Parts {
-        contracts,
-        threads,
-        plans,
-    } = parts;
-    let mut seats = seats.into_iter();
-    let Some(mut first) = seats.next() else {
-        return Err(PlayFault::Memory);
-    };
-    let contracts = publish_all(rt, alloc, &hub, &mut first, watch, contracts)?;
-    let threads = start_all(rt, alloc, &hub, &mut first, watch, contracts.as_slice(), threads)?;
-    let stage = Stage { contracts, threads };
-    let mut turns = Vec::new(alloc);
-    for (plan, seat) in plans.into_vec().into_iter().zip(seats) {
-        let plan = plan_on(alloc, plan, &stage)?;
-        turns.push((&hub, Party { plan }, seat))?;
-    }
-    let ended = if one {
-        in_turn(rt, alloc, watch, turns)?
-    } else {
-        at_once(rt, alloc, watch, turns)?
-    };
-    let seats = seats_of(alloc, first, ended)?;
+    let (hub, mut seats) = opening.open::<J>(alloc)?;
+    let stage = staged(rt, alloc, &hub, &mut seats, scenario, watch)?;
+    let seats = play_all(rt, alloc, &hub, seats, &stage, one, watch)?;
     if !hub.are_all(&seats) {
         return Err(PlayFault::Memory);
     }
@@ -98,82 +75,64 @@ fn play_on<R: Threads + Wait + Sync, J: Session + Send + Sync, W: Watch + Sync>(
     Ok(played_text(alloc, closed.chain(), &stage)?)
 }
 
-// All seats in order, once no party was refused memory.
-fn seats_of<J: Session>(
+// Sets the ledger up by the first seat.
+fn staged<'s, R: Wait, J: Session, W: Watch>(
+    rt: &R,
     alloc: Global,
-    first: Seat<J>,
-    ended: Vec<Ended<J>>,
-) -> Result<Vec<Seat<J>>, Memory> {
-    let mut seats = Vec::new(alloc);
-    seats.push(first)?;
-    for (seat, done) in ended {
-        done?;
-        seats.push(seat)?;
-    }
-    Ok(seats)
-}
-
-// A plan on a ledger that is set up: threads are named by their start outputs, and contracts by their currencies.
-fn plan_on(
-    alloc: Global,
-    plan: Plan<usize, usize>,
-    stage: &Stage,
-) -> Result<Plan<OutputRef, Bytes>, PlayFault> {
-    let mut intents = Items::new(alloc);
-    for intent in plan.intents.into_vec() {
-        intents.push(intent_on(intent, stage)?)?;
-    }
-    Ok(Plan {
-        name: plan.name,
-        keys: plan.keys,
-        change: plan.change,
-        intents,
-        stop_after: plan.stop_after,
+    hub: &Hub<J>,
+    seats: &mut Vec<Seat<J>>,
+    scenario: &'s Scenario,
+    watch: &W,
+) -> Result<Stage<'s>, PlayFault> {
+    let Some(seat) = seats.first_mut() else {
+        return Err(PlayFault::Memory);
+    };
+    let contracts = publish_all(rt, alloc, hub, seat, watch, scenario.contracts.as_slice())?;
+    let starts = start_all(
+        rt,
+        alloc,
+        hub,
+        seat,
+        watch,
+        contracts.as_slice(),
+        scenario.threads.as_slice(),
+    )?;
+    Ok(Stage {
+        scenario,
+        contracts,
+        starts,
     })
 }
 
-fn intent_on(
-    intent: Intent<usize, usize>,
-    stage: &Stage,
-) -> Result<Intent<OutputRef, Bytes>, PlayFault> {
-    match intent {
-        Intent::Step {
-            thread,
-            inputs,
-            interval,
-            pooled,
-        } => Ok(Intent::Step {
-            thread: start_at(stage, thread)?,
-            inputs,
-            interval,
-            pooled,
-        }),
-        Intent::Claim {
-            contract,
-            role,
-            interval,
-        } => Ok(Intent::Claim {
-            contract: currency_at(stage, contract)?,
-            role,
-            interval,
-        }),
-        Intent::Round { count, workers } => Ok(Intent::Round { count, workers }),
-        Intent::Advance(tick) => Ok(Intent::Advance(tick)),
+// Has all plans played, each by a party with a seat of its own: all seats, in order.
+fn play_all<R: Threads + Wait + Sync, J: Session + Send + Sync, W: Watch + Sync>(
+    rt: &R,
+    alloc: Global,
+    hub: &Hub<J>,
+    seats: Vec<Seat<J>>,
+    stage: &Stage<'_>,
+    one: bool,
+    watch: &W,
+) -> Result<Vec<Seat<J>>, PlayFault> {
+    let mut all = Vec::new(alloc);
+    let mut turns = Vec::new(alloc);
+    let mut plans = stage.scenario.plans.as_slice().iter();
+    for seat in seats {
+        if seat.number() == 0 {
+            all.push(seat)?;
+        } else if let Some(plan) = plans.next() {
+            let plan = plan_on(alloc, stage, plan)?;
+            turns.push((hub, Party { plan }, seat))?;
+        }
     }
-}
-
-// The start output of the thread at a place of the scenario's list.
-fn start_at(stage: &Stage, place: usize) -> Result<OutputRef, PlayFault> {
-    match stage.threads.get(place) {
-        Some(thread) => Ok(thread.start),
-        None => Err(PlayFault::Scenario(JsonFault::NoForm)),
+    let ended = if one {
+        in_turn(rt, alloc, watch, turns)?
+    } else {
+        at_once(rt, alloc, watch, turns)?
+    };
+    for (seat, done) in ended {
+        done?;
+        all.push(seat)?;
     }
-}
-
-// The currency of the contract at a place of the scenario's list.
-fn currency_at(stage: &Stage, place: usize) -> Result<Bytes, PlayFault> {
-    match stage.contracts.get(place) {
-        Some(contract) => Ok(contract.currency.try_clone()?),
-        None => Err(PlayFault::Scenario(JsonFault::NoForm)),
-    }
+    Ok(all)
 }

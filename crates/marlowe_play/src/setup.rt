@@ -24,7 +24,7 @@ pub(crate) fn refused(line: Result<String, Memory>) -> PlayFault {
 // A chain that begins with what the scenario's addresses have.
 pub(crate) fn first_chain(
     alloc: Global,
-    genesis: Items<Funds>,
+    genesis: &[Funds],
     tick: i64,
 ) -> Result<Chain, PlayFault>
     ensures { IfOk result (λ chain. chain.entries ≡ []) }
@@ -37,12 +37,12 @@ pub(crate) fn first_chain(
 }
 
 // An output under the key of each address.
-fn key_outputs(alloc: Global, genesis: Items<Funds>) -> Result<Items<Output>, Memory> {
+fn key_outputs(alloc: Global, genesis: &[Funds]) -> Result<Items<Output>, Memory> {
     let mut outputs = Items::new(alloc);
-    for Funds { address, amount } in genesis.into_vec() {
+    for funds in genesis {
         outputs.push(Output {
-            lock: Lock::Key(address),
-            amount,
+            lock: Lock::Key(funds.address.try_clone()?),
+            amount: funds.amount.try_clone()?,
         })?;
     }
     Ok(outputs)
@@ -63,10 +63,10 @@ pub(crate) fn publish_all<R: Wait, J: Session, W: Watch>(
     hub: &Hub<J>,
     seat: &mut Seat<J>,
     watch: &W,
-    contracts: Items<NamedContract>,
+    contracts: &[NamedContract],
 ) -> Result<Vec<Published>, PlayFault> {
     let mut published = Vec::new(alloc);
-    for contract in contracts.into_vec() {
+    for contract in contracts {
         published.push(publish_one(rt, alloc, hub, seat, watch, contract)?)?;
     }
     Ok(published)
@@ -78,19 +78,22 @@ fn publish_one<R: Wait, J: Session, W: Watch>(
     hub: &Hub<J>,
     seat: &mut Seat<J>,
     watch: &W,
-    named: NamedContract,
+    named: &NamedContract,
 ) -> Result<Published, PlayFault> {
-    let (name, currency, contract) = named.into_parts();
-    let name = name.as_str();
-    let made = publish(alloc, &contract, currency.try_clone()?);
-    let receipt = hub.call(rt, alloc, seat, Call::Publish { contract, currency })?;
+    let name = named.name.as_str();
+    let published = match publish(alloc, &named.contract, named.currency.try_clone()?) {
+        Ok(published) => published,
+        Err(fault) => return Err(contract_refused(alloc, name, fault)),
+    };
+    let call = Call::Publish {
+        contract: named.contract.try_clone()?,
+        currency: named.currency.try_clone()?,
+    };
+    let receipt = hub.call(rt, alloc, seat, call)?;
     watch.answered(receipt.entry());
-    match made {
-        Err(fault) => Err(contract_refused(alloc, name, fault)),
-        Ok(published) => match receipt.reply() {
-            Reply::IdInUse => Err(refused(format!(in alloc; "refused contract {name} IdInUse"))),
-            _ => Ok(published),
-        },
+    match receipt.reply() {
+        Reply::IdInUse => Err(refused(format!(in alloc; "refused contract {name} IdInUse"))),
+        _ => Ok(published),
     }
 }
 

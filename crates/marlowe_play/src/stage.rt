@@ -1,22 +1,35 @@
 //! What a setup makes.
-use collections::Text;
+use crate::fault::PlayFault;
+use collections::{Bytes, TryClone};
 use eutxo_types::OutputRef;
+use json_read_names::JsonFault;
+use plans::Scenario;
 use roles::Published;
 
-// A thread that was started.
+// A scenario whose ledger is set up.
 #[derive(Drop)]
-pub(crate) struct Started {
-    // Its name in the scenario.
-    pub(crate) name: Text,
-    // The place of its contract in the scenario's list.
-    pub(crate) contract: usize,
-    // Its start output.
-    pub(crate) start: OutputRef,
+pub(crate) struct Stage<'s> {
+    pub(crate) scenario: &'s Scenario,
+    // The scenario's contracts as they are published, in order.
+    pub(crate) contracts: Vec<Published>,
+    // The start outputs of its threads, in order.
+    pub(crate) starts: Vec<OutputRef>,
 }
 
-// A ledger that is set up: the scenario's contracts as they are published, and its threads, both in order.
-#[derive(Drop)]
-pub(crate) struct Stage {
-    pub(crate) contracts: Vec<Published>,
-    pub(crate) threads: Vec<Started>,
+impl Stage<'_> {
+    // The start output of the thread at a place of the scenario's list.
+    pub(crate) fn start_at(&self, place: usize) -> Result<OutputRef, PlayFault> {
+        match self.starts.get(place) {
+            Some(start) => Ok(*start),
+            None => Err(PlayFault::Scenario(JsonFault::NoForm)),
+        }
+    }
+
+    // The currency of the contract at a place of the scenario's list.
+    pub(crate) fn currency_at(&self, place: usize) -> Result<Bytes, PlayFault> {
+        match self.contracts.get(place) {
+            Some(contract) => Ok(contract.currency.try_clone()?),
+            None => Err(PlayFault::Scenario(JsonFault::NoForm)),
+        }
+    }
 }

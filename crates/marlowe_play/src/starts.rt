@@ -2,7 +2,6 @@
 use crate::fault::PlayFault;
 use crate::fault_texts::{build_fault_text, tx_fault_text};
 use crate::setup::refused;
-use crate::stage::Started;
 use crate::watch::Watch;
 use builder::{Ask, BuildFault, Unspent, build_start};
 use chain::{Call, Reply};
@@ -16,7 +15,7 @@ use roles::Published;
 use std::alloc::Global;
 use std::sync::Wait;
 
-// Starts the threads in order.
+// Starts the threads in order: their start outputs, in the same order.
 pub(crate) fn start_all<R: Wait, J: Session, W: Watch>(
     rt: &R,
     alloc: Global,
@@ -24,13 +23,13 @@ pub(crate) fn start_all<R: Wait, J: Session, W: Watch>(
     seat: &mut Seat<J>,
     watch: &W,
     contracts: &[Published],
-    threads: Items<NamedThread>,
-) -> Result<Vec<Started>, PlayFault> {
-    let mut started = Vec::new(alloc);
-    for thread in threads.into_vec() {
-        started.push(start_one(rt, alloc, hub, seat, watch, contracts, thread)?)?;
+    threads: &[NamedThread],
+) -> Result<Vec<OutputRef>, PlayFault> {
+    let mut starts = Vec::new(alloc);
+    for thread in threads {
+        starts.push(start_one(rt, alloc, hub, seat, watch, contracts, thread)?)?;
     }
-    Ok(started)
+    Ok(starts)
 }
 
 // Looks at the key of who starts the thread, builds the start and submits it.
@@ -41,24 +40,20 @@ fn start_one<R: Wait, J: Session, W: Watch>(
     seat: &mut Seat<J>,
     watch: &W,
     contracts: &[Published],
-    thread: NamedThread,
-) -> Result<Started, PlayFault> {
+    thread: &NamedThread,
+) -> Result<OutputRef, PlayFault> {
     let Some(published) = contracts.get(thread.contract) else {
         return Err(PlayFault::Scenario(JsonFault::NoForm));
     };
     let shown = look_at(rt, alloc, hub, seat, watch, &thread.by)?;
-    let tx = match start_of(alloc, published, &thread, shown.reply()) {
+    let tx = match start_of(alloc, published, thread, shown.reply()) {
         Ok(tx) => tx,
         Err(fault) => return Err(start_refused(alloc, thread.name.as_str(), &fault)),
     };
     let told = hub.call(rt, alloc, seat, Call::Submit(tx))?;
     watch.answered(told.entry());
     match told.reply() {
-        Reply::Accepted(id) => Ok(Started {
-            name: thread.name,
-            contract: thread.contract,
-            start: OutputRef::Made { id: *id, index: 0 },
-        }),
+        Reply::Accepted(id) => Ok(OutputRef::Made { id: *id, index: 0 }),
         reply => Err(submit_refused(alloc, thread.name.as_str(), reply)),
     }
 }

@@ -10,4 +10,4 @@ mod scenario;
 
 pub use intent::Intent;
 pub use plan::Plan;
-pub use scenario::{Funds, NamedContract, NamedThread, Parts, Scenario};
+pub use scenario::{Funds, NamedContract, NamedThread, Scenario};

@@ -1,6 +1,4 @@
 //! Scenarios as they are read.
-ghost use Rattle.std.specs.Prelude.{◌≡◌};
-
 use crate::plan::Plan;
 use bundle::Bundle;
 use contract::{Bytes, Contract, Items, State, Text};
@@ -28,20 +26,6 @@ impl Drop for NamedContract {
             currency: _,
             contract: _,
         } = self;
-    }
-}
-
-impl NamedContract {
-    /// Its name, its currency and its contract, by value. Takes no memory.
-    pub fn into_parts(self) -> (Text, Bytes, Contract)
-        ensures { result ≡ (self.name, self.currency, self.contract) }
-    {
-        let NamedContract {
-            name,
-            currency,
-            contract,
-        } = self;
-        (name, currency, contract)
     }
 }
 
@@ -80,37 +64,5 @@ impl Drop for Scenario {
             threads: _,
             plans: _,
         } = self;
-    }
-}
-
-/// What is played on a ledger once it has begun: the parts of a scenario beside the ledger's beginning.
-#[derive(Drop)]
-pub struct Parts {
-    pub contracts: Items<NamedContract>,
-    pub threads: Items<NamedThread>,
-    pub plans: Items<Plan<usize, usize>>,
-}
-
-impl Scenario {
-    /// What the ledger begins with, and the other parts, by value. Takes no memory.
-    pub fn into_parts(self) -> (Items<Funds>, Parts)
-        ensures genesis { result.0 ≡ self.genesis }
-        ensures parts { (result.1.contracts ≡ self.contracts) × (result.1.threads ≡ self.threads) × (result.1.plans ≡ self.plans) }
-    {
-        let Scenario {
-            tick: _,
-            genesis,
-            contracts,
-            threads,
-            plans,
-        } = self;
-        (
-            genesis,
-            Parts {
-                contracts,
-                threads,
-                plans,
-            },
-        )
     }
 }
