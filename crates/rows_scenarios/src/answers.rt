@@ -18,7 +18,11 @@ pub fn answer<R: AllocGlobal + Threads + Wait + Sync>(
     if given.keeps(rt.alloc(), word, rest)? {
         return Ok(None);
     }
-    let (count, rest) = if word == "last" { first(rest) } else { ("", rest) };
+    let (count, rest) = if word == "last" {
+        first(rest)
+    } else {
+        ("", rest)
+    };
     let text = given.text(rt.alloc(), rest)?;
     Ok(Some(row_answer(rt, word, count, text.as_slice())?))
 }

@@ -108,7 +108,11 @@ fn put_piece(
     is_name: bool,
     text: &mut Vec<u8>,
 ) -> Result<(), RowFault> {
-    let piece = if is_name { text_named(named, piece)? } else { piece.as_bytes() };
+    let piece = if is_name {
+        text_named(named, piece)?
+    } else {
+        piece.as_bytes()
+    };
     text.extend_from_slice(piece)?;
     Ok(())
 }

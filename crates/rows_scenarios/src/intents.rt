@@ -65,7 +65,10 @@ fn intent_line(alloc: Global, intent: &Intent<usize, usize>) -> Result<String, M
             ..
         } => {
             let word = if *pooled { "pooled step" } else { "step" };
-            format!(in alloc; "\n {word} {thread} from {} to {}", interval.from, interval.to)
+            format!(in alloc;
+                "\n {word} {thread} from {} to {}",
+                interval.from, interval.to
+            )
         }
         Intent::Claim {
             contract,
@@ -73,11 +76,12 @@ fn intent_line(alloc: Global, intent: &Intent<usize, usize>) -> Result<String, M
             interval,
         } => {
             let role = role.as_str();
-            format!(in alloc; "\n claim {contract} {role} from {} to {}", interval.from, interval.to)
+            format!(in alloc;
+                "\n claim {contract} {role} from {} to {}",
+                interval.from, interval.to
+            )
         }
-        Intent::Round { count, workers } => {
-            format!(in alloc; "\n round {count} by {workers}")
-        }
+        Intent::Round { count, workers } => { format!(in alloc; "\n round {count} by {workers}") }
         Intent::Advance(tick) => format!(in alloc; "\n advance {tick}"),
     }
 }
