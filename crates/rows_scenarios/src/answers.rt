@@ -1,7 +1,7 @@
 //! What is printed for a row.
 use crate::given::Given;
 use crate::plays::{last_lines, played};
-use crate::readings::told;
+use crate::readings::reading;
 use json_read_scenarios::read_scenario;
 use marlowe_play::play;
 use rows_text::{RowFault, first, number};
@@ -34,7 +34,7 @@ fn row_answer<R: AllocGlobal + Threads + Wait + Sync>(
     text: &[u8],
 ) -> Result<Vec<u8>, RowFault> {
     match word {
-        "read" => told(rt.alloc(), read_scenario(rt.alloc(), text)),
+        "read" => reading(rt.alloc(), read_scenario(rt.alloc(), text)),
         "play" => played(rt.alloc(), play(rt, rt.alloc(), text, true)),
         "last" => {
             let lines = played(rt.alloc(), play(rt, rt.alloc(), text, true))?;

@@ -16,7 +16,7 @@ pub trait Told: Drop {
 }
 
 /// What is printed for a text that was read: a line for each part of it, or the name of the fault.
-pub fn told<T: Told>(alloc: Global, read: Result<T, JsonFault>) -> Result<Vec<u8>, RowFault> {
+pub fn reading<T: Told>(alloc: Global, read: Result<T, JsonFault>) -> Result<Vec<u8>, RowFault> {
     let mut lines = String::new(alloc);
     match read {
         Ok(thing) => thing.put(alloc, &mut lines)?,
