@@ -122,4 +122,4 @@ def main():
             for kind in kinds: told[kind] = told.get(kind, 0) + 1
     print(count, "runs agree")
     for kind in sorted(told): print(f"  {told[kind]:6} with {kind}")
-main()
+if __name__ == "__main__": main()

@@ -1,7 +1,7 @@
 """A small interpreter of Marlowe in plain Python, written from docs/semantics.md and docs/formats.md, to compare the program with.
 
 Needs    nothing: it has no code of the program, and shares none of its definitions.
-Usage    compare.py imports it.
+Usage    compare.py and ledger.py import it.
 Expect   `printed(contract, state, transaction)` to give the text that `marlowe run` prints. It reads contracts as JSON data, takes each
          form at its word, and says nothing of malformed input.
 """
@@ -231,21 +231,31 @@ def wide(number):
     return number if -2**63 <= number < 2**64 else str(number)
 
 
-def outcome(contract, state, transaction):
-    """What a transaction leaves, as JSON data."""
+def finished(contract, state, transaction):
+    """A transaction at its end, and the contract that is left."""
     run = Transaction(state, transaction["tx_interval"])
     left = run.settle(contract)
     for given in transaction["tx_inputs"]:
         left = run.settle(run.apply(given, left))
     if not run.turned:
         raise Refused("Useless")
-    accounts = [[[party_json(p), token_json(t)], wide(n)] for (p, t), n in sorted(run.accounts.items(), key=account_order)]
-    choices = [[choice_json(i), wide(n)] for i, n in sorted(run.choices.items(), key=choice_order)]
-    bound = [[x, wide(n)] for x, n in sorted(run.bound.items(), key=lambda entry: entry[0].encode())]
+    return run, left
+
+
+def state_json(run, told):
+    """The state that a transaction leaves, its numbers told by a function."""
+    accounts = [[[party_json(p), token_json(t)], told(n)] for (p, t), n in sorted(run.accounts.items(), key=account_order)]
+    choices = [[choice_json(i), told(n)] for i, n in sorted(run.choices.items(), key=choice_order)]
+    bound = [[x, told(n)] for x, n in sorted(run.bound.items(), key=lambda entry: entry[0].encode())]
+    return {"accounts": accounts, "boundValues": bound, "choices": choices, "minTime": run.min_time}
+
+
+def outcome(contract, state, transaction):
+    """What a transaction leaves, as JSON data."""
+    run, left = finished(contract, state, transaction)
     payments = [{"payment_from": party_json(a), "to": payee_json(p), "token": token_json(t), "amount": wide(n)} for a, p, t, n in run.payments]
     warnings = [{key: wide(v) if isinstance(v, int) else v for key, v in w.items()} for w in run.warnings]
-    new_state = {"accounts": accounts, "boundValues": bound, "choices": choices, "minTime": run.min_time}
-    return {"contract": left, "payments": payments, "state": new_state, "warnings": warnings}
+    return {"contract": left, "payments": payments, "state": state_json(run, wide), "warnings": warnings}
 
 
 def printed(contract, state, transaction):

@@ -230,5 +230,6 @@ def compare(name):
     print(f"{name} ok {len(written)} answers")
 
 
-for name in ("transactions.txt", "parts.txt", "sums.txt"):
-    compare(name)
+if __name__ == "__main__":
+    for name in ("transactions.txt", "parts.txt", "sums.txt"):
+        compare(name)

@@ -1,0 +1,305 @@
+#!/usr/bin/env python3
+"""Plays a scenario in plain Python, apart from the program, and compares the program with it.
+
+Needs    readings.py, ledger.py and random_scenarios.py beside it, and for `--compare` the built program:
+         (cd crates/marlowe && rt run -- --version)
+Usage    plays.py SCENARIO                      prints what `marlowe play --one SCENARIO` has to print
+         plays.py --replay SCENARIO PRINTED     makes the calls of a printed play again, in its order
+         plays.py --compare N SEED PROGRAM      compares the program on N random scenarios, played on one thread and on many
+Expect   the lines of the play and status 0, or one line `refused ..` on standard error and status 1;
+         `replayed N entries`, where each printed verdict is the one that comes here, seat by seat;
+         `N scenarios agree`, then how many lines of each kind there were; the same for the same seed.
+Else     the first line that differs, or `differs` with the seed and the scenario's file, and status 1.
+"""
+import collections
+import os
+import re
+import subprocess
+import sys
+import tempfile
+
+sys.path.insert(0, os.path.dirname(os.path.abspath(__file__)))
+import ledger
+import random_scenarios
+import readings
+
+AGAIN = 16
+
+
+class Refused(Exception):
+    """The play ends with this line."""
+
+
+class Differs(Exception):
+    """A printed line isn't the one that comes here."""
+
+
+class Play:
+    """A play so far: its chain, the lines of its entries, and where its threads start."""
+
+    def __init__(self, text):
+        try:
+            self.scenario = readings.scenario(text)
+        except readings.Fault as fault:
+            raise Refused(f"refused scenario {fault}") from None
+        genesis = [ledger.Output(("key", funds["address"]), ledger.amount(funds["amount"])) for funds in self.scenario["genesis"]]
+        self.chain, self.lines, self.starts = ledger.Chain(genesis, self.scenario["tick"]), [], []
+        self.answered = collections.Counter()
+
+    def answer(self, seat, call):
+        """Makes a call for a seat, and its line."""
+        reply = self.chain.call(*call)
+        self.lines.append(f"{len(self.lines)} {seat}.{self.answered[seat]} {reply.text}")
+        self.answered[seat] += 1
+        return reply
+
+    def whole(self):
+        """All that is printed at the end."""
+        threads = [f"thread {thread['name']} {self.steps(start)}" for thread, start in zip(self.scenario["threads"], self.starts)]
+        return self.lines + threads + [f"entries {len(self.lines)}"]
+
+    def steps(self, start):
+        steps, end = self.chain.spine(start)
+        return f"steps {steps} {'open' if end else 'closed'}"
+
+    # The calls of a seat, one after the other; each is sent its reply.
+
+    def setup(self):
+        """The calls of seat 0."""
+        for contract in self.scenario["contracts"]:
+            yield "publish", contract["contract"], bytes.fromhex(contract["currency"])
+        for thread in self.scenario["threads"]:
+            reply = yield "look", ledger.Ask(None, [thread["by"]], [])
+            tick = self.scenario["tick"]
+            try:
+                transaction = ledger.built_start(self.published(thread["contract"]), thread, {"from": tick, "to": tick}, [thread["by"]],
+                                                 reply.look.keys, thread["by"])
+            except ledger.Hindered as fault:
+                raise Refused(f"refused thread {thread['name']} {fault}") from None
+            yield "submit", transaction
+            self.starts.append((len(self.chain.accepted) - 1, 0))
+
+    def published(self, place):
+        contract = self.scenario["contracts"][place]
+        return self.chain.published[ledger.script_id(contract["contract"], bytes.fromhex(contract["currency"]))]
+
+    def plan(self, plan):
+        """The calls of a plan's seat, up to where it stops."""
+        return stopped(self.intents(plan), plan["stop_after"])
+
+    def intents(self, plan):
+        for intent in plan["intents"]:
+            yield from self.intent(plan, intent)
+
+    def intent(self, plan, intent):
+        if "round" in intent:
+            yield "round", intent["round"]
+        elif "advance" in intent:
+            yield "advance", intent["advance"]
+        else:
+            yield from self.tried(plan, intent)
+
+    def tried(self, plan, intent):
+        """Looks, builds and submits, again where an output was spent meanwhile; or enqueues, once."""
+        pool = intent.get("pool", False)
+        for _ in range(1 + AGAIN):
+            reply = yield "look", self.ask(plan, intent)
+            try:
+                transaction = built(plan, intent, reply.look)
+            except ledger.Hindered:
+                return
+            reply = yield "enqueue" if pool else "submit", transaction
+            if pool or not (reply.fault or "").startswith("NotUnspent"):
+                return
+
+    def ask(self, plan, intent):
+        if "step" in intent:
+            return ledger.Ask(self.starts[intent["step"]], plan["keys"], [])
+        currency = bytes.fromhex(self.scenario["contracts"][intent["claim"]]["currency"])
+        return ledger.Ask(None, plan["keys"], [(currency, intent["role"])])
+
+
+def built(plan, intent, look):
+    """The transaction of a step or of a claim."""
+    interval = {"from": intent["from"], "to": intent["to"]}
+    if "step" in intent:
+        return ledger.built_step(look, interval, intent["inputs"], plan["keys"], look.keys, plan["change"])
+    return ledger.built_claim(look.payouts, interval, plan["keys"], look.keys, plan["change"], plan["change"])
+
+
+def stopped(calls, limit):
+    """The first calls, so many as the limit says, or all where there is none."""
+    reply, answered = None, 0
+    while limit is None or answered < limit:
+        try:
+            call = calls.send(reply)
+        except StopIteration:
+            return
+        reply = yield call
+        answered += 1
+
+
+def next_call(calls, reply):
+    """The call that a seat makes after this reply, or None."""
+    try:
+        return calls.send(reply)
+    except StopIteration:
+        return None
+
+
+def played(text):
+    """The lines of a play whose plans take turns, each whole, on one thread."""
+    play = Play(text)
+    run_whole(play, 0, play.setup())
+    for place, plan in enumerate(play.scenario["plans"]):
+        run_whole(play, place + 1, play.plan(plan))
+    return play.whole()
+
+
+def run_whole(play, seat, calls):
+    call = next_call(calls, None)
+    while call:
+        call = next_call(calls, play.answer(seat, call))
+
+
+ENTRY = re.compile(r"[0-9]+ ([0-9]+)\.[0-9]+ ")
+
+
+class Seats:
+    """The seats of a play and the call that each makes next. The plans begin once the setup has ended."""
+
+    def __init__(self, play):
+        self.play, self.calls, self.next = play, [], []
+        self.add(play.setup())
+        self.begin_plans()
+
+    def add(self, calls):
+        self.calls.append(calls)
+        self.next.append(next_call(calls, None))
+
+    def begin_plans(self):
+        if len(self.calls) == 1 and self.next[0] is None:
+            for plan in self.play.scenario["plans"]:
+                self.add(self.play.plan(plan))
+
+    def answer(self, seat):
+        """Makes a seat's next call. Whether it has one."""
+        if seat >= len(self.next) or self.next[seat] is None:
+            return False
+        reply = self.play.answer(seat, self.next[seat])
+        self.next[seat] = next_call(self.calls[seat], reply)
+        self.begin_plans()
+        return True
+
+    def waiting(self):
+        """The seats that have a call left."""
+        return [seat for seat, call in enumerate(self.next) if call]
+
+
+def replayed(text, lines):
+    """Makes the calls of a printed play in its order, and gives the number of its entries."""
+    play = Play(text)
+    seats = Seats(play)
+    for line in lines:
+        found = ENTRY.match(line)
+        if not found:
+            break
+        if not seats.answer(int(found[1])):
+            raise Differs(f"{line}\nhere that seat makes no call then")
+        if play.lines[-1] != line:
+            raise Differs(f"{line}\nhere {play.lines[-1]}")
+    if seats.waiting():
+        raise Differs(f"the entries end\nhere seat {seats.waiting()[0]} makes a call then")
+    rest = play.whole()
+    for place in range(max(len(rest), len(lines))):
+        theirs, ours = (part[place] if place < len(part) else "(nothing)" for part in (lines, rest))
+        if theirs != ours:
+            raise Differs(f"{theirs}\nhere {ours}")
+    return len(play.lines)
+
+
+def lines_of(text):
+    return text.decode().removesuffix("\n").split("\n")
+
+
+def wanted(text):
+    """What the program writes on standard output and on standard error, and its status."""
+    try:
+        return "".join(line + "\n" for line in played(text)), "", 0
+    except Refused as line:
+        return "", f"{line}\n", 1
+
+
+def differs(seed, number, text, want, got):
+    path = os.path.join(tempfile.gettempdir(), f"scenario.{seed}.{number}.json")
+    with open(path, "wb") as file:
+        file.write(text)
+    sys.exit(f"differs {seed} {number} {path}\nwant {want}\ngot  {got}")
+
+
+def run(program, *words):
+    done = subprocess.run([program, "play", *words], capture_output=True)
+    return done.stdout.decode(), done.stderr.decode(), done.returncode
+
+
+def compare(count, seed, program):
+    told = collections.Counter()
+    with tempfile.TemporaryDirectory() as folder:
+        path = os.path.join(folder, "scenario.json")
+        for number in range(count):
+            text = random_scenarios.text(f"{seed}.{number}", Play)
+            with open(path, "wb") as file:
+                file.write(text)
+            want, got = wanted(text), run(program, path, "--one")
+            if want != got:
+                differs(seed, number, text, want, got)
+            many = run(program, path)
+            if want[2] and many != want:
+                differs(seed, number, text, want, many)
+            if not want[2]:
+                compare_many(seed, number, text, many)
+            told.update(kind(line) for line in (want[0] + want[1]).splitlines())
+    print(count, "scenarios agree")
+    for word in sorted(told):
+        print(f"  {told[word]:6} {word}")
+
+
+def compare_many(seed, number, text, many):
+    try:
+        replayed(text, many[0].removesuffix("\n").split("\n"))
+    except Differs as line:
+        differs(seed, number, text, line, many)
+
+
+def kind(line):
+    """A line without its numbers and names."""
+    line = ENTRY.sub("", line)
+    words = line.split(" ")
+    if words[0] in ("thread", "entries", "look"):
+        return words[0] + (" " + words[-1] if words[0] == "thread" and "steps" in words else "")
+    if words[0] == "round":
+        return "round " + ("none" if words[1:] == ["none"] else "with " + ", ".join(sorted(set(re.findall("accepted|refused [A-Za-z]+", line)))))
+    if words[:2] == ["refused", "thread"]:
+        return "refused thread " + re.search("NoFunds|TooMany|NotSigned", line)[0]
+    return " ".join(words[:3]) if words[1] != "ticket" else "enqueue ticket"
+
+
+def main(words):
+    if words[:1] == ["--compare"]:
+        return compare(int(words[1]), words[2], words[3])
+    if words[:1] == ["--replay"]:
+        with open(words[1], "rb") as scenario, open(words[2], "rb") as printed:
+            print("replayed", replayed(scenario.read(), lines_of(printed.read())), "entries")
+        return None
+    with open(words[0], "rb") as file:
+        output, refusal, status = wanted(file.read())
+    sys.stdout.write(output)
+    sys.stderr.write(refusal)
+    sys.exit(status)
+
+
+if __name__ == "__main__":
+    try:
+        main(sys.argv[1:])
+    except (Refused, Differs) as line:
+        sys.exit(str(line))
