@@ -31,8 +31,8 @@ fn publish_deal(alloc: Global, chain: &mut Chain, seat: u64, deal: Deal<'_>) -> 
     Ok(())
 }
 
-// Publishes and starts the contract with what is offered: the start output.
-fn begin(
+/// Publishes and starts the contract with what is offered: the start output.
+pub(crate) fn begin(
     alloc: Global,
     chain: &mut Chain,
     seat: u64,
@@ -45,8 +45,9 @@ fn begin(
     let published = publish(alloc, deal.contract, deal.currency.try_clone()?)?;
     let now = at_tick(chain);
     let tx = build_start(alloc, &published, deal.state, now, signers, offered, change)?;
-    match submit(alloc, chain, seat, tx)? {
-        Reply::Accepted(id) => Ok(OutputRef::Made { id, index: 0 }),
+    let reply = submit(alloc, chain, seat, tx)?;
+    match &reply {
+        Reply::Accepted(id) => Ok(OutputRef::Made { id: *id, index: 0 }),
         _ => Err(UseFault::NotStarted),
     }
 }

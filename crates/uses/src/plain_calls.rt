@@ -8,7 +8,7 @@ ghost use Rattle.ledger_spec.specs.Headline.{SecondHalf};
 ghost use Rattle.uses.specs.Uses.{thread_ask, at_tick, called};
 
 use chain::{Call, Chain, Reply};
-use collections::{Items, Memory};
+use collections::{Items, Memory, TryClone};
 use contract::Interval;
 use eutxo_types::{OutputRef, Tx};
 use ledger::{Ask, Look};
@@ -54,8 +54,8 @@ pub(crate) fn look_at(
     ensures second { SecondHalf chain.old }
 {
     let (reply, _copy) = chain.step(alloc, seat, Call::Look(ask), &[])?;
-    match reply {
-        Reply::Look(look) => Ok(look),
+    match &reply {
+        Reply::Look(look) => look.try_clone(),
         _ => unreachable!(),
     }
 }
