@@ -7,21 +7,21 @@
 //! `specs/Uses.antt`.
 #![tactic(auto)]
 
-mod check_one;
 mod claim;
 mod close;
-mod escrow;
+mod deal;
 mod fault;
+mod one_check;
 mod other_script;
 mod plain_calls;
 mod step;
 #[cfg(test)]
 mod tested;
 
-pub use check_one::check_one;
 pub use claim::claim_now;
 pub use close::close_thread;
-pub use escrow::{Deal, escrow};
+pub use deal::{Deal, escrow};
 pub use fault::UseFault;
+pub use one_check::check_one;
 pub use other_script::{TimeLock, check_lock};
 pub use step::step_now;

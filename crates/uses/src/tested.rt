@@ -1,8 +1,8 @@
 //! Each caller once, on a chain that begins with outputs of ann and bob.
-use crate::check_one::check_one;
 use crate::claim::claim_now;
 use crate::close::close_thread;
-use crate::escrow::{Deal, begin, escrow};
+use crate::deal::{Deal, begin, escrow};
+use crate::one_check::check_one;
 use crate::other_script::{TimeLock, check_lock};
 use builder::BuildFault;
 use chain::{Call, Chain, Reply};
