@@ -1,0 +1,2 @@
+mod SteppedLemmas
+mod LockLemmas
