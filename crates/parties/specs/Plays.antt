@@ -1,0 +1,93 @@
+-- What a party does with its seat.
+use Rattle.std.specs.Prelude.{◌≡◌, ℕ, ◌≤◌, ◌⊎◌, Bool, if◌then◌else◌, List, [], ◌∷◌, length, drop, Option, Some, None}
+use Rattle.std.specs.List.{Contains}
+use Rattle.contract.specs.declared.input.Input.{Input}
+use Rattle.contract.specs.declared.interval.Interval.{Interval}
+use Rattle.eutxo_types.specs.declared.output_ref.OutputRef.{OutputRef}
+use Rattle.eutxo_types.specs.declared.tx.Tx.{Tx}
+use Rattle.ledger.specs.declared.ask.Ask.{Ask}
+use Rattle.ledger.specs.declared.call.Call.{Call}
+use Rattle.ledger.specs.declared.call.Call.TheVariants as on
+use Rattle.ledger.specs.declared.call.Reply.TheVariants as replies
+use Rattle.ledger.specs.declared.look.Look.{Look}
+use Rattle.builder_spec.specs.Requests.{request, claim_request}
+use Rattle.builder_spec.specs.Steps.{layout_step}
+use Rattle.builder_spec.specs.Claims.{layout_claim}
+use Rattle.plans.specs.declared.intent.Intent.{Intent}
+use Rattle.plans.specs.declared.intent.Intent.TheVariants.{Step, Claim, Round, Advance}
+use Rattle.plans.specs.declared.plan.Plan.{Plan}
+use Rattle.hub.specs.declared.answer.Answer.{Answer}
+use Rattle.hub.specs.Seats.{SeatRecord, ReceiptRecord}
+
+-- ---- what is played: a thread is named by its start output, a contract by its currency
+
+abbrev pub PlayedIntent : Type 0
+PlayedIntent = Intent OutputRef (List ℕ)
+
+abbrev pub PlayedPlan : Type 0
+PlayedPlan = Plan OutputRef (List ℕ)
+
+-- ---- what an intent asks for, and what is made of what it is shown
+
+-- a step: its thread, and what is under the plan's keys
+abbrev pub step_ask : PlayedPlan → OutputRef → Ask
+step_ask plan thread = record { thread = Some thread; keys = plan.keys; payouts = [] }
+
+-- a claim: the payouts to the role, and what is under the plan's keys
+abbrev pub claim_ask : PlayedPlan → List ℕ → List ℕ → Ask
+claim_ask plan currency role = record { thread = None; keys = plan.keys; payouts = record { currency = currency; role = role } ∷ [] }
+
+-- a step: the layout of a request for the shown thread, to which all shown key outputs are offered, in order; the plan's keys sign, and its change
+-- address gets the change
+abbrev pub step_made : PlayedPlan → List Input → Interval → Look → Tx
+step_made plan inputs interval look = layout_step look (request interval inputs plan.keys look.keys plan.change)
+
+-- a claim: the layout of a request for all shown payouts; they go to the change address, too
+abbrev pub claim_made : PlayedPlan → Interval → Look → Tx
+claim_made plan interval look = layout_claim (claim_request look.payouts interval plan.keys look.keys plan.change plan.change)
+
+-- ---- whose call it is
+
+-- the answer just before shows the look that was asked for
+abbrev pub WasShown : Ask → Look → Option Answer → Type 0
+WasShown ask look None = ⊥
+WasShown ask look (Some a) = (a.call ≡ on.Look ask) × (a.reply ≡ replies.Look look)
+
+-- a call looks, or hands in what is made of the look that was shown just before
+abbrev pub LooksOrHandsIn : Ask → (Tx → Call) → (Look → Tx) → Option Answer → Call → Type 0
+LooksOrHandsIn ask hand_in made before call = (call ≡ on.Look ask) ⊎ ((look : Look) × (WasShown ask look before) × (call ≡ hand_in (made look)))
+
+-- OF AN INTENT: a call of the seat, by the answer just before it
+abbrev pub IsOf : PlayedPlan → Option Answer → Call → PlayedIntent → Type 0
+IsOf plan before call (Step thread inputs interval pooled) = LooksOrHandsIn (step_ask plan thread) (λ tx. if pooled then on.Enqueue tx else on.Submit tx) (step_made plan inputs interval) before call
+IsOf plan before call (Claim currency role interval) = LooksOrHandsIn (claim_ask plan currency role) on.Submit (claim_made plan interval) before call
+IsOf plan before call (Round count workers) = call ≡ on.Round count
+IsOf plan before call (Advance tick) = call ≡ on.Advance tick
+
+-- OF A PLAN: of one of its intents
+abbrev pub IsOfPlan : PlayedPlan → Option Answer → Call → Type 0
+IsOfPlan plan before call = (intent : PlayedIntent) × (Contains plan.intents intent) × (IsOf plan before call intent)
+
+-- each of these answers, the first with this one before it
+abbrev pub AreOf : PlayedPlan → Option Answer → List Answer → Type 0
+AreOf plan before [] = Unit {0}
+AreOf plan before (a ∷ rest) = IsOfPlan plan before a.call × AreOf plan (Some a) rest
+
+-- PLAYED: each of these answers is of the plan, and what was handed in was made of a look among them
+abbrev pub ArePlayed : PlayedPlan → List Answer → Type 0
+ArePlayed plan answers = AreOf plan None answers
+
+-- ---- a seat before and after
+
+-- the answers that were added
+abbrev pub added : SeatRecord → SeatRecord → List Answer
+added old new = drop (length old.answers) new.answers
+
+-- WITHIN: where the party stops after some calls, no more are answered; or nothing was called
+abbrev pub IsWithin : Option ℕ → SeatRecord → SeatRecord → Type 0
+IsWithin None old new = Unit {0}
+IsWithin (Some n) old new = (length new.answers ≤ n) ⊎ (new ≡ old)
+
+-- the receipt of a seat's answered call
+abbrev pub receipt_of : ℕ → Answer → ReceiptRecord
+receipt_of seat a = record { entry = a.place; seat = seat; number = a.number; reply = a.reply }

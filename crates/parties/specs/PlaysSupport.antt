@@ -1,0 +1,78 @@
+-- No reader needs this file: what holds while a party plays, the invariants behind the clauses.
+use Rattle.std.specs.Prelude.{◌≡◌, ℕ, ◌<◌, ◌⊎◌, if◌then◌else◌, List, [], ◌∷◌, ◌++◌, map, length, Option, Some, None}
+use Rattle.eutxo_types.specs.declared.tx.Tx.{Tx}
+use Rattle.ledger.specs.declared.ask.Ask.{Ask}
+use Rattle.ledger.specs.declared.call.Call.{Call}
+use Rattle.ledger.specs.declared.call.Call.TheVariants as on
+use Rattle.ledger.specs.declared.call.Reply.{Reply}
+use Rattle.ledger.specs.declared.call.Reply.TheVariants as replies
+use Rattle.ledger.specs.declared.look.Look.{Look}
+use Rattle.plans.specs.declared.intent.Intent.TheVariants.{Step, Claim, Round, Advance}
+use Rattle.hub.specs.declared.answer.Answer.{Answer}
+use Rattle.hub.specs.Seats.{SeatRecord, ReceiptRecord, seat_record}
+use Rattle.parties.specs.declared.acts.Act.{Act}
+use Rattle.parties.specs.declared.acts.Act.TheVariants as acts
+use Rattle.parties.specs.Plays.{PlayedIntent, PlayedPlan, step_ask, claim_ask, step_made, claim_made, AreOf, IsWithin, receipt_of}
+
+-- what an intent asks to be shown, if it asks
+abbrev pub ask_of : PlayedPlan → PlayedIntent → Option Ask
+ask_of plan (Step thread inputs interval pooled) = Some (step_ask plan thread)
+ask_of plan (Claim currency role interval) = Some (claim_ask plan currency role)
+ask_of plan (Round count workers) = None
+ask_of plan (Advance tick) = None
+
+-- what is made of it
+abbrev pub made_of : PlayedPlan → PlayedIntent → Look → Option Tx
+made_of plan (Step thread inputs interval pooled) look = Some (step_made plan inputs interval look)
+made_of plan (Claim currency role interval) look = Some (claim_made plan interval look)
+made_of plan (Round count workers) look = None
+made_of plan (Advance tick) look = None
+
+-- how it is handed in
+abbrev pub handed : PlayedIntent → Tx → Call
+handed (Step thread inputs interval pooled) tx = if pooled then on.Enqueue tx else on.Submit tx
+handed (Claim currency role interval) tx = on.Submit tx
+handed (Round count workers) tx = on.Submit tx
+handed (Advance tick) tx = on.Submit tx
+
+-- a call hands in what is made of the look that a reply shows
+abbrev pub HandsIn : PlayedPlan → PlayedIntent → Reply → Call → Type 0
+HandsIn plan intent reply call = (look : Look) × (tx : Tx) × (reply ≡ replies.Look look) × (made_of plan intent look ≡ Some tx) × (call ≡ handed intent tx)
+
+-- the call that an act makes
+abbrev pub call_of : Act → Call
+call_of (acts.Call call) = call
+call_of (acts.Admit checked) = on.Submit checked.tx
+call_of (acts.Round count workers) = on.Round count
+
+-- the party may call
+abbrev pub HasRoom : Option ℕ → SeatRecord → Type 0
+HasRoom None s = Unit {0}
+HasRoom (Some n) s = length s.answers < n
+
+-- one call was answered, and its receipt kept
+pub record WasNoted (plan : PlayedPlan) (call : Call) (old new : SeatRecord) (before now : List ReceiptRecord) : Type 0 where
+  pub answer : Answer
+  pub call_is : answer.call ≡ call
+  pub list : new ≡ seat_record old.number (old.answers ++ answer ∷ [])
+  pub receipts : now ≡ before ++ receipt_of old.number answer ∷ []
+  pub within : IsWithin plan.stop_after old new
+
+-- .. or none, since the party had stopped
+abbrev pub AtMostNoted : PlayedPlan → Call → SeatRecord → SeatRecord → List ReceiptRecord → List ReceiptRecord → Type 0
+AtMostNoted plan call old new before now = ((new ≡ old) × (now ≡ before)) ⊎ WasNoted plan call old new before now
+
+-- the seat went on by the plan
+pub record Went (plan : PlayedPlan) (old new : SeatRecord) : Type 0 where
+  pub more : List Answer
+  pub list : new ≡ seat_record old.number (old.answers ++ more)
+  pub played : AreOf plan None more
+  pub within : IsWithin plan.stop_after old new
+
+-- .. and its receipts were kept
+pub record WentNoted (plan : PlayedPlan) (old new : SeatRecord) (before now : List ReceiptRecord) : Type 0 where
+  pub more : List Answer
+  pub list : new ≡ seat_record old.number (old.answers ++ more)
+  pub played : AreOf plan None more
+  pub within : IsWithin plan.stop_after old new
+  pub receipts : now ≡ before ++ map (receipt_of old.number) more

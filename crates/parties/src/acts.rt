@@ -1,0 +1,15 @@
+//! What a party does next.
+use chain::Call;
+use eutxo::Checked;
+use roles::Published;
+
+/// One thing that a party does by its seat.
+#[derive(Drop)]
+pub(crate) enum Act {
+    /// A call as it is.
+    Call(Call),
+    /// The Submit of a transaction that was checked.
+    Admit(Checked<Published>),
+    /// A round, with its checks made by so many workers.
+    Round { count: u64, workers: usize },
+}

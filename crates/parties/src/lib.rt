@@ -1,0 +1,17 @@
+//! What one party of a play does: it goes through its plan, intent by intent, with a seat of its own at the hub that all parties share.
+//!
+//! For a step or a claim it looks, builds on what it was shown, checks without the lock, and hands in; where another was faster, it begins again. Each
+//! call that it adds to its seat's list is of its plan, what it hands in is the layout of an intent's request, and it keeps the receipts
+//! (`specs/Plays.antt`). docs/threads.md explains it.
+#![tactic(auto)]
+
+mod acts;
+mod building;
+mod means;
+mod party;
+mod turns;
+mod watch;
+
+pub use party::Party;
+pub use plans::{Intent, Plan};
+pub use watch::{NoWatch, Watch};

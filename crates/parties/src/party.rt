@@ -1,0 +1,130 @@
+//! Parties.
+ghost use Rattle.std.specs.Prelude.{◌≡◌, ◌++◌, map, IfOk, OnOk, OnErr};
+ghost use Rattle.std.specs.List.{Contains};
+ghost use Rattle.hub.specs.Seats.{seat_record};
+ghost use Rattle.parties.specs.Plays.{ArePlayed, IsWithin, added, receipt_of};
+ghost use Rattle.parties.specs.PlaysSupport.{Went, WentNoted};
+
+use crate::acts::Act;
+use crate::means::Means;
+use crate::turns::{noted, turns};
+use crate::watch::{NoWatch, Watch};
+use chain::Call;
+use collections::{Bytes, Memory};
+use eutxo_types::OutputRef;
+use hub::{Hub, Receipt, Seat, Session};
+use plans::{Intent, Plan};
+use std::alloc::Global;
+use std::sync::Wait;
+use std::thread::Threads;
+
+/// One party of a play. Its plan names a thread by its start output and a contract by its currency.
+pub struct Party {
+    pub plan: Plan<OutputRef, Bytes>,
+}
+
+// The drop is written, not derived: so it is proved here once, and not in each crate that drops a party.
+impl Drop for Party {
+    fn drop(self) {
+        let Party { plan: _ } = self;
+    }
+}
+
+// Does what one intent of the plan says.
+fn perform<R: Threads + Wait + Sync, J: Session, W: Watch>(
+    means: &Means<'_, R, J, W>,
+    intent: &Intent<OutputRef, Bytes>,
+    seat: &mut Seat<J>,
+    receipts: &mut Vec<Receipt<J>>,
+) -> Result<(), Memory>
+    requires { Contains means.now.plan.now.intents intent.now }
+    ensures ok { OnOk result (WentNoted means.now.plan.now seat.old seat.new receipts.old.items receipts.new.items) }
+    ensures err { OnErr result (Went means.now.plan.now seat.old seat.new) }
+{
+    match intent {
+        Intent::Step { .. } => turns(means, intent, seat, receipts),
+        Intent::Claim { .. } => turns(means, intent, seat, receipts),
+        Intent::Round { count, workers } => {
+            let act = Act::Round {
+                count: *count,
+                workers: *workers,
+            };
+            noted(means, act, seat, receipts)?;
+            Ok(())
+        }
+        Intent::Advance(tick) => {
+            noted(means, Act::Call(Call::Advance(*tick)), seat, receipts)?;
+            Ok(())
+        }
+    }
+}
+
+// Does what all intents of the plan say, one after another.
+fn perform_all<R: Threads + Wait + Sync, J: Session, W: Watch>(
+    means: &Means<'_, R, J, W>,
+    seat: &mut Seat<J>,
+    receipts: &mut Vec<Receipt<J>>,
+) -> Result<(), Memory>
+    ensures ok { OnOk result (WentNoted means.now.plan.now seat.old seat.new receipts.old.items receipts.new.items) }
+    ensures err { OnErr result (Went means.now.plan.now seat.old seat.new) }
+{
+    for intent in means.plan.intents.as_slice() {
+        perform(means, intent, seat, receipts)?;
+    }
+    Ok(())
+}
+
+impl Party {
+    /// Goes through the plan, intent by intent, with a seat of the hub. The answer is the receipts of the calls that it adds to the seat's list, in order.
+    ///
+    /// - A step looks at its thread and at what is under the plan's keys, builds on that with all shown key outputs offered in their order, the plan's
+    ///   keys as signers and its change address, checks what it built without the lock, and submits it with that check at hand. Where the reply is that
+    ///   an output isn't unspent, it begins again, at most 16 times more. If pooled, it enqueues what it built, once.
+    /// - A claim looks at the payouts to its role and at what is under the keys, and claims all of them to the change address; the rest is as for a step.
+    /// - A round brings its number of workers inside 1 to 16.
+    /// - What the builder refuses for another cause than memory is skipped: the Look is all that it adds.
+    /// - Where the plan stops after n calls, none is made once the seat has n answered calls, also between a Look and what would be built on it.
+    ///
+    /// `Memory` where a growth was refused, here or in a call: the calls that were answered stay in the history and in the seat's list, though their
+    /// receipts aren't given. That it tries again is only tested.
+    pub fn run<R: Threads + Wait + Sync, J: Session>(
+        &self,
+        rt: &R,
+        alloc: Global,
+        hub: &Hub<J>,
+        seat: &mut Seat<J>,
+    ) -> Result<Vec<Receipt<J>>, Memory>
+        ensures kept { seat.new ≡ seat_record seat.old.number (seat.old.answers ++ added seat.old seat.new) }
+        ensures played { ArePlayed self.now.plan (added seat.old seat.new) }
+        ensures stops { IsWithin self.now.plan.stop_after seat.old seat.new }
+        ensures receipts { IfOk result (λ rs. rs.items ≡ map (receipt_of seat.old.number) (added seat.old seat.new)) }
+    {
+        self.run_watched(rt, alloc, hub, seat, &NoWatch)
+    }
+
+    /// The same, with a watch that is called after each answered call.
+    pub fn run_watched<R: Threads + Wait + Sync, J: Session, W: Watch>(
+        &self,
+        rt: &R,
+        alloc: Global,
+        hub: &Hub<J>,
+        seat: &mut Seat<J>,
+        watch: &W,
+    ) -> Result<Vec<Receipt<J>>, Memory>
+        ensures kept { seat.new ≡ seat_record seat.old.number (seat.old.answers ++ added seat.old seat.new) }
+        ensures played { ArePlayed self.now.plan (added seat.old seat.new) }
+        ensures stops { IsWithin self.now.plan.stop_after seat.old seat.new }
+        ensures receipts { IfOk result (λ rs. rs.items ≡ map (receipt_of seat.old.number) (added seat.old seat.new)) }
+    {
+        let means = Means {
+            rt,
+            alloc,
+            hub,
+            plan: &self.plan,
+            watch,
+        };
+        let mut receipts = Vec::new(alloc);
+        perform_all(&means, seat, &mut receipts)?;
+        Ok(receipts)
+    }
+}
