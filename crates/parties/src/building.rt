@@ -10,7 +10,7 @@ use eutxo::{Checked, check_owned};
 use eutxo_types::{OutputRef, Tx};
 use plans::{Intent, Plan};
 use roles::Published;
-use std::alloc::Global;
+use std::alloc::{AllocError, Global};
 
 // The lock of the payouts to a role.
 fn lock_of(currency: &Bytes, role: &Text) -> Result<PayoutLock, Memory>
@@ -55,7 +55,7 @@ fn or_skipped(built: Result<Tx, BuildFault>) -> Result<Option<Tx>, Memory>
 {
     match built {
         Ok(tx) => Ok(Some(tx)),
-        Err(BuildFault::Memory) => Err(Memory),
+        Err(BuildFault::Memory) => Err(AllocError),
         Err(_) => Ok(None),
     }
 }

@@ -15,6 +15,7 @@ use std::sync::Wait;
 use std::thread::Threads;
 
 /// What a party works with, besides its seat.
+#[derive(Drop)]
 pub(crate) struct Means<'a, R, J: Session, W> {
     pub(crate) rt: &'a R,
     pub(crate) alloc: Global,

@@ -17,6 +17,8 @@ mod meeting;
 #[cfg(test)]
 mod party;
 #[cfg(test)]
+mod playing;
+#[cfg(test)]
 mod racing;
 #[cfg(test)]
 mod rounds;

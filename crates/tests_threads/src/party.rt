@@ -143,3 +143,19 @@ pub fn admit<J: Session, R: Wait>(
     let receipt = hub.admit(rt, alloc, seat, checked).ok()?;
     Some(told_by(receipt.reply()))
 }
+
+/// Publishes and starts the deal: the thread's start.
+pub fn begin<J: Session, R: Wait>(
+    rt: &R,
+    alloc: Global,
+    hub: &Hub<J>,
+    seat: &mut Seat<J>,
+) -> Option<OutputRef> {
+    publish_deal(rt, alloc, hub, seat)?;
+    let shown = look(rt, alloc, hub, seat, None, "bank")?;
+    let tx = start(alloc, &shown, "bank")?;
+    match admit(rt, alloc, hub, seat, &shown, tx)? {
+        Told::Accepted(id) => Some(OutputRef::Made { id, index: 0 }),
+        _ => None,
+    }
+}

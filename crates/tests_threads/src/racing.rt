@@ -3,7 +3,7 @@ ghost use Rattle.std.specs.Prelude.{◌≡◌};
 
 use crate::deal::bank;
 use crate::meeting::comes;
-use crate::party::{Told, admit, look, publish_deal, start, step};
+use crate::party::{Told, admit, begin, look, step};
 use eutxo_types::OutputRef;
 use hub::{Closed, Hub, Opening, Seat, SeatAtHub, Session};
 use std::alloc::Global;
@@ -14,22 +14,6 @@ use std::sync::atomic::{AtomicU64, Ordering};
 use std::test::*;
 use std::thread;
 use std::thread::Threads;
-
-// Publishes and starts the deal: the thread's start.
-fn begin<J: Session, R: Wait>(
-    rt: &R,
-    alloc: Global,
-    hub: &Hub<J>,
-    seat: &mut Seat<J>,
-) -> Option<OutputRef> {
-    publish_deal(rt, alloc, hub, seat)?;
-    let shown = look(rt, alloc, hub, seat, None, "bank")?;
-    let tx = start(alloc, &shown, "bank")?;
-    match admit(rt, alloc, hub, seat, &shown, tx)? {
-        Told::Accepted(id) => Some(OutputRef::Made { id, index: 0 }),
-        _ => None,
-    }
-}
 
 // Those who have looked.
 #[derive(Drop)]
