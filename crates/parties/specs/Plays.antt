@@ -1,6 +1,6 @@
 -- What a party does with its seat.
 use Rattle.std.specs.Prelude.{◌≡◌, ℕ, ◌≤◌, ◌⊎◌, Bool, if◌then◌else◌, List, [], ◌∷◌, length, drop, Option, Some, None}
-use Rattle.std.specs.List.{Contains}
+use Rattle.std.specs.List.{Any}
 use Rattle.contract.specs.declared.input.Input.{Input}
 use Rattle.contract.specs.declared.interval.Interval.{Interval}
 use Rattle.eutxo_types.specs.declared.output_ref.OutputRef.{OutputRef}
@@ -66,7 +66,7 @@ IsOf plan before call (Advance tick) = call ≡ on.Advance tick
 
 -- OF A PLAN: of one of its intents
 abbrev pub IsOfPlan : PlayedPlan → Option Answer → Call → Type 0
-IsOfPlan plan before call = (intent : PlayedIntent) × (Contains plan.intents intent) × (IsOf plan before call intent)
+IsOfPlan plan before call = Any (λ intent. IsOf plan before call intent) plan.intents
 
 -- each of these answers, the first with this one before it
 abbrev pub AreOf : PlayedPlan → Option Answer → List Answer → Type 0

@@ -71,8 +71,5 @@ pub record Went (plan : PlayedPlan) (old new : SeatRecord) : Type 0 where
 
 -- .. and its receipts were kept
 pub record WentNoted (plan : PlayedPlan) (old new : SeatRecord) (before now : List ReceiptRecord) : Type 0 where
-  pub more : List Answer
-  pub list : new ≡ seat_record old.number (old.answers ++ more)
-  pub played : AreOf plan None more
-  pub within : IsWithin plan.stop_after old new
-  pub receipts : now ≡ before ++ map (receipt_of old.number) more
+  pub went : Went plan old new
+  pub receipts : now ≡ before ++ map (receipt_of old.number) went.more
