@@ -1,5 +1,5 @@
 //! What a party works with.
-ghost use Rattle.std.specs.Prelude.{◌≡◌, false, IfOk, OnErr};
+ghost use Rattle.std.specs.Prelude.{◌≡◌, ◌<◌, ◌≤◌, false, IfOk, OnErr};
 ghost use Rattle.hub.specs.Seats.{WasTold};
 ghost use Rattle.parties.specs.PlaysSupport.{HasRoom, call_of};
 
