@@ -171,6 +171,15 @@ noted_turn_at_most plan intent ask call a b c rs ss ts has asks look next n =
     let first = noted_one plan (on.Look ask) a b rs ss look (look_of_plan plan intent ask has asks) in
     elim n [ inl none ↦ noted_more plan a b c rs ss ts first (noted_same plan b c ss ts none.0 none.1) | inr one ↦ noted_turn plan intent ask call a b c rs ss ts has asks look next one ]
 
+-- the look, by what it was told
+pub told_look : (plan : PlayedPlan) (intent : PlayedIntent) (ask : Ask) (a b : SeatRecord) (r : ReceiptRecord) (rs ss : List ReceiptRecord) → Contains plan.intents intent → ask_of plan intent ≡ Some ask → WasTold a (on.Look ask) r b → HasRoom plan.stop_after a → ss ≡ rs ++ r ∷ [] → WentNoted plan a b rs ss
+told_look plan intent ask a b r rs ss has asks told room more = noted_one plan (on.Look ask) a b rs ss (noted plan (on.Look ask) a b r rs ss told room more) (look_of_plan plan intent ask has asks)
+
+-- .. and what is handed in after it
+pub told_turn : (plan : PlayedPlan) (intent : PlayedIntent) (ask : Ask) (call : Call) (a b c : SeatRecord) (r : ReceiptRecord) (rs ss ts : List ReceiptRecord) → Contains plan.intents intent → ask_of plan intent ≡ Some ask → WasTold a (on.Look ask) r b → HasRoom plan.stop_after a → ss ≡ rs ++ r ∷ [] → HandsIn plan intent r.reply call → AtMostNoted plan call b c ss ts → WentNoted plan a c rs ts
+unfolding noted
+told_turn plan intent ask call a b c r rs ss ts has asks told room more next n = noted_turn_at_most plan intent ask call a b c rs ss ts has asks (noted plan (on.Look ask) a b r rs ss told room more) next n
+
 -- ---- what a seat shows of it
 
 pub added_is : (plan : PlayedPlan) (old new : SeatRecord) (w : Went plan old new) → added old new ≡ w.more
