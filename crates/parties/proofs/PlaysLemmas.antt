@@ -1,19 +1,17 @@
 -- How what a party does adds up.
-use Rattle.std.proofs.Common.{◌≡◌, inl, inr, ⊎_elim, ℕ, ◌+◌, ◌<◌, ◌≤◌, List, [], ◌∷◌, ◌++◌, length, map, drop, Option, Some, None, refl, sym, ap, ◌∙◌, subst, arith, append_assoc}
+use Rattle.std.proofs.Common.{◌≡◌, inl, inr, ℕ, ◌+◌, List, [], ◌∷◌, ◌++◌, length, map, drop, Option, Some, None, refl, sym, ap, ◌∙◌, subst, arith, append_assoc}
 use Rattle.std.proofs.lemmas.List.{append-nil, length-append, map-append}
 use Rattle.std.proofs.Math.Seq.{drop-append_seam}
-use Rattle.std.specs.Prelude.{◌⊎◌, ℤ, Result, Ok, Err, OnErr}
+use Rattle.std.specs.Prelude.{ℤ, Result, Ok, Err, OnErr}
 use Rattle.std.specs.List.{Contains}
 use Rattle.ledger.specs.declared.ask.Ask.{Ask}
 use Rattle.ledger.specs.declared.call.Call.{Call}
 use Rattle.ledger.specs.declared.call.Call.TheVariants as on
-use Rattle.ledger.specs.declared.call.Reply.{Reply}
-use Rattle.ledger.specs.declared.look.Look.{Look}
 use Rattle.plans.specs.declared.intent.Intent.TheVariants.{Step, Claim, Round, Advance}
 use Rattle.hub.specs.declared.answer.Answer.{Answer}
 use Rattle.hub.specs.Seats.{SeatRecord, ReceiptRecord, seat_record, answer_of, WasTold}
-use Rattle.parties.specs.Plays.{PlayedIntent, PlayedPlan, step_ask, claim_ask, step_made, claim_made, WasShown, IsOf, IsOfPlan, AreOf, ArePlayed, IsWithin, added, receipt_of}
-use Rattle.parties.specs.PlaysSupport.{ask_of, made_of, handed, HandsIn, HasRoom, WasNoted, AtMostNoted, Went, WentNoted}
+use Rattle.parties.specs.Plays.{PlayedIntent, PlayedPlan, IsOf, IsOfPlan, AreOf, ArePlayed, IsWithin, added, receipt_of}
+use Rattle.parties.specs.PlaysSupport.{ask_of, HandsIn, HasRoom, WasNoted, AtMostNoted, Went, WentNoted}
 
 -- ---- whose call it is
 
