@@ -8,7 +8,7 @@ use chain::Reply;
 use collections::{Bytes, Items};
 use contract::{Input, Interval};
 use eutxo_types::{OutputRef, TxFault};
-use hub::{Closed, Hub, Opening, Seat, Session};
+use hub::{Closed, Hub, Opening, Seat, SeatAtHub, Session};
 use parties::{Intent, Party, Plan, Watch};
 use std::alloc::Global;
 use std::marker::Brand;
@@ -86,6 +86,30 @@ fn plays<J: Session, R: Threads + Wait + Sync>(
     }
 }
 
+// Each seat but the first plays in a thread of its own: the seats, and how many calls each was answered.
+fn play_all<J: Session + Send + Sync, R: Threads + Wait + Sync>(
+    rt: &R,
+    alloc: Global,
+    seats: Vec<SeatAtHub<J>>,
+    deal: OutputRef,
+    overtaking: &Overtaking,
+) -> Option<Vec<(Seat<J>, Option<usize>)>> {
+    thread::map_vec(
+        rt,
+        seats,
+        &|handed: SeatAtHub<J>| -> (Seat<J>, Option<usize>) {
+            let SeatAtHub { hub, mut seat } = handed;
+            let count = if seat.number() == 0 {
+                Some(0)
+            } else {
+                plays(rt, alloc, hub, &mut seat, deal, overtaking)
+            };
+            (seat, count)
+        },
+    )
+    .ok()
+}
+
 // The bank begins, and the other two play: the closed hub, the deal's start, and how many calls each of the two was answered.
 fn played<J: Session + Send + Sync, R: Threads + Wait + Sync>(
     rt: &R,
@@ -97,19 +121,11 @@ fn played<J: Session + Send + Sync, R: Threads + Wait + Sync>(
 {
     let (hub, mut seats) = opening.open::<J>(alloc).ok()?;
     let deal = begin(rt, alloc, &hub, seats.first_mut()?)?;
-    let played = thread::map_vec(
-        rt,
-        seats,
-        &|mut seat: Seat<J>| -> (Seat<J>, Option<usize>) {
-            let count = if seat.number() == 0 {
-                Some(0)
-            } else {
-                plays(rt, alloc, &hub, &mut seat, deal, overtaking)
-            };
-            (seat, count)
-        },
-    )
-    .ok()?;
+    let mut handed = Vec::new(alloc);
+    for seat in seats {
+        handed.push(SeatAtHub { hub: &hub, seat }).ok()?;
+    }
+    let played = play_all(rt, alloc, handed, deal, overtaking)?;
     let mut seats = Vec::new(alloc);
     let mut counts = Vec::new(alloc);
     for (seat, count) in played {
@@ -138,13 +154,24 @@ fn is_overtaken<J: Session + Send + Sync, R: Threads + Wait + Abort + Sync + All
         stepped: AtomicU64::new(0),
         gave_up: AtomicU64::new(0),
     };
-    let (closed, deal, counts) =
-        played::<J, R>(rt, rt.alloc(), opening, &overtaking).expect(rt, "a play");
-    assert_eq!(rt; overtaking.gave_up.load(Ordering::SeqCst), 0, "the other stepped");
-    assert!(rt; counts[..] == [0, 4, 2], "the one who was overtaken looked twice");
+    let (closed, deal, counts) = played::<J, R>(rt, rt.alloc(), opening, &overtaking).expect(
+        rt, "a play",
+    );
+    assert_eq!(rt;
+        overtaking.gave_up.load(Ordering::SeqCst),
+        0,
+        "the other stepped"
+    );
+    assert!(rt;
+        counts[..] == [0, 4, 2],
+        "the one who was overtaken looked twice"
+    );
     let entries = closed.chain().entries();
     assert_eq!(rt; entries.len(), 9);
-    assert!(rt; is_too_late(&entries[6].reply), "its first step came too late");
+    assert!(rt;
+        is_too_late(&entries[6].reply),
+        "its first step came too late"
+    );
     let steps = closed
         .chain()
         .steps_of(rt.alloc(), &deal)
