@@ -62,15 +62,14 @@ impl<'r, R: Clock + Eprint> Progress<'r, R> {
     /// Takes away what is shown, once the play is over.
     pub fn clear(&self) {
         if self.start.is_some() && self.due.load(Ordering::SeqCst) != PAUSE {
-            let _ = eprint!(self.rt; "\r\u{1b}[K");
+            let _ = eprint!(self.rt; "\r\x1b[K");
         }
     }
 }
 
 impl<R: Clock + Eprint> Watch for Progress<'_, R> {
-    fn answered(&self, entry: u64) {
-        self.entries
-            .fetch_max(entry.saturating_add(1), Ordering::SeqCst);
+    fn answered(&self, _entry: u64) {
+        self.entries.fetch_add(1, Ordering::SeqCst);
         self.show();
     }
 

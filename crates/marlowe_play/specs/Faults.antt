@@ -1,7 +1,9 @@
 -- Why a scenario isn't played, and the line that tells it.
-use Rattle.std.specs.Prelude.{ℕ, List, ◌++◌, codes}
+use Rattle.std.specs.Prelude.{◌≡◌, ◌≢◌, ℕ, List, ◌++◌, Result, Ok, Err, MatchResult, codes}
 use Rattle.json_read_names.specs.declared.fault.JsonFault.{JsonFault}
 use Rattle.json_read_names.specs.declared.fault.JsonFault.TheVariants as json
+use Rattle.json_read_names.specs.Parts.{Reading}
+use Rattle.plans.specs.declared.scenario.Scenario.{Scenario as ScenarioRead}
 use Rattle.marlowe_run.specs.Refusals.{json_fault_name}
 use Rattle.marlowe_play.specs.declared.fault.PlayFault.{PlayFault}
 use Rattle.marlowe_play.specs.declared.fault.PlayFault.TheVariants.{Scenario, Setup, Memory}
@@ -10,6 +12,11 @@ use Rattle.marlowe_play.specs.declared.fault.PlayFault.TheVariants.{Scenario, Se
 abbrev pub scenario_fault : JsonFault → PlayFault
 scenario_fault json.Memory = Memory
 scenario_fault fault = Scenario fault
+
+-- a text that is no scenario isn't played: its fault is told, want of memory aside
+abbrev pub IsRefused : {X : Type 0} → Reading ScenarioRead → Result X PlayFault → Type 0
+IsRefused (Ok scenario) result = Unit {0}
+IsRefused (Err fault) result = MatchResult result (λ text. ⊥) (λ told. told ≢ Memory → told ≡ scenario_fault fault)
 
 -- the line of a fault
 abbrev pub play_refusal_text : PlayFault → List ℕ

@@ -1,5 +1,8 @@
 //! A scenario, from text to text.
 ghost use Rattle.std.specs.Prelude.{◌≡◌};
+ghost use Rattle.json_read_names.specs.ReadsText.{of_text};
+ghost use Rattle.json_read_scenarios.specs.ReadsScenario as reads;
+ghost use Rattle.marlowe_play.specs.Faults.{IsRefused};
 
 use crate::fault::PlayFault;
 use crate::lines::played_text;
@@ -32,7 +35,9 @@ pub fn play<R: Threads + Wait + Sync>(
     alloc: Global,
     text: &[u8],
     one: bool,
-) -> Result<Vec<u8>, PlayFault> {
+) -> Result<Vec<u8>, PlayFault>
+    ensures unread { IsRefused (of_text reads.scenario text.now) result }
+{
     play_watched(rt, alloc, text, one, &Unwatched)
 }
 
@@ -43,7 +48,9 @@ pub fn play_watched<R: Threads + Wait + Sync, W: Watch + Sync>(
     text: &[u8],
     one: bool,
     watch: &W,
-) -> Result<Vec<u8>, PlayFault> {
+) -> Result<Vec<u8>, PlayFault>
+    ensures unread { IsRefused (of_text reads.scenario text.now) result }
+{
     let scenario = read_scenario(alloc, text).map_err(PlayFault::of_scenario)?;
     let count = scenario.plans.len();
     if 63 < count {

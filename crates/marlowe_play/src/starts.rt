@@ -7,7 +7,7 @@ use builder::{Ask, BuildFault, Unspent, build_start};
 use chain::{Call, Reply};
 use collections::{Items, Memory, Text, TryClone};
 use contract::Interval;
-use eutxo_types::{OutputRef, Tx, TxFault};
+use eutxo_types::{OutputRef, Tx};
 use hub::{Hub, Receipt, Seat, Session};
 use json_read_names::JsonFault;
 use plans::NamedThread;
@@ -83,6 +83,20 @@ fn only(alloc: Global, text: &Text) -> Result<Items<Text>, Memory> {
     Ok(texts)
 }
 
+fn tick_shown(reply: &Reply) -> i64 {
+    match reply {
+        Reply::Look(look) => look.tick,
+        _ => 0,
+    }
+}
+
+fn keys_shown(reply: &Reply) -> &[Unspent] {
+    match reply {
+        Reply::Look(look) => look.keys.as_slice(),
+        _ => &[],
+    }
+}
+
 // The transaction that starts a thread: signed by who starts it and funded by what is shown of that address, to which the
 // change goes, at the tick that is shown.
 fn start_of(
@@ -91,10 +105,7 @@ fn start_of(
     thread: &NamedThread,
     shown: &Reply,
 ) -> Result<Tx, BuildFault> {
-    let (tick, offered): (i64, &[Unspent]) = match shown {
-        Reply::Look(look) => (look.tick, look.keys.as_slice()),
-        _ => (0, &[]),
-    };
+    let tick = tick_shown(shown);
     let now = Interval {
         from: tick,
         to: tick,
@@ -106,7 +117,7 @@ fn start_of(
         &thread.state,
         now,
         signers.as_slice(),
-        offered,
+        keys_shown(shown),
         &thread.by,
     )
 }

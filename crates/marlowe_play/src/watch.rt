@@ -20,7 +20,7 @@ impl Watch for Unwatched {
 }
 
 // What a party tells its watch is told to the play's.
-#[derive(Clone, Copy)]
+#[derive(Drop)]
 pub(crate) struct Told<'w, W> {
     pub(crate) watch: &'w W,
 }

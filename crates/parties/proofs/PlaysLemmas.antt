@@ -113,12 +113,14 @@ went_one plan call old new before now n of = record {
 -- ---- .. with receipts
 
 pub noted_same : (plan : PlayedPlan) (old new : SeatRecord) (before now : List ReceiptRecord) → new ≡ old → now ≡ before → WentNoted plan old new before now
+unfolding went_same
 noted_same plan old new before now same kept = record {
   went = went_same plan old new same;
   receipts = kept ∙ sym (append-nil before);
 }
 
 pub noted_more : (plan : PlayedPlan) (a b c : SeatRecord) (rs ss ts : List ReceiptRecord) → WentNoted plan a b rs ss → WentNoted plan b c ss ts → WentNoted plan a c rs ts
+unfolding went_more
 noted_more plan a b c rs ss ts x y =
     let number : b.number ≡ a.number = ap (λ (s : SeatRecord). s.number) x.went.list in
     let second : ts ≡ ss ++ map (receipt_of a.number) y.went.more = y.receipts ∙ ap (λ (n : ℕ). ss ++ map (receipt_of n) y.went.more) number in
@@ -129,6 +131,7 @@ noted_more plan a b c rs ss ts x y =
     }
 
 pub noted_one : (plan : PlayedPlan) (call : Call) (old new : SeatRecord) (before now : List ReceiptRecord) → WasNoted plan call old new before now → IsOfPlan plan None call → WentNoted plan old new before now
+unfolding went_one
 noted_one plan call old new before now n of = record {
   went = went_one plan call old new before now n of;
   receipts = n.receipts;
@@ -148,7 +151,7 @@ look_of_plan plan intent ask has asks = of_plan plan None (on.Look ask) intent h
 -- the look, and what is handed in after it
 pub noted_turn : (plan : PlayedPlan) (intent : PlayedIntent) (ask : Ask) (call : Call) (a b c : SeatRecord) (rs ss ts : List ReceiptRecord) → Contains plan.intents intent → ask_of plan intent ≡ Some ask → (look : WasNoted plan (on.Look ask) a b rs ss) → HandsIn plan intent look.answer.reply call → WasNoted plan call b c ss ts → WentNoted plan a c rs ts
 noted_turn plan intent ask call a b c rs ss ts has asks look next one =
-    let first = noted_one plan (on.Look ask) a b rs ss look (look_of_plan plan intent ask has asks) in
+    let first : IsOfPlan plan None look.answer.call = subst (λ (k : Call). IsOfPlan plan None k) (sym look.call_is) (look_of_plan plan intent ask has asks) in
     let number : b.number ≡ a.number = ap (λ (s : SeatRecord). s.number) look.list in
     let second : IsOfPlan plan (Some look.answer) one.answer.call = of_plan plan (Some look.answer) one.answer.call intent has (subst (λ (k : Call). IsOf plan (Some look.answer) k intent) (sym one.call_is) (hands plan intent ask look.answer call asks look.call_is next)) in
     let list : c ≡ seat_record a.number (a.answers ++ look.answer ∷ one.answer ∷ []) = one.list ∙ (ap (λ (s : SeatRecord). seat_record s.number (s.answers ++ one.answer ∷ [])) look.list ∙ ap (seat_record a.number) (append_assoc a.answers (look.answer ∷ []) (one.answer ∷ []))) in
@@ -157,7 +160,7 @@ noted_turn plan intent ask call a b c rs ss ts has asks look next one =
       went = record {
         more = look.answer ∷ one.answer ∷ [];
         list = list;
-        played = (first.went.played.0, (second, tt));
+        played = (first, (second, tt));
         within = within_more plan.stop_after a b c look.within one.within;
       };
       receipts = kept ∙ append_assoc rs (receipt_of a.number look.answer ∷ []) (receipt_of a.number one.answer ∷ []);

@@ -29,18 +29,19 @@ pub(crate) fn ask_of(
 ) -> Result<Option<Ask>, Memory>
     ensures { IfOk result (λ ask. ask ≡ ask_of plan.now intent.now) }
 {
+    let keys = plan.keys.try_clone()?;
     let mut payouts = Items::new(alloc);
     match intent {
         Intent::Step { thread, .. } => Ok(Some(Ask {
             thread: Some(*thread),
-            keys: plan.keys.try_clone()?,
+            keys,
             payouts,
         })),
         Intent::Claim { contract, role, .. } => {
             payouts.push(lock_of(contract, role)?)?;
             Ok(Some(Ask {
                 thread: None,
-                keys: plan.keys.try_clone()?,
+                keys,
                 payouts,
             }))
         }
@@ -69,6 +70,7 @@ fn step_of(
 ) -> Result<Option<Tx>, Memory>
     ensures { IfOk result (λ made. IfSome made (λ tx. tx ≡ step_made plan.now inputs.now interval look.now)) }
 {
+    let change = &plan.change;
     or_skipped(build_step(
         alloc,
         look,
@@ -76,7 +78,7 @@ fn step_of(
         inputs,
         plan.keys.as_slice(),
         look.keys.as_slice(),
-        &plan.change,
+        change,
     ))
 }
 
@@ -88,14 +90,16 @@ fn claim_of(
 ) -> Result<Option<Tx>, Memory>
     ensures { IfOk result (λ made. IfSome made (λ tx. tx ≡ claim_made plan.now interval look.now)) }
 {
+    let payouts = look.payouts.as_slice();
+    let to = &plan.change;
     or_skipped(build_claim(
         alloc,
-        look.payouts.as_slice(),
+        payouts,
         interval,
         plan.keys.as_slice(),
         look.keys.as_slice(),
-        &plan.change,
-        &plan.change,
+        to,
+        to,
     ))
 }
 
@@ -110,7 +114,9 @@ pub(crate) fn built(
 {
     match intent {
         Intent::Step {
-            inputs, interval, ..
+            inputs,
+            interval,
+            ..
         } => step_of(alloc, plan, inputs.as_slice(), *interval, look),
         Intent::Claim { interval, .. } => claim_of(alloc, plan, *interval, look),
         Intent::Round { .. } => Ok(None),

@@ -1,5 +1,5 @@
 //! What a party works with.
-ghost use Rattle.std.specs.Prelude.{◌≡◌, false, IfOk, OnErr};
+ghost use Rattle.std.specs.Prelude.{◌≡◌, ◌<◌, ◌≤◌, false, IfOk, OnErr};
 ghost use Rattle.hub.specs.Seats.{WasTold};
 ghost use Rattle.parties.specs.PlaysSupport.{HasRoom, call_of};
 
@@ -51,14 +51,9 @@ impl<R: Threads + Wait + Sync, J: Session, W: Watch> Means<'_, R, J, W> {
         let receipt = match act {
             Act::Call(call) => self.hub.call(self.rt, self.alloc, seat, call)?,
             Act::Admit(checked) => self.hub.admit(self.rt, self.alloc, seat, checked)?,
-            Act::Round { count, workers } => self.hub.round(
-                self.rt,
-                self.alloc,
-                seat,
-                &NoGate,
-                inside(workers),
-                count,
-            )?,
+            Act::Round { count, workers } => self
+                .hub
+                .round(self.rt, self.alloc, seat, &NoGate, inside(workers), count)?,
         };
         self.watch.answered(receipt.entry());
         Ok(receipt)

@@ -1,7 +1,8 @@
 //! Turns: to look, to build on it, and to hand it in.
-ghost use Rattle.std.specs.Prelude.{◌≡◌, Some, IfOk, IfSome, OnOk, OnErr};
+ghost use Rattle.std.specs.Prelude.{◌≡◌, if◌then◌else◌, IfOk, IfSome, OnOk, OnErr};
 ghost use Rattle.std.specs.List.{Contains};
 ghost use Rattle.ledger.specs.declared.call.Call.TheVariants as on;
+ghost use Rattle.eutxo_types.specs.declared.tx.Tx.{Tx};
 ghost use Rattle.parties.specs.PlaysSupport.{ask_of, handed, HandsIn, call_of, AtMostNoted, Went, WentNoted};
 
 use crate::acts::Act;

@@ -48,7 +48,8 @@ fn pay_all<J: Session, R: Wait>(
     seat: &mut Seat<J>,
     row: Row,
 ) -> Result<(), Memory> {
-    let first = (seat.number() as u32).saturating_mul(row.jobs);
+    let seats_before = u32::try_from(seat.number()).unwrap_or(u32::MAX);
+    let first = seats_before.saturating_mul(row.jobs);
     for n in 0..row.jobs {
         let tx = payment(alloc, first.saturating_add(n), row.inputs)?;
         hub.call(rt, alloc, seat, Call::Submit(tx))?;
@@ -77,7 +78,25 @@ fn closed_after<J: Session>(
     })
 }
 
-// All seats pay at once, each in a thread of its own.
+// Each seat pays in a thread of its own: the seats, and whether memory was refused. A thread is handed the hub with its seat.
+fn pay_in_threads<J: Session + Send + Sync, R: Threads + Wait + Sync>(
+    rt: &R,
+    alloc: Global,
+    seats: Vec<(&Hub<J>, Seat<J>)>,
+    row: Row,
+) -> Result<Vec<(Seat<J>, Result<(), Memory>)>, Memory> {
+    thread::map_vec(
+        rt,
+        seats,
+        &|handed: (&Hub<J>, Seat<J>)| -> (Seat<J>, Result<(), Memory>) {
+            let (hub, mut seat) = handed;
+            let paid = pay_all(rt, alloc, hub, &mut seat, row);
+            (seat, paid)
+        },
+    )
+}
+
+// All seats pay at once.
 fn pay_at_once<J: Session + Send + Sync, R: Clock + Threads + Wait + Sync>(
     rt: &R,
     alloc: Global,
@@ -87,15 +106,12 @@ fn pay_at_once<J: Session + Send + Sync, R: Clock + Threads + Wait + Sync>(
     requires { opening ≡ J.session }
 {
     let (hub, seats) = opening.open::<J>(alloc)?;
+    let mut handed = Vec::new(alloc);
+    for seat in seats {
+        handed.push((&hub, seat))?;
+    }
     let start = Instant::now(rt)?;
-    let paid = thread::map_vec(
-        rt,
-        seats,
-        &|mut seat: Seat<J>| -> (Seat<J>, Result<(), Memory>) {
-            let paid = pay_all(rt, alloc, &hub, &mut seat, row);
-            (seat, paid)
-        },
-    )?;
+    let paid = pay_in_threads(rt, alloc, handed, row)?;
     let micros = start.elapsed(rt)?.as_micros();
     let mut seats = Vec::new(alloc);
     for (seat, paid) in paid {

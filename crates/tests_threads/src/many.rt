@@ -27,7 +27,7 @@ fn call_of(alloc: Global, seat: u64, n: u64) -> Option<Call> {
             currency: currency(alloc)?,
         },
         1 => Call::Look(ask_of(alloc, None, "bank")?),
-        2..=6 => Call::Advance(n as i64),
+        2..=6 => Call::Advance(i64::try_from(n).ok()?),
         7..=13 => Call::Submit(payment(alloc, seat)?),
         _ => Call::Enqueue(payment(alloc, n)?),
     })
@@ -60,17 +60,17 @@ fn all_calls<J: Session, R: Threads + Wait + Sync>(
     Some(receipts)
 }
 
-// Each seat in a thread of its own, with its receipts.
+// Each seat in a thread of its own, with its receipts. A thread is handed the hub with its seat.
 fn all_seats<J: Session + Send + Sync, R: Threads + Wait + Sync>(
     rt: &R,
     alloc: Global,
-    hub: &Hub<J>,
-    seats: Vec<Seat<J>>,
+    seats: Vec<(&Hub<J>, Seat<J>)>,
 ) -> Option<Vec<(Seat<J>, Option<Vec<Receipt<J>>>)>> {
     thread::map_vec(
         rt,
         seats,
-        &|mut seat: Seat<J>| -> (Seat<J>, Option<Vec<Receipt<J>>>) {
+        &|handed: (&Hub<J>, Seat<J>)| -> (Seat<J>, Option<Vec<Receipt<J>>>) {
+            let (hub, mut seat) = handed;
             let receipts = all_calls(rt, alloc, hub, &mut seat);
             (seat, receipts)
         },
@@ -87,7 +87,11 @@ fn played<J: Session + Send + Sync, R: Threads + Wait + Sync>(
     requires { opening ≡ J.session }
 {
     let (hub, seats) = opening.open::<J>(alloc).ok()?;
-    let played = all_seats(rt, alloc, &hub, seats)?;
+    let mut handed = Vec::new(alloc);
+    for seat in seats {
+        handed.push((&hub, seat)).ok()?;
+    }
+    let played = all_seats(rt, alloc, handed)?;
     let mut seats = Vec::new(alloc);
     let mut receipts = Vec::new(alloc);
     for (seat, told) in played {

@@ -64,6 +64,30 @@ fn try_again<J: Session, R: Wait>(
     }
 }
 
+// Each seat but the first races in a thread of its own: the seats, and whether one had to try again. A thread is handed the hub with its seat.
+fn race_all<J: Session + Send + Sync, R: Threads + Wait + Sync>(
+    rt: &R,
+    alloc: Global,
+    seats: Vec<(&Hub<J>, Seat<J>)>,
+    deal: OutputRef,
+    ready: &Ready,
+) -> Option<Vec<(Seat<J>, Option<bool>)>> {
+    thread::map_vec(
+        rt,
+        seats,
+        &|handed: (&Hub<J>, Seat<J>)| -> (Seat<J>, Option<bool>) {
+            let (hub, mut seat) = handed;
+            let again = if seat.number() == 0 {
+                Some(false)
+            } else {
+                race(rt, alloc, hub, &mut seat, deal, ready)
+            };
+            (seat, again)
+        },
+    )
+    .ok()
+}
+
 // The bank begins, and then the other two race: the closed hub, the thread's start, and how often one had to try again.
 fn raced<J: Session + Send + Sync, R: Threads + Wait + Sync>(
     rt: &R,
@@ -78,19 +102,11 @@ fn raced<J: Session + Send + Sync, R: Threads + Wait + Sync>(
         first: AtomicU64::new(0),
         second: AtomicU64::new(0),
     };
-    let raced = thread::map_vec(
-        rt,
-        seats,
-        &|mut seat: Seat<J>| -> (Seat<J>, Option<bool>) {
-            let again = if seat.number() == 0 {
-                Some(false)
-            } else {
-                race(rt, alloc, &hub, &mut seat, deal, &ready)
-            };
-            (seat, again)
-        },
-    )
-    .ok()?;
+    let mut handed = Vec::new(alloc);
+    for seat in seats {
+        handed.push((&hub, seat)).ok()?;
+    }
+    let raced = race_all(rt, alloc, handed, deal, &ready)?;
     let mut seats = Vec::new(alloc);
     let mut count = 0;
     for (seat, again) in raced {

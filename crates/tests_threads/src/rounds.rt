@@ -116,18 +116,19 @@ fn look_meanwhile<J: Session, R: Wait>(
     seat.answers().last().map(|answer| answer.place)
 }
 
-// Seat 0 makes the round, and seat 1 looks: the places of their last entries, in the order of the seats.
+// Seat 0 makes the round, and seat 1 looks: the places of their last entries, in the order of the seats. A thread is handed the hub with its
+// seat.
 fn round_and_look<J: Session + Send + Sync, R: Threads + Wait + Sync>(
     rt: &R,
     alloc: Global,
-    hub: &Hub<J>,
-    seats: Vec<Seat<J>>,
+    seats: Vec<(&Hub<J>, Seat<J>)>,
     open: &Open,
 ) -> Option<Vec<Option<u64>>> {
     thread::map_vec(
         rt,
         seats,
-        &|mut seat: Seat<J>| -> Option<u64> {
+        &|handed: (&Hub<J>, Seat<J>)| -> Option<u64> {
+            let (hub, mut seat) = handed;
             if seat.number() == 0 {
                 let receipt = round_at(rt, alloc, hub, &mut seat, open)?;
                 Some(receipt.entry())
@@ -151,7 +152,11 @@ fn looks<J: Session + Send + Sync, R: Threads + Wait + Abort + Sync + AllocGloba
         answered: AtomicU64::new(0),
         gave_up: AtomicU64::new(0),
     };
-    let places = round_and_look(rt, rt.alloc(), &hub, seats, &open).expect(rt, "memory");
+    let mut handed = Vec::new(rt.alloc());
+    for seat in seats {
+        handed.push((&hub, seat)).expect(rt, "memory");
+    }
+    let places = round_and_look(rt, rt.alloc(), handed, &open).expect(rt, "memory");
     assert_eq!(rt;
         open.gave_up.load(Ordering::SeqCst),
         0,
