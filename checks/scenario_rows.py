@@ -5,7 +5,8 @@ them.
 Needs    plays.py and readings.py beside it, and nothing built.
 Usage    scenario_rows.py                compares all files
          scenario_rows.py --write FILE   writes each answer below its row, in place of what stood there
-Expect   `FILE ok N rows` for each file.
+         scenario_rows.py --random [COUNT [SEED [FILE]]]   writes short random scenarios as rows, each above its answer
+Expect   `FILE ok N rows` for each file. The random rows of 100 by seed 1 are those that are there, in `compared.txt`.
 Else     the first row that differs, with what is written and what comes here, and status 1.
 """
 import os
@@ -14,9 +15,11 @@ import sys
 HERE = os.path.dirname(os.path.abspath(__file__))
 sys.path.insert(0, HERE)
 import plays
+import random_scenarios
 import readings
 from ledger import compact
 
+TITLE = "# random scenarios, as a program written apart plays them"
 DATA = os.path.join(HERE, "..", "crates", "rows_scenarios", "data")
 
 
@@ -159,6 +162,17 @@ def write(path):
         file.write("".join(line + "\n" for line in kept))
 
 
+def write_random(count, seed, path):
+    kept, number = [TITLE], 0
+    while sum(line.startswith("play") for line in kept) < count:
+        text = random_scenarios.text(f"{seed}.{number}", plays.Play)
+        number += 1
+        if 0 < len(text) <= 3000 and b"$" not in text:
+            kept += ["play " + text.decode()] + ["= " + each for each in play_lines(text)]
+    with open(path, "w") as file:
+        file.write("".join(line + "\n" for line in kept))
+
+
 def lines_of(path):
     with open(path) as file:
         return file.read().removesuffix("\n").split("\n")
@@ -166,6 +180,9 @@ def lines_of(path):
 
 if sys.argv[1:2] == ["--write"]:
     write(sys.argv[2])
+elif sys.argv[1:2] == ["--random"]:
+    words = sys.argv[2:]
+    write_random(int(words[0]) if words else 100, words[1] if words[1:] else "1", words[2] if words[2:] else os.path.join(DATA, "compared.txt"))
 else:
     for each in sorted(os.listdir(DATA)):
         compare(each)

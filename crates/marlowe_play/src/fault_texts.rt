@@ -1,6 +1,6 @@
 //! Faults as they are printed: the name, and after a space the place, the party, the token or the name of the inner fault.
-use collections::Memory;
 use builder::BuildFault;
+use collections::Memory;
 use eutxo_types::TxFault;
 use json_terms::{Term, term_text};
 use marlowe_run::sem_fault_name;

@@ -12,7 +12,11 @@ use std::fmt::Write;
 use table::Table;
 
 // The whole text. Each line ends in a line feed.
-pub(crate) fn played_text(alloc: Global, chain: &Chain, stage: &Stage<'_>) -> Result<Vec<u8>, Memory> {
+pub(crate) fn played_text(
+    alloc: Global,
+    chain: &Chain,
+    stage: &Stage<'_>,
+) -> Result<Vec<u8>, Memory> {
     let entries = chain.entries();
     let mut out = String::new(alloc);
     for (number, entry) in entries.iter().enumerate() {
@@ -28,7 +32,12 @@ pub(crate) fn played_text(alloc: Global, chain: &Chain, stage: &Stage<'_>) -> Re
 }
 
 // An entry's line: its number, its seat with its number there, the call and what it was answered.
-fn print_entry(alloc: Global, out: &mut String, number: usize, entry: &Entry) -> Result<(), Memory> {
+fn print_entry(
+    alloc: Global,
+    out: &mut String,
+    number: usize,
+    entry: &Entry,
+) -> Result<(), Memory> {
     let seat = entry.seat;
     let of_seat = entry.number;
     write!(out, "{number} {seat}.{of_seat} ")?;

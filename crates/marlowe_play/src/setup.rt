@@ -22,11 +22,7 @@ pub(crate) fn refused(line: Result<String, Memory>) -> PlayFault {
 }
 
 // A chain that begins with what the scenario's addresses have.
-pub(crate) fn first_chain(
-    alloc: Global,
-    genesis: &[Funds],
-    tick: i64,
-) -> Result<Chain, PlayFault>
+pub(crate) fn first_chain(alloc: Global, genesis: &[Funds], tick: i64) -> Result<Chain, PlayFault>
     ensures { IfOk result (λ chain. chain.entries ≡ []) }
 {
     let outputs = key_outputs(alloc, genesis)?;

@@ -124,13 +124,17 @@ fn text_named<'a>(named: &'a [Named], name: &str) -> Result<&'a [u8], RowFault> 
     }
 }
 
-// Adds a text, with a number in place of each `%`.
+// Adds a text, with a number in place of each `%`. Most texts have none, and are added many times.
 fn put_numbered(
     alloc: Global,
     text: &[u8],
     number: u32,
     place: &mut Vec<u8>,
 ) -> Result<(), RowFault> {
+    if !text.contains(&b'%') {
+        place.extend_from_slice(text)?;
+        return Ok(());
+    }
     let number = format!(in alloc; "{number}")?;
     let mut is_first = true;
     for piece in text.split(|byte| *byte == b'%') {

@@ -12,9 +12,9 @@ returns c =
     let table_is : shape_of c.in_ok-table.table ≡ table_command.top = ap (λ (a : App). a.top) c.in_ok-table.ensures.shape in
     let play_is : shape_of c.in_ok-play.play ≡ play_command.top = ap (λ (a : App). a.top) c.in_ok-play.ensures.shape in
     let with_run : app_of c.in_ok-subcommand.field-0 ≡ with_subcommand program run_command.top =
-      c.in_ok-subcommand.ensures.shape c.in_ok-run.ensures.own ∙ ap₂ with_subcommand program_is run_is in
+    c.in_ok-subcommand.ensures.shape c.in_ok-run.ensures.own ∙ ap₂ with_subcommand program_is run_is in
     let with_table : app_of c.in_ok-subcommand-2.field-0 ≡ with_subcommand (with_subcommand program run_command.top) table_command.top =
-      c.in_ok-subcommand-2.ensures.shape c.in_ok-table.ensures.own ∙ ap₂ with_subcommand with_run table_is in
+    c.in_ok-subcommand-2.ensures.shape c.in_ok-table.ensures.own ∙ ap₂ with_subcommand with_run table_is in
     IfOk-weaker c.subcommand-3.result _ _
     (λ r adds. adds.shape c.in_ok-play.ensures.own ∙ ap₂ with_subcommand with_table play_is)
     c.subcommand-3.ensures
