@@ -1,2 +1,3 @@
 mod SteppedLemmas
+mod CallerLemmas
 mod LockLemmas

@@ -31,5 +31,6 @@ pub fn close_thread(
     anyone_closes_after_the_last_timeout();
     let inputs: &[Input] = &[];
     let signers: &[Text] = &[];
-    step_now(alloc, chain, seat, start, inputs, signers, change)
+    let reply = step_now(alloc, chain, seat, start, inputs, signers, change)?;
+    Ok(reply)
 }
