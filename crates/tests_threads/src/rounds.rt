@@ -153,7 +153,9 @@ fn looks<J: Session + Send + Sync, R: Threads + Wait + Abort + Sync + AllocGloba
     };
     let mut handed = Vec::new(rt.alloc());
     for seat in seats {
-        handed.push(SeatAtHub { hub: &hub, seat }).expect(rt, "memory");
+        handed
+            .push(SeatAtHub { hub: &hub, seat })
+            .expect(rt, "memory");
     }
     let places = round_and_look(rt, rt.alloc(), handed, &open).expect(rt, "memory");
     assert_eq!(rt;

@@ -1,3 +1,0 @@
-mod SteppedLemmas
-mod CallerLemmas
-mod LockLemmas

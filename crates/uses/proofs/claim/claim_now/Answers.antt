@@ -1,5 +1,0 @@
-use Rattle.uses.proofs.CallerLemmas.{claimed_by}
-use Rattle.uses.proofs.claim.claim_now.Goals as goal
-
-pub returns-clause-claimed : goal.returns-clause-claimed
-returns-clause-claimed c = claimed_by _ _ _ _ _ _ _ _ c.at_tick-now.ensures c.in_ok-reply.ensures.second c.in_ok-tx.ensures c.in_ok-reply.ensures.reply

@@ -1,3 +1,0 @@
-pub mod Uses
-pub mod Resolutions
-pub mod TimeLocks
