@@ -87,9 +87,9 @@ pub(crate) fn noted<R: Threads + Wait + Sync, J: Session, W: Watch>(
         return Ok(false);
     }
     receipts.reserve(1)?;
-    let receipt = means.act(seat, act)?;
-    let overtaken = is_overtaken(receipt.reply());
-    receipts.push_reserved(receipt);
+    let told = means.act(seat, act)?;
+    let overtaken = is_overtaken(told.reply());
+    receipts.push_reserved(told);
     Ok(overtaken)
 }
 
