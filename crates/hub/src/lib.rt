@@ -7,6 +7,7 @@
 #![tactic(auto)]
 
 mod answer;
+mod at_hub;
 mod closed;
 mod desk;
 mod hub;
@@ -16,6 +17,7 @@ mod seat;
 mod session;
 
 pub use answer::Answer;
+pub use at_hub::SeatAtHub;
 pub use closed::Closed;
 pub use hub::Hub;
 pub use opening::Opening;

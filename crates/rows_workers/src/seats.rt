@@ -6,7 +6,7 @@ use crate::row::Row;
 use chain::{Call, Chain, Entry, Reply};
 use collections::Memory;
 use eutxo::{Checked, check_owned};
-use hub::{Closed, Hub, Opening, Seat, Session};
+use hub::{Closed, Hub, Opening, Seat, SeatAtHub, Session};
 use roles::Published;
 use rows_text::RowFault;
 use std::alloc::Global;
@@ -78,18 +78,18 @@ fn closed_after<J: Session>(
     })
 }
 
-// Each seat pays in a thread of its own: the seats, and whether memory was refused. A thread is handed the hub with its seat.
+// Each seat pays in a thread of its own: the seats, and whether memory was refused.
 fn pay_in_threads<J: Session + Send + Sync, R: Threads + Wait + Sync>(
     rt: &R,
     alloc: Global,
-    seats: Vec<(&Hub<J>, Seat<J>)>,
+    seats: Vec<SeatAtHub<J>>,
     row: Row,
 ) -> Result<Vec<(Seat<J>, Result<(), Memory>)>, Memory> {
     thread::map_vec(
         rt,
         seats,
-        &|handed: (&Hub<J>, Seat<J>)| -> (Seat<J>, Result<(), Memory>) {
-            let (hub, mut seat) = handed;
+        &|handed: SeatAtHub<J>| -> (Seat<J>, Result<(), Memory>) {
+            let SeatAtHub { hub, mut seat } = handed;
             let paid = pay_all(rt, alloc, hub, &mut seat, row);
             (seat, paid)
         },
@@ -108,7 +108,7 @@ fn pay_at_once<J: Session + Send + Sync, R: Clock + Threads + Wait + Sync>(
     let (hub, seats) = opening.open::<J>(alloc)?;
     let mut handed = Vec::new(alloc);
     for seat in seats {
-        handed.push((&hub, seat))?;
+        handed.push(SeatAtHub { hub: &hub, seat })?;
     }
     let start = Instant::now(rt)?;
     let paid = pay_in_threads(rt, alloc, handed, row)?;

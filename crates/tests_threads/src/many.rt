@@ -5,7 +5,7 @@ use crate::deal::{bank, contract, currency};
 use crate::party::{ask_of, payment};
 use chain::Call;
 use collections::Same;
-use hub::{Closed, Hub, Opening, Receipt, Seat, Session};
+use hub::{Closed, Hub, Opening, Receipt, Seat, SeatAtHub, Session};
 use parallel_check::NoGate;
 use std::alloc::Global;
 use std::marker::Brand;
@@ -60,17 +60,17 @@ fn all_calls<J: Session, R: Threads + Wait + Sync>(
     Some(receipts)
 }
 
-// Each seat in a thread of its own, with its receipts. A thread is handed the hub with its seat.
+// Each seat in a thread of its own, with its receipts.
 fn all_seats<J: Session + Send + Sync, R: Threads + Wait + Sync>(
     rt: &R,
     alloc: Global,
-    seats: Vec<(&Hub<J>, Seat<J>)>,
+    seats: Vec<SeatAtHub<J>>,
 ) -> Option<Vec<(Seat<J>, Option<Vec<Receipt<J>>>)>> {
     thread::map_vec(
         rt,
         seats,
-        &|handed: (&Hub<J>, Seat<J>)| -> (Seat<J>, Option<Vec<Receipt<J>>>) {
-            let (hub, mut seat) = handed;
+        &|handed: SeatAtHub<J>| -> (Seat<J>, Option<Vec<Receipt<J>>>) {
+            let SeatAtHub { hub, mut seat } = handed;
             let receipts = all_calls(rt, alloc, hub, &mut seat);
             (seat, receipts)
         },
@@ -89,7 +89,7 @@ fn played<J: Session + Send + Sync, R: Threads + Wait + Sync>(
     let (hub, seats) = opening.open::<J>(alloc).ok()?;
     let mut handed = Vec::new(alloc);
     for seat in seats {
-        handed.push((&hub, seat)).ok()?;
+        handed.push(SeatAtHub { hub: &hub, seat }).ok()?;
     }
     let played = all_seats(rt, alloc, handed)?;
     let mut seats = Vec::new(alloc);

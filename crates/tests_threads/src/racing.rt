@@ -5,7 +5,7 @@ use crate::deal::bank;
 use crate::meeting::comes;
 use crate::party::{Told, admit, begin, look, step};
 use eutxo_types::OutputRef;
-use hub::{Closed, Hub, Opening, Seat, Session};
+use hub::{Closed, Hub, Opening, Seat, SeatAtHub, Session};
 use std::alloc::Global;
 use std::marker::Brand;
 use std::process::Abort;
@@ -64,19 +64,19 @@ fn try_again<J: Session, R: Wait>(
     }
 }
 
-// Each seat but the first races in a thread of its own: the seats, and whether one had to try again. A thread is handed the hub with its seat.
+// Each seat but the first races in a thread of its own: the seats, and whether one had to try again.
 fn race_all<J: Session + Send + Sync, R: Threads + Wait + Sync>(
     rt: &R,
     alloc: Global,
-    seats: Vec<(&Hub<J>, Seat<J>)>,
+    seats: Vec<SeatAtHub<J>>,
     deal: OutputRef,
     ready: &Ready,
 ) -> Option<Vec<(Seat<J>, Option<bool>)>> {
     thread::map_vec(
         rt,
         seats,
-        &|handed: (&Hub<J>, Seat<J>)| -> (Seat<J>, Option<bool>) {
-            let (hub, mut seat) = handed;
+        &|handed: SeatAtHub<J>| -> (Seat<J>, Option<bool>) {
+            let SeatAtHub { hub, mut seat } = handed;
             let again = if seat.number() == 0 {
                 Some(false)
             } else {
@@ -104,7 +104,7 @@ fn raced<J: Session + Send + Sync, R: Threads + Wait + Sync>(
     };
     let mut handed = Vec::new(alloc);
     for seat in seats {
-        handed.push((&hub, seat)).ok()?;
+        handed.push(SeatAtHub { hub: &hub, seat }).ok()?;
     }
     let raced = race_all(rt, alloc, handed, deal, &ready)?;
     let mut seats = Vec::new(alloc);

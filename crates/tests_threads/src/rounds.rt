@@ -6,7 +6,7 @@ use crate::meeting::{Meeting, comes};
 use crate::party::{look, payment};
 use chain::{Call, Reply};
 use eutxo_types::Verdict;
-use hub::{Hub, Opening, Receipt, Seat, Session};
+use hub::{Hub, Opening, Receipt, Seat, SeatAtHub, Session};
 use parallel_check::Gate;
 use std::alloc::Global;
 use std::marker::Brand;
@@ -116,19 +116,18 @@ fn look_meanwhile<J: Session, R: Wait>(
     seat.answers().last().map(|answer| answer.place)
 }
 
-// Seat 0 makes the round, and seat 1 looks: the places of their last entries, in the order of the seats. A thread is handed the hub with its
-// seat.
+// Seat 0 makes the round, and seat 1 looks: the places of their last entries, in the order of the seats.
 fn round_and_look<J: Session + Send + Sync, R: Threads + Wait + Sync>(
     rt: &R,
     alloc: Global,
-    seats: Vec<(&Hub<J>, Seat<J>)>,
+    seats: Vec<SeatAtHub<J>>,
     open: &Open,
 ) -> Option<Vec<Option<u64>>> {
     thread::map_vec(
         rt,
         seats,
-        &|handed: (&Hub<J>, Seat<J>)| -> Option<u64> {
-            let (hub, mut seat) = handed;
+        &|handed: SeatAtHub<J>| -> Option<u64> {
+            let SeatAtHub { hub, mut seat } = handed;
             if seat.number() == 0 {
                 let receipt = round_at(rt, alloc, hub, &mut seat, open)?;
                 Some(receipt.entry())
@@ -154,7 +153,7 @@ fn looks<J: Session + Send + Sync, R: Threads + Wait + Abort + Sync + AllocGloba
     };
     let mut handed = Vec::new(rt.alloc());
     for seat in seats {
-        handed.push((&hub, seat)).expect(rt, "memory");
+        handed.push(SeatAtHub { hub: &hub, seat }).expect(rt, "memory");
     }
     let places = round_and_look(rt, rt.alloc(), handed, &open).expect(rt, "memory");
     assert_eq!(rt;
