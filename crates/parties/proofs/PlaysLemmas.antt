@@ -1,19 +1,17 @@
 -- How what a party does adds up.
-use Rattle.std.proofs.Common.{◌≡◌, inl, inr, ⊎_elim, ℕ, ◌+◌, ◌<◌, ◌≤◌, List, [], ◌∷◌, ◌++◌, length, map, drop, Option, Some, None, refl, sym, ap, ◌∙◌, subst, arith, append_assoc}
+use Rattle.std.proofs.Common.{◌≡◌, inl, inr, ℕ, ◌+◌, List, [], ◌∷◌, ◌++◌, length, map, drop, Option, Some, None, refl, sym, ap, ◌∙◌, subst, arith, append_assoc}
 use Rattle.std.proofs.lemmas.List.{append-nil, length-append, map-append}
 use Rattle.std.proofs.Math.Seq.{drop-append_seam}
-use Rattle.std.specs.Prelude.{◌⊎◌}
+use Rattle.std.specs.Prelude.{ℤ, Result, Ok, Err, OnErr}
 use Rattle.std.specs.List.{Contains}
 use Rattle.ledger.specs.declared.ask.Ask.{Ask}
 use Rattle.ledger.specs.declared.call.Call.{Call}
 use Rattle.ledger.specs.declared.call.Call.TheVariants as on
-use Rattle.ledger.specs.declared.call.Reply.{Reply}
-use Rattle.ledger.specs.declared.look.Look.{Look}
 use Rattle.plans.specs.declared.intent.Intent.TheVariants.{Step, Claim, Round, Advance}
 use Rattle.hub.specs.declared.answer.Answer.{Answer}
 use Rattle.hub.specs.Seats.{SeatRecord, ReceiptRecord, seat_record, answer_of, WasTold}
-use Rattle.parties.specs.Plays.{PlayedIntent, PlayedPlan, step_ask, claim_ask, step_made, claim_made, WasShown, IsOf, IsOfPlan, AreOf, ArePlayed, IsWithin, added, receipt_of}
-use Rattle.parties.specs.PlaysSupport.{ask_of, made_of, handed, HandsIn, HasRoom, WasNoted, AtMostNoted, Went, WentNoted}
+use Rattle.parties.specs.Plays.{PlayedIntent, PlayedPlan, IsOf, IsOfPlan, AreOf, ArePlayed, IsWithin, added, receipt_of}
+use Rattle.parties.specs.PlaysSupport.{ask_of, HandsIn, HasRoom, WasNoted, AtMostNoted, Went, WentNoted}
 
 -- ---- whose call it is
 
@@ -57,6 +55,12 @@ hands plan (Advance tick) ask a call asks is h = absurd cc
 of_plan : (plan : PlayedPlan) (before : Option Answer) (call : Call) (intent : PlayedIntent) → Contains plan.intents intent → IsOf plan before call intent → IsOfPlan plan before call
 of_plan plan before call intent has of = (has.0, intent, has.1, has.2, of)
 
+pub round_of_plan : (plan : PlayedPlan) (intent : PlayedIntent) (count workers : ℕ) → Contains plan.intents intent → intent ≡ Round count workers → IsOfPlan plan None (on.Round count)
+round_of_plan plan intent count workers has is = of_plan plan None (on.Round count) intent has (subst (λ (i : PlayedIntent). IsOf plan None (on.Round count) i) (sym is) refl)
+
+pub advance_of_plan : (plan : PlayedPlan) (intent : PlayedIntent) (tick : ℤ) → Contains plan.intents intent → intent ≡ Advance tick → IsOfPlan plan None (on.Advance tick)
+advance_of_plan plan intent tick has is = of_plan plan None (on.Advance tick) intent has (subst (λ (i : PlayedIntent). IsOf plan None (on.Advance tick) i) (sym is) refl)
+
 -- ---- where a party stops
 
 within_same : (limit : Option ℕ) (s : SeatRecord) → IsWithin limit s s
@@ -76,12 +80,12 @@ within_one (Some n) old new a room is =
 -- ---- what was added
 
 -- a call that was told, with its receipt
-pub noted : (plan : PlayedPlan) (call : Call) (old new : SeatRecord) (r : ReceiptRecord) (before now : List ReceiptRecord) → WasTold old call r new → HasRoom plan.stop_after old → now ≡ before ++ r ∷ [] → WasNoted plan call old new before now
-noted plan call old new r before now told room more = record {
+pub noted : (plan : PlayedPlan) (call : Call) (old new : SeatRecord) (r : ReceiptRecord) (before mid now : List ReceiptRecord) → WasTold old call r new → HasRoom plan.stop_after old → mid ≡ before → now ≡ mid ++ r ∷ [] → WasNoted plan call old new before now
+noted plan call old new r before mid now told room same more = record {
   answer = answer_of call r;
   call_is = refl;
   list = told.answer;
-  receipts = more ∙ ap (λ (n : ℕ). before ++ (record { entry = r.entry; seat = n; number = r.number; reply = r.reply } ∷ [])) told.seat;
+  receipts = more ∙ (ap (λ (l : List ReceiptRecord). l ++ r ∷ []) same ∙ ap (λ (n : ℕ). before ++ (record { entry = r.entry; seat = n; number = r.number; reply = r.reply } ∷ [])) told.seat);
   within = within_one plan.stop_after old new (answer_of call r) room told.answer;
 }
 
@@ -171,6 +175,15 @@ noted_turn_at_most plan intent ask call a b c rs ss ts has asks look next n =
     let first = noted_one plan (on.Look ask) a b rs ss look (look_of_plan plan intent ask has asks) in
     elim n [ inl none ↦ noted_more plan a b c rs ss ts first (noted_same plan b c ss ts none.0 none.1) | inr one ↦ noted_turn plan intent ask call a b c rs ss ts has asks look next one ]
 
+-- the look, by what it was told; before it there was room made for its receipt
+pub told_look : (plan : PlayedPlan) (intent : PlayedIntent) (ask : Ask) (a b : SeatRecord) (r : ReceiptRecord) (rs ms ss : List ReceiptRecord) → Contains plan.intents intent → ask_of plan intent ≡ Some ask → WasTold a (on.Look ask) r b → HasRoom plan.stop_after a → ms ≡ rs → ss ≡ ms ++ r ∷ [] → WentNoted plan a b rs ss
+told_look plan intent ask a b r rs ms ss has asks told room same more = noted_one plan (on.Look ask) a b rs ss (noted plan (on.Look ask) a b r rs ms ss told room same more) (look_of_plan plan intent ask has asks)
+
+-- .. and what is handed in after it
+pub told_turn : (plan : PlayedPlan) (intent : PlayedIntent) (ask : Ask) (call : Call) (a b c : SeatRecord) (r : ReceiptRecord) (rs ms ss ts : List ReceiptRecord) → Contains plan.intents intent → ask_of plan intent ≡ Some ask → WasTold a (on.Look ask) r b → HasRoom plan.stop_after a → ms ≡ rs → ss ≡ ms ++ r ∷ [] → HandsIn plan intent r.reply call → AtMostNoted plan call b c ss ts → WentNoted plan a c rs ts
+unfolding noted
+told_turn plan intent ask call a b c r rs ms ss ts has asks told room same more next n = noted_turn_at_most plan intent ask call a b c rs ss ts has asks (noted plan (on.Look ask) a b r rs ms ss told room same more) next n
+
 -- ---- what a seat shows of it
 
 pub added_is : (plan : PlayedPlan) (old new : SeatRecord) (w : Went plan old new) → added old new ≡ w.more
@@ -184,3 +197,10 @@ played plan old new w = subst (λ (l : List Answer). AreOf plan None l) (sym (ad
 
 pub receipts : (plan : PlayedPlan) (old new : SeatRecord) (now : List ReceiptRecord) → WentNoted plan old new [] now → now ≡ map (receipt_of old.number) (added old new)
 receipts plan old new now w = w.receipts ∙ ap (λ (l : List Answer). map (receipt_of old.number) l) (sym (added_is plan old new w.went))
+
+-- ---- answers
+
+-- what holds anyway holds where there is an error
+pub on_err_always : {T E : Type 0} (r : Result T E) (P : Type 0) → P → OnErr r P
+on_err_always (Ok x) P p = tt
+on_err_always (Err e) P p = p

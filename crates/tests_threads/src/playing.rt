@@ -8,7 +8,11 @@ use chain::Reply;
 use collections::{Bytes, Items};
 use contract::{Input, Interval};
 use eutxo_types::{OutputRef, TxFault};
+<<<<<<< HEAD
 use hub::{Closed, Hub, Opening, Seat, Session};
+=======
+use hub::{Closed, Hub, Opening, Seat, SeatAtHub, Session};
+>>>>>>> bd1a752453f81f1fad157236fce110dea79c9a35
 use parties::{Intent, Party, Plan, Watch};
 use std::alloc::Global;
 use std::marker::Brand;
@@ -86,6 +90,33 @@ fn plays<J: Session, R: Threads + Wait + Sync>(
     }
 }
 
+<<<<<<< HEAD
+=======
+// Each seat but the first plays in a thread of its own: the seats, and how many calls each was answered.
+fn play_all<J: Session + Send + Sync, R: Threads + Wait + Sync>(
+    rt: &R,
+    alloc: Global,
+    seats: Vec<SeatAtHub<J>>,
+    deal: OutputRef,
+    overtaking: &Overtaking,
+) -> Option<Vec<(Seat<J>, Option<usize>)>> {
+    thread::map_vec(
+        rt,
+        seats,
+        &|handed: SeatAtHub<J>| -> (Seat<J>, Option<usize>) {
+            let SeatAtHub { hub, mut seat } = handed;
+            let count = if seat.number() == 0 {
+                Some(0)
+            } else {
+                plays(rt, alloc, hub, &mut seat, deal, overtaking)
+            };
+            (seat, count)
+        },
+    )
+    .ok()
+}
+
+>>>>>>> bd1a752453f81f1fad157236fce110dea79c9a35
 // The bank begins, and the other two play: the closed hub, the deal's start, and how many calls each of the two was answered.
 fn played<J: Session + Send + Sync, R: Threads + Wait + Sync>(
     rt: &R,
@@ -97,6 +128,7 @@ fn played<J: Session + Send + Sync, R: Threads + Wait + Sync>(
 {
     let (hub, mut seats) = opening.open::<J>(alloc).ok()?;
     let deal = begin(rt, alloc, &hub, seats.first_mut()?)?;
+<<<<<<< HEAD
     let played = thread::map_vec(
         rt,
         seats,
@@ -110,6 +142,13 @@ fn played<J: Session + Send + Sync, R: Threads + Wait + Sync>(
         },
     )
     .ok()?;
+=======
+    let mut handed = Vec::new(alloc);
+    for seat in seats {
+        handed.push(SeatAtHub { hub: &hub, seat }).ok()?;
+    }
+    let played = play_all(rt, alloc, handed, deal, overtaking)?;
+>>>>>>> bd1a752453f81f1fad157236fce110dea79c9a35
     let mut seats = Vec::new(alloc);
     let mut counts = Vec::new(alloc);
     for (seat, count) in played {
@@ -138,6 +177,7 @@ fn is_overtaken<J: Session + Send + Sync, R: Threads + Wait + Abort + Sync + All
         stepped: AtomicU64::new(0),
         gave_up: AtomicU64::new(0),
     };
+<<<<<<< HEAD
     let (closed, deal, counts) =
         played::<J, R>(rt, rt.alloc(), opening, &overtaking).expect(rt, "a play");
     assert_eq!(rt; overtaking.gave_up.load(Ordering::SeqCst), 0, "the other stepped");
@@ -145,6 +185,26 @@ fn is_overtaken<J: Session + Send + Sync, R: Threads + Wait + Abort + Sync + All
     let entries = closed.chain().entries();
     assert_eq!(rt; entries.len(), 9);
     assert!(rt; is_too_late(&entries[6].reply), "its first step came too late");
+=======
+    let (closed, deal, counts) = played::<J, R>(rt, rt.alloc(), opening, &overtaking).expect(
+        rt, "a play",
+    );
+    assert_eq!(rt;
+        overtaking.gave_up.load(Ordering::SeqCst),
+        0,
+        "the other stepped"
+    );
+    assert!(rt;
+        counts[..] == [0, 4, 2],
+        "the one who was overtaken looked twice"
+    );
+    let entries = closed.chain().entries();
+    assert_eq!(rt; entries.len(), 9);
+    assert!(rt;
+        is_too_late(&entries[6].reply),
+        "its first step came too late"
+    );
+>>>>>>> bd1a752453f81f1fad157236fce110dea79c9a35
     let steps = closed
         .chain()
         .steps_of(rt.alloc(), &deal)
