@@ -10,9 +10,9 @@ use crate::naming::plan_on;
 use crate::setup::{first_chain, publish_all};
 use crate::stage::Stage;
 use crate::starts::start_all;
-use crate::turns::{at_once, in_turn};
+use crate::turns::{Turn, at_once, in_turn};
 use crate::watch::{Unwatched, Watch};
-use hub::{Hub, Opening, Seat, Session};
+use hub::{Hub, Opening, Seat, SeatAtHub, Session};
 use json_read_names::JsonFault;
 use json_read_scenarios::read_scenario;
 use parties::Party;
@@ -129,7 +129,10 @@ fn play_all<R: Threads + Wait + Sync, J: Session + Send + Sync, W: Watch + Sync>
             all.push(seat)?;
         } else if let Some(plan) = plans.next() {
             let plan = plan_on(alloc, stage, plan)?;
-            turns.push((hub, Party { plan }, seat))?;
+            turns.push(Turn {
+                party: Party { plan },
+                seat: SeatAtHub { hub, seat },
+            })?;
         }
     }
     let ended = if one {

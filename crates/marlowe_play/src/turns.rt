@@ -1,15 +1,19 @@
 //! Parties with their seats, and how they play.
 use crate::watch::{Told, Watch};
 use collections::Memory;
-use hub::{Hub, Seat, Session};
+use hub::{Seat, SeatAtHub, Session};
 use parties::Party;
 use std::alloc::Global;
 use std::sync::Wait;
 use std::thread;
 use std::thread::Threads;
 
-// A party that is to play, with its seat and the hub that all share.
-pub(crate) type Turn<'h, J> = (&'h Hub<J>, Party, Seat<J>);
+// A party that is to play, and its seat at the hub that all share.
+#[derive(Drop)]
+pub(crate) struct Turn<'h, J: Session> {
+    pub(crate) party: Party,
+    pub(crate) seat: SeatAtHub<'h, J>,
+}
 
 // A seat that comes back, and whether its party was refused memory.
 pub(crate) type Ended<J> = (Seat<J>, Result<(), Memory>);
@@ -21,7 +25,8 @@ fn played<R: Threads + Wait + Sync, J: Session, W: Watch>(
     watch: &W,
     turn: Turn<'_, J>,
 ) -> Ended<J> {
-    let (hub, party, mut seat) = turn;
+    let Turn { party, seat } = turn;
+    let SeatAtHub { hub, mut seat } = seat;
     let told = party.run_watched(rt, alloc, hub, &mut seat, &Told { watch });
     watch.ended(seat.number());
     match told {
