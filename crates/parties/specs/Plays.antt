@@ -1,9 +1,5 @@
 -- What a party does with its seat.
-<<<<<<< HEAD
-use Rattle.std.specs.Prelude.{◌≡◌, ℕ, ◌≤◌, ◌⊎◌, Bool, if◌then◌else◌, List, [], ◌∷◌, length, drop, Option, Some, None}
-=======
 use Rattle.std.specs.Prelude.{◌≡◌, ℕ, ◌≤◌, ◌⊎◌, if◌then◌else◌, List, [], ◌∷◌, length, drop, Option, Some, None}
->>>>>>> bd1a752453f81f1fad157236fce110dea79c9a35
 use Rattle.std.specs.List.{Any}
 use Rattle.contract.specs.declared.input.Input.{Input}
 use Rattle.contract.specs.declared.interval.Interval.{Interval}
