@@ -98,7 +98,10 @@ fn play_file<'a, R: Files + AllocGlobal + Clock + Eprint + Threads + Wait + Sync
     let progress = Progress::new(rt, shown);
     let played = play_watched(rt, rt.alloc(), text.as_slice(), one, &progress);
     progress.clear();
-    played.map_err(Stop::NotPlayed)
+    match played {
+        Ok(lines) => Ok(lines),
+        Err(fault) => Err(Stop::NotPlayed(fault)),
+    }
 }
 
 // What a file holds, as far as it is read.
