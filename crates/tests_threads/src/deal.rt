@@ -26,9 +26,23 @@ pub fn currency(alloc: Global) -> Option<Bytes> {
 
 /// The contract as it is published.
 pub fn published(alloc: Global) -> Option<Published> {
-    let contract = contract(alloc)?;
-    let currency = currency(alloc)?;
-    publish(alloc, &contract, currency).ok()
+    published_of(alloc, contract(alloc))
+}
+
+// What can be published. The function that owns it is generic in it, so that no proof walks through its drop.
+trait Publishes: Drop {
+    fn publish(&self, alloc: Global) -> Option<Published>;
+}
+
+impl Publishes for Contract {
+    fn publish(&self, alloc: Global) -> Option<Published> {
+        publish(alloc, self, currency(alloc)?).ok()
+    }
+}
+
+fn published_of<C: Publishes>(alloc: Global, contract: Option<C>) -> Option<Published> {
+    let contract = contract?;
+    contract.publish(alloc)
 }
 
 /// The state that it starts from: the role has one ada.

@@ -108,10 +108,10 @@ fn raced<J: Session + Send + Sync, R: Threads + Wait + Sync>(
     }
     let raced = race_all(rt, alloc, handed, deal, &ready)?;
     let mut seats = Vec::new(alloc);
-    let mut count = 0;
+    let mut count: u64 = 0;
     for (seat, again) in raced {
         if again? {
-            count += 1;
+            count = count.saturating_add(1);
         }
         seats.push(seat).ok()?;
     }
