@@ -6,13 +6,17 @@ Needs    readings.py, ledger.py and random_scenarios.py beside it, and for `--co
 Usage    plays.py SCENARIO                      prints what `marlowe play --one SCENARIO` has to print
          plays.py --replay SCENARIO PRINTED     makes the calls of a printed play again, in its order
          plays.py --compare N SEED PROGRAM      compares the program on N random scenarios, played on one thread and on many
+         plays.py --race N SEED PROGRAM         has the program play N times, with ten plans of a hundred steps each that race for twenty threads
 Expect   the lines of the play and status 0, or one line `refused ..` on standard error and status 1;
          `replayed N entries`, where each printed verdict is the one that comes here, seat by seat;
          `N scenarios agree`, then how many lines of each kind there were; the same for the same seed.
+         for each race how many entries it has, of which how many were refused since another was faster, and that they were replayed.
 Else     the first line that differs, or `differs` with the seed and the scenario's file, and status 1.
 """
 import collections
+import json
 import os
+import random
 import re
 import subprocess
 import sys
@@ -271,6 +275,41 @@ def compare_many(seed, number, text, many):
         differs(seed, number, text, line, many)
 
 
+def race_of(seed):
+    """Ten plans of a hundred steps each, for twenty threads that take forty steps each."""
+    chance = random.Random(seed)
+    ada = {"currency_symbol": "", "token_name": ""}
+    left = "close"
+    for _ in range(40):
+        left = {"when": [{"case": {"notify_if": True}, "then": left}], "timeout": 100, "timeout_continuation": "close"}
+    threads = [{"name": f"t{place}", "contract": "steps", "by": "bank", "accounts": [[[{"role_token": "a"}, ada], 1]], "minTime": 0} for place in range(20)]
+    plans = []
+    for place in range(10):
+        steps = [{"step": f"t{chance.randrange(20)}", "inputs": ["input_notify"], "from": 0, "to": 10} for _ in range(100)]
+        plans.append({"name": f"p{place}", "keys": [f"p{place}"], "change": f"p{place}", "intents": steps})
+    scenario = {
+        "tick": 0,
+        "genesis": [{"address": "bank", "amount": [[ada, 100]]}],
+        "contracts": [{"name": "steps", "currency": "aa", "contract": left}],
+        "threads": threads,
+        "plans": plans,
+    }
+    return json.dumps(scenario, separators=(",", ":")).encode()
+
+
+def race(count, seed, program):
+    with tempfile.TemporaryDirectory() as folder:
+        path = os.path.join(folder, "scenario.json")
+        for number in range(count):
+            text = race_of(f"{seed}.{number}")
+            with open(path, "wb") as file:
+                file.write(text)
+            output, refusal, status = run(program, path)
+            if status:
+                raise Differs(f"{refusal}\nhere the race is played")
+            print(replayed(text, lines_of(output.encode())), "entries,", output.count("NotUnspent"), "of them refused since another was faster: replayed")
+
+
 def kind(line):
     """A line without its numbers and names."""
     line = ENTRY.sub("", line)
@@ -287,6 +326,8 @@ def kind(line):
 def main(words):
     if words[:1] == ["--compare"]:
         return compare(int(words[1]), words[2], words[3])
+    if words[:1] == ["--race"]:
+        return race(int(words[1]), words[2], words[3])
     if words[:1] == ["--replay"]:
         with open(words[1], "rb") as scenario, open(words[2], "rb") as printed:
             print("replayed", replayed(scenario.read(), lines_of(printed.read())), "entries")
