@@ -1,7 +1,7 @@
 -- Which clause answers, and what is known of a thread that stands.
 use Rattle.std.proofs.Common.{◌≡◌, ℕ, Bool, true, false, if◌then◌else◌, List, [], ◌∷◌, Option, Some, None, refl, ap, subst}
 use Rattle.machine.specs.declared.datum.Datum.{Datum}
-use Rattle.eutxo.specs.Parts.{same_bytes}
+use Rattle.eutxo_types.specs.Parts.{same_bytes}
 use Rattle.eutxo.specs.Faults.{first_of}
 use Rattle.roles.specs.Sums.{sums_of}
 use Rattle.roles.specs.Steps.{same_amounts}

@@ -28,7 +28,7 @@ use Rattle.bundle.specs.Totals.{total_of}
 use Rattle.bundle.proofs.CoverLaws.{covers_each_token, each_token_is_covered}
 use Rattle.machine.specs.declared.datum.Datum.{Datum}
 use Rattle.eutxo_types.specs.declared.output.Output.{Output}
-use Rattle.eutxo.specs.Parts.{same_bytes}
+use Rattle.eutxo_types.specs.Parts.{same_bytes}
 use Rattle.eutxo.specs.Faults.{is_empty}
 use Rattle.roles.specs.Sums.{sums_of}
 use Rattle.roles.specs.Steps.{same_amounts, role_token, actor}

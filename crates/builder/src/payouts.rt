@@ -6,7 +6,8 @@ ghost use Rattle.eutxo.specs.Faults.{is_empty};
 ghost use Rattle.builder_spec.specs.declared.fault.BuildFault.TheVariants.{NotAuthorised};
 ghost use Rattle.builder_spec.specs.Holding.{amount_in, holds_token, AreBundles};
 ghost use Rattle.builder_spec.specs.Laying.{by_claim};
-ghost use Rattle.builder_spec.specs.Claims.{awaited_token, tokens_awaited, is_payout, payout_cause};
+ghost use Rattle.eutxo_types.specs.Parts.{is_payout};
+ghost use Rattle.builder_spec.specs.Claims.{awaited_token, tokens_awaited, payout_cause};
 ghost use Rattle.coin_selection.specs.Answers.{AnswersCause};
 
 use builder_spec::BuildFault;

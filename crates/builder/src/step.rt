@@ -4,7 +4,7 @@ ghost use Rattle.collections.specs.Answers.{Aside};
 ghost use Rattle.table.specs.Flat.{Has, a_cont, cont_tree};
 ghost use Rattle.semantics.specs.Walk.{standing, answer_of};
 ghost use Rattle.bundle.specs.Bundles.{covers, minus};
-ghost use Rattle.eutxo.specs.Parts.{contract_in};
+ghost use Rattle.eutxo_types.specs.Parts.{contract_in};
 ghost use Rattle.roles.specs.Sums.{sums_of};
 ghost use Rattle.builder_spec.specs.Holding.{sums, amount_in, least_lacking, AreBundles};
 ghost use Rattle.builder_spec.specs.Built.{build_answer};

@@ -1,9 +1,8 @@
 //! The thread that a look shows.
 ghost use Rattle.std.specs.Prelude.{◌≡◌, IfOk, option_map, option_copied};
-ghost use Rattle.table.specs.Flat.{Has, a_cont, cont_tree};
+ghost use Rattle.table.specs.Flat.{Has, a_cont, cont_tree, is_close};
 ghost use Rattle.table.specs.Along.{has_cont};
-ghost use Rattle.eutxo.specs.Parts.{contract_in};
-ghost use Rattle.roles.specs.Steps.{is_close};
+ghost use Rattle.eutxo_types.specs.Parts.{contract_in};
 ghost use Rattle.builder_spec.specs.Steps.{is_current, thread_in};
 
 use collections::Memory;

@@ -12,7 +12,7 @@ use Rattle.eutxo_types.specs.Spelling.{tx_bytes}
 use Rattle.contract_bytes.specs.Unambiguous.{BeginsNoOther}
 use Rattle.eutxo.specs.Judgement.{judge}
 use Rattle.eutxo.specs.Laws.{FoundIsEnough}
-use Rattle.eutxo.specs.Parts.{same_ref}
+use Rattle.eutxo_types.specs.Parts.{same_ref}
 use Rattle.eutxo.specs.Faults.{is_empty}
 use Rattle.eutxo.specs.Rules.{no_inputs, too_many, repeated_input}
 use Rattle.roles.specs.declared.published.Published.{Published}
@@ -20,7 +20,7 @@ use Rattle.ledger.specs.declared.look.Unspent.{Unspent}
 use Rattle.ledger_laws.specs.Past as past
 use Rattle.ledger_laws.specs.Past.{Past, has_id, is_spent, is_used, unspent_at}
 use Rattle.ledger_laws.specs.Sound.{moment}
-use Rattle.ledger_laws.specs.Laws.{marlowe}
+use Rattle.roles.specs.Steps.{marlowe}
 use Rattle.ledger_laws.proofs.ReferenceLaws.{same_ref-refl, unspent_so}
 use Rattle.ledger_spec.specs.Open.{IsAlone, IsOpen}
 use Rattle.builder_laws.specs.AfterPasts.{BytesTellApart}

@@ -15,11 +15,11 @@ use Rattle.eutxo_types.specs.declared.tx.Tx.{Tx}
 use Rattle.eutxo.specs.Found.{script_at, is_known, all_known}
 use Rattle.eutxo.specs.Laws.{FoundIsEnough}
 use Rattle.eutxo.specs.Local.{tx_fault, spent_fault}
-use Rattle.eutxo.specs.Parts.{is_contract, contract_in}
+use Rattle.eutxo_types.specs.Parts.{is_contract, contract_in, is_key, is_payout}
 use Rattle.eutxo.specs.Faults.{is_empty}
 use Rattle.eutxo.specs.Rules.{lacks_role, opens, starts_wrong, stepped_contract, step_fault}
 use Rattle.roles.specs.declared.published.Published.{Published}
-use Rattle.roles.specs.Steps.{is_key, holds_role, role_token}
+use Rattle.roles.specs.Steps.{holds_role, role_token, marlowe}
 use Rattle.ledger.specs.declared.look.Unspent.{Unspent}
 use Rattle.builder_spec.specs.declared.fault.BuildFault.TheVariants.{NoThread, NotAuthorised}
 use Rattle.builder_spec.specs.Requests.{ClaimRequest}
@@ -27,10 +27,9 @@ use Rattle.builder_spec.specs.Holding.{sums, amount_in, holds_token, least_lacki
 use Rattle.builder_spec.specs.Fronts.{suffices}
 use Rattle.builder_spec.specs.Causes.{signature_cause, limit_cause, repeat_cause}
 use Rattle.builder_spec.specs.Laying.{spend_with, by_key, paid_to}
-use Rattle.builder_spec.specs.Claims.{awaited_token, tokens_awaited, is_payout, payout_cause, role_cause, claim_front, hinders_claim, layout_claim}
+use Rattle.builder_spec.specs.Claims.{awaited_token, tokens_awaited, payout_cause, role_cause, claim_front, hinders_claim, layout_claim}
 use Rattle.builder_spec.proofs.HoldingLaws.{amount_of-sums, total_of-append}
 use Rattle.builder_spec.proofs.FrontsLaws.{shortest_passes}
-use Rattle.ledger_laws.specs.Laws.{marlowe}
 use Rattle.builder_laws.specs.Accepting.{ClaimsPass, ClaimsAreAccepted}
 use Rattle.builder_laws.specs.AfterPasts.{ClaimsAreAcceptedAfter}
 use Rattle.builder_laws.proofs.TestLemmas.{Everywhere, both, together, neither, not_not, each-append, each_so, any_nowhere, all_everywhere, everywhere_all, none_counted, found_nowhere, each_none, unless, unmapped, mapped, no_place}

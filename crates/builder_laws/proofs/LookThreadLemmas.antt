@@ -7,7 +7,7 @@ use Rattle.bundle.specs.contracts.bundle.Bundle as bundles
 use Rattle.machine.specs.declared.datum.Datum.{Datum}
 use Rattle.eutxo_types.specs.declared.lock.Lock.{Lock}
 use Rattle.eutxo_types.specs.declared.lock.Lock.TheVariants.{Key, Payout, Contract}
-use Rattle.eutxo.specs.Parts.{same_bytes, contract_in}
+use Rattle.eutxo_types.specs.Parts.{same_bytes, contract_in}
 use Rattle.roles.specs.Sums.{sums_of}
 use Rattle.roles.specs.Terms.{terms_of}
 use Rattle.roles.specs.Steps.{same_amounts}

@@ -3,7 +3,7 @@ use Rattle.std.proofs.Common.{◌≡◌, ℕ, ◌+◌, Bool, true, false, cond, 
 use Rattle.std.specs.List.{list_any}
 use Rattle.eutxo_types.specs.declared.output_ref.OutputRef.{OutputRef}
 use Rattle.eutxo_types.specs.declared.spend.Spend.{Spend}
-use Rattle.eutxo.specs.Parts.{same_ref}
+use Rattle.eutxo_types.specs.Parts.{same_ref}
 use Rattle.eutxo.specs.Faults.{first_index}
 use Rattle.eutxo.specs.Rules.{is_repeated}
 use Rattle.builder_spec.specs.Causes.{has_repeat}

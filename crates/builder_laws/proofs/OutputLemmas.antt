@@ -13,7 +13,7 @@ use Rattle.eutxo_types.specs.contracts.output.Output as outputs
 use Rattle.eutxo_types.specs.declared.lock.Lock.{Lock}
 use Rattle.eutxo_types.specs.declared.lock.Lock.TheVariants.{Key, Payout}
 use Rattle.eutxo_types.specs.declared.output.Output.{Output}
-use Rattle.eutxo.specs.Parts.{outputs_from}
+use Rattle.eutxo_types.specs.Parts.{outputs_from}
 use Rattle.eutxo.specs.Faults.{is_empty}
 use Rattle.eutxo.specs.Rules.{stray_after, after_answer}
 use Rattle.roles.specs.Steps.{same_output, same_amounts, lock_for, due_to, and_owed_output, due_outputs, first_unpaid, is_first, outputs_before, answer_by}

@@ -16,9 +16,9 @@ use Rattle.eutxo_types.specs.declared.redeemer.Redeemer.TheVariants as with
 use Rattle.eutxo_types.specs.declared.spend.Spend.{Spend}
 use Rattle.eutxo_types.specs.declared.tx.Tx.{Tx}
 use Rattle.eutxo.specs.Found.{with_outputs}
-use Rattle.eutxo.specs.Parts.{inputs_of, contract_in}
+use Rattle.eutxo_types.specs.Parts.{inputs_of, contract_in, is_key}
 use Rattle.eutxo.specs.Rules.{has_signed, or_contract, stepped_contract}
-use Rattle.roles.specs.Steps.{is_key, role_token, holds_role}
+use Rattle.roles.specs.Steps.{role_token, holds_role}
 use Rattle.ledger.specs.declared.look.Unspent.{Unspent}
 use Rattle.builder_spec.specs.Causes.{is_signed}
 use Rattle.builder_spec.specs.Holding.{amount_in, holds_token}

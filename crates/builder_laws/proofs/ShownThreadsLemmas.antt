@@ -5,7 +5,7 @@ use Rattle.std.specs.Cmp.Lexicographic.{bytes_decides}
 use Rattle.collections.proofs.SameLaws.{same_by_decides}
 use Rattle.bundle.specs.contracts.bundle.Bundle as bundles
 use Rattle.machine.specs.declared.datum.Datum.{Datum}
-use Rattle.eutxo.specs.Parts.{same_bytes}
+use Rattle.eutxo_types.specs.Parts.{same_bytes}
 use Rattle.roles.specs.Sums.{sums_of}
 use Rattle.roles.specs.Steps.{same_amounts}
 use Rattle.roles.specs.Terms.{terms_of}

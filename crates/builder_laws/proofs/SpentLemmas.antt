@@ -15,16 +15,15 @@ use Rattle.eutxo_types.specs.declared.redeemer.Redeemer.TheVariants as with
 use Rattle.eutxo_types.specs.declared.spend.Spend.{Spend}
 use Rattle.eutxo_types.specs.declared.tx.Tx.{Tx}
 use Rattle.eutxo.specs.Local.{tx_fault, spent_fault, spent_rules}
-use Rattle.eutxo.specs.Parts.{inputs_of, is_contract}
+use Rattle.eutxo_types.specs.Parts.{inputs_of, is_contract, is_key}
 use Rattle.eutxo.specs.Faults.{is_empty}
 use Rattle.eutxo.specs.Rules.{no_inputs, too_many, has_too_many, repeated_input, lacks_signer, not_signed, opens, wrong_redeemer, lacks_role, role_missing, stepped_contract, step_fault}
 use Rattle.roles.specs.declared.published.Published.{Published}
-use Rattle.roles.specs.Steps.{is_key, holds_role}
+use Rattle.roles.specs.Steps.{holds_role, marlowe}
 use Rattle.ledger.specs.declared.look.Unspent.{Unspent}
 use Rattle.builder_spec.specs.Causes.{has_repeat}
 use Rattle.builder_spec.specs.Holding.{amount_in}
 use Rattle.builder_spec.specs.Laying.{spend_with, by_key}
-use Rattle.ledger_laws.specs.Laws.{marlowe}
 use Rattle.builder_laws.proofs.TestLemmas.{Nowhere, each-append, each_so, not_any, none_of_two, none_of, no_fault, if_not, mapped}
 use Rattle.builder_laws.proofs.NamedLemmas.{fresh}
 use Rattle.builder_laws.proofs.PairLemmas.{laid, paired, pairs, names, all_named, AreKeyed, IsKeyed, nowhere_keys, nowhere_paired, total_pairs}

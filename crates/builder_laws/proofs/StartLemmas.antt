@@ -17,12 +17,12 @@ use Rattle.eutxo_types.specs.declared.tx.Tx.{Tx}
 use Rattle.eutxo.specs.Found.{script_at, is_known, all_known}
 use Rattle.eutxo.specs.Laws.{FoundIsEnough}
 use Rattle.eutxo.specs.Local.{tx_fault, spent_fault}
-use Rattle.eutxo.specs.Parts.{is_contract}
+use Rattle.eutxo_types.specs.Parts.{is_contract}
 use Rattle.eutxo.specs.Faults.{is_empty}
 use Rattle.eutxo.specs.Rules.{starts_wrong, starts_wrong_at, stepped_contract, step_fault}
 use Rattle.roles.specs.declared.published.Published.{Published}
 use Rattle.roles.specs.Sums.{sums_of}
-use Rattle.roles.specs.Steps.{same_cont, is_fresh, same_amounts, starts_from}
+use Rattle.roles.specs.Steps.{same_cont, is_fresh, same_amounts, starts_from, marlowe}
 use Rattle.ledger.specs.declared.look.Unspent.{Unspent}
 use Rattle.builder_spec.specs.declared.fault.BuildFault.TheVariants.{NoFunds}
 use Rattle.builder_spec.specs.Requests.{StartRequest}
@@ -31,7 +31,6 @@ use Rattle.builder_spec.specs.Causes.{signature_cause, funds_cause, limit_cause,
 use Rattle.builder_spec.specs.Laying.{by_key, paid_to, rest}
 use Rattle.builder_spec.specs.Starts.{fresh_state, accounts_of, covers_accounts, start_front, start_funds_cause, hinders_start, start_output, layout_start}
 use Rattle.builder_spec.proofs.FrontsLaws.{shortest_passes}
-use Rattle.ledger_laws.specs.Laws.{marlowe}
 use Rattle.builder_laws.specs.Accepting.{StartsPass, StartsAreAccepted}
 use Rattle.builder_laws.specs.AfterPasts.{StartsAreAcceptedAfter}
 use Rattle.builder_laws.proofs.TestLemmas.{both, together, not_so, none_counted, each_none, unmapped, mapped, no_place, everywhere_all}

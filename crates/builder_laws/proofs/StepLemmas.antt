@@ -22,10 +22,11 @@ use Rattle.eutxo.specs.Asked.{Stepping}
 use Rattle.eutxo.specs.Found.{script_at, is_known, all_known}
 use Rattle.eutxo.specs.Laws.{FoundIsEnough}
 use Rattle.eutxo.specs.Local.{tx_fault, spent_fault}
-use Rattle.eutxo.specs.Parts.{is_contract, contract_in}
+use Rattle.eutxo_types.specs.Parts.{is_contract, contract_in, is_key}
 use Rattle.eutxo.specs.Rules.{lacks_role, or_contract, stepped_contract, step_asked, stray_after, after_answer, script_fault, step_fault, opens}
 use Rattle.roles.specs.declared.published.Published.{Published}
-use Rattle.roles.specs.Steps.{is_key, holds_role, role_token, actor, authorised, unauthorised, continuation, due_outputs, first_unpaid, is_first, is_close, outputs_before, by_answer, answer_by, outcome_answer, step_of}
+use Rattle.table.specs.Flat.{is_close}
+use Rattle.roles.specs.Steps.{holds_role, role_token, actor, authorised, unauthorised, continuation, due_outputs, first_unpaid, is_first, outputs_before, by_answer, answer_by, outcome_answer, step_of, marlowe}
 use Rattle.roles.specs.Steps as roles
 use Rattle.ledger.specs.declared.look.Look.{Look}
 use Rattle.ledger.specs.declared.look.Unspent.{Unspent}
@@ -36,7 +37,6 @@ use Rattle.builder_spec.specs.Fronts.{suffices}
 use Rattle.builder_spec.specs.Causes.{signature_cause, funds_cause, limit_cause, repeat_cause}
 use Rattle.builder_spec.specs.Laying.{spend_with, paid_to, rest}
 use Rattle.builder_spec.specs.Steps.{Thread, thread_terms, look_thread, step_walk, semantics_cause, token_of, roles_of, deposits, may_act, authority_cause, step_front, own_output, step_spent, step_limit_cause, hinders_thread, hinders_on, continuing_outputs, step_outputs_of, layout_thread, layout_on}
-use Rattle.ledger_laws.specs.Laws.{marlowe}
 use Rattle.builder_laws.specs.Accepting.{StepsPass, StepsAreAccepted}
 use Rattle.builder_laws.specs.AfterPasts.{StepsAreAcceptedAfter}
 use Rattle.builder_laws.proofs.TestLemmas.{Nowhere, Everywhere, both, together, not_not, each-append, all_everywhere, everywhere_all, one_counted, no_fault, not_found, found_nowhere, each_none, none_of, if_not, mapped, unmapped}

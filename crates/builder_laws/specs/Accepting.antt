@@ -14,7 +14,7 @@ use Rattle.builder_spec.specs.Requests.{StepRequest, StartRequest, ClaimRequest}
 use Rattle.builder_spec.specs.Steps.{Thread, look_thread, step_spent, hinders_step, layout_step}
 use Rattle.builder_spec.specs.Starts.{start_front, hinders_start, layout_start}
 use Rattle.builder_spec.specs.Claims.{claim_front, hinders_claim, layout_claim}
-use Rattle.ledger_laws.specs.Laws.{marlowe}
+use Rattle.roles.specs.Steps.{marlowe}
 
 -- ---- on what was handed in
 
@@ -29,7 +29,7 @@ Passes tx found = (is_some (whole tx found) ≡ true) × (local marlowe tx found
 -- a step that nothing hinders passes on what was handed in: the outputs that it spends, and the thread's script
 abbrev pub StepsPass : Type 0
 StepsPass = (look : Look) (r : StepRequest) (e : Thread) (found : Resolved Published) → look_thread look ≡ Some e → hinders_step look r ≡ None →
-    found.outputs ≡ contents (step_spent r e) → script_at found.scripts e.0.published.id ≡ Some e.0.published → Passes (layout_step look r) found
+    found.outputs ≡ contents (step_spent r e) → script_at found.scripts e.shown.published.id ≡ Some e.shown.published → Passes (layout_step look r) found
 
 -- so does a start, with the script that is started
 abbrev pub StartsPass : Type 0
@@ -56,7 +56,7 @@ pub record Admits {V : Type 0} (m : Moment V) (spent : List Unspent) (tx : Tx) :
 -- A STEP THAT NOTHING HINDERS IS ACCEPTED at every such moment at which the thread's script is published as the look shows it
 abbrev pub StepsAreAccepted : Type 0
 StepsAreAccepted = (look : Look) (r : StepRequest) (e : Thread) (m : Moment Published) → look_thread look ≡ Some e → hinders_step look r ≡ None →
-    m.published e.0.published.id ≡ Some e.0.published → Admits m (step_spent r e) (layout_step look r) → judge marlowe m (layout_step look r) ≡ None
+    m.published e.shown.published.id ≡ Some e.shown.published → Admits m (step_spent r e) (layout_step look r) → judge marlowe m (layout_step look r) ≡ None
 
 -- SO IS A START, where what is started is published under its id
 abbrev pub StartsAreAccepted : Type 0

@@ -21,14 +21,14 @@ closing i signers change = record { interval = i; inputs = []; signers = signers
 -- nothing hinders it: Close without accounts remains, and the parties are paid all that the output held; or a number leaves 128
 -- bits; or there is nothing to do, since that is what stands
 abbrev pub Closes : StepRequest → Thread → Option BuildFault → Type 0
-Closes r e None = (a : Standing) × (answer_of (step_walk r e) ≡ Ok a) × IsSpent a.state a.contract × ((t : Token) → paid_out t (step_walk r e).payments ≡ amount_of e.0.output.amount t)
-Closes r e (Some f) = (f ≡ Semantics Leaves128) ⊎ ((f ≡ Semantics Useless) × IsSpent e.1.state ((thread_terms e).tree e.1.cont))
+Closes r e None = (a : Standing) × (answer_of (step_walk r e) ≡ Ok a) × IsSpent a.state a.contract × ((t : Token) → paid_out t (step_walk r e).payments ≡ amount_of e.shown.output.amount t)
+Closes r e (Some f) = (f ≡ Semantics Leaves128) ⊎ ((f ≡ Semantics Useless) × IsSpent e.datum.state ((thread_terms e).tree e.datum.cont))
 
 -- ANYONE CLOSES A THREAD from the last timeout on, in an interval that ends neither before its start nor before the minimum time. (Its
 -- output holds no more than 2^127 - 1 of a token, as no output does.)
 abbrev pub AnyoneCloses : Type 0
-AnyoneCloses = (look : Look) (e : Thread) (i : Interval) (signers : List (List ℕ)) (change : List ℕ) → look_thread look ≡ Some e → ((t : Token) → amount_of e.0.output.amount t ≤ℤ pos (2 ^ 127 - 1)) →
-    HasReached (last ((thread_terms e).tree e.1.cont)) i.from → i.from ≤ℤ i.to → e.1.state.min_time ≤ℤ i.to →
+AnyoneCloses = (look : Look) (e : Thread) (i : Interval) (signers : List (List ℕ)) (change : List ℕ) → look_thread look ≡ Some e → ((t : Token) → amount_of e.shown.output.amount t ≤ℤ pos (2 ^ 127 - 1)) →
+    HasReached (last ((thread_terms e).tree e.datum.cont)) i.from → i.from ≤ℤ i.to → e.datum.state.min_time ≤ℤ i.to →
     Closes (closing i signers change) e (hinders_step look (closing i signers change))
 
 -- where no thread stands, that hinders it

@@ -14,7 +14,7 @@ use Rattle.builder_spec.specs.Starts.{start_front, hinders_start, layout_start}
 use Rattle.builder_spec.specs.Claims.{claim_front, hinders_claim, layout_claim}
 use Rattle.ledger_laws.specs.Past.{Past}
 use Rattle.ledger_laws.specs.Sound.{moment}
-use Rattle.ledger_laws.specs.Laws.{marlowe}
+use Rattle.roles.specs.Steps.{marlowe}
 use Rattle.ledger_spec.specs.Open.{IsAlone, IsOpen}
 
 -- no accepted transaction of other bytes has its id, a SHA-256 of them. That none other has it is the same where all fit their spelling, as each does that was spelled
@@ -27,7 +27,7 @@ BytesTellApart = (past : Past) (tx : Tx) → TxFits tx → ((n : ℕ) (other : T
 -- a step that nothing hinders is accepted then, where the thread's script is published as the look shows it
 abbrev pub StepsAreAcceptedAfter : Type 0
 StepsAreAcceptedAfter = (look : Look) (r : StepRequest) (e : Thread) (published : List ℕ → Option Published) (past : Past) (tick : ℤ) → look_thread look ≡ Some e → hinders_step look r ≡ None →
-    published e.0.published.id ≡ Some e.0.published → IsOpen past tick (step_spent r e) (layout_step look r) → judge marlowe (moment published past tick) (layout_step look r) ≡ None
+    published e.shown.published.id ≡ Some e.shown.published → IsOpen past tick (step_spent r e) (layout_step look r) → judge marlowe (moment published past tick) (layout_step look r) ≡ None
 
 -- so is a start, where what is started is published under its id
 abbrev pub StartsAreAcceptedAfter : Type 0

@@ -1,14 +1,15 @@
 -- A thread that a ledger shows meets the first clause of what hinders a step.
 use Rattle.std.specs.Prelude.{◌≡◌, ℕ, List, Option, Some}
 use Rattle.machine.specs.declared.datum.Datum.{Datum}
-use Rattle.eutxo.specs.Parts.{contract_in}
+use Rattle.eutxo_types.specs.Parts.{contract_in}
 use Rattle.roles.specs.declared.published.Published.{Published}
 use Rattle.ledger.specs.declared.look.Look.{Look}
 use Rattle.ledger.specs.declared.look.ThreadOutput.{ThreadOutput}
-use Rattle.builder_spec.specs.Steps.{Thread, look_thread}
+use Rattle.builder_spec.specs.Steps.{look_thread}
 use Rattle.ledger_laws.specs.Past.{Past, unspent_at}
 use Rattle.ledger_laws.specs.Sound.{IsSound}
-use Rattle.ledger_laws.specs.Laws.{marlowe, AreTables}
+use Rattle.roles.specs.Steps.{marlowe}
+use Rattle.ledger_laws.specs.Laws.{AreTables}
 
 -- what is published under an id has that id
 abbrev pub AreUnderIds : (List ℕ → Option Published) → Type 0
@@ -18,10 +19,10 @@ AreUnderIds published = (id : List ℕ) (p : Published) → published id ≡ Som
 pub record IsShown (published : List ℕ → Option Published) (past : Past) (t : ThreadOutput) (d : Datum) : Type 0 where
   pub script : List ℕ
   pub unspent : unspent_at past t.reference ≡ Some t.output
-  pub contract : contract_in t.output.lock ≡ Some (script, d)
+  pub contract : contract_in t.output.lock ≡ Some (record { script = script; datum = d })
   pub named : published script ≡ Some t.published
 
 -- the thread of a look that shows one so is that output, with its datum
 abbrev pub ShownThreadsAreCurrent : Type 0
 ShownThreadsAreCurrent = (published : List ℕ → Option Published) (past : Past) (look : Look) (t : ThreadOutput) (d : Datum) → AreTables published → AreUnderIds published → IsSound marlowe published past →
-    look.thread ≡ Some t → IsShown published past t d → (let e : Thread = (t, d) in look_thread look ≡ Some e)
+    look.thread ≡ Some t → IsShown published past t d → look_thread look ≡ Some (record { shown = t; datum = d })

@@ -32,7 +32,8 @@ use Rattle.bundle.specs.Bundles.{Amounts, amount_of, minus}
 use Rattle.bundle.specs.Totals.{total_of}
 use Rattle.bundle.proofs.AmountLaws.{amount_of-with_amount, sums_are_of_each_token, rests_are_of_each_token}
 use Rattle.eutxo_types.specs.declared.output.Output.{Output}
-use Rattle.roles.specs.Steps.{only, owed_output, due_above, due_to, and_owed_output, due_outputs, is_close, continuation}
+use Rattle.table.specs.Flat.{is_close}
+use Rattle.roles.specs.Steps.{only, owed_output, due_above, due_to, and_owed_output, due_outputs, continuation}
 use Rattle.roles.specs.Sums.{sums_in, sums_of}
 use Rattle.ledger.specs.declared.look.Unspent.{Unspent}
 use Rattle.builder_spec.specs.Requests.{StepRequest}

@@ -26,11 +26,6 @@ awaited_token (Contract script d) = None
 abbrev pub tokens_awaited : List Unspent → List Token
 tokens_awaited payouts = filter_map (λ u. awaited_token u.output.lock) payouts
 
-abbrev pub is_payout : Lock → Bool
-is_payout (Key a) = false
-is_payout (Payout currency role) = true
-is_payout (Contract script d) = false
-
 -- 1: there is no payout, or one among them has another lock
 abbrev pub payout_cause : List Unspent → Option BuildFault
 payout_cause payouts = if is_empty payouts || list_any (λ u. not (is_payout u.output.lock)) payouts then Some NoThread else None

@@ -15,6 +15,7 @@ use Rattle.builder_spec.specs.Requests.{StartRequest}
 use Rattle.builder_spec.specs.Fronts.{shortest, suffices}
 use Rattle.builder_spec.specs.Causes.{signature_cause, funds_cause, limit_cause, repeat_cause}
 use Rattle.builder_spec.specs.Laying.{by_key, paid_to, rest}
+use Rattle.machine.specs.declared.datum.Datum.{Datum}
 
 -- of the state that is handed in, the accounts and the minimum time
 abbrev pub fresh_state : StateMaps → StateMaps
@@ -39,9 +40,13 @@ start_funds_cause r = if is_empty r.offered then Some (NoFunds ada) else funds_c
 abbrev pub hinders_start : StartRequest → Option BuildFault
 hinders_start r = first_of (signature_cause r.signers r.offered ∷ start_funds_cause r ∷ limit_cause (start_front r) ∷ repeat_cause r.offered ∷ [])
 
--- the contract's output: at the root, with the sums of the accounts
+-- the datum of a start: at the root
+abbrev pub start_datum : StartRequest → Datum
+start_datum r = record { cont = r.published.root; state = fresh_state r.state }
+
+-- the contract's output, with the sums of the accounts
 abbrev pub start_output : StartRequest → Output
-start_output r = continuation r.published.id r.published.root (fresh_state r.state)
+start_output r = continuation r.published.id (start_datum r)
 
 -- ITS LAYOUT: the front is spent; the contract's output, and then the change
 abbrev pub layout_start : StartRequest → Tx

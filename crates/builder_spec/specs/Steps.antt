@@ -12,12 +12,13 @@ use Rattle.semantics.specs.Computed.{computed}
 use Rattle.machine.specs.declared.datum.Datum.{Datum}
 use Rattle.eutxo_types.specs.declared.output.Output.{Output}
 use Rattle.eutxo_types.specs.declared.tx.Tx.{Tx}
-use Rattle.eutxo.specs.Parts.{same_bytes, contract_in}
+use Rattle.eutxo_types.specs.Parts.{same_bytes, contract_in, ContractLock}
 use Rattle.eutxo.specs.Faults.{first_of}
 use Rattle.eutxo.specs.Rules.{has_signed}
 use Rattle.roles.specs.Sums.{sums_of}
 use Rattle.roles.specs.Terms.{Terms, terms_of}
-use Rattle.roles.specs.Steps.{same_amounts, role_token, actor, continuation, due_outputs, is_close}
+use Rattle.table.specs.Flat.{is_close}
+use Rattle.roles.specs.Steps.{same_amounts, role_token, actor, continuation, due_outputs, next_datum}
 use Rattle.ledger.specs.declared.look.Look.{Look}
 use Rattle.ledger.specs.declared.look.ThreadOutput.{ThreadOutput}
 use Rattle.ledger.specs.declared.look.Unspent.{Unspent}
@@ -28,23 +29,30 @@ use Rattle.builder_spec.specs.Holding.{holds_token}
 use Rattle.builder_spec.specs.Fronts.{front}
 use Rattle.builder_spec.specs.Causes.{signature_cause, funds_cause, limit_cause, repeat_cause}
 use Rattle.builder_spec.specs.Laying.{by_key, by_step, paid_to, rest}
+use Rattle.contract.specs.declared.interval.Interval.{Interval}
 
 -- ---- the thread
 
 -- a thread's output with its datum
-abbrev pub Thread : Type 0
-Thread = ThreadOutput × Datum
+pub record Thread : Type 0 where
+  pub shown : ThreadOutput
+  pub datum : Datum
 
 abbrev pub thread_terms : Thread → Terms
-thread_terms e = terms_of e.0.published
+thread_terms e = terms_of e.shown.published
+
+-- a thread, and the inputs that it is given
+pub record Stepped : Type 0 where
+  pub thread : Thread
+  pub inputs : List Input
 
 -- its script is what is published there, its number is in the table, and it holds exactly the sums of its accounts
-abbrev pub is_current : ThreadOutput → List ℕ × Datum → Bool
-is_current t c = same_bytes c.0 t.published.id && ((terms_of t.published).has c.1.cont && same_amounts t.output.amount (sums_of c.1.state))
+abbrev pub is_current : ThreadOutput → ContractLock → Bool
+is_current t c = same_bytes c.script t.published.id && ((terms_of t.published).has c.datum.cont && same_amounts t.output.amount (sums_of c.datum.state))
 
-abbrev pub thread_in : ThreadOutput → Option (List ℕ × Datum) → Option Thread
+abbrev pub thread_in : ThreadOutput → Option ContractLock → Option Thread
 thread_in t None = None
-thread_in t (Some c) = if is_current t c then Some (t, c.1) else None
+thread_in t (Some c) = if is_current t c then Some (record { shown = t; datum = c.datum }) else None
 
 abbrev pub thread_of : Option ThreadOutput → Option Thread
 thread_of None = None
@@ -56,8 +64,14 @@ look_thread look = thread_of look.thread
 
 -- ---- what the contract makes of the request
 
+abbrev pub stepped_walk : Interval → Stepped → Walk
+stepped_walk i s = computed i s.thread.datum.state ((thread_terms s.thread).tree s.thread.datum.cont) s.inputs
+
+abbrev pub stepped : StepRequest → Thread → Stepped
+stepped r e = record { thread = e; inputs = r.inputs }
+
 abbrev pub step_walk : StepRequest → Thread → Walk
-step_walk r e = computed r.interval e.1.state ((thread_terms e).tree e.1.cont) r.inputs
+step_walk r e = stepped_walk r.interval (stepped r e)
 
 -- 2: the transaction function refuses
 abbrev pub semantics_cause : Result Standing SemFault → Option BuildFault
@@ -94,11 +108,11 @@ authority_cause currency signers offered xs = option_map NotAuthorised (find (λ
 -- ---- what is spent
 
 abbrev pub step_front : StepRequest → Thread → List Unspent
-step_front r e = front (roles_of e.0.published.currency r.inputs) (deposits r.inputs) r.offered
+step_front r e = front (roles_of e.shown.published.currency r.inputs) (deposits r.inputs) r.offered
 
 -- the thread's output
 abbrev pub own_output : Thread → Unspent
-own_output e = record { reference = e.0.reference; output = e.0.output }
+own_output e = record { reference = e.shown.reference; output = e.shown.output }
 
 abbrev pub step_spent : StepRequest → Thread → List Unspent
 step_spent r e = own_output e ∷ step_front r e
@@ -114,7 +128,7 @@ hinders_thread r e =
     first_of
     (semantics_cause (answer_of (step_walk r e))
     ∷ signature_cause r.signers r.offered
-    ∷ authority_cause e.0.published.currency r.signers r.offered r.inputs
+    ∷ authority_cause e.shown.published.currency r.signers r.offered r.inputs
     ∷ funds_cause (deposits r.inputs) r.offered
     ∷ step_limit_cause r.inputs (step_spent r e)
     ∷ repeat_cause (own_output e ∷ r.offered)
@@ -130,11 +144,15 @@ hinders_step look r = hinders_on r (look_thread look)
 -- ---- ITS LAYOUT: the thread's output and the front are spent; the contract goes on, unless it is Close, the payments
 -- that are due follow, and then the change
 
+-- the datum from which the contract goes on, unless it is Close
+abbrev pub next_data : Thread → Walk → Standing → List Datum
+next_data e w a = if is_close a.contract then [] else next_datum (thread_terms e) e.datum w a.state ∷ []
+
 abbrev pub continuing_outputs : Thread → Walk → Standing → List Output
-continuing_outputs e w a = if is_close a.contract then [] else continuation e.0.published.id ((thread_terms e).at e.1.cont w.turns) a.state ∷ []
+continuing_outputs e w a = map (continuation e.shown.published.id) (next_data e w a)
 
 abbrev pub step_outputs_of : Thread → Walk → Result Standing SemFault → List Output
-step_outputs_of e w (Ok a) = continuing_outputs e w a ++ due_outputs e.0.published.currency w.payments
+step_outputs_of e w (Ok a) = continuing_outputs e w a ++ due_outputs e.shown.published.currency w.payments
 step_outputs_of e w (Err f) = []
 
 abbrev pub step_outputs : StepRequest → Thread → List Output

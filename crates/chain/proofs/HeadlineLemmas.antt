@@ -4,7 +4,7 @@ use Rattle.std.specs.Cmp.Lexicographic.{bytes_decides}
 use Rattle.machine.specs.declared.datum.Datum.{Datum}
 use Rattle.eutxo_types.specs.declared.output.Output.{Output}
 use Rattle.eutxo_types.specs.declared.output_ref.OutputRef.{OutputRef}
-use Rattle.eutxo.specs.Parts.{same_bytes, contract_in}
+use Rattle.eutxo_types.specs.Parts.{same_bytes, contract_in}
 use Rattle.roles.specs.declared.published.Published.{Published}
 use Rattle.ledger.specs.declared.look.ThreadOutput.{ThreadOutput}
 use Rattle.ledger_laws.specs.Past.{Past, unspent_at}

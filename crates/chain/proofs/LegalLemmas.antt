@@ -6,7 +6,8 @@ use Rattle.compiler.specs.declared.fault.CompileFault.{CompileFault}
 use Rattle.eutxo_types.specs.declared.output.Output.{Output}
 use Rattle.roles.specs.declared.published.Published.{Published}
 use Rattle.roles.specs.Publications.{PublishedAreTables}
-use Rattle.ledger_laws.specs.Laws.{marlowe, AreTables, StartIsSound, AfterIsSound, LaterIsSound}
+use Rattle.roles.specs.Steps.{marlowe}
+use Rattle.ledger_laws.specs.Laws.{AreTables, StartIsSound, AfterIsSound, LaterIsSound}
 use Rattle.ledger_laws.specs.Sound.{AreKeys}
 use Rattle.ledger.specs.declared.call.Call.{Call}
 use Rattle.ledger.specs.declared.call.Call.TheVariants as on

@@ -6,7 +6,7 @@ use Rattle.contract.specs.declared.tree.Contract.{Contract}
 use Rattle.contract.specs.Tree.{ContractTree, contract_tree}
 use Rattle.compiler.specs.declared.fault.CompileFault.{CompileFault}
 use Rattle.compiler.specs.Limits.{compile_fault}
-use Rattle.eutxo.specs.Parts.{same_bytes}
+use Rattle.eutxo_types.specs.Parts.{same_bytes}
 use Rattle.roles.specs.declared.published.Published.{Published}
 use Rattle.roles.specs.Publications.{published_of, PublishedAreTables}
 use Rattle.roles.specs.Terms.{IsTable, terms_of}

@@ -13,7 +13,7 @@ use Rattle.eutxo_types.specs.declared.output_ref.OutputRef.TheVariants.{Genesis,
 use Rattle.eutxo_types.specs.declared.tx.Tx.{Tx}
 use Rattle.eutxo_types.specs.Ids.{id_of}
 use Rattle.eutxo.specs.Laws.{FoundIsEnough}
-use Rattle.eutxo.specs.Parts.{same_ref, is_contract, contract_in, contract_at}
+use Rattle.eutxo_types.specs.Parts.{same_ref, is_contract, contract_in, contract_at, steps}
 use Rattle.std.specs.Cmp.Lexicographic.{bytes_decides}
 use Rattle.roles.specs.declared.published.Published.{Published}
 use Rattle.ledger.specs.declared.ask.Ask.{Ask}
@@ -27,8 +27,9 @@ use Rattle.ledger.specs.declared.look.ThreadOutput.{ThreadOutput}
 use Rattle.ledger.specs.declared.look.Unspent.{Unspent}
 use Rattle.ledger_laws.specs.Past.{Past, unspent, unspent_at, is_input_of, is_spent, has_id}
 use Rattle.ledger_laws.specs.Sound.{IsSound}
-use Rattle.ledger_laws.specs.Laws.{marlowe, StartIsSound, AfterIsSound, LaterIsSound, EndsAreUnspent}
-use Rattle.ledger_laws.specs.Threads.{thread, ends, steps, StartsThread}
+use Rattle.roles.specs.Steps.{marlowe}
+use Rattle.ledger_laws.specs.Laws.{StartIsSound, AfterIsSound, LaterIsSound, EndsAreUnspent}
+use Rattle.ledger_laws.specs.Threads.{thread, ends, StartsThread}
 use Rattle.ledger_laws.proofs.AcceptedLaws.{made_there, still_there, made_published}
 use Rattle.ledger_laws.proofs.PlainLaws.{and_true, both_false, same_some, is_there, cut_at, take_some, take_none}
 use Rattle.ledger_laws.proofs.ReferenceLaws.{same_ref_so, unspent_is}

@@ -5,7 +5,8 @@ use Rattle.eutxo_types.specs.declared.tx.Tx.{Tx}
 use Rattle.eutxo_types.specs.declared.fault.TxFault.{TxFault}
 use Rattle.roles.specs.declared.published.Published.{Published}
 use Rattle.roles.specs.Publications.{PublishedAreTables}
-use Rattle.ledger_laws.specs.Laws.{marlowe, AreTables, AfterIsSound, LaterIsSound}
+use Rattle.roles.specs.Steps.{marlowe}
+use Rattle.ledger_laws.specs.Laws.{AreTables, AfterIsSound, LaterIsSound}
 use Rattle.ledger_laws.specs.Sound.{IsSound}
 use Rattle.ledger.specs.declared.call.Call.{Call}
 use Rattle.ledger.specs.declared.call.Call.TheVariants as on

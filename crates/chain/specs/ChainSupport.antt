@@ -2,7 +2,8 @@
 use Rattle.std.specs.Prelude.{◌≡◌, ℕ, List, map}
 use Rattle.eutxo_types.specs.Ids.{id_of}
 use Rattle.roles.specs.declared.published.Published.{Published}
-use Rattle.ledger_laws.specs.Laws.{marlowe, AreTables}
+use Rattle.roles.specs.Steps.{marlowe}
+use Rattle.ledger_laws.specs.Laws.{AreTables}
 use Rattle.ledger_laws.specs.Sound.{IsSound}
 use Rattle.ledger_spec.specs.Replay.{Course, published_at, published, world, past_of}
 use Rattle.ledger_spec.specs.Legal.{IsLegal}

@@ -7,7 +7,7 @@ use Rattle.bundle.specs.Bundles.{Amounts, AllPositive}
 use Rattle.eutxo_types.specs.declared.output_ref.OutputRef.{OutputRef}
 use Rattle.eutxo_types.specs.declared.output_ref.OutputRef.TheVariants.{Genesis, Made}
 use Rattle.std.specs.Prelude.{◌==◌, ◌&&◌}
-use Rattle.eutxo.specs.Parts.{same_bytes, same_ref}
+use Rattle.eutxo_types.specs.Parts.{same_bytes, same_ref}
 use Rattle.builder_spec.specs.Causes.{has_repeat}
 use Rattle.builder_spec.specs.Holding.{AreBundles}
 

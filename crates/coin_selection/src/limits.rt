@@ -1,7 +1,7 @@
 //! The limits on what is spent.
 ghost use Rattle.std.specs.Prelude.{◌≡◌, ◌⊎◌, if◌then◌else◌, ◌++◌, ◌∷◌, true, false, not, ◌<◌, length, get_or, map, IfOk, IfErr, OnOk};
 ghost use Rattle.std.specs.HashSet.{contains};
-ghost use Rattle.eutxo.specs.Parts.{same_ref};
+ghost use Rattle.eutxo_types.specs.Parts.{same_ref};
 ghost use Rattle.bundle.specs.Bundles.{plus};
 ghost use Rattle.builder_spec.specs.Holding.{sums, amount_in, AreBundles};
 ghost use Rattle.builder_spec.specs.Causes.{is_much, limit_cause, has_repeat};

@@ -18,7 +18,7 @@ use Rattle.eutxo.specs.Found.{script_at, with_outputs, if_known, same_scripts}
 use Rattle.eutxo.specs.Judgement.{not_unspent, id_in_use, outside_interval, unknown_script, with_script, scripts_found, names_of, outputs_found, found}
 use Rattle.eutxo.specs.Laws.{AnswerAlike, EqualResolutionsAgree, EqualResolutionsDecideAlike, ledger_fault, verdict_after, ChecksDecide, FoundIsEnough}
 use Rattle.eutxo.specs.Local.{tx_fault, whole_fault, local, verdict_of}
-use Rattle.eutxo.specs.Parts.{same_bytes}
+use Rattle.eutxo_types.specs.Parts.{same_bytes}
 use Rattle.eutxo.specs.Faults.{first_of, or_else}
 use Rattle.eutxo.proofs.ResolutionLemmas.{alike_decide, agreeing_decide}
 

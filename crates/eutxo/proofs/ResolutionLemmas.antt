@@ -18,7 +18,7 @@ use Rattle.eutxo.specs.Found.{script_at, is_known, all_known, with_outputs, if_k
 use Rattle.eutxo.specs.Judgement.{name_in, made_names, found_names, names_of}
 use Rattle.eutxo.specs.Laws.{AnswerAlike, Agree}
 use Rattle.eutxo.specs.Local.{spent_fault, whole_fault, tx_fault, local}
-use Rattle.eutxo.specs.Parts.{inputs_of, contract_in}
+use Rattle.eutxo_types.specs.Parts.{inputs_of, contract_in}
 use Rattle.eutxo.specs.Faults.{first_of, or_else, first_index}
 use Rattle.eutxo.specs.Rules.{or_later, stepped_contract, step_asked, after_answer, script_fault, step_fault, starts_wrong, starts_wrong_at, not_signed, two_contracts, wrong_redeemer, role_missing, not_preserved}
 

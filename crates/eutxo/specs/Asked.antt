@@ -32,6 +32,3 @@ pub record Judges (V : Type 0) : Type 0 where
   pub step : V → Stepping → StepAnswer
   pub starts : V → Datum → Amounts → Bool
   pub claims : List (Spend × Output) → List ℕ → List ℕ → Bool
-
-abbrev pub judges_of : {V : Type 0} → (V → Stepping → StepAnswer) → (V → Datum → Amounts → Bool) → (List (Spend × Output) → List ℕ → List ℕ → Bool) → Judges V
-judges_of step starts claims = record { step = step; starts = starts; claims = claims }

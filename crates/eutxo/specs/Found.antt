@@ -11,7 +11,7 @@ use Rattle.eutxo_types.specs.declared.output.Output.{Output}
 use Rattle.eutxo_types.specs.declared.spend.Spend.{Spend}
 use Rattle.eutxo_types.specs.declared.tx.Tx.{Tx}
 use Rattle.eutxo.specs.declared.resolved.Resolved.{Resolved}
-use Rattle.eutxo.specs.Parts.{same_bytes}
+use Rattle.eutxo_types.specs.Parts.{same_bytes}
 
 -- each input with its output, where none is missing
 abbrev pub with_output : Spend → Option Output → Option (List (Spend × Output)) → Option (List (Spend × Output))

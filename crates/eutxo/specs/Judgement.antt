@@ -3,7 +3,6 @@ use Rattle.std.specs.Prelude.{ℕ, ℤ, int_le, Bool, not, ◌&&◌, List, [], �
 use Rattle.std.specs.FinMap as maps
 use Rattle.std.specs.FinMap.{FinMap}
 use Rattle.names.specs.Orders.{bytes_cmp}
-use Rattle.machine.specs.declared.datum.Datum.{Datum}
 use Rattle.eutxo_types.specs.declared.fault.TxFault.{TxFault}
 use Rattle.eutxo_types.specs.declared.fault.TxFault.TheVariants.{NotUnspent, IdInUse, OutsideInterval, UnknownScript}
 use Rattle.eutxo_types.specs.declared.output.Output.{Output}
@@ -14,7 +13,7 @@ use Rattle.eutxo.specs.declared.resolved.Resolved.{Resolved}
 use Rattle.eutxo.specs.Asked.{Judges}
 use Rattle.eutxo.specs.Found.{is_known}
 use Rattle.eutxo.specs.Local.{tx_fault, local}
-use Rattle.eutxo.specs.Parts.{contract_in}
+use Rattle.eutxo_types.specs.Parts.{script_in}
 use Rattle.eutxo.specs.Faults.{fault_if, fault_at, first_of}
 
 -- what the rules read of a ledger at a moment: the unspent output that a reference names, what is published under an id, whether
@@ -48,20 +47,20 @@ unknown_script m tx = fault_at UnknownScript (is_unknown m.published) tx.outputs
 
 -- ---- what is found
 
-abbrev pub name_in : Option (List ℕ × Datum) → List (List ℕ)
+abbrev pub name_in : Option (List ℕ) → List (List ℕ)
 name_in None = []
-name_in (Some c) = c.0 ∷ []
+name_in (Some id) = id ∷ []
 
 -- the scripts that the locks of these outputs name
 abbrev pub made_names : List Output → List (List ℕ)
 made_names [] = []
-made_names (o ∷ os) = name_in (contract_in o.lock) ++ made_names os
+made_names (o ∷ os) = name_in (script_in o.lock) ++ made_names os
 
 -- and those of the outputs that are there
 abbrev pub found_names : List (Option Output) → List (List ℕ)
 found_names [] = []
 found_names (None ∷ os) = found_names os
-found_names (Some o ∷ os) = name_in (contract_in o.lock) ++ found_names os
+found_names (Some o ∷ os) = name_in (script_in o.lock) ++ found_names os
 
 -- the scripts that the outputs of a transaction name, and those that these outputs of its inputs do
 abbrev pub names_of : Tx → List (Option Output) → List (List ℕ)

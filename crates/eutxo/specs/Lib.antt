@@ -1,4 +1,3 @@
-pub mod Parts
 pub mod Faults
 pub mod Found
 pub mod Asked

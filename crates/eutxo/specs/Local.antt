@@ -10,7 +10,7 @@ use Rattle.eutxo.specs.Faults.{first_of, or_else}
 use Rattle.eutxo.specs.Found.{script_at, whole}
 use Rattle.eutxo.specs.declared.resolved.Resolved.{Resolved}
 use Rattle.eutxo.specs.Asked.{Judges}
-use Rattle.eutxo.specs.Rules.{no_inputs, too_many, repeated_input, not_signed, two_contracts, wrong_redeemer, role_missing, stepped_contract, step_fault, not_preserved}
+use Rattle.eutxo.specs.Rules.{no_inputs, too_many, repeated_input, not_signed, two_contracts, wrong_redeemer, role_missing, steps_of, step_fault, not_preserved}
 
 -- the rules of the transaction alone, in their order: 1 to 3
 abbrev pub tx_fault : Tx → Option TxFault
@@ -23,7 +23,7 @@ spent_rules j named tx spent =
     ∷ two_contracts spent
     ∷ wrong_redeemer spent
     ∷ role_missing j spent
-    ∷ step_fault j named tx spent (stepped_contract spent)
+    ∷ step_fault j named tx spent (steps_of spent)
     ∷ not_preserved spent tx.outputs
     ∷ []
 

@@ -1,6 +1,6 @@
 -- The rules that a transaction and its resolution decide, each by itself: the fault with which it refuses, if it does (The
 -- Extended UTXO Model, "Extended UTXO model: EUTXO", on what makes a transaction valid).
-use Rattle.std.specs.Prelude.{ℕ, ◌+◌, nat_lt, Bool, true, false, not, ◌||◌, List, [], ◌∷◌, length, take, count_by, Option, Some, None, option_map}
+use Rattle.std.specs.Prelude.{ℕ, ◌+◌, nat_lt, Bool, true, false, not, ◌||◌, List, [], ◌∷◌, ◌++◌, length, take, count_by, Option, Some, None, option_map}
 use Rattle.std.specs.List.{list_any}
 use Rattle.contract.specs.declared.input.Input.{Input}
 use Rattle.bundle.specs.Bundles.{Amounts}
@@ -18,7 +18,7 @@ use Rattle.eutxo_types.specs.declared.tx.Tx.{Tx}
 use Rattle.eutxo.specs.declared.validator.StepAnswer.{StepAnswer}
 use Rattle.eutxo.specs.declared.validator.StepAnswer.TheVariants as answers
 use Rattle.eutxo.specs.Faults.{fault_if, fault_at, first_index, is_empty}
-use Rattle.eutxo.specs.Parts.{same_ref, inputs_of, is_contract, contract_in, outputs_from}
+use Rattle.eutxo_types.specs.Parts.{same_ref, inputs_of, is_contract, ContractLock, contract_in, Instance, contract_at, outputs_from}
 use Rattle.eutxo.specs.Differing.{first_differing}
 use Rattle.eutxo.specs.Asked.{Stepping, Judges, refusal_of}
 
@@ -84,20 +84,23 @@ role_missing j spent = fault_at RoleMissing (λ x. lacks_role (j.claims spent) x
 
 -- ---- of the step, if a contract is spent
 
--- the first contract that is spent: its script, its datum, and the inputs of its redeemer
-abbrev pub or_contract : Option (List ℕ × Datum) → List Input → Option (List ℕ × Datum × List Input) → Option (List ℕ × Datum × List Input)
-or_contract None xs later = later
-or_contract (Some c) xs later = Some (c.0, c.1, xs)
+-- a contract that is spent, with the inputs that it is given
+pub record Step : Type 0 where
+  pub script : List ℕ
+  pub datum : Datum
+  pub inputs : List Input
 
-abbrev pub or_later : Lock → List Input → Option (List ℕ × Datum × List Input) → Option (List ℕ × Datum × List Input)
-or_later l xs later = or_contract (contract_in l) xs later
+abbrev pub step_in : Option ContractLock → List Input → List Step
+step_in None xs = []
+step_in (Some c) xs = record { script = c.script; datum = c.datum; inputs = xs } ∷ []
 
-abbrev pub stepped_contract : List (Spend × Output) → Option (List ℕ × Datum × List Input)
-stepped_contract [] = None
-stepped_contract (x ∷ xs) = or_later x.1.lock (inputs_of x.0.redeemer) (stepped_contract xs)
+-- all contracts that are spent, in the order of the inputs
+abbrev pub steps_of : List (Spend × Output) → List Step
+steps_of [] = []
+steps_of (x ∷ xs) = step_in (contract_in x.1.lock) (inputs_of x.0.redeemer) ++ steps_of xs
 
-abbrev pub step_asked : Tx → List (Spend × Output) → List ℕ × Datum × List Input → Stepping
-step_asked tx spent s = record { script = s.0; datum = s.1; inputs = s.2; tx = tx; spent = spent }
+abbrev pub step_asked : Tx → List (Spend × Output) → Step → Stepping
+step_asked tx spent s = record { script = s.script; datum = s.datum; inputs = s.inputs; tx = tx; spent = spent }
 
 -- an output from a place on has a contract lock
 abbrev pub stray_after : ℕ → List Output → Option TxFault
@@ -117,21 +120,18 @@ abbrev pub starts_wrong_at : {V : Type 0} → Judges V → Option V → Datum �
 starts_wrong_at j None d held = false
 starts_wrong_at j (Some v) d held = not (j.starts v d held)
 
-abbrev pub starts_wrong_in : {V : Type 0} → Judges V → (List ℕ → Option V) → Amounts → Option (List ℕ × Datum) → Bool
-starts_wrong_in j named held None = false
-starts_wrong_in j named held (Some c) = starts_wrong_at j (named c.0) c.1 held
-
-abbrev pub starts_wrong : {V : Type 0} → Judges V → (List ℕ → Option V) → Amounts → Lock → Bool
-starts_wrong j named held l = starts_wrong_in j named held (contract_in l)
+abbrev pub starts_wrong : {V : Type 0} → Judges V → (List ℕ → Option V) → Amounts → Option Instance → Bool
+starts_wrong j named held None = false
+starts_wrong j named held (Some c) = starts_wrong_at j (named c.script) c.datum held
 
 -- 17: the output at this place has a contract lock, and its script takes it for no start
-abbrev pub wrong_start : {V : Type 0} → Judges V → (List ℕ → Option V) → List Output → Option TxFault
-wrong_start j named os = option_map WrongStart (first_index (λ i o. starts_wrong j named o.amount o.lock) 0 os)
+abbrev pub wrong_start : {V : Type 0} → Judges V → (List ℕ → Option V) → Tx → Option TxFault
+wrong_start j named tx = option_map WrongStart (first_index (λ i o. starts_wrong j named o.amount (contract_at tx i)) 0 tx.outputs)
 
--- 12 to 16 where a contract is stepped, else 17
-abbrev pub step_fault : {V : Type 0} → Judges V → (List ℕ → Option V) → Tx → List (Spend × Output) → Option (List ℕ × Datum × List Input) → Option TxFault
-step_fault j named tx spent None = wrong_start j named tx.outputs
-step_fault j named tx spent (Some s) = script_fault j (named s.0) (step_asked tx spent s)
+-- 12 to 16 of the first contract that is spent, which rule 9 leaves alone; 17 where none is
+abbrev pub step_fault : {V : Type 0} → Judges V → (List ℕ → Option V) → Tx → List (Spend × Output) → List Step → Option TxFault
+step_fault j named tx spent [] = wrong_start j named tx
+step_fault j named tx spent (s ∷ ss) = script_fault j (named s.script) (step_asked tx spent s)
 
 -- ---- of the sums
 

@@ -1,7 +1,6 @@
 //! Verdicts by checks that were made before.
 ghost use Rattle.std.specs.Prelude.{◌≡◌, All, IsOk, IfOk, IfSome, IfNone, None};
 ghost use Rattle.eutxo_types.specs.declared.verdict.Verdict.TheVariants as verdicts;
-ghost use Rattle.eutxo.specs.Asked.{judges_of};
 ghost use Rattle.eutxo.specs.Checks.{IsOf, IsAtHand};
 ghost use Rattle.eutxo.specs.Local.{local, verdict_of};
 
@@ -22,7 +21,7 @@ fn verdict_in<'a, V: Validator>(
     found: &Resolved<V>,
 ) -> &'a Verdict
     requires { IsOf V.eq tx.now found.now checked.now }
-    ensures { result.now ≡ verdict_of (local (judges_of V.step_gives V.starts V.claims) tx.now found.now) }
+    ensures { result.now ≡ verdict_of (local V.judges tx.now found.now) }
 {
     equal_resolutions_decide_alike::<V>();
     checked.verdict()
@@ -34,7 +33,7 @@ fn at_hand<'a, V: Validator>(
     tx: &Tx,
     found: &Resolved<V>,
 ) -> Option<&'a Verdict>
-    ensures some { IfSome result (λ v. v.now ≡ verdict_of (local (judges_of V.step_gives V.starts V.claims) tx.now found.now)) }
+    ensures some { IfSome result (λ v. v.now ≡ verdict_of (local V.judges tx.now found.now)) }
     ensures none { IfNone result (All (λ c. IsOf V.eq tx.now found.now c → ⊥) cache.now) }
 {
     for checked in cache {
@@ -66,8 +65,8 @@ pub fn recheck<V: Validator>(
     found: &Resolved<V>,
     cache: &[Checked<V>],
 ) -> Result<Verdict, Memory>
-    ensures verdict { IfOk result (λ v. v ≡ verdict_of (local (judges_of V.step_gives V.starts V.claims) tx.now found.now)) }
-    ensures ready { IsAtHand V.eq tx.now found.now cache.now → local (judges_of V.step_gives V.starts V.claims) tx.now found.now ≡ None → IsOk result }
+    ensures verdict { IfOk result (λ v. v ≡ verdict_of (local V.judges tx.now found.now)) }
+    ensures ready { IsAtHand V.eq tx.now found.now cache.now → local V.judges tx.now found.now ≡ None → IsOk result }
 {
     match at_hand(cache, tx, found) {
         Some(verdict) => copy_of(verdict),

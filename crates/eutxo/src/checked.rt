@@ -1,6 +1,5 @@
 //! Checked transactions.
 ghost use Rattle.std.specs.Prelude.{◌≡◌, ◌↔◌, IsTrue, IfOk};
-ghost use Rattle.eutxo.specs.Asked.{judges_of};
 ghost use Rattle.eutxo.specs.Local.{verdict_of};
 ghost use Rattle.eutxo.specs.Checks.{check_of, IsCheck, IsOf};
 
@@ -29,7 +28,6 @@ impl<V: Validator> Model for Checked<V> {
     ghost use Rattle.std.specs.FinMap.{code};
     ghost use Rattle.std.specs.Coded.{coded_list, coded_ℕ};
     ghost use Rattle.names.specs.Orders.{bytes_cmp};
-    ghost use Rattle.eutxo.specs.Asked.{judges_of};
     ghost use Rattle.eutxo.specs.Checks.{CheckOf, IsCheck};
 
     ghost Value = { CheckOf V };
@@ -38,7 +36,7 @@ impl<V: Validator> Model for Checked<V> {
 
     ghost view = { λ a. record { tx = a.tx; id = a.id; found = a.found; verdict = a.verdict } };
 
-    ghost invariant = { λ a. IsCheck (judges_of V.step_gives V.starts V.claims) (record { tx = a.tx; id = a.id; found = a.found; verdict = a.verdict }) };
+    ghost invariant = { λ a. IsCheck V.judges (record { tx = a.tx; id = a.id; found = a.found; verdict = a.verdict }) };
 }
 
 /// The verdict by the fault of the first rule that refuses, if one does.
@@ -60,7 +58,7 @@ pub fn check<V: Validator + Drop>(
     tx: &Tx,
     found: Resolved<V>,
 ) -> Result<Checked<V>, Memory>
-    ensures { IfOk result (λ c. c ≡ check_of (judges_of V.step_gives V.starts V.claims) tx.now found) }
+    ensures { IfOk result (λ c. c ≡ check_of V.judges tx.now found) }
 {
     let tx = tx.try_clone()?;
     check_owned(alloc, tx, found)
@@ -73,7 +71,7 @@ pub fn check_owned<V: Validator + Drop>(
     tx: Tx,
     found: Resolved<V>,
 ) -> Result<Checked<V>, Memory>
-    ensures { IfOk result (λ c. c ≡ check_of (judges_of V.step_gives V.starts V.claims) tx found) }
+    ensures { IfOk result (λ c. c ≡ check_of V.judges tx found) }
 {
     let id = tx_id(alloc, &tx)?;
     let fault = local_fault(alloc, &tx, &found)?;
@@ -138,7 +136,7 @@ impl<V: Validator> Checked<V> {
     /// The verdict of the rules that the transaction and the resolution decide.
     pub fn verdict(&self) -> &Verdict
         ensures verdict { result.now ≡ self.now.verdict }
-        ensures whole { IsCheck (judges_of V.step_gives V.starts V.claims) self.now }
+        ensures whole { IsCheck V.judges self.now }
     {
         &self.verdict
     }

@@ -1,5 +1,4 @@
 //! Laws of judgements, each the contract of a function that does nothing.
-ghost use Rattle.eutxo.specs.Asked.{judges_of};
 ghost use Rattle.eutxo.specs.Laws.{EqualResolutionsAgree, EqualResolutionsDecideAlike, ChecksDecide, FoundIsEnough, SumsAreTheSame, TheLeastIsNamed};
 ghost use Rattle.eutxo.specs.Worked.{NothingIsNotUnspent, UsedIsInUse, TenIsOutside, UnpublishedIsUnknown};
 
@@ -10,21 +9,21 @@ use eutxo_types::Tx;
 
 /// Resolutions with the same outputs and equal scripts agree on every transaction, and decide it alike.
 pub fn equal_resolutions_decide_alike<V: Validator>()
-    ensures agree { EqualResolutionsAgree (judges_of V.step_gives V.starts V.claims) V.eq }
-    ensures alike { EqualResolutionsDecideAlike (judges_of V.step_gives V.starts V.claims) V.eq }
+    ensures agree { EqualResolutionsAgree V.judges V.eq }
+    ensures alike { EqualResolutionsDecideAlike V.judges V.eq }
 {}
 
 /// At every moment, the judgement of a transaction is that of rules 1 to 7, and then the verdict of any check of
 /// it whose resolution agrees with what is found at that moment.
 #[tactic(auto, using(crate::proofs::JudgementLemmas::checks_decide))]
 pub fn checks_decide<V: Validator>()
-    ensures { ChecksDecide (judges_of V.step_gives V.starts V.claims) }
+    ensures { ChecksDecide V.judges }
 {}
 
 /// What is found at a moment has all that the rules of a transaction and what it spends read of the ledger.
 #[tactic(auto, using(crate::proofs::JudgementLemmas::found_is_enough))]
 pub fn found_is_enough<V: Validator>()
-    ensures { FoundIsEnough (judges_of V.step_gives V.starts V.claims) }
+    ensures { FoundIsEnough V.judges }
 {}
 
 /// Where the rule on sums refuses nothing, the sums of every token are preserved; and else the token that it
@@ -38,10 +37,10 @@ pub fn sums_are_preserved()
 /// Worked judgements by the rules that read the ledger, whatever the scripts.
 #[tactic(auto, using(crate::proofs::WorkedLemmas::nothing, crate::proofs::WorkedLemmas::used, crate::proofs::WorkedLemmas::ten, crate::proofs::WorkedLemmas::unpublished))]
 pub fn worked_judgements<V: Validator>()
-    ensures unspent { NothingIsNotUnspent (judges_of V.step_gives V.starts V.claims) }
-    ensures used { UsedIsInUse (judges_of V.step_gives V.starts V.claims) }
-    ensures tick { TenIsOutside (judges_of V.step_gives V.starts V.claims) }
-    ensures published { UnpublishedIsUnknown (judges_of V.step_gives V.starts V.claims) }
+    ensures unspent { NothingIsNotUnspent V.judges }
+    ensures used { UsedIsInUse V.judges }
+    ensures tick { TenIsOutside V.judges }
+    ensures published { UnpublishedIsUnknown V.judges }
 {}
 
 // What can be handed to another thread, and lent to several.

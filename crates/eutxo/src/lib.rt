@@ -38,5 +38,5 @@ pub use scripts::Scripts;
 pub use shared::Shared;
 pub use spent::Spent;
 pub use step_fault::StepFault;
-pub use tx_rules::{has_signed, is_same, tx_fault};
+pub use tx_rules::{has_signed, tx_fault};
 pub use validator::{StepAnswer, Validator};

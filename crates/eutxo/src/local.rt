@@ -1,6 +1,5 @@
 //! The local verdict.
 ghost use Rattle.std.specs.Prelude.{◌≡◌, IfOk};
-ghost use Rattle.eutxo.specs.Asked.{judges_of};
 ghost use Rattle.eutxo.specs.Found.{script_at, whole};
 ghost use Rattle.eutxo.specs.Local.{spent_fault, whole_fault, local};
 
@@ -22,7 +21,7 @@ fn first_fault<V: Validator>(
     tx: &Tx,
     spent: &[Spent<'_>],
 ) -> Result<Option<TxFault>, Memory>
-    ensures { IfOk result (λ fault. fault ≡ spent_fault (judges_of V.step_gives V.starts V.claims) (script_at scripts.now) tx.now spent.now) }
+    ensures { IfOk result (λ fault. fault ≡ spent_fault V.judges (script_at scripts.now) tx.now spent.now) }
 {
     if let Some(fault) = not_signed(tx.signers.as_slice(), spent) {
         return Ok(Some(fault));
@@ -50,7 +49,7 @@ pub fn spent_fault<V: Validator>(
     tx: &Tx,
     found: &Resolved<V>,
 ) -> Result<Option<TxFault>, Memory>
-    ensures { IfOk result (λ fault. fault ≡ whole_fault (judges_of V.step_gives V.starts V.claims) (script_at found.now.scripts) tx.now (whole tx.now found.now)) }
+    ensures { IfOk result (λ fault. fault ≡ whole_fault V.judges (script_at found.now.scripts) tx.now (whole tx.now found.now)) }
 {
     match whole(alloc, tx, found)? {
         Some(spent) => first_fault(alloc, &found.scripts, tx, spent.as_slice()),
@@ -65,7 +64,7 @@ pub fn local_fault<V: Validator>(
     tx: &Tx,
     found: &Resolved<V>,
 ) -> Result<Option<TxFault>, Memory>
-    ensures { IfOk result (λ fault. fault ≡ local (judges_of V.step_gives V.starts V.claims) tx.now found.now) }
+    ensures { IfOk result (λ fault. fault ≡ local V.judges tx.now found.now) }
 {
     if let Some(fault) = tx_fault(tx) {
         return Ok(Some(fault));

@@ -1,7 +1,6 @@
 //! The rules of what is spent, each one function.
 ghost use Rattle.std.specs.Prelude.{◌≡◌, ℕ, position, not, option_map};
-ghost use Rattle.eutxo.specs.Asked.{judges_of};
-ghost use Rattle.eutxo.specs.Parts.{is_contract};
+ghost use Rattle.eutxo_types.specs.Parts.{is_contract};
 ghost use Rattle.eutxo.specs.Rules.{lacks_signer, not_signed, two_contracts, opens, wrong_redeemer, lacks_role, role_missing};
 
 use crate::spent::Spent;
@@ -37,22 +36,12 @@ pub fn not_signed(signers: &[Text], spent: &[Spent<'_>]) -> Option<TxFault>
     }
 }
 
-pub fn is_contract(lock: &Lock) -> bool
-    ensures { result ≡ is_contract lock.now }
-{
-    match lock {
-        Lock::Key(_) => false,
-        Lock::Payout { .. } => false,
-        Lock::Contract { .. } => true,
-    }
-}
-
 pub fn two_contracts(spent: &[Spent<'_>]) -> Option<TxFault>
     ensures { result ≡ two_contracts spent.now }
 {
     let count = spent
         .iter()
-        .filter(|x| is_contract(&x.output().lock))
+        .filter(|x| x.output().lock.is_contract())
         .count();
     if count > 1 {
         Some(TxFault::TwoContracts)
@@ -90,7 +79,7 @@ pub fn wrong_redeemer(spent: &[Spent<'_>]) -> Option<TxFault>
 }
 
 fn lacks_role<V: Validator>(spent: &[Spent<'_>], lock: &Lock) -> bool
-    ensures { result ≡ lacks_role (V.claims spent.now) lock.now }
+    ensures { result ≡ lacks_role (V.judges.claims spent.now) lock.now }
 {
     match lock {
         Lock::Key(_) => false,
@@ -100,7 +89,7 @@ fn lacks_role<V: Validator>(spent: &[Spent<'_>], lock: &Lock) -> bool
 }
 
 fn role_missing_index<V: Validator>(spent: &[Spent<'_>]) -> Option<usize>
-    ensures { result ≡ position (λ x. lacks_role (V.claims spent.now) x.1.lock) spent.now }
+    ensures { result ≡ position (λ x. lacks_role (V.judges.claims spent.now) x.1.lock) spent.now }
 {
     spent
         .iter()
@@ -108,7 +97,7 @@ fn role_missing_index<V: Validator>(spent: &[Spent<'_>]) -> Option<usize>
 }
 
 pub fn role_missing<V: Validator>(spent: &[Spent<'_>]) -> Option<TxFault>
-    ensures { result ≡ role_missing (judges_of V.step_gives V.starts V.claims) spent.now }
+    ensures { result ≡ role_missing V.judges spent.now }
 {
     match role_missing_index::<V>(spent) {
         Some(i) => Some(TxFault::RoleMissing(i as u64)),

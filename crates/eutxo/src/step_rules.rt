@@ -1,25 +1,24 @@
 //! The rules of a step, or of starts where no contract is stepped.
-ghost use Rattle.std.specs.Prelude.{◌≡◌, ◌+◌, ℕ, position, drop, not, IfOk, option_map, None, ◌≤◌};
-ghost use Rattle.eutxo.specs.Asked.{judges_of};
+ghost use Rattle.std.specs.Prelude.{◌≡◌, ◌+◌, ℕ, position, drop, not, IfOk, option_map, option_to_list, slice_get, ◌≤◌};
 ghost use Rattle.eutxo.specs.Faults.{first_index};
 ghost use Rattle.eutxo.specs.Found.{script_at};
-ghost use Rattle.eutxo.specs.Parts.{is_contract, inputs_of};
-ghost use Rattle.eutxo.specs.Rules.{or_later, stepped_contract, step_asked, stray_after, after_answer, script_fault, starts_wrong_at, starts_wrong, wrong_start, step_fault};
+ghost use Rattle.eutxo_types.specs.Parts.{is_contract, contract_in, inputs_of, contract_at};
+ghost use Rattle.eutxo.specs.Rules.{step_in, steps_of, step_asked, stray_after, after_answer, script_fault, starts_wrong, wrong_start, step_fault};
 
 use crate::scripts::Scripts;
 use crate::spent::Spent;
-use crate::spent_rules::is_contract;
-use crate::tx_rules::inputs_of;
 use crate::validator::{StepAnswer, Validator};
+use bundle::Bundle;
 use collections::Memory;
 use contract::Input;
-use eutxo_types::{Datum, Lock, Output, Tx, TxFault};
+use eutxo_types::{Datum, Instance, Output, Tx, TxFault};
 use std::alloc::Global;
+use std::marker::Model;
 
 fn contract_index(outputs: &[Output]) -> Option<usize>
     ensures { result ≡ position (λ o. is_contract o.lock) outputs.now }
 {
-    outputs.iter().position(|o| is_contract(&o.lock))
+    outputs.iter().position(|o| o.lock.is_contract())
 }
 
 /// The lowest place from `from` on that has a contract lock.
@@ -46,34 +45,41 @@ fn after_answer(answer: StepAnswer, outputs: &[Output]) -> Option<TxFault>
     }
 }
 
-/// What a step gives its script: the id, the datum, and the redeemer's inputs.
-#[derive(Clone, Copy)]
+/// A contract that is spent, lent: its script, its datum, and the inputs that it is given.
+#[derive(Drop)]
 struct Step<'a> {
     script: &'a [u8; 32],
     datum: &'a Datum,
     inputs: &'a [Input],
 }
 
-fn step_of<'a>(spent: &Spent<'a>) -> Option<Step<'a>>
-    ensures { option_map (λ s. (s.script.now, s.datum.now, s.inputs.now)) result ≡ or_later spent.now.1.lock (inputs_of spent.now.0.redeemer) None }
+impl<'a> Model for Step<'a> {
+    ghost use Rattle.eutxo.specs.Rules as rules;
+
+    ghost Value = { rules.Step };
+
+    ghost view = { λ a. record { script = a.script.now; datum = a.datum.now; inputs = a.inputs.now } };
+}
+
+fn step_in<'a>(spent: &Spent<'a>) -> Option<Step<'a>>
+    ensures { step_in (contract_in spent.now.1.lock) (inputs_of spent.now.0.redeemer) ≡ option_to_list result }
 {
-    match &spent.output().lock {
-        Lock::Key(_) => None,
-        Lock::Payout { .. } => None,
-        Lock::Contract { script, datum } => Some(Step {
-            script,
-            datum,
-            inputs: inputs_of(&spent.spend().redeemer),
+    match spent.output().lock.contract() {
+        Some(lock) => Some(Step {
+            script: lock.script,
+            datum: lock.datum,
+            inputs: spent.spend().redeemer.inputs(),
         }),
+        None => None,
     }
 }
 
 /// The first contract that is spent.
-fn stepped<'a>(spent: &[Spent<'a>]) -> Option<Step<'a>>
-    ensures { option_map (λ s. (s.script.now, s.datum.now, s.inputs.now)) result ≡ stepped_contract spent.now }
+fn first_step<'a>(spent: &[Spent<'a>]) -> Option<Step<'a>>
+    ensures { result ≡ slice_get (steps_of spent.now) 0 }
 {
     for x in spent {
-        if let Some(step) = step_of(x) {
+        if let Some(step) = step_in(x) {
             return Some(step);
         }
     }
@@ -83,17 +89,17 @@ fn stepped<'a>(spent: &[Spent<'a>]) -> Option<Step<'a>>
 fn starts_wrong<V: Validator>(
     alloc: Global,
     scripts: &Scripts<V>,
-    output: &Output,
+    amount: &Bundle,
+    made: Option<Instance<'_>>,
 ) -> Result<bool, Memory>
-    ensures { IfOk result (λ b. b ≡ starts_wrong (judges_of V.step_gives V.starts V.claims) (script_at scripts.now) output.now.amount output.now.lock) }
+    ensures { IfOk result (λ b. b ≡ starts_wrong V.judges (script_at scripts.now) amount.now made) }
 {
-    match &output.lock {
-        Lock::Key(_) => Ok(false),
-        Lock::Payout { .. } => Ok(false),
-        Lock::Contract { script, datum } => match scripts.get(script) {
-            Some(object) => Ok(!object.start(alloc, datum, &output.amount)?),
+    match made {
+        Some(c) => match scripts.get(c.script) {
+            Some(object) => Ok(!object.start(alloc, c.datum, amount)?),
             None => Ok(false),
         },
+        None => Ok(false),
     }
 }
 
@@ -101,12 +107,12 @@ fn starts_wrong<V: Validator>(
 fn wrong_start_index<V: Validator>(
     alloc: Global,
     scripts: &Scripts<V>,
-    outputs: &[Output],
+    tx: &Tx,
 ) -> Result<Option<usize>, Memory>
-    ensures { IfOk result (λ place. place ≡ first_index (λ i o. starts_wrong (judges_of V.step_gives V.starts V.claims) (script_at scripts.now) o.amount o.lock) 0 outputs.now) }
+    ensures { IfOk result (λ place. place ≡ first_index (λ i o. starts_wrong V.judges (script_at scripts.now) o.amount (contract_at tx.now i)) 0 tx.now.outputs) }
 {
-    for (i, output) in outputs.iter().enumerate() {
-        if starts_wrong(alloc, scripts, output)? {
+    for (i, output) in tx.outputs.as_slice().iter().enumerate() {
+        if starts_wrong(alloc, scripts, &output.amount, tx.contract_at(i as u64))? {
             return Ok(Some(i));
         }
     }
@@ -116,11 +122,11 @@ fn wrong_start_index<V: Validator>(
 fn wrong_start<V: Validator>(
     alloc: Global,
     scripts: &Scripts<V>,
-    outputs: &[Output],
+    tx: &Tx,
 ) -> Result<Option<TxFault>, Memory>
-    ensures { IfOk result (λ fault. fault ≡ wrong_start (judges_of V.step_gives V.starts V.claims) (script_at scripts.now) outputs.now) }
+    ensures { IfOk result (λ fault. fault ≡ wrong_start V.judges (script_at scripts.now) tx.now) }
 {
-    match wrong_start_index(alloc, scripts, outputs)? {
+    match wrong_start_index(alloc, scripts, tx)? {
         Some(i) => Ok(Some(TxFault::WrongStart(i as u64))),
         None => Ok(None),
     }
@@ -133,7 +139,7 @@ fn script_fault<V: Validator>(
     tx: &Tx,
     spent: &[Spent<'_>],
 ) -> Result<Option<TxFault>, Memory>
-    ensures { IfOk result (λ fault. fault ≡ script_fault (judges_of V.step_gives V.starts V.claims) (script_at scripts.now step.entry.script.now) (step_asked tx.now spent.now (step.entry.script.now, step.entry.datum.now, step.entry.inputs.now))) }
+    ensures { IfOk result (λ fault. fault ≡ script_fault V.judges (script_at scripts.now step.script) (step_asked tx.now spent.now step)) }
 {
     match scripts.get(step.script) {
         Some(object) => {
@@ -151,10 +157,10 @@ pub fn step_fault<V: Validator>(
     tx: &Tx,
     spent: &[Spent<'_>],
 ) -> Result<Option<TxFault>, Memory>
-    ensures { IfOk result (λ fault. fault ≡ step_fault (judges_of V.step_gives V.starts V.claims) (script_at scripts.now) tx.now spent.now (stepped_contract spent.now)) }
+    ensures { IfOk result (λ fault. fault ≡ step_fault V.judges (script_at scripts.now) tx.now spent.now (steps_of spent.now)) }
 {
-    match stepped(spent) {
+    match first_step(spent) {
         Some(step) => script_fault(alloc, scripts, step, tx, spent),
-        None => wrong_start(alloc, scripts, tx.outputs.as_slice()),
+        None => wrong_start(alloc, scripts, tx),
     }
 }

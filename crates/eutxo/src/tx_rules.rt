@@ -2,30 +2,15 @@
 ghost use Rattle.std.specs.Prelude.{◌≡◌, ℕ, position, option_map};
 ghost use Rattle.std.specs.List.{list_any};
 ghost use Rattle.eutxo.specs.Faults.{first_index};
-ghost use Rattle.eutxo.specs.Parts.{inputs_of, same_ref};
+ghost use Rattle.eutxo_types.specs.Parts.{same_ref};
 ghost use Rattle.eutxo.specs.Rules.{no_inputs, has_too_many, too_many, is_repeated, repeated_input, has_signed};
 ghost use Rattle.eutxo.specs.Local.{tx_fault};
 
 use collections::Text;
-use contract::Input;
-use eutxo_types::{OutputRef, Redeemer, Spend, Tx, TxFault};
+use eutxo_types::{Spend, Tx, TxFault};
 
 /// How many inputs a transaction, and how many of the contract's a redeemer, may have.
 const MOST: usize = 256;
-
-/// Whether two references name one output.
-pub fn is_same(a: OutputRef, b: OutputRef) -> bool
-    ensures { result ≡ same_ref a b }
-{
-    match (a, b) {
-        (OutputRef::Genesis { index: i }, OutputRef::Genesis { index: j }) => i == j,
-        (OutputRef::Made { id: n, index: i }, OutputRef::Made { id: m, index: j }) => {
-            n == m && i == j
-        }
-        (OutputRef::Genesis { .. }, OutputRef::Made { .. }) => false,
-        (OutputRef::Made { .. }, OutputRef::Genesis { .. }) => false,
-    }
-}
 
 fn no_inputs(tx: &Tx) -> Option<TxFault>
     ensures { result ≡ no_inputs tx.now }
@@ -37,20 +22,10 @@ fn no_inputs(tx: &Tx) -> Option<TxFault>
     }
 }
 
-pub fn inputs_of(redeemer: &Redeemer) -> &[Input]
-    ensures { result.now ≡ inputs_of redeemer.now }
-{
-    match redeemer {
-        Redeemer::None => &[],
-        Redeemer::Claim => &[],
-        Redeemer::Step(inputs) => inputs.as_slice(),
-    }
-}
-
 fn has_too_many(spend: &Spend) -> bool
     ensures { result ≡ has_too_many spend.now }
 {
-    inputs_of(&spend.redeemer).len() > MOST
+    spend.redeemer.inputs().len() > MOST
 }
 
 fn any_has_too_many(inputs: &[Spend]) -> bool
@@ -74,7 +49,7 @@ fn is_named(earlier: &[Spend], spend: &Spend) -> bool
 {
     earlier
         .iter()
-        .any(|y| is_same(y.reference, spend.reference))
+        .any(|y| y.reference.is_same(spend.reference))
 }
 
 #[tactic(auto, using(crate::proofs::FaultsLemmas::found_place, crate::proofs::FaultsLemmas::next_place))]

@@ -1,14 +1,13 @@
 -- Spellings of inputs, outputs and transactions tell their values apart.
-use Rattle.std.proofs.Common.{◌≡◌, refl, sym, ◌∙◌, ℕ, ◌<◌, ◌^◌, List}
-use Rattle.std.proofs.Math.Nat.{mod-eq_of_lt}
+use Rattle.std.proofs.Common.{◌≡◌, refl, sym, ◌∙◌, List}
 use Rattle.std.specs.FinMap.{entries, same_entries_map}
 use Rattle.bundle.specs.Bundles.{Amounts}
 use Rattle.contract_bytes.specs.Numbers.{text_bytes, TextFits}
 use Rattle.contract_bytes.specs.Names.{holding_bytes, HoldingFits}
 use Rattle.contract_bytes.specs.Inputs.{input_bytes, InputFits}
 use Rattle.contract_bytes.specs.Unambiguous.{ReadsOneWay, BeginsNoOther}
-use Rattle.contract_bytes.proofs.Apart.{Tells, shows, nothing, both, tagged, other, word, of_one_length, length_tells, time_tells, text_tells, list_tells, reads_one_way, begins_no_other}
-use Rattle.contract_bytes.proofs.ApartNames.{holding_tells, input_tells, state_tells}
+use Rattle.contract_bytes.proofs.Apart.{Tells, shows, nothing, both, tagged, other, of_one_length, length_tells, time_tells, text_tells, list_tells, reads_one_way, begins_no_other}
+use Rattle.contract_bytes.proofs.ApartNames.{holding_tells, input_tells}
 use Rattle.eutxo_types.specs.declared.output.Output.{Output}
 use Rattle.eutxo_types.specs.declared.output_ref.OutputRef.{OutputRef}
 use Rattle.eutxo_types.specs.declared.output_ref.OutputRef.TheVariants as references
@@ -18,15 +17,12 @@ use Rattle.eutxo_types.specs.declared.redeemer.Redeemer.{Redeemer}
 use Rattle.eutxo_types.specs.declared.redeemer.Redeemer.TheVariants as redeemers
 use Rattle.eutxo_types.specs.declared.spend.Spend.{Spend}
 use Rattle.eutxo_types.specs.declared.tx.Tx.{Tx}
-use Rattle.eutxo_types.specs.Spelling.{cont_bytes, reference_bytes, redeemer_bytes, spend_bytes, lock_bytes, amount_bytes, output_bytes, tx_bytes}
+use Rattle.machine.proofs.SpellingLaws.{datum_tells}
+use Rattle.eutxo_types.specs.Spelling.{reference_bytes, redeemer_bytes, spend_bytes, lock_bytes, amount_bytes, output_bytes, tx_bytes}
 use Rattle.eutxo_types.specs.Fitting.{IdFits, ReferenceFits, RedeemerFits, SpendFits, LockFits, AmountFits, OutputFits, TxFits}
 
 id_tells : (x y : List ℕ) → IdFits x → IdFits y → Tells (x ≡ y) x y
 id_tells x y f g = of_one_length x y (f ∙ sym g)
-
-cont_tells : (m n : ℕ) → m < 2 ^ 32 → n < 2 ^ 32 → Tells (m ≡ n) (cont_bytes m) (cont_bytes n)
-unfolding cont_bytes
-cont_tells m n f g = shows (λ e. sym (mod-eq_of_lt f) ∙ e ∙ mod-eq_of_lt g) (word 4 m n)
 
 reference_tells : (x y : OutputRef) → ReferenceFits x → ReferenceFits y → Tells (x ≡ y) (reference_bytes x) (reference_bytes y)
 reference_tells (references.Genesis i) (references.Genesis j) f g = shows (λ e. λ k. references.Genesis (e k)) (tagged (length_tells i j f g))
@@ -54,8 +50,7 @@ lock_tells : (x y : Lock) → LockFits x → LockFits y → Tells (x ≡ y) (loc
 lock_tells (locks.Key a) (locks.Key b) f g = shows (λ e. λ k. locks.Key (e k)) (tagged (text_tells a b f g))
 lock_tells (locks.Payout a r) (locks.Payout b s) f g = shows (λ e. λ k. locks.Payout (e.0 k) (e.1 k)) (tagged (both (text_tells a b f.0 g.0) (text_tells r s f.1 g.1)))
 lock_tells (locks.Contract a d) (locks.Contract b c) f g =
-    shows (λ e. λ k. locks.Contract (e.0.0 k) (record { cont = record { 0 = e.0.1 k }; state = e.1 k }))
-    (tagged (both (both (id_tells a b f.0 g.0) (cont_tells d.cont.0 c.cont.0 f.1 g.1)) (state_tells d.state c.state f.2 g.2)))
+    shows (λ e. λ k. locks.Contract (e.0 k) (e.1 k)) (tagged (both (id_tells a b f.0 g.0) (datum_tells d c f.1 g.1)))
 lock_tells (locks.Key a) (locks.Payout b s) f g = other refl
 lock_tells (locks.Key a) (locks.Contract b c) f g = other refl
 lock_tells (locks.Payout a r) (locks.Key b) f g = other refl

@@ -4,7 +4,7 @@ use Rattle.contract_bytes.specs.Numbers.{length_bytes, number_bytes, time_bytes,
 use Rattle.contract_bytes.specs.Names.{holding_bytes}
 use Rattle.contract_bytes.specs.States.{money_bytes, chosen_bytes, bound_value_bytes}
 use Rattle.std.specs.Prelude.{pos, replicate}
-use Rattle.eutxo_types.specs.Spelling.{cont_bytes}
+use Rattle.machine.specs.Spelling.{cont_bytes}
 use Rattle.eutxo_types.specs.Worked.{BeginsTheLedger, IsMade, NoneIsZero, ClaimIsOne, StepIsTwo, KeyOfX, PayoutOfB, StartOfCloses, NothingHeld, FiveAda, OneTransaction}
 
 pub begins_the_ledger : BeginsTheLedger

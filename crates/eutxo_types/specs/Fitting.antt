@@ -5,7 +5,7 @@ use Rattle.bundle.specs.Bundles.{Amounts}
 use Rattle.contract_bytes.specs.Numbers.{TimeFits, TextFits, ListFits}
 use Rattle.contract_bytes.specs.Names.{HoldingFits}
 use Rattle.contract_bytes.specs.Inputs.{InputFits}
-use Rattle.contract_bytes.specs.States.{StateFits}
+use Rattle.machine.specs.Spelling.{DatumFits}
 use Rattle.eutxo_types.specs.declared.output.Output.{Output}
 use Rattle.eutxo_types.specs.declared.output_ref.OutputRef.{OutputRef}
 use Rattle.eutxo_types.specs.declared.output_ref.OutputRef.TheVariants as references
@@ -37,7 +37,7 @@ SpendFits x = ReferenceFits x.reference × RedeemerFits x.redeemer
 abbrev pub LockFits : Lock → Type 0
 LockFits (locks.Key address) = TextFits address
 LockFits (locks.Payout currency role) = TextFits currency × TextFits role
-LockFits (locks.Contract script datum) = IdFits script × (datum.cont.0 < 2 ^ 32) × StateFits datum.state
+LockFits (locks.Contract script datum) = IdFits script × DatumFits datum
 
 abbrev pub AmountFits : Amounts → Type 0
 AmountFits m = ListFits HoldingFits (entries m)

@@ -1,4 +1,5 @@
 pub mod Fitting
 pub mod Ids
+pub mod Parts
 pub mod Spelling
 pub mod Worked

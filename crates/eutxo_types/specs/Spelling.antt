@@ -1,12 +1,11 @@
 -- How a transaction is spelled in bytes: a tag is one byte, and fields stand in order.
 use Rattle.std.specs.Prelude.{ℕ, List, [], ◌∷◌, ◌++◌}
-use Rattle.std.specs.Int.{w32, to_be_bytes}
 use Rattle.std.specs.FinMap.{entries}
 use Rattle.bundle.specs.Bundles.{Amounts}
 use Rattle.contract_bytes.specs.Numbers.{length_bytes, time_bytes, text_bytes, list_bytes}
 use Rattle.contract_bytes.specs.Names.{holding_bytes}
 use Rattle.contract_bytes.specs.Inputs.{input_bytes}
-use Rattle.contract_bytes.specs.States.{state_bytes}
+use Rattle.machine.specs.Spelling.{datum_bytes}
 use Rattle.eutxo_types.specs.declared.output.Output.{Output}
 use Rattle.eutxo_types.specs.declared.output_ref.OutputRef.{OutputRef}
 use Rattle.eutxo_types.specs.declared.output_ref.OutputRef.TheVariants as references
@@ -21,10 +20,6 @@ use Rattle.eutxo_types.specs.declared.tx.Tx.{Tx}
 abbrev pub place_bytes : ℕ → List ℕ
 place_bytes n = length_bytes n
 
--- a continuation's number: 4 bytes, the highest first
-unfoldable pub cont_bytes : ℕ → List ℕ
-cont_bytes n = to_be_bytes w32 n
-
 -- an id is its 32 bytes
 abbrev pub reference_bytes : OutputRef → List ℕ
 reference_bytes (references.Genesis index) = 0x00 ∷ place_bytes index
@@ -38,11 +33,11 @@ redeemer_bytes (redeemers.Step inputs) = 0x02 ∷ list_bytes input_bytes inputs
 abbrev pub spend_bytes : Spend → List ℕ
 spend_bytes x = reference_bytes x.reference ++ redeemer_bytes x.redeemer
 
--- a contract: its script's 32 bytes, the number of its continuation, its state
+-- a contract: its script's 32 bytes, its datum
 abbrev pub lock_bytes : Lock → List ℕ
 lock_bytes (locks.Key address) = 0x00 ∷ text_bytes address
 lock_bytes (locks.Payout currency role) = 0x01 ∷ text_bytes currency ++ text_bytes role
-lock_bytes (locks.Contract script datum) = 0x02 ∷ script ++ cont_bytes datum.cont.0 ++ state_bytes datum.state
+lock_bytes (locks.Contract script datum) = 0x02 ∷ script ++ datum_bytes datum
 
 -- an amount: what there is of each token, in the order of tokens
 abbrev pub amount_bytes : Amounts → List ℕ

@@ -1,7 +1,7 @@
 //! The spelling of transactions.
-ghost use Rattle.std.specs.Prelude.{◌≡◌, ◌<◌, ◌^◌, ◌++◌, IfOk, OnOk};
+ghost use Rattle.std.specs.Prelude.{◌≡◌, ◌++◌, IfOk, OnOk};
 ghost use Rattle.eutxo_types.specs.Fitting.{PlaceFits, IdFits, ReferenceFits, RedeemerFits, SpendFits, LockFits, AmountFits, OutputFits, TxFits};
-ghost use Rattle.eutxo_types.specs.Spelling.{place_bytes, cont_bytes, reference_bytes, redeemer_bytes, spend_bytes, lock_bytes, amount_bytes, output_bytes, tx_bytes};
+ghost use Rattle.eutxo_types.specs.Spelling.{place_bytes, reference_bytes, redeemer_bytes, spend_bytes, lock_bytes, amount_bytes, output_bytes, tx_bytes};
 
 use crate::lock::Lock;
 use crate::output::Output;
@@ -27,16 +27,6 @@ fn put_place(out: &mut Vec<u8>, place: u64) -> Result<(), Memory>
     ensures fits { PlaceFits place }
 {
     put_length(out, place as usize)
-}
-
-#[tactic(auto, unfolding(crate::specs::Spelling::cont_bytes))]
-fn put_cont(out: &mut Vec<u8>, number: u32) -> Result<(), Memory>
-    ensures spelling { OnOk result (out.new.items ≡ out.old.items ++ cont_bytes number) }
-    ensures fits { number < 2 ^ 32 }
-{
-    let bytes = number.to_be_bytes();
-    out.extend_from_slice(bytes.as_slice())?;
-    Ok(())
 }
 
 fn put_reference(out: &mut Vec<u8>, reference: &OutputRef) -> Result<(), Memory>
@@ -87,8 +77,7 @@ fn put_lock(out: &mut Vec<u8>, lock: &Lock) -> Result<(), Memory>
         Lock::Contract { script, datum } => {
             put_byte(out, 0x02)?;
             put_id(out, script)?;
-            put_cont(out, datum.cont.0)?;
-            datum.state.put(out)
+            datum.put(out)
         }
     }
 }

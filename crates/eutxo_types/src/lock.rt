@@ -1,6 +1,10 @@
 //! Locks.
+ghost use Rattle.std.specs.Prelude.{◌≡◌, option_map};
+ghost use Rattle.eutxo_types.specs.Parts.{is_key, is_payout, is_contract, contract_in};
+
 use collections::{Bytes, Memory, Same, Text, TryClone};
 use machine::Datum;
+use std::marker::Model;
 
 /// What guards the spending of an output: for a contract its validator and its datum (The Extended UTXO Model,
 /// "Extended UTXO model: EUTXO"); keys and payouts are this ledger's own.
@@ -12,6 +16,67 @@ pub enum Lock {
     Payout { currency: Bytes, role: Text },
     /// The published contract with this id, which goes on from the datum.
     Contract { script: [u8; 32], datum: Datum },
+}
+
+/// What a contract lock holds, lent: its script, and the datum from which the contract goes on.
+#[derive(Drop)]
+pub struct ContractLock<'a> {
+    pub script: &'a [u8; 32],
+    pub datum: &'a Datum,
+}
+
+impl<'a> Model for ContractLock<'a> {
+    ghost use Rattle.eutxo_types.specs.Parts as parts;
+
+    ghost Value = { parts.ContractLock };
+
+    ghost view = { λ a. record { script = a.script.now; datum = a.datum.now } };
+}
+
+impl Lock {
+    /// Whether it is an address's.
+    pub fn is_key(&self) -> bool
+        ensures { result ≡ is_key self.now }
+    {
+        match self {
+            Lock::Key(_) => true,
+            Lock::Payout { .. } => false,
+            Lock::Contract { .. } => false,
+        }
+    }
+
+    /// Whether it is a payout's.
+    pub fn is_payout(&self) -> bool
+        ensures { result ≡ is_payout self.now }
+    {
+        match self {
+            Lock::Key(_) => false,
+            Lock::Payout { .. } => true,
+            Lock::Contract { .. } => false,
+        }
+    }
+
+    /// Whether it is a contract's.
+    pub fn is_contract(&self) -> bool
+        ensures { result ≡ is_contract self.now }
+    {
+        match self {
+            Lock::Key(_) => false,
+            Lock::Payout { .. } => false,
+            Lock::Contract { .. } => true,
+        }
+    }
+
+    /// The script and the datum of a contract lock; of another, none.
+    pub fn contract(&self) -> Option<ContractLock<'_>>
+        ensures { result ≡ contract_in self.now }
+    {
+        match self {
+            Lock::Key(_) => None,
+            Lock::Payout { .. } => None,
+            Lock::Contract { script, datum } => Some(ContractLock { script, datum }),
+        }
+    }
 }
 
 impl TryClone for Lock {

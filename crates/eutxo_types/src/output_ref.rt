@@ -1,4 +1,7 @@
 //! References of outputs.
+ghost use Rattle.std.specs.Prelude.{◌≡◌};
+ghost use Rattle.eutxo_types.specs.Parts.{same_ref};
+
 use collections::{Memory, Same, TryClone};
 
 /// What names an output (The Extended UTXO Model, "Basic UTXO Ledger"): one that the ledger began with, by its
@@ -10,6 +13,22 @@ pub enum OutputRef {
     Genesis { index: u64 },
     /// An output of the accepted transaction with this id.
     Made { id: [u8; 32], index: u64 },
+}
+
+impl OutputRef {
+    /// Whether both name one output.
+    pub fn is_same(self, other: OutputRef) -> bool
+        ensures { result ≡ same_ref self other }
+    {
+        match (self, other) {
+            (OutputRef::Genesis { index: i }, OutputRef::Genesis { index: j }) => i == j,
+            (OutputRef::Made { id: n, index: i }, OutputRef::Made { id: m, index: j }) => {
+                n == m && i == j
+            }
+            (OutputRef::Genesis { .. }, OutputRef::Made { .. }) => false,
+            (OutputRef::Made { .. }, OutputRef::Genesis { .. }) => false,
+        }
+    }
 }
 
 impl TryClone for OutputRef {

@@ -1,4 +1,7 @@
 //! Redeemers.
+ghost use Rattle.std.specs.Prelude.{◌≡◌};
+ghost use Rattle.eutxo_types.specs.Parts.{is_step, inputs_of};
+
 use collections::{Items, Memory, Same, TryClone};
 use contract::Input;
 
@@ -11,6 +14,30 @@ pub enum Redeemer {
     Claim,
     /// A step, for a contract: the inputs of a Marlowe transaction, in order.
     Step(Items<Input>),
+}
+
+impl Redeemer {
+    /// Whether it steps a contract.
+    pub fn is_step(&self) -> bool
+        ensures { result ≡ is_step self.now }
+    {
+        match self {
+            Redeemer::None => false,
+            Redeemer::Claim => false,
+            Redeemer::Step(_) => true,
+        }
+    }
+
+    /// The inputs that it gives to a contract, in order: those of a step, and else none.
+    pub fn inputs(&self) -> &[Input]
+        ensures { result.now ≡ inputs_of self.now }
+    {
+        match self {
+            Redeemer::None => &[],
+            Redeemer::Claim => &[],
+            Redeemer::Step(inputs) => inputs.as_slice(),
+        }
+    }
 }
 
 impl TryClone for Redeemer {

@@ -3,7 +3,7 @@ use Rattle.std.specs.Prelude.{ℕ, false, if◌then◌else◌, List, [], ◌∷�
 use Rattle.eutxo_types.specs.declared.output.Output.{Output}
 use Rattle.eutxo_types.specs.declared.output_ref.OutputRef.{OutputRef}
 use Rattle.eutxo.specs.Judgement.{Moment}
-use Rattle.eutxo.specs.Parts.{same_bytes, same_ref}
+use Rattle.eutxo_types.specs.Parts.{same_bytes, same_ref}
 use Rattle.eutxo.specs.Faults.{or_else}
 use Rattle.roles.specs.declared.published.Published.{Published}
 use Rattle.ledger.specs.declared.look.Look.{Look}

@@ -1,7 +1,7 @@
 //! What is found of what a transaction names.
 ghost use Rattle.std.specs.Prelude.{◌≡◌, ◌++◌, IfOk, OnOk, map, option_copied};
 ghost use Rattle.eutxo.specs.Judgement.{with_script, made_names, found_names, scripts_found, found};
-ghost use Rattle.eutxo.specs.Parts.{contract_in, contract_of};
+ghost use Rattle.eutxo_types.specs.Parts.{contract_in, contract_of};
 ghost use Rattle.ledger.specs.ResolveSupport.{with_named};
 
 use crate::ledger::Ledger;

@@ -2,7 +2,6 @@
 ghost use Rattle.std.specs.Prelude.{◌≡◌, ◌∷◌, Option, IfOk, position, is_none};
 ghost use Rattle.eutxo_types.specs.declared.fault.TxFault.{TxFault as ATxFault};
 ghost use Rattle.eutxo_types.specs.Ids.{id_of};
-ghost use Rattle.eutxo.specs.Asked.{judges_of};
 ghost use Rattle.eutxo.specs.Found.{is_known};
 ghost use Rattle.eutxo.specs.Local.{verdict_of};
 ghost use Rattle.eutxo.specs.Judgement.{not_unspent, outside_interval, is_unknown, unknown_script, judge};
@@ -89,7 +88,7 @@ pub fn judge<V: Validator + Drop, L: Ledger<V>>(
     cache: &[Checked<V>],
 ) -> Result<Option<TxFault>, Memory>
     requires { id.now ≡ id_of tx.now }
-    ensures { IfOk result (λ fault. fault ≡ judge (judges_of V.step_gives V.starts V.claims) (L.moment ledger.now) tx.now) }
+    ensures { IfOk result (λ fault. fault ≡ judge V.judges (L.moment ledger.now) tx.now) }
 {
     if let Some(fault) = tx_fault(tx) {
         return Ok(Some(fault));

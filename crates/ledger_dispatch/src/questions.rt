@@ -1,7 +1,8 @@
 //! What a question is answered.
 ghost use Rattle.std.specs.Prelude.{◌≡◌, IfOk, map};
 ghost use Rattle.eutxo.specs.Judgement.{found};
-ghost use Rattle.ledger_laws.specs.Laws.{marlowe, AreTables};
+ghost use Rattle.roles.specs.Steps.{marlowe};
+ghost use Rattle.ledger_laws.specs.Laws.{AreTables};
 ghost use Rattle.ledger_laws.specs.Sound.{IsSound};
 ghost use Rattle.ledger_spec.specs.Replay.{past_of, published_at, moment_of};
 ghost use Rattle.ledger_spec.specs.Records.{AreSteps};

@@ -18,12 +18,10 @@ use Rattle.eutxo.specs.Asked.{Judges}
 use Rattle.eutxo.specs.Found.{is_known, all_known, if_known}
 use Rattle.eutxo.specs.Local.{spent_rules, spent_fault, whole_fault}
 use Rattle.eutxo.specs.Rules.{stepped_contract, step_fault, not_preserved}
-use Rattle.roles.specs.Steps.{is_key}
-use Rattle.eutxo.specs.Parts.{is_contract, same_bytes, same_ref}
+use Rattle.eutxo_types.specs.Parts.{is_contract, same_bytes, same_ref, is_key, is_step, steps}
 use Rattle.ledger_laws.specs.Past.{Past, before, with_references, created_by, created_by_all, created, is_input_of, is_spent, unspent_at, has_id}
 use Rattle.eutxo.specs.Judgement.{is_unknown}
 use Rattle.ledger_laws.specs.Sound.{AreKeys, IsSound}
-use Rattle.ledger_laws.specs.Threads.{is_step, steps}
 use Rattle.ledger_laws.proofs.PlainLaws.{EachFalse, both, not_both, not_false, few, same_some, is_there, each_at, any_taken, any_take, take_some, taken_at}
 use Rattle.ledger_laws.proofs.ReferenceLaws.{itself, unspent_so, unspent_created, output_nth, none_created, spender}
 use Rattle.ledger_laws.proofs.JudgedLemmas.{found, each_none, nowhere, unless, Passes, passes, made_known}

@@ -12,12 +12,11 @@ use Rattle.eutxo.specs.Laws.{FoundIsEnough}
 use Rattle.eutxo.specs.Rules.{opens, or_later, stepped_contract, step_asked, script_fault, step_fault}
 use Rattle.roles.specs.declared.published.Published.{Published}
 use Rattle.roles.specs.Terms.{terms_of}
-use Rattle.roles.specs.Steps.{actor, authorised}
-use Rattle.eutxo.specs.Parts.{inputs_of, is_contract}
+use Rattle.roles.specs.Steps.{actor, authorised, marlowe}
+use Rattle.eutxo_types.specs.Parts.{inputs_of, is_contract, is_step}
 use Rattle.ledger_laws.specs.Past.{Past, before, unspent_at}
 use Rattle.ledger_laws.specs.Sound.{IsSound}
-use Rattle.ledger_laws.specs.Threads.{is_step}
-use Rattle.ledger_laws.specs.Laws.{marlowe, IsAuthorised, PartiesAreAuthorised}
+use Rattle.ledger_laws.specs.Laws.{IsAuthorised, PartiesAreAuthorised}
 use Rattle.ledger_laws.proofs.PlainLaws.{not_false, same_some, each_at}
 use Rattle.ledger_laws.proofs.PairedLemmas.{holds, misfits, step_opens, at_least_one, counted, none_or_two, passed_by, stepping_found}
 use Rattle.ledger_laws.proofs.AcceptedLaws.{Spent, spent_at, published}

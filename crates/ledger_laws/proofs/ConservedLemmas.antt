@@ -15,7 +15,7 @@ use Rattle.eutxo_types.specs.declared.tx.Tx.{Tx}
 use Rattle.eutxo_types.specs.Ids.{id_of}
 use Rattle.eutxo.specs.Faults.{first_index}
 use Rattle.eutxo.specs.Rules.{is_repeated}
-use Rattle.eutxo.specs.Parts.{same_bytes, same_ref}
+use Rattle.eutxo_types.specs.Parts.{same_bytes, same_ref}
 use Rattle.ledger_laws.specs.Past.{Past, with_references, created_by, created_by_all, created, is_input_of, is_spent, unspent, unspent_at, has_id}
 use Rattle.ledger_laws.proofs.PlainLaws.{EachFalse, or_false}
 use Rattle.ledger_laws.proofs.FreshLemmas.{Fresh, fresh}

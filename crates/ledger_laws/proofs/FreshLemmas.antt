@@ -6,7 +6,7 @@ use Rattle.std.proofs.lemmas.List.Folds.{list_any-append}
 use Rattle.eutxo_types.specs.declared.spend.Spend.{Spend}
 use Rattle.eutxo.specs.Faults.{first_index}
 use Rattle.eutxo.specs.Rules.{is_repeated}
-use Rattle.eutxo.specs.Parts.{same_ref}
+use Rattle.eutxo_types.specs.Parts.{same_ref}
 use Rattle.ledger_laws.proofs.PlainLaws.{EachFalse, or_false}
 
 -- no input names what an earlier one names

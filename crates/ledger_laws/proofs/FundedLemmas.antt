@@ -20,11 +20,11 @@ use Rattle.eutxo.specs.Faults.{first_index}
 use Rattle.eutxo.specs.Rules.{stepped_contract, step_asked, script_fault, step_fault, starts_wrong, starts_wrong_at}
 use Rattle.roles.specs.declared.published.Published.{Published}
 use Rattle.roles.specs.Terms.{IsTable, terms_of}
-use Rattle.roles.specs.Steps.{same_cont, is_fresh, same_amounts, starts_from}
+use Rattle.roles.specs.Steps.{same_cont, is_fresh, same_amounts, starts_from, marlowe}
 use Rattle.roles.specs.Sums.{sums_of}
 use Rattle.ledger_laws.specs.Past.{Past, before, unspent_at}
 use Rattle.ledger_laws.specs.Sound.{IsSound}
-use Rattle.ledger_laws.specs.Laws.{marlowe, ContractsAreFunded, ContractsAreOfTables}
+use Rattle.ledger_laws.specs.Laws.{ContractsAreFunded, ContractsAreOfTables}
 use Rattle.ledger_laws.proofs.PlainLaws.{and_true, not_false, each_at, same_some}
 use Rattle.ledger_laws.proofs.ReferenceLaws.{maker, unspent_so}
 use Rattle.ledger_laws.proofs.JudgedLemmas.{mapped_none, unplaced}

@@ -27,8 +27,9 @@ use Rattle.eutxo.specs.Rules.{after_answer, stray_after}
 use Rattle.eutxo.specs.Asked.{Stepping}
 use Rattle.roles.specs.Terms.{Terms, IsTable}
 use Rattle.roles.specs.Sums.{sums_of}
-use Rattle.roles.specs.Steps.{same_output, continuation, due_outputs, actor, authorised, unauthorised, first_unpaid, is_first, walk_of, is_close, not_authorised, wrong_continuation, outputs_before, wrong_payment, answer_by, by_answer, step_of}
-use Rattle.eutxo.specs.Parts.{contract_in, contract_of, is_contract}
+use Rattle.table.specs.Flat.{is_close}
+use Rattle.roles.specs.Steps.{same_output, continuation, due_outputs, actor, authorised, unauthorised, first_unpaid, is_first, walk_of, not_authorised, wrong_continuation, outputs_before, wrong_payment, answer_by, by_answer, step_of}
+use Rattle.eutxo_types.specs.Parts.{contract_in, contract_of, is_contract}
 use Rattle.ledger_laws.specs.Threads.{Effect, PaysFirst, LaidOut}
 use Rattle.ledger_laws.proofs.PlainLaws.{EachFalse, not_false, not_both, same_some, some_not_none, each_at}
 use Rattle.ledger_laws.proofs.JudgedLemmas.{each_none, nowhere, mapped_none, unless}

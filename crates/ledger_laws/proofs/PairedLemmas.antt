@@ -14,8 +14,7 @@ use Rattle.eutxo_types.specs.declared.redeemer.Redeemer.TheVariants as with
 use Rattle.eutxo_types.specs.declared.spend.Spend.{Spend}
 use Rattle.eutxo.specs.Found.{with_output, with_outputs, is_known}
 use Rattle.eutxo.specs.Rules.{opens, or_later, stepped_contract}
-use Rattle.eutxo.specs.Parts.{given_to, inputs_of, is_contract, same_ref}
-use Rattle.ledger_laws.specs.Threads.{is_step}
+use Rattle.eutxo_types.specs.Parts.{given_to, inputs_of, is_contract, same_ref, is_step}
 use Rattle.ledger_laws.proofs.PlainLaws.{EachFalse, not_false, both, or_false, or_cases, or_true, bool_cases, not_both, some_of, same_some}
 use Rattle.ledger_laws.proofs.ReferenceLaws.{same_ref_so, same_ref-refl}
 

@@ -25,11 +25,12 @@ use Rattle.eutxo.specs.Laws.{FoundIsEnough}
 use Rattle.eutxo.specs.Rules.{step_asked, script_fault, step_fault}
 use Rattle.roles.specs.declared.published.Published.{Published}
 use Rattle.roles.specs.Terms.{Terms, terms_of}
-use Rattle.eutxo.specs.Parts.{contract_at, given_to, same_ref}
+use Rattle.eutxo_types.specs.Parts.{contract_at, given_to, same_ref}
 use Rattle.ledger_laws.specs.Past.{Past, before, created, is_input_of, unspent_at}
 use Rattle.ledger_laws.specs.Sound.{IsSound}
 use Rattle.ledger_laws.specs.Threads.{Link, Effect, Member, Gives, Run, contract_after, state_after, next_of, spine, ends, thread, Carries, IsStart}
-use Rattle.ledger_laws.specs.Laws.{marlowe, AreTables, EachIsARun, ThreadsAreRuns, EndsWithItsRun, ThreadsEndWithRuns}
+use Rattle.roles.specs.Steps.{marlowe}
+use Rattle.ledger_laws.specs.Laws.{AreTables, EachIsARun, ThreadsAreRuns, EndsWithItsRun, ThreadsEndWithRuns}
 use Rattle.ledger_laws.proofs.PlainLaws.{same_some, some_not_none, head_at}
 use Rattle.ledger_laws.proofs.ReferenceLaws.{unspent_so}
 use Rattle.ledger_laws.proofs.PairedLemmas.{stepped_at, stepped_none}

@@ -5,7 +5,7 @@ use Rattle.eutxo_types.specs.declared.spend.Spend.{Spend}
 use Rattle.eutxo_types.specs.declared.tx.Tx.{Tx}
 use Rattle.eutxo.specs.Laws.{FoundIsEnough}
 use Rattle.eutxo.specs.Asked.{Judges}
-use Rattle.eutxo.specs.Parts.{same_ref}
+use Rattle.eutxo_types.specs.Parts.{same_ref}
 use Rattle.ledger_laws.specs.Past.{Past, before, is_input_of, unspent_at}
 use Rattle.ledger_laws.specs.Sound.{IsSound}
 use Rattle.ledger_laws.specs.Laws.{OutputsAreSpentOnce}

@@ -18,10 +18,10 @@ use Rattle.eutxo.specs.declared.validator.StepAnswer.{StepAnswer}
 use Rattle.eutxo.specs.declared.validator.StepAnswer.TheVariants as answers
 use Rattle.eutxo.specs.Asked.{Judges}
 use Rattle.eutxo.specs.Rules.{step_asked, after_answer, script_fault, step_fault}
-use Rattle.eutxo.specs.Parts.{contract_in, contract_of, contract_at, is_contract, same_ref}
+use Rattle.eutxo_types.specs.Parts.{contract_in, contract_of, contract_at, is_contract, same_ref, steps}
 use Rattle.ledger_laws.specs.Past.{Past, before, created, is_input_of, is_spent, unspent_at}
 use Rattle.ledger_laws.specs.Sound.{IsSound}
-use Rattle.ledger_laws.specs.Threads.{Link, next_of, spine, ends, steps, StartsThread, thread}
+use Rattle.ledger_laws.specs.Threads.{Link, next_of, spine, ends, StartsThread, thread}
 use Rattle.ledger_laws.specs.Laws.{IsMember, EachStepHasItsThread, StepsStandOnThreads, StepsSpendContracts, EachContractEndsAThread, ContractsEndThreads, EndsAreUnspent}
 use Rattle.ledger_laws.proofs.PlainLaws.{both_false, same_some, not_both, each_at, take_none, take_some, take_whole, cut_at, taken_at}
 use Rattle.ledger_laws.proofs.ReferenceLaws.{maker, unspent_is, unspent_so, after_one, spent_more}

@@ -9,7 +9,7 @@ use Rattle.eutxo_types.specs.declared.output_ref.OutputRef.TheVariants.{Genesis,
 use Rattle.eutxo_types.specs.declared.spend.Spend.{Spend}
 use Rattle.eutxo_types.specs.declared.tx.Tx.{Tx}
 use Rattle.eutxo_types.specs.Ids.{id_of}
-use Rattle.eutxo.specs.Parts.{same_ref}
+use Rattle.eutxo_types.specs.Parts.{same_ref}
 use Rattle.ledger_laws.specs.Past.{Past, with_references, created_by, created, is_input_of, is_spent}
 use Rattle.ledger_laws.specs.Threads.{Link, next_of, spine, ends}
 use Rattle.ledger_laws.specs.Worked.{NobodyCame, TwoSteps, NoneAfterTheEnd, GivenByName, OneMoves}

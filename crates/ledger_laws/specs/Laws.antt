@@ -3,21 +3,20 @@ use Rattle.std.specs.Prelude.{◌≡◌, ℕ, ℤ, true, List, [], map, slice_ge
 use Rattle.std.specs.List.{filter_map}
 use Rattle.names.specs.declared.token.Token.{Token}
 use Rattle.bundle.specs.Totals.{total_of}
-use Rattle.machine.specs.declared.datum.Datum.{Datum}
 use Rattle.eutxo_types.specs.declared.output.Output.{Output}
 use Rattle.eutxo_types.specs.declared.output_ref.OutputRef.{OutputRef}
 use Rattle.eutxo_types.specs.declared.spend.Spend.{Spend}
 use Rattle.eutxo_types.specs.declared.tx.Tx.{Tx}
-use Rattle.eutxo.specs.Asked.{Judges, judges_of}
+use Rattle.eutxo.specs.Asked.{Judges}
 use Rattle.eutxo.specs.Found.{with_outputs}
 use Rattle.eutxo.specs.Judgement.{judge}
-use Rattle.eutxo.specs.Parts.{is_contract, contract_in, inputs_of}
+use Rattle.eutxo_types.specs.Parts.{is_contract, ContractLock, contract_in, is_step, inputs_of, Instance, lock_of}
 use Rattle.roles.specs.declared.published.Published.{Published}
 use Rattle.roles.specs.Terms.{IsTable, terms_of}
-use Rattle.roles.specs.Steps.{step_of, starts_from, holds_role, actor, authorised}
+use Rattle.roles.specs.Steps.{actor, authorised, marlowe}
 use Rattle.roles.specs.Sums.{sums_of}
 use Rattle.ledger_laws.specs.Past.{Past, before, after, unspent, unspent_at}
-use Rattle.ledger_laws.specs.Threads.{thread, ends, is_step, steps, IsStart, StartsThread, Member, Run, contract_after, state_after, Carries}
+use Rattle.ledger_laws.specs.Threads.{thread, ends, IsMade, IsStart, StartsThread, Member, Run, contract_after, state_after, Carries}
 use Rattle.ledger_laws.specs.Sound.{moment, AreKeys, IsSound, IsMore}
 
 -- one, and no other
@@ -26,34 +25,46 @@ ExactlyOne {A} F = (x : A) × F x × ((y : A) → F y → y ≡ x)
 
 -- ---- whatever the scripts
 
--- a transaction is a member of a thread
-abbrev pub IsMember : Past → OutputRef → Tx → Type 0
-IsMember past r tx = (i : ℕ) × (q : OutputRef) × (slice_get (thread past r) i ≡ Some (record { spends = q; tx = tx }))
+-- a contract input of the n-th accepted transaction, by its place: what it spends is a contract's output
+pub record IsContractInput (past : Past) (n i : ℕ) (tx : Tx) (x : Spend) (o : Output) : Type 0 where
+  pub accepted : slice_get past.accepted n ≡ Some tx
+  pub input : slice_get tx.inputs i ≡ Some x
+  pub there : unspent_at (before past n) x.reference ≡ Some o
+  pub contract : is_contract o.lock ≡ true
 
--- EVERY ACCEPTED STEP STANDS ON EXACTLY ONE THREAD
+-- a transaction is the member of a thread that spends an output
+abbrev pub IsMember : Past → OutputRef → OutputRef → Tx → Type 0
+IsMember past r q tx = (i : ℕ) × (slice_get (thread past r) i ≡ Some (record { spends = q; tx = tx }))
+
+-- EVERY CONTRACT INPUT OF AN ACCEPTED TRANSACTION STANDS ON EXACTLY ONE THREAD
 abbrev pub EachStepHasItsThread : Past → Type 0
 EachStepHasItsThread past =
-    (n : ℕ) (tx : Tx) → slice_get past.accepted n ≡ Some tx → steps tx ≡ true → ExactlyOne (λ r. StartsThread past r × IsMember past r tx)
+    (n i : ℕ) (tx : Tx) (x : Spend) (o : Output) → IsContractInput past n i tx x o → ExactlyOne (λ r. StartsThread past r × IsMember past r x.reference tx)
 
 abbrev pub StepsStandOnThreads : {V : Type 0} → Judges V → Type 0
 StepsStandOnThreads {V} j = (published : List ℕ → Option V) (past : Past) → IsSound j published past → EachStepHasItsThread past
 
 -- and a contract output is spent by a step alone: the input that names it brings one
 abbrev pub ContractsAreStepped : Past → Type 0
-ContractsAreStepped past =
-    (n i : ℕ) (tx : Tx) (x : Spend) (o : Output) → slice_get past.accepted n ≡ Some tx → slice_get tx.inputs i ≡ Some x →
-    unspent_at (before past n) x.reference ≡ Some o → is_contract o.lock ≡ true → is_step x.redeemer ≡ true
+ContractsAreStepped past = (n i : ℕ) (tx : Tx) (x : Spend) (o : Output) → IsContractInput past n i tx x o → is_step x.redeemer ≡ true
+
+-- and a step spends a contract output: an input that brings one names it
+abbrev pub StepsAreOfContracts : Past → Type 0
+StepsAreOfContracts past =
+    (n i : ℕ) (tx : Tx) (x : Spend) → slice_get past.accepted n ≡ Some tx → slice_get tx.inputs i ≡ Some x → is_step x.redeemer ≡ true → (o : Output) × IsContractInput past n i tx x o
 
 abbrev pub StepsSpendContracts : {V : Type 0} → Judges V → Type 0
 StepsSpendContracts {V} j = (published : List ℕ → Option V) (past : Past) → IsSound j published past → ContractsAreStepped past
 
--- what holds of each unspent contract output, with its script and its datum
-abbrev pub OfUnspentContracts : Past → (OutputRef → Output → List ℕ → Datum → Type 0) → Type 0
-OfUnspentContracts past F = (q : OutputRef) (o : Output) (script : List ℕ) (d : Datum) → unspent_at past q ≡ Some o → contract_in o.lock ≡ Some (script, d) → F q o script d
+-- what holds of each unspent contract output: it was made with a contract, under whose lock it stands, and of which this holds
+abbrev pub OfUnspentContracts : Past → (OutputRef → Output → Instance → Type 0) → Type 0
+OfUnspentContracts past F =
+    (q : OutputRef) (o : Output) → unspent_at past q ≡ Some o → is_contract o.lock ≡ true →
+    (c : Instance) × IsMade past q c × (contract_in o.lock ≡ Some (lock_of c)) × F q o c
 
 -- each is the end of exactly one thread: a start output, or the next output of a thread's last transaction
 abbrev pub EachContractEndsAThread : Past → Type 0
-EachContractEndsAThread past = OfUnspentContracts past (λ q o script d. ExactlyOne (λ r. StartsThread past r × (ends (Some r) (thread past r) ≡ Some q)))
+EachContractEndsAThread past = OfUnspentContracts past (λ q o c. ExactlyOne (λ r. StartsThread past r × (ends (Some r) (thread past r) ≡ Some q)))
 
 -- and where a thread has an end, that is an unspent contract output
 abbrev pub EachEndIsUnspent : Past → Type 0
@@ -95,10 +106,6 @@ LaterIsSound {V} j = (published later : List ℕ → Option V) (past : Past) →
 
 -- ---- of Marlowe's contracts
 
--- published contracts judge so
-abbrev pub marlowe : Judges Published
-marlowe = judges_of (λ p. step_of (terms_of p)) (λ p. starts_from p.root) holds_role
-
 -- the numbers of what is published are a table's
 abbrev pub AreTables : (List ℕ → Option Published) → Type 0
 AreTables published = (script : List ℕ) (p : Published) → published script ≡ Some p → IsTable (terms_of p)
@@ -107,8 +114,8 @@ AreTables published = (script : List ℕ) (p : Published) → published script �
 -- the start's datum
 abbrev pub EachIsARun : (List ℕ → Option Published) → Past → Type 0
 EachIsARun published past =
-    (r : OutputRef) (script : List ℕ) (d : Datum) → IsStart past r script d →
-    (p : Published) × (published script ≡ Some p) × ExactlyOne (λ run. Run ((terms_of p).tree p.root) d.state run × Carries (terms_of p) script (thread past r) run)
+    (r : OutputRef) (c : Instance) → IsStart past r c →
+    (p : Published) × (published c.script ≡ Some p) × ExactlyOne (λ run. Run ((terms_of p).tree p.root) c.datum.state run × Carries (terms_of p) c.script (thread past r) run)
 
 abbrev pub ThreadsAreRuns : Type 0
 ThreadsAreRuns = (published : List ℕ → Option Published) (past : Past) → AreTables published → IsSound marlowe published past → EachIsARun published past
@@ -117,24 +124,24 @@ ThreadsAreRuns = (published : List ℕ → Option Published) (past : Past) → A
 -- remains, in the run's state
 abbrev pub EndsWithItsRun : (List ℕ → Option Published) → Past → Type 0
 EndsWithItsRun published past =
-    (r : OutputRef) (script : List ℕ) (d : Datum) → IsStart past r script d → (p : Published) → published script ≡ Some p →
-    (run : List Member) → Run ((terms_of p).tree p.root) d.state run → Carries (terms_of p) script (thread past r) run →
-    (q : OutputRef) (o : Output) (other : List ℕ) (e : Datum) → ends (Some r) (thread past r) ≡ Some q → unspent_at past q ≡ Some o → contract_in o.lock ≡ Some (other, e) →
-    (other ≡ script) × ((terms_of p).tree e.cont ≡ contract_after ((terms_of p).tree p.root) run) × (e.state ≡ state_after d.state run)
+    (r : OutputRef) (c : Instance) → IsStart past r c → (p : Published) → published c.script ≡ Some p →
+    (run : List Member) → Run ((terms_of p).tree p.root) c.datum.state run → Carries (terms_of p) c.script (thread past r) run →
+    (q : OutputRef) (e : Instance) → ends (Some r) (thread past r) ≡ Some q → IsMade past q e →
+    (e.script ≡ c.script) × ((terms_of p).tree e.datum.cont ≡ contract_after ((terms_of p).tree p.root) run) × (e.datum.state ≡ state_after c.datum.state run)
 
 abbrev pub ThreadsEndWithRuns : Type 0
 ThreadsEndWithRuns = (published : List ℕ → Option Published) (past : Past) → AreTables published → IsSound marlowe published past → EndsWithItsRun published past
 
 -- each unspent contract output holds exactly the sums of its accounts
 abbrev pub AreFunded : Past → Type 0
-AreFunded past = OfUnspentContracts past (λ q o script d. o.amount ≡ sums_of d.state)
+AreFunded past = OfUnspentContracts past (λ q o c. o.amount ≡ sums_of c.datum.state)
 
 abbrev pub ContractsAreFunded : Type 0
 ContractsAreFunded = (published : List ℕ → Option Published) (past : Past) → IsSound marlowe published past → AreFunded past
 
 -- and stands at a number of what was published under its script
 abbrev pub AreOfTables : (List ℕ → Option Published) → Past → Type 0
-AreOfTables published past = OfUnspentContracts past (λ q o script d. (p : Published) × (published script ≡ Some p) × ((terms_of p).has d.cont ≡ true))
+AreOfTables published past = OfUnspentContracts past (λ q o c. (p : Published) × (published c.script ≡ Some p) × ((terms_of p).has c.datum.cont ≡ true))
 
 abbrev pub ContractsAreOfTables : Type 0
 ContractsAreOfTables = (published : List ℕ → Option Published) (past : Past) → AreTables published → IsSound marlowe published past → AreOfTables published past
@@ -142,11 +149,10 @@ ContractsAreOfTables = (published : List ℕ → Option Published) (past : Past)
 -- each party that the inputs of a step need is an address among the signers, or a role whose token, of the contract's currency,
 -- the output of a key input holds
 pub record IsAuthorised (published : List ℕ → Option Published) (tx : Tx) (spent : List (Spend × Output)) (x : Spend × Output) : Type 0 where
-  pub script : List ℕ
-  pub datum : Datum
-  pub contract : contract_in x.1.lock ≡ Some (script, datum)
+  pub lock : ContractLock
+  pub contract : contract_in x.1.lock ≡ Some lock
   pub object : Published
-  pub named : published script ≡ Some object
+  pub named : published lock.script ≡ Some object
   pub parties : All (λ party. authorised object.currency tx.signers spent party ≡ true) (filter_map actor (inputs_of x.0.redeemer))
 
 -- the inputs of the n-th accepted transaction with the outputs that they spend

@@ -8,7 +8,7 @@ use Rattle.eutxo_types.specs.declared.output_ref.OutputRef.{OutputRef}
 use Rattle.eutxo_types.specs.declared.output_ref.OutputRef.TheVariants.{Genesis, Made}
 use Rattle.eutxo_types.specs.declared.tx.Tx.{Tx}
 use Rattle.eutxo_types.specs.Ids.{id_of}
-use Rattle.eutxo.specs.Parts.{same_bytes, same_ref}
+use Rattle.eutxo_types.specs.Parts.{same_bytes, same_ref}
 
 -- the outputs that there were at first, and what was accepted, in order
 pub record Past : Type 0 where

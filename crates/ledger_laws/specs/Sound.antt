@@ -4,7 +4,7 @@ use Rattle.eutxo_types.specs.declared.output.Output.{Output}
 use Rattle.eutxo_types.specs.declared.tx.Tx.{Tx}
 use Rattle.eutxo.specs.Asked.{Judges}
 use Rattle.eutxo.specs.Judgement.{Moment, judge}
-use Rattle.roles.specs.Steps.{is_key}
+use Rattle.eutxo_types.specs.Parts.{is_key}
 use Rattle.ledger_laws.specs.Past.{Past, before, unspent_at, is_used}
 
 -- what the rules read after a past, where this is published under ids, at a tick

@@ -1,6 +1,5 @@
 -- Threads of contracts in a list of accepted transactions, runs of a contract, and what it means that a thread carries a run.
-use Rattle.std.specs.Prelude.{◌≡◌, ℕ, Bool, true, false, if◌then◌else◌, List, [], ◌∷◌, ◌++◌, slice_get, Option, Some, None, option_map, Ok}
-use Rattle.std.specs.List.{list_any}
+use Rattle.std.specs.Prelude.{◌≡◌, ℕ, ◌+◌, false, if◌then◌else◌, List, [], ◌∷◌, ◌++◌, slice_get, Option, Some, None, option_map, Ok}
 use Rattle.contract.specs.declared.interval.Interval.{Interval}
 use Rattle.contract.specs.declared.input.Input.{Input}
 use Rattle.contract.specs.declared.payment.Payment.{Payment}
@@ -14,59 +13,61 @@ use Rattle.machine.specs.declared.datum.Datum.{Datum}
 use Rattle.eutxo_types.specs.declared.output.Output.{Output}
 use Rattle.eutxo_types.specs.declared.output_ref.OutputRef.{OutputRef}
 use Rattle.eutxo_types.specs.declared.output_ref.OutputRef.TheVariants.{Made}
-use Rattle.eutxo_types.specs.declared.redeemer.Redeemer.{Redeemer}
-use Rattle.eutxo_types.specs.declared.redeemer.Redeemer.TheVariants as with
 use Rattle.eutxo_types.specs.declared.tx.Tx.{Tx}
 use Rattle.eutxo_types.specs.Ids.{id_of}
-use Rattle.eutxo.specs.Parts.{contract_at, given_to}
+use Rattle.eutxo_types.specs.Parts.{Instance, contract_at, given_to, steps, outputs_from}
 use Rattle.roles.specs.Terms.{Terms}
 use Rattle.roles.specs.Steps.{continuation, due_outputs}
 use Rattle.ledger_laws.specs.Past.{Past, is_input_of}
 
 -- ---- threads
 
--- the next output of a thread that a transaction steps: its output 0, where that is a contract's
-abbrev pub next_of : Tx → Option OutputRef
-next_of tx = option_map (λ c. Made (id_of tx) 0) (contract_at tx 0)
+-- where the thread that stood at a reference stands after a transaction that spends it: at its output 0, where that is a contract's
+abbrev pub next_in : Tx → ℕ → Option OutputRef
+next_in tx i = option_map (λ c. Made (id_of tx) i) (contract_at tx i)
+
+abbrev pub next_of : OutputRef → Tx → Option OutputRef
+next_of r tx = next_in tx 0
 
 -- a transaction of a thread, with the thread's output that it spends
 pub record Link : Type 0 where
   pub spends : OutputRef
   pub tx : Tx
 
--- the thread from an output: of these transactions, the one that spends it, and then the thread from the next output
-abbrev pub spine : Option OutputRef → List Tx → List Link
-spine None txs = []
-spine (Some r) [] = []
-spine (Some r) (tx ∷ txs) = if is_input_of r tx then record { spends = r; tx = tx } ∷ spine (next_of tx) txs else spine (Some r) txs
+-- the thread from an output, where it goes on by `next`: of these transactions, the one that spends it, and then the thread from
+-- the next output
+abbrev pub spine_by : (OutputRef → Tx → Option OutputRef) → Option OutputRef → List Tx → List Link
+spine_by next None txs = []
+spine_by next (Some r) [] = []
+spine_by next (Some r) (tx ∷ txs) = if is_input_of r tx then record { spends = r; tx = tx } ∷ spine_by next (next r tx) txs else spine_by next (Some r) txs
 
 -- where a thread from an output ends: at that output, or at the next output of its last transaction
+abbrev pub ends_by : (OutputRef → Tx → Option OutputRef) → Option OutputRef → List Link → Option OutputRef
+ends_by next s [] = s
+ends_by next s (x ∷ xs) = ends_by next (next x.spends x.tx) xs
+
+abbrev pub spine : Option OutputRef → List Tx → List Link
+spine = spine_by next_of
+
 abbrev pub ends : Option OutputRef → List Link → Option OutputRef
-ends s [] = s
-ends s (x ∷ xs) = ends (next_of x.tx) xs
+ends = ends_by next_of
 
--- whether a transaction steps a contract
-abbrev pub is_step : Redeemer → Bool
-is_step with.None = false
-is_step with.Claim = false
-is_step (with.Step xs) = true
-
-abbrev pub steps : Tx → Bool
-steps tx = list_any (λ x. is_step x.redeemer) tx.inputs
-
--- a start output: a contract output of an accepted transaction that steps no contract (and so spends none: a contract is opened
--- by a step alone)
-pub record IsStart (past : Past) (r : OutputRef) (script : List ℕ) (d : Datum) : Type 0 where
+-- a contract output of an accepted transaction, with the contract that it made there
+pub record IsMade (past : Past) (r : OutputRef) (c : Instance) : Type 0 where
   pub number : ℕ
   pub tx : Tx
   pub accepted : slice_get past.accepted number ≡ Some tx
-  pub bare : steps tx ≡ false
   pub index : ℕ
   pub name : r ≡ Made (id_of tx) index
-  pub contract : contract_at tx index ≡ Some (script, d)
+  pub contract : contract_at tx index ≡ Some c
+
+-- a start output: one whose transaction steps no contract (and so spends none: a contract is opened by a step alone)
+pub record IsStart (past : Past) (r : OutputRef) (c : Instance) : Type 0 where
+  pub made : IsMade past r c
+  pub bare : steps made.tx ≡ false
 
 abbrev pub StartsThread : Past → OutputRef → Type 0
-StartsThread past r = (script : List ℕ) × (d : Datum) × IsStart past r script d
+StartsThread past r = (c : Instance) × IsStart past r c
 
 -- its thread
 abbrev pub thread : Past → OutputRef → List Link
@@ -114,22 +115,27 @@ state_after s (x ∷ xs) = state_after x.outcome.state xs
 abbrev pub PaysFirst : Terms → Effect → List Output → Type 0
 PaysFirst t e os = (rest : List Output) × (os ≡ due_outputs t.currency e.payments ++ rest)
 
--- output 0 goes on with a number that stands for the remaining contract, unless that is Close; then the payments
-abbrev pub LaidOutAfter : Terms → List ℕ → Effect → ContractTree → List Output → Type 0
-LaidOutAfter t script e close os = PaysFirst t e os
-LaidOutAfter t script e c os = (there : Cont) × (rest : List Output) × (t.tree there ≡ c) × (os ≡ continuation script there e.state ∷ rest) × PaysFirst t e rest
+abbrev pub datum_at : Cont → StateMaps → Datum
+datum_at k s = record { cont = k; state = s }
 
-abbrev pub LaidOut : Terms → List ℕ → Effect → List Output → Type 0
-LaidOut t script e os = LaidOutAfter t script e e.contract os
+-- from a place on: the output at the place goes on from a number that stands for the remaining contract, in the state that is left,
+-- with exactly the sums of its accounts, unless the contract is Close; then the payments
+abbrev pub LaidOutAfter : Terms → List ℕ → Effect → ContractTree → ℕ → Tx → Type 0
+LaidOutAfter t script e close i tx = PaysFirst t e (outputs_from i tx.outputs)
+LaidOutAfter t script e c i tx = (there : Cont) × (t.tree there ≡ c) × (contract_at tx i ≡ Some (record { script = script; datum = datum_at there e.state }))
+    × (slice_get tx.outputs i ≡ Some (continuation script (datum_at there e.state))) × PaysFirst t e (outputs_from (i + 1) tx.outputs)
+
+abbrev pub LaidOut : Terms → List ℕ → Effect → ℕ → Tx → Type 0
+LaidOut t script e i tx = LaidOutAfter t script e e.contract i tx
 
 -- a transaction of a thread and a member of a run agree
 pub record CarriesOne (t : Terms) (script : List ℕ) (l : Link) (later : List Link) (x : Member) : Type 0 where
   pub interval : l.tx.interval ≡ x.interval
   pub inputs : given_to l.spends l.tx.inputs ≡ Some x.inputs
-  pub outputs : LaidOut t script x.outcome l.tx.outputs
+  pub outputs : LaidOut t script x.outcome 0 l.tx
   -- where the contract is Close, the thread is over: nothing follows, and no output goes on
   pub over : x.outcome.contract ≡ close → later ≡ []
-  pub gone : x.outcome.contract ≡ close → next_of l.tx ≡ None
+  pub gone : x.outcome.contract ≡ close → next_of l.spends l.tx ≡ None
 
 -- thread and run agree place by place
 abbrev pub Carries : Terms → List ℕ → List Link → List Member → Type 0

@@ -1,7 +1,6 @@
 -- The definitions on small lists of transactions.
 use Rattle.std.specs.Prelude.{◌≡◌, ℕ, true, false, List, [], ◌∷◌, Some, None}
 use Rattle.contract.specs.declared.input.Input.{Input}
-use Rattle.machine.specs.declared.datum.Datum.{Datum}
 use Rattle.eutxo_types.specs.declared.output.Output.{Output}
 use Rattle.eutxo_types.specs.declared.output_ref.OutputRef.{OutputRef}
 use Rattle.eutxo_types.specs.declared.output_ref.OutputRef.TheVariants.{Genesis, Made}
@@ -9,7 +8,7 @@ use Rattle.eutxo_types.specs.declared.redeemer.Redeemer.TheVariants.{Step}
 use Rattle.eutxo_types.specs.declared.spend.Spend.{Spend}
 use Rattle.eutxo_types.specs.declared.tx.Tx.{Tx}
 use Rattle.eutxo_types.specs.Ids.{id_of}
-use Rattle.eutxo.specs.Parts.{same_ref, contract_at, given_to}
+use Rattle.eutxo_types.specs.Parts.{same_ref, contract_at, given_to, Instance}
 use Rattle.ledger_laws.specs.Past.{Past, is_input_of, unspent_at}
 use Rattle.ledger_laws.specs.Threads.{spine, ends}
 
@@ -21,7 +20,7 @@ NobodyCame = (r : OutputRef) (tx : Tx) → is_input_of r tx ≡ false → (spine
 -- where the second makes no contract
 abbrev pub TwoSteps : Type 0
 TwoSteps =
-    (r : OutputRef) (a b : Tx) (c : List ℕ × Datum) → is_input_of r a ≡ true → contract_at a 0 ≡ Some c → is_input_of (Made (id_of a) 0) b ≡ true → contract_at b 0 ≡ None →
+    (r : OutputRef) (a b : Tx) (c : Instance) → is_input_of r a ≡ true → contract_at a 0 ≡ Some c → is_input_of (Made (id_of a) 0) b ≡ true → contract_at b 0 ≡ None →
     (spine (Some r) (a ∷ b ∷ []) ≡ record { spends = r; tx = a } ∷ record { spends = Made (id_of a) 0; tx = b } ∷ [])
     × (ends (Some r) (spine (Some r) (a ∷ b ∷ [])) ≡ None)
 

@@ -1,5 +1,4 @@
 //! Laws of every ledger, whatever its scripts.
-ghost use Rattle.eutxo.specs.Asked.{judges_of};
 ghost use Rattle.ledger_laws.specs.Worked.{NobodyCame, TwoSteps, NoneAfterTheEnd, GivenByName, OneMoves};
 ghost use Rattle.ledger_laws.specs.Laws.{StepsStandOnThreads, StepsSpendContracts, ContractsEndThreads, EndsAreUnspent, TokensArePreserved, OutputsAreSpentOnce, StartIsSound, AfterIsSound, LaterIsSound};
 
@@ -8,8 +7,8 @@ use eutxo::{Validator, found_is_enough, sums_are_preserved};
 /// A transaction that steps a contract is a member of the thread of exactly one start output, and a
 /// contract output is spent by a step alone. So none is ever spent that doesn't belong to a thread.
 pub fn steps_stand_on_threads<V: Validator>()
-    ensures thread { StepsStandOnThreads (judges_of V.step_gives V.starts V.claims) }
-    ensures spends { StepsSpendContracts (judges_of V.step_gives V.starts V.claims) }
+    ensures thread { StepsStandOnThreads V.judges }
+    ensures spends { StepsSpendContracts V.judges }
 {
     found_is_enough::<V>();
 }
@@ -17,15 +16,15 @@ pub fn steps_stand_on_threads<V: Validator>()
 /// An unspent contract output is the end of exactly one thread: its start output, or the next output of
 /// its last transaction. And where a thread has an end, that is an unspent contract output.
 pub fn contracts_end_threads<V: Validator>()
-    ensures thread { ContractsEndThreads (judges_of V.step_gives V.starts V.claims) }
-    ensures unspent { EndsAreUnspent (judges_of V.step_gives V.starts V.claims) }
+    ensures thread { ContractsEndThreads V.judges }
+    ensures unspent { EndsAreUnspent V.judges }
 {
     found_is_enough::<V>();
 }
 
 /// Of each token the unspent outputs hold together what the first outputs held. The sums are unbounded.
 pub fn tokens_are_preserved<V: Validator>()
-    ensures { TokensArePreserved (judges_of V.step_gives V.starts V.claims) }
+    ensures { TokensArePreserved V.judges }
 {
     found_is_enough::<V>();
     sums_are_preserved();
@@ -33,24 +32,24 @@ pub fn tokens_are_preserved<V: Validator>()
 
 /// No output is spent twice: not by two transactions, nor by two inputs of one.
 pub fn outputs_are_spent_once<V: Validator>()
-    ensures { OutputsAreSpentOnce (judges_of V.step_gives V.starts V.claims) }
+    ensures { OutputsAreSpentOnce V.judges }
 {
     found_is_enough::<V>();
 }
 
 /// A ledger that begins with key outputs, and has accepted nothing, is sound.
 pub fn starting_is_sound<V: Validator>()
-    ensures { StartIsSound (judges_of V.step_gives V.starts V.claims) }
+    ensures { StartIsSound V.judges }
 {}
 
 /// It stays sound where it accepts what is judged without a fault.
 pub fn accepting_is_sound<V: Validator>()
-    ensures { AfterIsSound (judges_of V.step_gives V.starts V.claims) }
+    ensures { AfterIsSound V.judges }
 {}
 
 /// It stays sound where more scripts are published, and what was published stays.
 pub fn publishing_is_sound<V: Validator>()
-    ensures { LaterIsSound (judges_of V.step_gives V.starts V.claims) }
+    ensures { LaterIsSound V.judges }
 {
     found_is_enough::<V>();
 }

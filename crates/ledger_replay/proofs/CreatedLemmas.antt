@@ -11,7 +11,7 @@ use Rattle.eutxo_types.specs.declared.output_ref.OutputRef.{OutputRef}
 use Rattle.eutxo_types.specs.declared.output_ref.OutputRef.TheVariants.{Genesis, Made}
 use Rattle.eutxo_types.specs.declared.tx.Tx.{Tx}
 use Rattle.eutxo_types.specs.Ids.{id_of}
-use Rattle.eutxo.specs.Parts.{same_bytes, same_ref}
+use Rattle.eutxo_types.specs.Parts.{same_bytes, same_ref}
 use Rattle.ledger_laws.specs.Past.{Past, with_references, created_by, created_by_all, created, is_spent, unspent_at}
 use Rattle.ledger_laws.proofs.ReferenceLaws as law
 

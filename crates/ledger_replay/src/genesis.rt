@@ -2,7 +2,7 @@
 ghost use Rattle.std.specs.Prelude.{◌≡◌, ◌↔◌, All, IfOk, IfErr, IsTrue};
 ghost use Rattle.std.specs.Bool.{MatchBool};
 ghost use Rattle.ledger_laws.specs.Sound.{AreKeys};
-ghost use Rattle.roles.specs.Steps.{is_key};
+ghost use Rattle.eutxo_types.specs.Parts.{is_key};
 ghost use Rattle.ledger_replay.specs.GenesisSupport.{IsNatural};
 ghost use Rattle.ledger_spec.specs.Genesis.{SumsFit, HasLargeSum, RefusesGenesis};
 

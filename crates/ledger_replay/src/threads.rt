@@ -1,9 +1,9 @@
 //! Where threads start, and where they go on.
 ghost use Rattle.std.specs.Prelude.{◌≡◌, is_some};
 ghost use Rattle.eutxo_types.specs.Ids.{id_of};
-ghost use Rattle.eutxo.specs.Parts.{same_bytes, contract_in, contract_at};
+ghost use Rattle.eutxo_types.specs.Parts.{same_bytes, contract_in, contract_at, is_step, steps};
 ghost use Rattle.ledger_laws.specs.Past.{has_id};
-ghost use Rattle.ledger_laws.specs.Threads.{is_step, steps, next_of};
+ghost use Rattle.ledger_laws.specs.Threads.{next_of};
 ghost use Rattle.ledger_spec.specs.Views.{starts_in};
 
 use crate::transactions::AcceptedTx;

@@ -3,9 +3,9 @@ ghost use Rattle.std.specs.Prelude.{◌≡◌, ◌++◌, ◌∷◌, [], OnOk, If
 ghost use Rattle.std.specs.Map.{lookup};
 ghost use Rattle.eutxo_types.specs.declared.output_ref.OutputRef.TheVariants as OutputRef;
 ghost use Rattle.eutxo_types.specs.Ids.{id_of};
-ghost use Rattle.eutxo.specs.Parts.{same_ref};
+ghost use Rattle.eutxo_types.specs.Parts.{same_ref};
 ghost use Rattle.eutxo.specs.Judgement.{judge};
-ghost use Rattle.ledger_laws.specs.Laws.{marlowe};
+ghost use Rattle.roles.specs.Steps.{marlowe};
 ghost use Rattle.ledger_laws.specs.Past.{is_input_of, is_spent, with_references, created_by, created_by_all, created};
 ghost use Rattle.ledger_spec.specs.Replay.{replay, tickets, past_of, moment_of};
 

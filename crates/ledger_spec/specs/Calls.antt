@@ -9,7 +9,7 @@ use Rattle.eutxo.specs.Judgement.{judge}
 use Rattle.eutxo.specs.Local.{verdict_of}
 use Rattle.roles.specs.contracts.published.Published as publications
 use Rattle.roles.specs.declared.published.Published.{Published}
-use Rattle.ledger_laws.specs.Laws.{marlowe}
+use Rattle.roles.specs.Steps.{marlowe}
 use Rattle.ledger.specs.declared.call.Call.{Call}
 use Rattle.ledger.specs.declared.call.Call.TheVariants as on
 use Rattle.ledger.specs.declared.call.Reply.{Reply}

@@ -6,7 +6,7 @@ use Rattle.eutxo_types.specs.declared.tx.Tx.{Tx}
 use Rattle.eutxo_types.specs.Ids.{id_of}
 use Rattle.roles.specs.declared.published.Published.{Published}
 use Rattle.ledger_laws.specs.Past.{Past}
-use Rattle.ledger_laws.specs.Laws.{EachIsARun, EndsWithItsRun, EachStepHasItsThread, ContractsAreStepped, EachIsAuthorised, EachContractEndsAThread, EachEndIsUnspent, AreFunded, AreOfTables, IsSpentOnce, IsPreserved}
+use Rattle.ledger_laws.specs.Laws.{EachIsARun, EndsWithItsRun, EachStepHasItsThread, ContractsAreStepped, EachIsAuthorised, EachContractEndsAThread, EachEndIsUnspent, AreFunded, AreOfTables, IsSpentOnce, IsPreserved, StepsAreOfContracts}
 use Rattle.ledger.specs.declared.ask.Ask.{Ask}
 use Rattle.ledger.specs.declared.call.Call.TheVariants as on
 use Rattle.ledger.specs.declared.call.Reply.TheVariants as answer
@@ -31,10 +31,12 @@ pub record IsSoundLedger (named : List ℕ → Option Published) (past : Past) :
   pub runs : EachIsARun named past
   -- a thread that isn't over ends where its run stands: the same remaining contract, in the same state
   pub ends_with_run : EndsWithItsRun named past
-  -- every accepted step stands on exactly one thread
+  -- every contract input of an accepted transaction stands on exactly one thread
   pub steps : EachStepHasItsThread past
-  -- and a contract output is spent by a step alone
+  -- a contract output is spent by a step alone
   pub stepped : ContractsAreStepped past
+  -- and a step spends a contract output
+  pub of_contracts : StepsAreOfContracts past
   -- each party that a step's inputs need is an address that signed, or a role whose token a key input's output holds
   pub authorised : EachIsAuthorised named past
   -- each unspent contract output is the end of exactly one thread
@@ -68,7 +70,7 @@ IsOpenAfter c spent tx = IsOpen (past_of (world c)) (world c).replay.tick spent 
 -- the layout of a step that nothing hinders, of a thread that a look shows, where what the look shows under its script is published
 abbrev pub AcceptsSteps : Course → Type 0
 AcceptsSteps c = (look : Look) (r : StepRequest) (e : Thread) → look_thread look ≡ Some e → hinders_step look r ≡ None →
-    published_at (world c).published e.0.published.id ≡ Some e.0.published → IsOpenAfter c (step_spent r e) (layout_step look r) → Accepts c (layout_step look r)
+    published_at (world c).published e.shown.published.id ≡ Some e.shown.published → IsOpenAfter c (step_spent r e) (layout_step look r) → Accepts c (layout_step look r)
 
 -- that of a start, where what is started is published
 abbrev pub AcceptsStarts : Course → Type 0
@@ -81,7 +83,7 @@ AcceptsClaims c = (r : ClaimRequest) → hinders_claim r ≡ None → IsOpenAfte
 
 -- a look that shows a thread shows one that a step can be built on, with its datum
 abbrev pub ShowsCurrentThreads : Course → Type 0
-ShowsCurrentThreads c = (ask : Ask) (t : ThreadOutput) → thread_shown (world c) ask.thread ≡ Some t → (d : Datum) × (let e : Thread = (t, d) in look_thread (look (world c) ask) ≡ Some e)
+ShowsCurrentThreads c = (ask : Ask) (t : ThreadOutput) → thread_shown (world c) ask.thread ≡ Some t → (d : Datum) × (look_thread (look (world c) ask) ≡ Some (record { shown = t; datum = d }))
 
 -- WHAT IS BUILT IS ACCEPTED: after every history, for every look and request, whatever other entries there are
 pub record SecondHalf (c : Course) : Type 0 where

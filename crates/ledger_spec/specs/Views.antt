@@ -1,7 +1,6 @@
 -- What is shown of what stands: looks, and the front of the pool.
 use Rattle.std.specs.Prelude.{ℕ, Bool, false, not, ◌&&◌, if◌then◌else◌, List, map, filter, take, Option, Some, None, is_some}
 use Rattle.std.specs.List.{list_any}
-use Rattle.machine.specs.declared.datum.Datum.{Datum}
 use Rattle.eutxo_types.specs.declared.lock.Lock.{Lock}
 use Rattle.eutxo_types.specs.declared.lock.Lock.TheVariants.{Key, Payout, Contract}
 use Rattle.eutxo_types.specs.declared.output.Output.{Output}
@@ -10,7 +9,7 @@ use Rattle.eutxo_types.specs.declared.output_ref.OutputRef.TheVariants.{Genesis,
 use Rattle.eutxo_types.specs.declared.tx.Tx.{Tx}
 use Rattle.eutxo.specs.declared.resolved.Resolved.{Resolved}
 use Rattle.eutxo.specs.Judgement.{found}
-use Rattle.eutxo.specs.Parts.{same_bytes, contract_in, contract_at}
+use Rattle.eutxo_types.specs.Parts.{same_bytes, contract_at, steps, script_in}
 use Rattle.roles.specs.declared.published.Published.{Published}
 use Rattle.ledger.specs.declared.ask.Ask.{Ask}
 use Rattle.ledger.specs.declared.ask.PayoutLock.{PayoutLock}
@@ -18,7 +17,7 @@ use Rattle.ledger.specs.declared.look.Look.{Look}
 use Rattle.ledger.specs.declared.look.ThreadOutput.{ThreadOutput}
 use Rattle.ledger.specs.declared.look.Unspent.{Unspent}
 use Rattle.ledger_laws.specs.Past.{Past, unspent, unspent_at, has_id}
-use Rattle.ledger_laws.specs.Threads.{thread, ends, steps}
+use Rattle.ledger_laws.specs.Threads.{thread, ends}
 use Rattle.ledger_spec.specs.Replay.{World, past_of, published_at, moment_of}
 
 -- ---- the unspent outputs under a lock
@@ -58,13 +57,13 @@ thread_output r o None = None
 thread_output r o (Some p) = Some (record { reference = r; output = o; published = p })
 
 -- what is published under the script of a contract lock
-abbrev pub object_under : List Published → Option (List ℕ × Datum) → Option Published
+abbrev pub object_under : List Published → Option (List ℕ) → Option Published
 object_under ps None = None
-object_under ps (Some c) = published_at ps c.0
+object_under ps (Some script) = published_at ps script
 
 abbrev pub thread_output_in : List Published → OutputRef → Option Output → Option ThreadOutput
 thread_output_in ps r None = None
-thread_output_in ps r (Some o) = thread_output r o (object_under ps (contract_in o.lock))
+thread_output_in ps r (Some o) = thread_output r o (object_under ps (script_in o.lock))
 
 abbrev pub thread_output_at : World → Option OutputRef → Option ThreadOutput
 thread_output_at w None = None

@@ -8,7 +8,8 @@ use Rattle.roles.specs.declared.published.Published.{Published}
 use Rattle.roles.specs.Terms.{terms_of}
 use Rattle.ledger_laws.specs.Past.{Past}
 use Rattle.ledger_laws.specs.Sound.{IsSound}
-use Rattle.ledger_laws.specs.Laws.{marlowe, AreTables, ThreadsAreRuns}
+use Rattle.roles.specs.Steps.{marlowe}
+use Rattle.ledger_laws.specs.Laws.{AreTables, ThreadsAreRuns}
 use Rattle.ledger_laws.specs.Threads.{IsStart, Member, thread}
 use Rattle.ledger_laws.proofs.PlainLaws.{same_some}
 use Rattle.ledger_spec.specs.declared.step_record.StepRecord.{StepRecord}

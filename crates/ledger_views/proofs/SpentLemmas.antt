@@ -4,7 +4,7 @@ use Rattle.std.specs.Prelude.{◌==◌, ◌&&◌}
 use Rattle.std.specs.List.{list_any}
 use Rattle.eutxo_types.specs.declared.output_ref.OutputRef.{OutputRef}
 use Rattle.eutxo_types.specs.declared.output_ref.OutputRef.TheVariants.{Genesis, Made}
-use Rattle.eutxo.specs.Parts.{same_bytes, same_ref}
+use Rattle.eutxo_types.specs.Parts.{same_bytes, same_ref}
 
 -- an equality of references that its cases tell is `same_ref`
 pub agree : (eq : OutputRef → OutputRef → Bool) → ((i j : ℕ) → eq (Genesis i) (Genesis j) ≡ (i == j)) → ((n m : List ℕ) (i j : ℕ) → eq (Made n i) (Made m j) ≡ same_bytes n m && (i == j)) →

@@ -9,12 +9,12 @@ use Rattle.eutxo_types.specs.declared.output_ref.OutputRef.TheVariants.{Genesis,
 use Rattle.eutxo_types.specs.declared.tx.Tx.{Tx}
 use Rattle.eutxo_types.specs.Ids.{id_of}
 use Rattle.eutxo.specs.Laws.{FoundIsEnough}
-use Rattle.eutxo.specs.Parts.{contract_at}
+use Rattle.eutxo_types.specs.Parts.{contract_at, steps}
 use Rattle.roles.specs.declared.published.Published.{Published}
 use Rattle.ledger_laws.specs.Past.{Past, has_id}
 use Rattle.ledger_laws.specs.Sound.{IsSound}
-use Rattle.ledger_laws.specs.Laws.{marlowe}
-use Rattle.ledger_laws.specs.Threads.{IsStart, steps}
+use Rattle.roles.specs.Steps.{marlowe}
+use Rattle.ledger_laws.specs.Threads.{IsStart}
 use Rattle.ledger_laws.proofs.PlainLaws.{and_true, both, same_some}
 use Rattle.ledger_laws.proofs.ReferenceLaws.{itself}
 use Rattle.ledger_laws.proofs.AcceptedLaws.{one_place}

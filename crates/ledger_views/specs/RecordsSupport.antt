@@ -9,7 +9,7 @@ use Rattle.eutxo_types.specs.declared.output_ref.OutputRef.{OutputRef}
 use Rattle.eutxo_types.specs.declared.output_ref.OutputRef.TheVariants.{Genesis, Made}
 use Rattle.eutxo_types.specs.declared.spend.Spend.{Spend}
 use Rattle.eutxo_types.specs.declared.tx.Tx.{Tx}
-use Rattle.eutxo.specs.Parts.{contract_at, given_to}
+use Rattle.eutxo_types.specs.Parts.{contract_at, given_to}
 use Rattle.roles.specs.Terms.{Terms}
 use Rattle.ledger_laws.specs.Threads.{Link, Member, Gives, Run, Carries}
 use Rattle.ledger_spec.specs.Views.{starts_in}

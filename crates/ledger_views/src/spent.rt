@@ -1,6 +1,6 @@
 //! The references that accepted transactions spend.
 ghost use Rattle.std.specs.Prelude.{◌≡◌, ◌||◌, IfOk, OnOk};
-ghost use Rattle.eutxo.specs.Parts.{same_ref};
+ghost use Rattle.eutxo_types.specs.Parts.{same_ref};
 ghost use Rattle.ledger_laws.specs.Past.{is_input_of, is_spent};
 ghost use Rattle.ledger_views.specs.ViewsSupport.{is_among};
 

@@ -1,7 +1,7 @@
 //! Where a thread starts.
 ghost use Rattle.std.specs.Prelude.{◌≡◌, ℕ, List, Option, find, option_map, option_copied, slice_get};
 ghost use Rattle.machine.specs.declared.datum.Datum.{Datum};
-ghost use Rattle.eutxo.specs.Parts.{contract_in, contract_at};
+ghost use Rattle.eutxo_types.specs.Parts.{contract_in, contract_at};
 ghost use Rattle.ledger_spec.specs.Views.{starts_in};
 ghost use Rattle.ledger_views.specs.RecordsSupport.{contract_named, start_at};
 

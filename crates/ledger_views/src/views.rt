@@ -2,7 +2,7 @@
 ghost use Rattle.std.specs.Prelude.{◌≡◌, ◌&&◌, ◌++◌, [], ◌∷◌, Bool, Option, Some, None, IfOk, OnOk, map, filter, slice_get, option_copied};
 ghost use Rattle.std.specs.List.{list_any};
 ghost use Rattle.eutxo_types.specs.declared.lock.Lock.{Lock};
-ghost use Rattle.eutxo.specs.Parts.{same_bytes, contract_in};
+ghost use Rattle.eutxo_types.specs.Parts.{same_bytes, contract_in};
 ghost use Rattle.ledger_laws.specs.Past.{with_references, created_by, created};
 ghost use Rattle.ledger_laws.specs.Threads.{spine, ends};
 ghost use Rattle.ledger_spec.specs.Replay.{past_of, published_at};

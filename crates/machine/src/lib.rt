@@ -1,8 +1,10 @@
-//! Transactions on tables: what a contract's datum is on the ledger, and what a transaction does to it.
+//! Transactions on tables: what a contract's datum is on the ledger, how it is spelled in bytes, and what a transaction does
+//! to it.
 #![tactic(auto)]
 
 mod datum;
 mod machine;
+mod spelling;
 
 pub use datum::Datum;
 pub use machine::{compute, matching_case};

@@ -1,6 +1,5 @@
 //! Checks by several workers at once.
 ghost use Rattle.std.specs.Prelude.{◌≡◌, ◌<◌, ◌≤◌, IfOk};
-ghost use Rattle.eutxo.specs.Asked.{judges_of};
 ghost use Rattle.eutxo.specs.Checks.{check_of};
 ghost use Rattle.parallel_check.specs.Jobs.{checks_of};
 
@@ -22,7 +21,7 @@ fn check_one<V: Validator + Drop, G: Gate>(
     place: usize,
     job: (Tx, Resolved<V>),
 ) -> Result<Checked<V>, Memory>
-    ensures { IfOk result (λ c. c ≡ check_of (judges_of V.step_gives V.starts V.claims) job.0 job.1) }
+    ensures { IfOk result (λ c. c ≡ check_of V.judges job.0 job.1) }
 {
     let (tx, found) = job;
     gate.enter(place);
@@ -37,7 +36,7 @@ fn check_batch<V: Validator + Drop, G: Gate>(
     gate: &G,
     mut jobs: Batch<(Tx, Resolved<V>)>,
 ) -> Result<Batch<Checked<V>>, Memory>
-    ensures { IfOk result (λ checks. checks ≡ checks_of (judges_of V.step_gives V.starts V.claims) jobs) }
+    ensures { IfOk result (λ checks. checks ≡ checks_of V.judges jobs) }
 {
     let mut checks = Batch::with_capacity(alloc, jobs.len())?;
     for _ in 0..jobs.len() {
@@ -68,7 +67,7 @@ pub fn check_all<R: Threads + Wait + Sync, V: Validator + Drop + Send + Sync, G:
     requires some { 0 < workers }
     requires few { workers ≤ 16 }
     ensures { IfOk result (λ checks.
-        checks.items ≡ checks_of (judges_of V.step_gives V.starts V.claims) jobs.items) }
+        checks.items ≡ checks_of V.judges jobs.items) }
 {
     let count = jobs.len();
     if count == 0 {
@@ -80,7 +79,7 @@ pub fn check_all<R: Threads + Wait + Sync, V: Validator + Drop + Send + Sync, G:
         batches,
         &|batch: Batch<(Tx, Resolved<V>)>| -> Result<Batch<Checked<V>>, Memory>
             ensures { IfOk result (λ checks.
-                checks ≡ checks_of (judges_of V.step_gives V.starts V.claims) batch) }
+                checks ≡ checks_of V.judges batch) }
         { check_batch(alloc, gate, batch) },
     )?;
     let checks = all_ok(alloc, answers)?;

@@ -1,5 +1,5 @@
 -- How Marlowe's script judges a step, tells a start and grants a payout.
-use Rattle.std.specs.Prelude.{ℕ, ◌+◌, ℤ, pos, int_lt, ◌==◌, Bool, true, false, not, ◌&&◌, ◌||◌, if◌then◌else◌, List, [], ◌∷◌, Option, Some, None, option_map, Result, Ok, Err}
+use Rattle.std.specs.Prelude.{ℕ, ◌+◌, ℤ, pos, int_lt, ◌==◌, Bool, true, false, not, ◌&&◌, ◌||◌, if◌then◌else◌, List, [], ◌∷◌, slice_get, Option, Some, None, option_map, Result, Ok, Err}
 use Rattle.std.specs.List.{list_any, filter_map, find}
 use Rattle.std.specs.FinMap as map
 use Rattle.std.specs.FinMap.{entries}
@@ -22,6 +22,8 @@ use Rattle.bundle.specs.Bundles.{Amounts, amount_of}
 use Rattle.bundle.specs.contracts.bundle.Bundle as bundles
 use Rattle.nodes.specs.declared.cont.Cont.{Cont}
 use Rattle.machine.specs.declared.datum.Datum.{Datum}
+use Rattle.machine.specs.contracts.datum.Datum as datums
+use Rattle.names.specs.Equal.{same_bytes}
 use Rattle.eutxo.specs.declared.step_fault.StepFault.{StepFault}
 use Rattle.eutxo.specs.declared.step_fault.StepFault.TheVariants.{Semantics, NotAuthorised, WrongContinuation, WrongPayment}
 use Rattle.eutxo_types.specs.declared.lock.Lock.{Lock}
@@ -29,14 +31,16 @@ use Rattle.eutxo_types.specs.declared.lock.Lock.TheVariants.{Key, Payout, Contra
 use Rattle.eutxo_types.specs.declared.output.Output.{Output}
 use Rattle.eutxo_types.specs.contracts.output.Output as outputs
 use Rattle.eutxo_types.specs.declared.spend.Spend.{Spend}
+use Rattle.eutxo_types.specs.declared.tx.Tx.{Tx}
 use Rattle.eutxo.specs.declared.validator.StepAnswer.{StepAnswer}
 use Rattle.eutxo.specs.declared.validator.StepAnswer.TheVariants as answers
-use Rattle.eutxo.specs.Parts.{outputs_from}
+use Rattle.eutxo_types.specs.Parts.{is_key, Instance, contract_at, outputs_from}
 use Rattle.eutxo.specs.Faults.{fault_if, first_of, is_empty}
 use Rattle.eutxo.specs.Rules.{has_signed}
-use Rattle.eutxo.specs.Asked.{Stepping}
+use Rattle.eutxo.specs.Asked.{Stepping, Judges}
 use Rattle.roles.specs.Sums.{sums_of}
-use Rattle.roles.specs.Terms.{Terms}
+use Rattle.roles.specs.Terms.{Terms, terms_of}
+use Rattle.roles.specs.declared.published.Published.{Published}
 
 -- whether two are the same: it passes exactly for equal ones
 abbrev pub same_output : Output → Output → Bool
@@ -45,15 +49,13 @@ same_output = same_by outputs.the_row.coded
 abbrev pub same_amounts : Amounts → Amounts → Bool
 same_amounts = same_by bundles.the_row.coded
 
+abbrev pub same_datum : Datum → Datum → Bool
+same_datum = same_by datums.the_row.coded
+
 -- ---- who may act
 
 abbrev pub role_token : List ℕ → List ℕ → Token
 role_token currency role = record { symbol = currency; name = role }
-
-abbrev pub is_key : Lock → Bool
-is_key (Key a) = true
-is_key (Payout currency role) = false
-is_key (Contract script d) = false
 
 -- whether an input's output is under a key and holds the role's token
 abbrev pub shows : List ℕ → List ℕ → Spend × Output → Bool
@@ -80,9 +82,9 @@ unauthorised currency signers spent xs = find (λ p. not (authorised currency si
 
 -- ---- the outputs that a step has to make
 
--- the output in which the contract goes on
-abbrev pub continuation : List ℕ → Cont → StateMaps → Output
-continuation script there s = record { lock = Contract script (record { cont = there; state = s }); amount = sums_of s }
+-- the output in which a contract goes on from a datum
+abbrev pub continuation : List ℕ → Datum → Output
+continuation script d = record { lock = Contract script d; amount = sums_of d.state }
 
 -- what is owed to a party: under its key, or for whoever holds its role's token
 abbrev pub lock_for : List ℕ → Party → Lock
@@ -119,9 +121,19 @@ first_unpaid i [] os = None
 first_unpaid i (x ∷ xs) [] = Some i
 first_unpaid i (x ∷ xs) (o ∷ os) = if same_output o x then first_unpaid (i + 1) xs os else Some i
 
-abbrev pub is_first : Output → List Output → Bool
-is_first x [] = false
-is_first x (o ∷ os) = same_output o x
+-- whether a contract is one of a script, at a datum
+abbrev pub is_instance : List ℕ → Datum → Option Instance → Bool
+is_instance script d None = false
+is_instance script d (Some c) = same_bytes c.script script && same_datum c.datum d
+
+-- whether there is an output, with just this amount
+abbrev pub holds_just : Amounts → Option Output → Bool
+holds_just m None = false
+holds_just m (Some o) = same_amounts o.amount m
+
+-- whether a contract goes on from a datum in the output at a place: it is made there, with exactly the sums of its accounts
+abbrev pub goes_on_in : Tx → ℕ → List ℕ → Datum → Bool
+goes_on_in tx i script d = is_instance script d (contract_at tx i) && holds_just (sums_of d.state) (slice_get tx.outputs i)
 
 -- ---- the step
 
@@ -129,39 +141,39 @@ is_first x (o ∷ os) = same_output o x
 abbrev pub walk_of : Terms → Stepping → Walk
 walk_of t s = computed s.tx.interval s.datum.state (t.tree s.datum.cont) s.inputs
 
-abbrev pub is_close : ContractTree → Bool
-is_close close = true
-is_close c = false
-
 -- 13: of the parties that act, the first that isn't authorised
 abbrev pub not_authorised : List ℕ → Stepping → Option StepFault
 not_authorised currency s = option_map NotAuthorised (unauthorised currency s.tx.signers s.spent s.inputs)
 
--- 14: the contract goes on, and output 0 isn't the one in which it does
-abbrev pub wrong_continuation : Bool → Cont → StateMaps → Stepping → Option StepFault
-wrong_continuation closed there state s = fault_if WrongContinuation (not (closed || is_first (continuation s.script there state) s.tx.outputs))
+-- 14: the contract goes on from a datum, and not in the output at a place
+abbrev pub wrong_continuation : Bool → ℕ → Datum → Stepping → Option StepFault
+wrong_continuation closed i d s = fault_if WrongContinuation (not (closed || goes_on_in s.tx i s.script d))
 
--- how many outputs stand before the payments
-abbrev pub outputs_before : Bool → ℕ
-outputs_before closed = if closed then 0 else 1
+-- where the payments begin, of a contract whose outputs begin at a place
+abbrev pub payments_from : Bool → ℕ → ℕ
+payments_from closed i = if closed then i else i + 1
 
 -- 15: the first place at which an output that is due for a payment isn't
-abbrev pub wrong_payment : List ℕ → Bool → List Payment → Stepping → Option StepFault
-wrong_payment currency closed ps s = option_map WrongPayment (first_unpaid (outputs_before closed) (due_outputs currency ps) (outputs_from (outputs_before closed) s.tx.outputs))
+abbrev pub wrong_payment : List ℕ → Bool → ℕ → List Payment → Stepping → Option StepFault
+wrong_payment currency closed i ps s = option_map WrongPayment (first_unpaid (payments_from closed i) (due_outputs currency ps) (outputs_from (payments_from closed i) s.tx.outputs))
 
 abbrev pub answer_by : Option StepFault → Bool → StepAnswer
 answer_by (Some f) closed = answers.Refused f
 answer_by None true = answers.Ends
 answer_by None false = answers.GoesOn
 
--- 13 to 15, once the transaction function succeeds and leads to a number
-abbrev pub outcome_answer : List ℕ → Bool → Cont → StateMaps → List Payment → Stepping → StepAnswer
-outcome_answer currency closed there state ps s =
-    answer_by (first_of (not_authorised currency s ∷ wrong_continuation closed there state s ∷ wrong_payment currency closed ps s ∷ [])) closed
+-- 13 to 15, once the transaction function succeeds and leads to a datum: the contract's outputs begin at place 0
+abbrev pub outcome_answer : List ℕ → Bool → Datum → List Payment → Stepping → StepAnswer
+outcome_answer currency closed d ps s =
+    answer_by (first_of (not_authorised currency s ∷ wrong_continuation closed 0 d s ∷ wrong_payment currency closed 0 ps s ∷ [])) closed
+
+-- where the contract goes on: the number to which the turns lead, in the state that is left
+abbrev pub next_datum : Terms → Datum → Walk → StateMaps → Datum
+next_datum t d w state = record { cont = t.at d.cont w.turns; state = state }
 
 -- 12: the transaction function refuses; else the others
 abbrev pub by_answer : Terms → Stepping → Walk → Result Standing SemFault → StepAnswer
-by_answer t s w (Ok a) = outcome_answer t.currency (is_close a.contract) (t.at s.datum.cont w.turns) a.state w.payments s
+by_answer t s w (Ok a) = outcome_answer t.currency (is_close a.contract) (next_datum t s.datum w a.state) w.payments s
 by_answer t s w (Err f) = answers.Refused (Semantics f)
 
 -- 12 to 15: the transaction function on what the datum's number stands for. A number outside the table matches nothing
@@ -177,3 +189,8 @@ is_fresh s = is_empty (entries s.choices) && is_empty (entries s.bound_values)
 
 abbrev pub starts_from : Cont → Datum → Amounts → Bool
 starts_from root d held = same_cont root d.cont && is_fresh d.state && same_amounts held (sums_of d.state)
+
+-- ---- MARLOWE'S SCRIPT: published contracts judge so
+
+abbrev pub marlowe : Judges Published
+marlowe = record { step = λ p. step_of (terms_of p); starts = λ p. starts_from p.root; claims = holds_role }

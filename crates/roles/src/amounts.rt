@@ -8,7 +8,7 @@ ghost use Rattle.names.specs.Orders.{token_cmp};
 ghost use Rattle.collections.proofs.Places.{IsAt, IsGap};
 ghost use Rattle.roles.specs.LeftSupport.{left_of, IsTaken};
 ghost use Rattle.roles.specs.Sums.{sums_of};
-ghost use Rattle.roles.specs.Steps.{only};
+ghost use Rattle.roles.specs.Steps.{only, same_amounts};
 
 use bundle::Bundle;
 use collections::{Memory, Same};
@@ -99,4 +99,11 @@ fn is_one(entries: &[(Token, i128)], token: &Token, number: i128) -> bool
         [entry] => entry.0.same(token) && entry.1 == number,
         _ => false,
     }
+}
+
+/// Whether an amount is exactly the sums of a state's accounts. It takes memory for a number a token.
+pub fn holds_sums(alloc: Global, amount: &Bundle, state: &State) -> Result<bool, Memory>
+    ensures { IfOk result (λ answer. answer ≡ same_amounts amount.now (sums_of state.now)) }
+{
+    is_sums(alloc, amount, state)
 }

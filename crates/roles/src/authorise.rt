@@ -1,29 +1,18 @@
 //! Who may act.
 ghost use Rattle.std.specs.Prelude.{◌≡◌, option_copied, int_lt, pos};
 ghost use Rattle.bundle.specs.Bundles.{amount_of};
-ghost use Rattle.roles.specs.Steps.{role_token, is_key, shows, holds_role, actor, authorised, unauthorised};
+ghost use Rattle.roles.specs.Steps.{role_token, shows, holds_role, actor, authorised, unauthorised};
 
 use collections::{Bytes, Text};
 use contract::{Input, Party};
 use eutxo::{Spent, has_signed};
-use eutxo_types::Lock;
-
-fn is_key(lock: &Lock) -> bool
-    ensures { result ≡ is_key lock.now }
-{
-    match lock {
-        Lock::Key(_) => true,
-        Lock::Payout { .. } => false,
-        Lock::Contract { .. } => false,
-    }
-}
 
 // Whether an input's output is under a key and holds a token.
 fn shows(spent: &Spent<'_>, currency: &Bytes, role: &Text) -> bool
     ensures { result ≡ shows currency.now role.now spent.now }
 {
     let output = spent.output();
-    is_key(&output.lock) && output.amount.amount_by(currency, role) > 0
+    output.lock.is_key() && output.amount.amount_by(currency, role) > 0
 }
 
 /// Whether a key input's output holds the role's token.

@@ -1,64 +1,59 @@
 //! The outputs that a step has to make.
 ghost use Rattle.std.specs.Prelude.{◌≡◌, ◌+◌, ◌↔◌, IsTrue, IfOk, drop, option_copied};
-ghost use Rattle.roles.specs.Steps.{same_output, continuation, is_first, lock_for, owed_output, due_to, due_outputs, first_unpaid};
+ghost use Rattle.roles.specs.Sums.{sums_of};
+ghost use Rattle.roles.specs.Steps.{same_output, same_datum, is_instance, holds_just, goes_on_in, lock_for, owed_output, due_to, due_outputs, first_unpaid};
 
-use crate::amounts::{is_only, is_sums};
+use crate::amounts::{holds_sums, is_only};
 use collections::{Bytes, Memory, Same};
 use contract::{Party, Payee, Payment, State};
-use eutxo_types::{Cont, Lock, Output};
+use eutxo_types::{Cont, Datum, Instance, Lock, Output, Tx};
 use std::alloc::Global;
 
-// Whether an output is the one in which a contract goes on.
-fn is_continuation(
-    alloc: Global,
-    script: &[u8; 32],
-    there: Cont,
-    state: &State,
-    output: &Output,
-) -> Result<bool, Memory>
-    ensures { IfOk result (λ answer. IsTrue answer ↔ (output.now ≡ continuation script.now there state.now)) }
+// Whether a contract is one of a script, at a number and a state.
+fn is_instance(script: &[u8; 32], there: Cont, state: &State, made: Option<Instance<'_>>) -> bool
+    ensures { result ≡ is_instance script.now (record { cont = there; state = state.now }) made }
 {
-    match &output.lock {
-        Lock::Key(_) => Ok(false),
-        Lock::Payout { .. } => Ok(false),
-        Lock::Contract {
-            script: other,
-            datum,
-        } => {
-            if *other == *script && datum.cont.same(&there) && datum.state.same(state) {
-                is_sums(alloc, &output.amount, state)
-            } else {
-                Ok(false)
-            }
-        }
+    match made {
+        Some(c) => *c.script == *script && same_datum(c.datum, there, state),
+        None => false,
     }
 }
 
-fn continues(
-    alloc: Global,
-    script: &[u8; 32],
-    there: Cont,
-    state: &State,
-    output: &Output,
-) -> Result<bool, Memory>
-    ensures { IfOk result (λ answer. answer ≡ same_output output.now (continuation script.now there state.now)) }
+fn same_datum(datum: &Datum, there: Cont, state: &State) -> bool
+    ensures { result ≡ same_datum datum.now (record { cont = there; state = state.now }) }
 {
-    is_continuation(alloc, script, there, state, output)
+    is_datum(datum, there, state)
 }
 
-/// Whether a contract goes on in output 0.
-pub fn goes_on(
+fn is_datum(datum: &Datum, there: Cont, state: &State) -> bool
+    ensures { IsTrue result ↔ (datum.now ≡ (record { cont = there; state = state.now })) }
+{
+    datum.cont.same(&there) && datum.state.same(state)
+}
+
+fn holds_just(alloc: Global, state: &State, output: Option<&Output>) -> Result<bool, Memory>
+    ensures { IfOk result (λ answer. answer ≡ holds_just (sums_of state.now) (option_copied output)) }
+{
+    match output {
+        Some(output) => holds_sums(alloc, &output.amount, state),
+        None => Ok(false),
+    }
+}
+
+/// Whether a contract goes on from a number, in a state, in output 0.
+pub fn goes_on_in(
     alloc: Global,
+    tx: &Tx,
     script: &[u8; 32],
     there: Cont,
     state: &State,
-    outputs: &[Output],
 ) -> Result<bool, Memory>
-    ensures { IfOk result (λ answer. answer ≡ is_first (continuation script.now there state.now) outputs.now) }
+    ensures { IfOk result (λ answer. answer ≡ goes_on_in tx.now 0 script.now (record { cont = there; state = state.now })) }
 {
-    match outputs {
-        [] => Ok(false),
-        [output, ..] => continues(alloc, script, there, state, output),
+    if is_instance(script, there, state, tx.contract_at(0)) {
+        holds_just(alloc, state, tx.outputs.as_slice().first())
+    } else {
+        Ok(false)
     }
 }
 

@@ -11,10 +11,10 @@ mod publishing;
 mod script;
 mod step;
 
+pub use amounts::holds_sums;
 pub use authorise::actor;
 pub use compiler::CompileFault;
 pub use laws::{published_are_tables, published_cross_threads, published_tell_contracts_apart};
 pub use layout::due_to;
 pub use published::Published;
 pub use publishing::publish;
-pub use script::holds_sums;

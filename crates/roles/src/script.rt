@@ -1,9 +1,8 @@
 //! How published contracts judge.
 ghost use Rattle.std.specs.Prelude.{◌≡◌, IfOk};
-ghost use Rattle.roles.specs.Steps.{is_fresh, starts_from, same_amounts};
-ghost use Rattle.roles.specs.Sums.{sums_of};
+ghost use Rattle.roles.specs.Steps.{is_fresh, starts_from};
 
-use crate::amounts::is_sums;
+use crate::amounts::holds_sums;
 use crate::authorise::holds_role;
 use crate::published::Published;
 use crate::step::{StepParts, step_of};
@@ -19,13 +18,6 @@ fn is_fresh(state: &State) -> bool
     ensures { result ≡ is_fresh state.now }
 {
     state.choices().is_empty() && state.bound_values().is_empty()
-}
-
-/// Whether an amount is exactly the sums of a state's accounts. It takes memory for a number a token.
-pub fn holds_sums(alloc: Global, amount: &Bundle, state: &State) -> Result<bool, Memory>
-    ensures { IfOk result (λ answer. answer ≡ same_amounts amount.now (sums_of state.now)) }
-{
-    is_sums(alloc, amount, state)
 }
 
 // Whether an output with this datum and amount starts a contract whose table has this root.
@@ -47,13 +39,9 @@ impl Validator for Published {
     ghost use Rattle.collections.proofs.SameLaws.{same_by_decides};
     ghost use Rattle.roles.specs.contracts.published.Published as it;
     ghost use Rattle.roles.specs.Terms.{terms_of};
-    ghost use Rattle.roles.specs.Steps.{step_of, starts_from, holds_role};
+    ghost use Rattle.roles.specs.Steps.{step_of, starts_from, marlowe};
 
-    ghost step_gives = { λ p s. step_of (terms_of p) s };
-
-    ghost starts = { λ p d held. starts_from p.root d held };
-
-    ghost claims = { holds_role };
+    ghost judges = { marlowe };
 
     ghost alike = { λ x y e. (λ s. ap (λ p. step_of (terms_of p) s) ((same_by_decides it.the_row.coded x y).0 e), λ d held. ap (λ p. starts_from p.root d held) ((same_by_decides it.the_row.coded x y).0 e)) };
 

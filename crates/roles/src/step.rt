@@ -1,21 +1,17 @@
 //! Steps.
-ghost use Rattle.std.specs.Prelude.{◌≡◌, true, IfOk};
-ghost use Rattle.table.specs.Flat.{Has, a_cont, cont_tree};
-ghost use Rattle.table.specs.Along.{has_cont};
+ghost use Rattle.std.specs.Prelude.{◌≡◌, IfOk};
 ghost use Rattle.roles.specs.Terms.{terms_of};
-ghost use Rattle.roles.specs.Steps.{is_close, outcome_answer, step_of};
+ghost use Rattle.roles.specs.Steps.{outcome_answer, step_of};
 
 use crate::authorise::unauthorised;
-use crate::layout::{goes_on, unpaid_index};
+use crate::layout::{goes_on_in, unpaid_index};
 use crate::published::Published;
 use collections::{Bytes, Memory, TryClone};
 use contract::{Input, Outcome, SemFault};
 use eutxo::{Spent, StepAnswer, StepFault};
 use eutxo_types::{Cont, Datum, Tx};
 use machine::compute;
-use semantics::Steps;
 use std::alloc::{AllocError, Global};
-use table::Table;
 
 // What is asked about a step, but for what the transaction spends.
 #[derive(Clone, Copy)]
@@ -36,18 +32,17 @@ fn outcome_answer(
     closed: bool,
     outcome: &Outcome<Cont>,
 ) -> Result<StepAnswer, Memory>
-    ensures { IfOk result (λ answer. answer ≡ outcome_answer currency.now closed outcome.now.place outcome.now.state outcome.now.payments (record { script = asked.entry.script.now; datum = asked.entry.datum.now; inputs = asked.entry.inputs.now; tx = asked.entry.tx.now; spent = spent.now })) }
+    ensures { IfOk result (λ answer. answer ≡ outcome_answer currency.now closed (record { cont = outcome.now.place; state = outcome.now.state }) outcome.now.payments (record { script = asked.entry.script.now; datum = asked.entry.datum.now; inputs = asked.entry.inputs.now; tx = asked.entry.tx.now; spent = spent.now })) }
 {
     let tx = asked.tx;
-    let outputs = tx.outputs.as_slice();
     if let Some(party) = unauthorised(currency, tx.signers.as_slice(), spent, asked.inputs) {
         return Ok(StepAnswer::Refused(StepFault::NotAuthorised(party.try_clone()?)));
     }
-    if !closed && !goes_on(alloc, asked.script, outcome.place, &outcome.state, outputs)? {
+    if !closed && !goes_on_in(alloc, tx, asked.script, outcome.place, &outcome.state)? {
         return Ok(StepAnswer::Refused(StepFault::WrongContinuation));
     }
     let from = if closed { 0 } else { 1 };
-    match unpaid_index(currency, from, outcome.payments.as_slice(), outputs) {
+    match unpaid_index(currency, from, outcome.payments.as_slice(), tx.outputs.as_slice()) {
         Some(i) => Ok(StepAnswer::Refused(StepFault::WrongPayment(i as u64))),
         None => Ok(if closed {
             StepAnswer::Ends
@@ -55,23 +50,6 @@ fn outcome_answer(
             StepAnswer::GoesOn
         }),
     }
-}
-
-// Whether a number is one of a table's.
-fn has_cont(table: &Table, cont: Cont) -> bool
-    ensures has { result ≡ has_cont table.now cont }
-    ensures stands { result ≡ true → Has table.now (a_cont cont.0) }
-{
-    table.turns_lead();
-    table.contains(cont)
-}
-
-// Whether the contract of a number is Close.
-fn is_closed(table: &Table, cont: Cont) -> bool
-    requires { Has table.now (a_cont cont.0) }
-    ensures { result ≡ is_close (cont_tree table.now cont.0) }
-{
-    table.is_closed(&cont)
 }
 
 /// Judges a step of a published contract: the transaction function on the contract of the datum's
@@ -86,12 +64,12 @@ pub fn step_of(
 {
     let table = &published.table;
     let datum = asked.datum;
-    if !has_cont(table, datum.cont) {
+    if !table.contains(datum.cont) {
         return Ok(StepAnswer::Refused(StepFault::Semantics(SemFault::NoMatch)));
     }
     match compute(alloc, table, datum, asked.tx.interval, asked.inputs) {
         Ok(outcome) => {
-            let closed = is_closed(table, outcome.place);
+            let closed = table.is_close(outcome.place);
             outcome_answer(alloc, &published.currency, asked, spent, closed, &outcome)
         }
         Err(SemFault::Memory) => Err(AllocError),

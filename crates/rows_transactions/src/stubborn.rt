@@ -15,11 +15,7 @@ impl Validator for Stubborn {
     ghost use Rattle.eutxo.specs.declared.step_fault.StepFault.TheVariants.{WrongContinuation};
     ghost use Rattle.eutxo.specs.declared.validator.StepAnswer.TheVariants.{Refused};
 
-    ghost step_gives = { λ s step. Refused WrongContinuation };
-
-    ghost starts = { λ s d held. true };
-
-    ghost claims = { λ spent currency role. false };
+    ghost judges = { record { step = λ s step. Refused WrongContinuation; starts = λ s d held. true; claims = λ spent currency role. false } };
 
     ghost alike = { λ x y e. (λ s. refl, λ d held. refl) };
 

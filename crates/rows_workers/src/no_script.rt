@@ -14,11 +14,7 @@ impl Validator for NoScript {
     ghost use Rattle.std.specs.Prelude.{true, false, refl};
     ghost use Rattle.eutxo.specs.declared.validator.StepAnswer.TheVariants.{Ends};
 
-    ghost step_gives = { λ s step. Ends };
-
-    ghost starts = { λ s d held. true };
-
-    ghost claims = { λ spent currency role. false };
+    ghost judges = { record { step = λ s step. Ends; starts = λ s d held. true; claims = λ spent currency role. false } };
 
     ghost alike = { λ x y e. (λ s. refl, λ d held. refl) };
 

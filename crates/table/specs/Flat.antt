@@ -1,5 +1,5 @@
 -- What the numbers of a table stand for.
-use Rattle.std.specs.Prelude.{◌≡◌, ℕ, suc, zero, ◌<◌, ◌≤◌, pos, List, [], ◌∷◌, length, map}
+use Rattle.std.specs.Prelude.{◌≡◌, Bool, true, false, ℕ, suc, zero, ◌<◌, ◌≤◌, pos, List, [], ◌∷◌, length, map}
 use Rattle.std.proofs.Math.ListN.{get_or}
 use Rattle.contract.specs.Tree.{ValueTree, available_money, constant, neg_value, add_value, sub_value, mul_value, div_value, choice_value, time_interval_start, time_interval_end, use_value, cond_value}
 use Rattle.contract.specs.Tree.{ObservationTree, and_obs, or_obs, not_obs, chose_something, value_ge, value_gt, value_lt, value_le, value_eq, true_obs, false_obs}
@@ -120,6 +120,11 @@ case_tree f k = (trees f).case k
 
 abbrev pub cont_tree : Flat → ℕ → ContractTree
 cont_tree f k = (trees f).cont k
+
+-- whether a contract is Close
+abbrev pub is_close : ContractTree → Bool
+is_close close = true
+is_close c = false
 
 -- ---- what a node names
 

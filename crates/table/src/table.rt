@@ -68,7 +68,8 @@ impl Table {
 
     /// Whether a continuation is one of the table; takes no memory.
     pub fn contains(&self, cont: Cont) -> bool
-        ensures { IsTrue result ↔ Has self.now (a_cont cont.0) }
+        ensures stands { IsTrue result ↔ Has self.now (a_cont cont.0) }
+        ensures test { result ≡ has_cont self.now cont }
     {
         (cont.0 as usize) < self.conts.len()
     }

@@ -1,7 +1,7 @@
 //! Nodes, lent with their heights, one by one or a list at a time.
 ghost use Rattle.std.specs.Prelude.{◌≡◌, ◌≤◌};
 ghost use Rattle.table.specs.Heights.{value_height, observation_height, case_height, contract_height};
-ghost use Rattle.table.specs.Flat.{trees, value_of, observation_of, case_of, cont_of, value_tree, observation_tree, case_tree, cont_tree, value_entry, observation_entry, case_entry, cont_entry, Stands, AllStand, a_value, an_observation, a_case, a_cont, value_parts, observation_parts, case_parts, cont_parts};
+ghost use Rattle.table.specs.Flat.{trees, value_of, observation_of, case_of, cont_of, value_tree, observation_tree, case_tree, cont_tree, value_entry, observation_entry, case_entry, cont_entry, Stands, AllStand, Has, is_close, a_value, an_observation, a_case, a_cont, value_parts, observation_parts, case_parts, cont_parts};
 
 use crate::table::Table;
 use nodes::{CaseNode, Cont, ContNode, Entry, ObservationNode, ValueNode};
@@ -82,5 +82,20 @@ impl Table {
         ensures low { result.now.height ≤ 999 }
     {
         &self.conts[cont.0 as usize]
+    }
+
+    /// Whether the contract of a continuation is Close; takes no memory.
+    pub fn is_close(&self, cont: Cont) -> bool
+        requires { Has self.now (a_cont cont.0) }
+        ensures { result ≡ is_close (cont_tree self.now cont.0) }
+    {
+        match &self.cont_node(cont).node {
+            ContNode::Close => true,
+            ContNode::Pay(_, _, _, _, _) => false,
+            ContNode::If(_, _, _) => false,
+            ContNode::When(_, _, _) => false,
+            ContNode::Let(_, _, _) => false,
+            ContNode::Assert(_, _) => false,
+        }
     }
 }

@@ -2,7 +2,7 @@ use Rattle.std.proofs.Common.{◌≡◌, true, sym, subst}
 use Rattle.table.specs.Flat.{Has, a_cont}
 use Rattle.table.specs.Along.{has_cont}
 use Rattle.table.specs.AlongLaws.{along_tree}
-use Rattle.eutxo.specs.Parts.{contract_in}
+use Rattle.eutxo_types.specs.Parts.{contract_in}
 use Rattle.roles.specs.declared.published.Published.{Published}
 use Rattle.builder.proofs.CausesLemmas.{thread_has}
 use Rattle.builder.proofs.CoveredLemmas.{thread_sums}

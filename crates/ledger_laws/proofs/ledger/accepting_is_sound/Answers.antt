@@ -1,6 +1,5 @@
-use Rattle.eutxo.specs.Asked.{judges_of}
 use Rattle.ledger_laws.proofs.SoundLemmas.{after_is_sound}
 use Rattle.ledger_laws.proofs.ledger.accepting_is_sound.Goals as goal
 
 pub returns : goal.returns
-returns g c = after_is_sound (judges_of g.V.Validator.step_gives g.V.Validator.starts g.V.Validator.claims)
+returns g c = after_is_sound g.V.Validator.judges

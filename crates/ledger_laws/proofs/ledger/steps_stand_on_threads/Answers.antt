@@ -1,9 +1,8 @@
-use Rattle.eutxo.specs.Asked.{judges_of}
 use Rattle.ledger_laws.proofs.ThreadLemmas.{steps_stand, contracts_are_stepped}
 use Rattle.ledger_laws.proofs.ledger.steps_stand_on_threads.Goals as goal
 
 pub returns-clause-thread : goal.returns-clause-thread
-returns-clause-thread g c = steps_stand (judges_of g.V.Validator.step_gives g.V.Validator.starts g.V.Validator.claims) c.found_is_enough.ensures
+returns-clause-thread g c = steps_stand g.V.Validator.judges c.found_is_enough.ensures
 
 pub returns-clause-spends : goal.returns-clause-spends
-returns-clause-spends g c = contracts_are_stepped (judges_of g.V.Validator.step_gives g.V.Validator.starts g.V.Validator.claims) c.found_is_enough.ensures
+returns-clause-spends g c = contracts_are_stepped g.V.Validator.judges c.found_is_enough.ensures

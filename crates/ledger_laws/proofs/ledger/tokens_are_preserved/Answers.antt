@@ -1,6 +1,5 @@
-use Rattle.eutxo.specs.Asked.{judges_of}
 use Rattle.ledger_laws.proofs.PreservedLemmas.{tokens_are_preserved}
 use Rattle.ledger_laws.proofs.ledger.tokens_are_preserved.Goals as goal
 
 pub returns : goal.returns
-returns g c = tokens_are_preserved (judges_of g.V.Validator.step_gives g.V.Validator.starts g.V.Validator.claims) c.found_is_enough.ensures c.sums_are_preserved.ensures.same
+returns g c = tokens_are_preserved g.V.Validator.judges c.found_is_enough.ensures c.sums_are_preserved.ensures.same

@@ -1,6 +1,6 @@
 use Rattle.std.proofs.Common.{◌≡◌, drop}
 use Rattle.std.specs.List.{list_any}
-use Rattle.ledger_laws.specs.Threads.{is_step}
+use Rattle.eutxo_types.specs.Parts.{is_step}
 use Rattle.ledger_replay.proofs.threads.steps.Given as goal
 
 abbrev pub invariant-loop-x : goal.invariant-loop-x

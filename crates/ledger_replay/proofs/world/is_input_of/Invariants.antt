@@ -1,6 +1,6 @@
 use Rattle.std.proofs.Common.{◌≡◌, drop}
 use Rattle.std.specs.List.{list_any}
-use Rattle.eutxo.specs.Parts.{same_ref}
+use Rattle.eutxo_types.specs.Parts.{same_ref}
 use Rattle.ledger_replay.proofs.world.is_input_of.Given as goal
 
 abbrev pub invariant-loop-x : goal.invariant-loop-x

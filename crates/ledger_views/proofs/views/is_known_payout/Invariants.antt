@@ -1,6 +1,6 @@
 use Rattle.std.proofs.Common.{◌≡◌, ◌&&◌, drop}
 use Rattle.std.specs.List.{list_any}
-use Rattle.eutxo.specs.Parts.{same_bytes}
+use Rattle.eutxo_types.specs.Parts.{same_bytes}
 use Rattle.ledger_views.proofs.views.is_known_payout.Given as goal
 
 abbrev pub invariant-loop-x : goal.invariant-loop-x

@@ -1,5 +1,6 @@
 use Rattle.std.proofs.Common.{sym, subst, IfOk}
-use Rattle.ledger_laws.specs.Laws.{marlowe, AreTables}
+use Rattle.roles.specs.Steps.{marlowe}
+use Rattle.ledger_laws.specs.Laws.{AreTables}
 use Rattle.ledger_laws.specs.Sound.{IsSound}
 use Rattle.ledger_spec.specs.Replay.{World, Course, world, past_of, published_at}
 use Rattle.ledger_spec.specs.Records.{AreSteps}

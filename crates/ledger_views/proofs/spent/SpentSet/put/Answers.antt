@@ -1,7 +1,7 @@
 use Rattle.std.proofs.Common.{◌||◌, List, refl, ◌∙◌, ap}
 use Rattle.eutxo_types.specs.declared.output_ref.OutputRef.{OutputRef}
 use Rattle.eutxo_types.specs.contracts.output_ref.OutputRefPartialEq.TheImpl.{ghosts}
-use Rattle.eutxo.specs.Parts.{same_ref}
+use Rattle.eutxo_types.specs.Parts.{same_ref}
 use Rattle.ledger_views.specs.ViewsSupport.{is_among}
 use Rattle.ledger_views.proofs.SpentLemmas.{agree, one_more}
 use Rattle.ledger_views.proofs.spent.SpentSet.put.Goals as goal

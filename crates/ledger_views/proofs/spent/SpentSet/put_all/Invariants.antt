@@ -1,6 +1,6 @@
 use Rattle.std.proofs.Common.{◌≡◌, ◌||◌, drop}
 use Rattle.std.specs.List.{list_any}
-use Rattle.eutxo.specs.Parts.{same_ref}
+use Rattle.eutxo_types.specs.Parts.{same_ref}
 use Rattle.eutxo_types.specs.declared.output_ref.OutputRef.{OutputRef}
 use Rattle.ledger_laws.specs.Past.{is_input_of}
 use Rattle.ledger_views.specs.ViewsSupport.{is_among}
