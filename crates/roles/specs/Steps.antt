@@ -38,6 +38,7 @@ use Rattle.eutxo_types.specs.Parts.{is_key, Instance, contract_at, outputs_from}
 use Rattle.eutxo.specs.Faults.{fault_if, first_of, is_empty}
 use Rattle.eutxo.specs.Rules.{has_signed}
 use Rattle.eutxo.specs.Asked.{Stepping, Judges}
+use Rattle.table.specs.Flat.{is_close}
 use Rattle.roles.specs.Sums.{sums_of}
 use Rattle.roles.specs.Terms.{Terms, terms_of}
 use Rattle.roles.specs.declared.published.Published.{Published}
