@@ -23,7 +23,7 @@ use Rattle.builder_spec.specs.Fronts.{suffices}
 use Rattle.builder_spec.proofs.HoldingLaws.{total_of-natural}
 use Rattle.builder_spec.proofs.SufficesLaws.{and_so, and_true}
 use Rattle.builder_spec.proofs.FundsLaws.{all_covered}
-use Rattle.coin_selection.specs.RequiredSupport.{one_at_least, required_amount, IsMissing}
+use Rattle.coin_selection.specs.RequiredSupport.{one_at_least, required_amount, lacking_amount, IsMissing}
 use Rattle.coin_selection.proofs.RequiredLemmas.{lt_true, lt_false, true_lt, false_lt, some_above, not_above, none_above, same_test}
 
 -- ---- tokens that are held
@@ -220,9 +220,6 @@ covered (r ∷ rs) ns us p h k t =
     by Less g both e = absurd (cc)
     by Greater g both e = absurd (cc)
 
-abbrev pub lack_all : List Token → List (Token × ℤ) → List Unspent → Token → ℤ
-lack_all rs ns us t = required_amount rs ns t -ℤ total_of amount_in t us
-
 enough : (n m : ℤ) → (n -ℤ m) ≤ℤ pos 0 → n ≤ℤ m
 enough n m h = omega (arith, ints, h)
 
@@ -230,14 +227,14 @@ nothing_lacks : (n m : ℤ) → n ≤ℤ m → (n -ℤ m) ≤ℤ pos 0
 nothing_lacks n m h = omega (arith, ints, h)
 
 -- where nothing is needed any more, outputs suffice
-pub met_suffices : (rs : List Token) (ns : List (Token × ℤ)) (us : List Unspent) (m : Amounts) → AreBundles amount_in us → IsMissing (lack_all rs ns us) m → ((t : Token) → get m t ≡ None) → suffices rs ns us ≡ true
-met_suffices rs ns us m p s f = covering rs ns us p (λ t. enough (required_amount rs ns t) (total_of amount_in t us) (none_above (lack_all rs ns us t) (sym (s t) ∙ f t)))
+pub met_suffices : (rs : List Token) (ns : List (Token × ℤ)) (us : List Unspent) (m : Amounts) → AreBundles amount_in us → IsMissing (lacking_amount rs ns us) m → ((t : Token) → get m t ≡ None) → suffices rs ns us ≡ true
+met_suffices rs ns us m p s f = covering rs ns us p (λ t. enough (required_amount rs ns t) (total_of amount_in t us) (none_above (lacking_amount rs ns us t) (sym (s t) ∙ f t)))
 
 -- and where they suffice, nothing is
-pub suffices_met : (rs : List Token) (ns : List (Token × ℤ)) (us : List Unspent) (m : Amounts) → AreBundles amount_in us → IsMissing (lack_all rs ns us) m → suffices rs ns us ≡ true → (t : Token) → get m t ≡ None
+pub suffices_met : (rs : List Token) (ns : List (Token × ℤ)) (us : List Unspent) (m : Amounts) → AreBundles amount_in us → IsMissing (lacking_amount rs ns us) m → suffices rs ns us ≡ true → (t : Token) → get m t ≡ None
 suffices_met rs ns us m p s h t =
     let both = and_so (list_all (holds_token us) rs) (is_none (least_lacking ns us)) h in
-    s t ∙ not_above (lack_all rs ns us t) (nothing_lacks (required_amount rs ns t) (total_of amount_in t us) (covered rs ns us p both.0 both.1 t))
+    s t ∙ not_above (lacking_amount rs ns us t) (nothing_lacks (required_amount rs ns t) (total_of amount_in t us) (covered rs ns us p both.0 both.1 t))
 
 -- ---- tokens of roles that nobody holds
 
@@ -256,10 +253,10 @@ one_less : (n : ℤ) → int_lt (pos 0) (pos 1 -ℤ n) ≡ not (int_lt (pos 0) n
 one_less n = grind (arith, ints)
 
 -- it is still needed where no output holds it
-pub unheld_is : (rs : List Token) (us : List Unspent) (m : Amounts) (t : Token) → AreBundles amount_in us → IsMissing (lack_all rs [] us) m → list_any (λ r. eq_by_cmp token_cmp r t) rs ≡ true → is_some (get m t) ≡ not (holds_token us t)
+pub unheld_is : (rs : List Token) (us : List Unspent) (m : Amounts) (t : Token) → AreBundles amount_in us → IsMissing (lacking_amount rs [] us) m → list_any (λ r. eq_by_cmp token_cmp r t) rs ≡ true → is_some (get m t) ≡ not (holds_token us t)
 unheld_is rs us m t p s h =
     ap is_some (s t)
-    ∙ some_above (lack_all rs [] us t)
+    ∙ some_above (lacking_amount rs [] us t)
     ∙ ap (λ n. int_lt (pos 0) (n -ℤ total_of amount_in t us)) (one_of_each rs t ∙ ap (λ b. if b then pos 1 else pos 0) h)
     ∙ one_less (total_of amount_in t us)
     ∙ ap not (sym (held_is us t p))
@@ -271,7 +268,7 @@ not_so true h = absurd (cc (h refl))
 not_so false h = refl
 
 -- where something is still needed, outputs don't suffice
-pub unmet_lacks : (rs : List Token) (ns : List (Token × ℤ)) (us : List Unspent) (m : Amounts) (met : Bool) → AreBundles amount_in us → IsMissing (lack_all rs ns us) m → (((t : Token) → get m t ≡ None) → met ≡ true) → met ≡ false → suffices rs ns us ≡ false
+pub unmet_lacks : (rs : List Token) (ns : List (Token × ℤ)) (us : List Unspent) (m : Amounts) (met : Bool) → AreBundles amount_in us → IsMissing (lacking_amount rs ns us) m → (((t : Token) → get m t ≡ None) → met ≡ true) → met ≡ false → suffices rs ns us ≡ false
 unmet_lacks rs ns us m met p s f e = not_so (suffices rs ns us) (λ h. sym e ∙ f (suffices_met rs ns us m p s h))
 
 earlier : (k i : ℕ) → nat_lt k i ≡ true → k < i

@@ -19,7 +19,7 @@ use Rattle.bundle.proofs.PositiveLaws.{amount_of-natural}
 use Rattle.coin_selection.specs.MissingSupport.{left}
 use Rattle.builder_spec.specs.Holding.{wanted}
 use Rattle.builder_spec.proofs.HoldingLaws.{total_of-append}
-use Rattle.coin_selection.specs.RequiredSupport.{above, one_at_least, required_amount, IsMissing}
+use Rattle.coin_selection.specs.RequiredSupport.{if_positive, one_at_least, required_amount, IsMissing}
 
 -- ---- numbers above 0
 
@@ -35,22 +35,22 @@ true_lt a b h = grind (arith, ints)
 pub false_lt : (a b : ℤ) → int_lt a b ≡ false → b ≤ℤ a
 false_lt a b h = grind (arith, ints)
 
-pub is_above : (n : ℤ) → pos 0 <ℤ n → above n ≡ Some n
+pub is_above : (n : ℤ) → pos 0 <ℤ n → if_positive n ≡ Some n
 is_above n h = ap (λ b. if◌then◌else◌ {A = Option ℤ} b (Some n) None) (lt_true (pos 0) n h)
 
-pub not_above : (n : ℤ) → n ≤ℤ pos 0 → above n ≡ None
+pub not_above : (n : ℤ) → n ≤ℤ pos 0 → if_positive n ≡ None
 not_above n h = ap (λ b. if◌then◌else◌ {A = Option ℤ} b (Some n) None) (lt_false (pos 0) n h)
 
-pub some_above : (n : ℤ) → is_some (above n) ≡ int_lt (pos 0) n
+pub some_above : (n : ℤ) → is_some (if_positive n) ≡ int_lt (pos 0) n
 some_above n = elim (int_lt (pos 0) n) as (λ b. is_some (if◌then◌else◌ {A = Option ℤ} b (Some n) None) ≡ b) [ true ↦ refl | false ↦ refl ]
 
-pub none_above : (n : ℤ) → above n ≡ None → n ≤ℤ pos 0
+pub none_above : (n : ℤ) → if_positive n ≡ None → n ≤ℤ pos 0
 none_above n h = false_lt (pos 0) n (sym (some_above n) ∙ ap is_some h)
 
 zero_is : (n : ℤ) → pos 0 ≤ℤ n → n ≤ℤ pos 0 → pos 0 ≡ n
 zero_is n h k = omega (arith, ints, h, k)
 
-pub unwrap_above : (n : ℤ) → pos 0 ≤ℤ n → unwrap_or (above n) (pos 0) ≡ n
+pub unwrap_above : (n : ℤ) → pos 0 ≤ℤ n → unwrap_or (if_positive n) (pos 0) ≡ n
 unwrap_above n h = by (int_lt (pos 0) n) refl
   where
     by : (b : Bool) → int_lt (pos 0) n ≡ b → unwrap_or (if◌then◌else◌ {A = Option ℤ} b (Some n) None) (pos 0) ≡ n
@@ -75,10 +75,10 @@ same_test m n = by (int_lt m n) refl
     by true e = sym (lt_true (pos 0) (n -ℤ m) (difference m n (true_lt m n e)))
     by false e = sym (lt_false (pos 0) (n -ℤ m) (no_difference m n (false_lt m n e)))
 
-pub left_above : (n m : ℤ) → pos 0 ≤ℤ m → left (above n) m ≡ above (n -ℤ m)
+pub left_above : (n m : ℤ) → pos 0 ≤ℤ m → left (if_positive n) m ≡ if_positive (n -ℤ m)
 left_above n m h = by (int_lt (pos 0) n) refl
   where
-    by : (b : Bool) → int_lt (pos 0) n ≡ b → left (if◌then◌else◌ {A = Option ℤ} b (Some n) None) m ≡ above (n -ℤ m)
+    by : (b : Bool) → int_lt (pos 0) n ≡ b → left (if◌then◌else◌ {A = Option ℤ} b (Some n) None) m ≡ if_positive (n -ℤ m)
     by true e = ap (λ b. if◌then◌else◌ {A = Option ℤ} b (Some (n -ℤ m)) None) (same_test m n)
     by false e = sym (not_above (n -ℤ m) (none_left m n h (false_lt (pos 0) n e)))
 
@@ -92,7 +92,7 @@ meet_more held f old new xs x s p h = λ t.
     h t
     ∙ ap (λ o. left o (amount_of (held x) t)) (s t)
     ∙ left_above (f t -ℤ total_of held t xs) (amount_of (held x) t) (amount_of-natural (held x) t p)
-    ∙ ap above (after_both (f t) (total_of held t xs) (amount_of (held x) t) ∙ ap (λ n. f t -ℤ n) (sym (total_of-append held t xs (x ∷ []))))
+    ∙ ap if_positive (after_both (f t) (total_of held t xs) (amount_of (held x) t) ∙ ap (λ n. f t -ℤ n) (sym (total_of-append held t xs (x ∷ []))))
 
 -- ---- tokens that are the same
 
@@ -123,23 +123,23 @@ add_more old new rest n s p q h = λ t. h t ∙ by t (token_cmp n.0 t) refl
     sum : amount_of old n.0 +ℤ n.1 ≡ n.1 +ℤ wanted rest n.0
     sum = ap (λ m. m +ℤ n.1) (ap (λ o. unwrap_or o (pos 0)) (s n.0) ∙ unwrap_above (wanted rest n.0) p) ∙ swap (wanted rest n.0) n.1
 
-    there : Some (amount_of old n.0 +ℤ n.1) ≡ above (wanted (n ∷ rest) n.0)
-    there = ap Some sum ∙ sym (is_above (n.1 +ℤ wanted rest n.0) (two (wanted rest n.0) n.1 p q)) ∙ ap (λ r. above (cond (is_eq r) n.1 (pos 0) +ℤ wanted rest n.0)) (sym (tied_itself token_total n.0))
+    there : Some (amount_of old n.0 +ℤ n.1) ≡ if_positive (wanted (n ∷ rest) n.0)
+    there = ap Some sum ∙ sym (is_above (n.1 +ℤ wanted rest n.0) (two (wanted rest n.0) n.1 p q)) ∙ ap (λ r. if_positive (cond (is_eq r) n.1 (pos 0) +ℤ wanted rest n.0)) (sym (tied_itself token_total n.0))
 
-    elsewhere : (t : Token) → is_eq (token_cmp t n.0) ≡ false → get old t ≡ above (wanted (n ∷ rest) t)
-    elsewhere t e = s t ∙ ap above (none_first (wanted rest t) ∙ ap (λ b. cond b n.1 (pos 0) +ℤ wanted rest t) (sym e))
+    elsewhere : (t : Token) → is_eq (token_cmp t n.0) ≡ false → get old t ≡ if_positive (wanted (n ∷ rest) t)
+    elsewhere t e = s t ∙ ap if_positive (none_first (wanted rest t) ∙ ap (λ b. cond b n.1 (pos 0) +ℤ wanted rest t) (sym e))
 
-    by : (t : Token) (r : Ordering) → token_cmp n.0 t ≡ r → (if is_eq r then Some (amount_of old n.0 +ℤ n.1) else get old t) ≡ above (wanted (n ∷ rest) t)
-    by t Equal e = subst (λ u. Some (amount_of old n.0 +ℤ n.1) ≡ above (wanted (n ∷ rest) u)) (token_exact n.0 t e) there
+    by : (t : Token) (r : Ordering) → token_cmp n.0 t ≡ r → (if is_eq r then Some (amount_of old n.0 +ℤ n.1) else get old t) ≡ if_positive (wanted (n ∷ rest) t)
+    by t Equal e = subst (λ u. Some (amount_of old n.0 +ℤ n.1) ≡ if_positive (wanted (n ∷ rest) u)) (token_exact n.0 t e) there
     by t Less e = elsewhere t (other_way t n.0 ∙ ap is_eq e)
     by t Greater e = elsewhere t (other_way t n.0 ∙ ap is_eq e)
 
 -- ---- tokens of roles
 
-one_more_role : (m : ℤ) → (if is_some (above m) then above m else Some (pos 1)) ≡ above (one_at_least true m)
+one_more_role : (m : ℤ) → (if is_some (if_positive m) then if_positive m else Some (pos 1)) ≡ if_positive (one_at_least true m)
 one_more_role m = by (int_lt (pos 0) m) refl
   where
-    by : (b : Bool) → int_lt (pos 0) m ≡ b → (if is_some (if◌then◌else◌ {A = Option ℤ} b (Some m) None) then (if◌then◌else◌ {A = Option ℤ} b (Some m) None) else Some (pos 1)) ≡ above (if b then m else pos 1)
+    by : (b : Bool) → int_lt (pos 0) m ≡ b → (if is_some (if◌then◌else◌ {A = Option ℤ} b (Some m) None) then (if◌then◌else◌ {A = Option ℤ} b (Some m) None) else Some (pos 1)) ≡ if_positive (if b then m else pos 1)
     by true e = sym (is_above m (true_lt (pos 0) m e))
     by false e = refl
 
@@ -148,13 +148,13 @@ pub add_role : (old new : Amounts) (rs : List Token) (ns : List (Token × ℤ)) 
     ((t : Token) → get new t ≡ (if eq_by_cmp token_cmp r t then (if is_some (get old r) then get old r else Some (pos 1)) else get old t)) → IsMissing (required_amount (r ∷ rs) ns) new
 add_role old new rs ns r s h = λ t. h t ∙ by t (token_cmp r t) refl
   where
-    there : (if is_some (get old r) then get old r else Some (pos 1)) ≡ above (one_at_least true (required_amount rs ns r))
+    there : (if is_some (get old r) then get old r else Some (pos 1)) ≡ if_positive (one_at_least true (required_amount rs ns r))
     there = ap (λ (o : Option ℤ). if is_some o then o else Some (pos 1)) (s r) ∙ one_more_role (required_amount rs ns r)
 
-    by : (t : Token) (o : Ordering) → token_cmp r t ≡ o → (if is_eq o then (if is_some (get old r) then get old r else Some (pos 1)) else get old t) ≡ above (one_at_least (is_eq (token_cmp r t)) (required_amount rs ns t))
-    by t Equal e = subst (λ u. (if is_some (get old r) then get old r else Some (pos 1)) ≡ above (one_at_least true (required_amount rs ns u))) (token_exact r t e) there ∙ ap (λ o. above (one_at_least (is_eq o) (required_amount rs ns t))) (sym e)
-    by t Less e = s t ∙ ap (λ o. above (one_at_least (is_eq o) (required_amount rs ns t))) (sym e)
-    by t Greater e = s t ∙ ap (λ o. above (one_at_least (is_eq o) (required_amount rs ns t))) (sym e)
+    by : (t : Token) (o : Ordering) → token_cmp r t ≡ o → (if is_eq o then (if is_some (get old r) then get old r else Some (pos 1)) else get old t) ≡ if_positive (one_at_least (is_eq (token_cmp r t)) (required_amount rs ns t))
+    by t Equal e = subst (λ u. (if is_some (get old r) then get old r else Some (pos 1)) ≡ if_positive (one_at_least true (required_amount rs ns u))) (token_exact r t e) there ∙ ap (λ o. if_positive (one_at_least (is_eq o) (required_amount rs ns t))) (sym e)
+    by t Less e = s t ∙ ap (λ o. if_positive (one_at_least (is_eq o) (required_amount rs ns t))) (sym e)
+    by t Greater e = s t ∙ ap (λ o. if_positive (one_at_least (is_eq o) (required_amount rs ns t))) (sym e)
 
 -- ---- how much is wanted
 

@@ -15,11 +15,11 @@ use Rattle.contract.specs.declared.input.Input.{Input}
 use Rattle.bundle.specs.Bundles.{Amounts}
 use Rattle.roles.specs.Steps.{role_token, actor}
 use Rattle.ledger.specs.declared.look.Unspent.{Unspent}
-use Rattle.builder_spec.specs.Holding.{amount_in, holds_token, AreBundles}
-use Rattle.builder_spec.specs.Steps.{token_of, roles_of, may_act}
-use Rattle.coin_selection.specs.RequiredSupport.{IsMissing, may_act_but}
+use Rattle.builder_spec.specs.Holding.{amount_in, holds_token, first_unheld, AreBundles}
+use Rattle.builder_spec.specs.Steps.{token_of, roles_of, may_act, first_barred}
+use Rattle.coin_selection.specs.RequiredSupport.{lacking_amount, IsMissing, may_act_but}
 use Rattle.coin_selection.proofs.ListLaws.{here}
-use Rattle.coin_selection.proofs.EnoughLemmas.{lack_all, unheld_is}
+use Rattle.coin_selection.proofs.EnoughLemmas.{unheld_is}
 
 or_left : (a b : Bool) → a ≡ true → a || b ≡ true
 or_left a b h = rw h refl
@@ -68,7 +68,7 @@ role_later q currency (suc i) (x ∷ xs) h = by (actor x) (role_later q currency
 -- ---- parties that the inputs need
 
 -- by the tokens that are left, a party may act as by those that are offered
-acts_so : (currency : List ℕ) (signers : List (List ℕ)) (us : List Unspent) (xs : List Input) (m : Amounts) (i : ℕ) (x : Input) (p : Party) → AreBundles amount_in us → IsMissing (lack_all (roles_of currency xs) [] us) m →
+acts_so : (currency : List ℕ) (signers : List (List ℕ)) (us : List Unspent) (xs : List Input) (m : Amounts) (i : ℕ) (x : Input) (p : Party) → AreBundles amount_in us → IsMissing (lacking_amount (roles_of currency xs) [] us) m →
     i < length xs → x ≡ get_or xs i x → actor x ≡ Some p → may_act_but currency signers m p ≡ may_act currency signers us p
 acts_so currency signers us xs m i x (Address a) b s l is h = refl
 acts_so currency signers us xs m i x (Role r) b s l is h =
@@ -79,7 +79,7 @@ acts_so currency signers us xs m i x (Role r) b s l is h =
     ∙ not_not (holds_token us t)
 
 first_by : (f g : Party → Bool) (x : Input) (xs : List Input) → ((p : Party) → actor x ≡ Some p → f p ≡ g p) →
-    find (λ p. not (g p)) (filter_map actor (x ∷ xs)) ≡ option_or (find (λ p. not (f p)) (filter_map actor (x ∷ []))) (find (λ p. not (g p)) (filter_map actor xs))
+    first_barred g (x ∷ xs) ≡ option_or (first_barred f (x ∷ [])) (first_barred g xs)
 first_by f g x xs same = by (actor x) refl
   where
     either : (b : Bool) (p : Party) → (if not b then Some p else find (λ q. not (g q)) (filter_map actor xs)) ≡ option_or (if not b then Some p else None) (find (λ q. not (g q)) (filter_map actor xs))
@@ -91,15 +91,15 @@ first_by f g x xs same = by (actor x) refl
     by (Some p) e = either (g p) p ∙ ap (λ b. option_or (if not b then Some p else None) (find (λ q. not (g q)) (filter_map actor xs))) (sym (same p e))
 
 -- of the parties from an input on the first that may not act is the one that it needs, or one of a later input
-pub barred_first : (currency : List ℕ) (signers : List (List ℕ)) (us : List Unspent) (xs : List Input) (m : Amounts) (i : ℕ) (x : Input) → AreBundles amount_in us → IsMissing (lack_all (roles_of currency xs) [] us) m → i < length xs → x ≡ get_or xs i x →
-    find (λ p. not (may_act currency signers us p)) (filter_map actor (drop i xs)) ≡ option_or (find (λ p. not (may_act_but currency signers m p)) (filter_map actor (x ∷ []))) (find (λ p. not (may_act currency signers us p)) (filter_map actor (drop (i + 1) xs)))
+pub barred_first : (currency : List ℕ) (signers : List (List ℕ)) (us : List Unspent) (xs : List Input) (m : Amounts) (i : ℕ) (x : Input) → AreBundles amount_in us → IsMissing (lacking_amount (roles_of currency xs) [] us) m → i < length xs → x ≡ get_or xs i x →
+    first_barred (may_act currency signers us) (drop i xs) ≡ option_or (first_barred (may_act_but currency signers m) (x ∷ [])) (first_barred (may_act currency signers us) (drop (i + 1) xs))
 barred_first currency signers us xs m i x b s l is =
-    ap (λ ys. find (λ p. not (may_act currency signers us p)) (filter_map actor ys)) (here xs i x l is)
+    ap (first_barred (may_act currency signers us)) (here xs i x l is)
     ∙ first_by (may_act_but currency signers m) (may_act currency signers us) x (drop (i + 1) xs) (λ p. acts_so currency signers us xs m i x p b s l is)
 
 -- of the tokens from a place on the first that no output holds is the one there, where it is still needed
-pub unheld_first : (rs : List Token) (us : List Unspent) (m : Amounts) (i : ℕ) (r : Token) (b : Bool) → AreBundles amount_in us → IsMissing (lack_all rs [] us) m → i < length rs → r ≡ get_or rs i r → b ≡ is_some (get m r) →
-    find (λ t. not (holds_token us t)) (drop i rs) ≡ (if b then Some r else find (λ t. not (holds_token us t)) (drop (i + 1) rs))
+pub unheld_first : (rs : List Token) (us : List Unspent) (m : Amounts) (i : ℕ) (r : Token) (b : Bool) → AreBundles amount_in us → IsMissing (lacking_amount rs [] us) m → i < length rs → r ≡ get_or rs i r → b ≡ is_some (get m r) →
+    first_unheld us (drop i rs) ≡ (if b then Some r else first_unheld us (drop (i + 1) rs))
 unheld_first rs us m i r b p s l is h =
-    ap (find (λ t. not (holds_token us t))) (here rs i r l is)
-    ∙ ap (λ a. if a then Some r else find (λ t. not (holds_token us t)) (drop (i + 1) rs)) (sym (h ∙ unheld_is rs us m r p s (among rs i r l is)))
+    ap (first_unheld us) (here rs i r l is)
+    ∙ ap (λ a. if a then Some r else first_unheld us (drop (i + 1) rs)) (sym (h ∙ unheld_is rs us m r p s (among rs i r l is)))

@@ -2,3 +2,4 @@ pub mod Answers
 pub mod RequiredSupport
 pub mod MissingSupport
 pub mod MeetSupport
+pub mod LimitsSupport

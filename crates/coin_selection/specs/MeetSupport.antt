@@ -6,6 +6,6 @@ use Rattle.names.specs.Orders.{token_cmp}
 use Rattle.coin_selection.specs.MissingSupport.{left}
 
 -- what is left of a token's need, one entry after another
-abbrev pub after : Option ℤ → Token → List (Token × ℤ) → Option ℤ
-after o t [] = o
-after o t (e ∷ es) = after (if eq_by_cmp token_cmp e.0 t then left o e.1 else o) t es
+abbrev pub left_after : Option ℤ → Token → List (Token × ℤ) → Option ℤ
+left_after o t [] = o
+left_after o t (e ∷ es) = left_after (if eq_by_cmp token_cmp e.0 t then left o e.1 else o) t es

@@ -1,9 +1,9 @@
 //! Amounts of one token, and what the accounts of a state hold together.
-ghost use Rattle.std.specs.Prelude.{◌≡◌, ◌⊎◌, true, pos, ◌<ℤ◌, map, IfOk, IfErr};
+ghost use Rattle.std.specs.Prelude.{◌≡◌, pos, ◌<ℤ◌, map, IfOk};
 ghost use Rattle.states.specs.States.{AllPositive};
 ghost use Rattle.roles.specs.Steps.{only};
 ghost use Rattle.roles.specs.Sums.{sums_of};
-ghost use Rattle.builder_spec.specs.Causes.{is_much};
+ghost use Rattle.coin_selection.specs.Answers.{RefusesMuch};
 
 use crate::sums::{see_all, sum};
 use bundle::{Bundle, BundleFault};
@@ -38,7 +38,7 @@ fn bundles_of(alloc: Global, accounts: &[(Account, i128)]) -> Result<Vec<Bundle>
 /// otherwise only for memory.
 pub fn sums_of(alloc: Global, state: &State) -> Result<Bundle, BundleFault>
     ensures ok { IfOk result (λ bundle. bundle ≡ sums_of state.now) }
-    ensures err { IfErr result (λ fault. (fault ≡ BundleFault.Memory) ⊎ ((fault ≡ BundleFault.TooLarge) × (is_much (sums_of state.now) ≡ true))) }
+    ensures err { RefusesMuch result (sums_of state.now) }
 {
     match bundles_of(alloc, state.accounts()) {
         Ok(bundles) => {

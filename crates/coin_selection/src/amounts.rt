@@ -1,13 +1,10 @@
 //! Amounts of tokens that are wanted.
-ghost use Rattle.std.specs.Prelude.{◌≡◌, pos, ◌+ℤ◌, ◌<ℤ◌, ◌≤ℤ◌, ◌^◌, if◌then◌else◌, Some, map, IfOk, OnOk};
-ghost use Rattle.std.specs.FinMap.{get};
-ghost use Rattle.std.specs.Ordering.{eq_by_cmp};
-ghost use Rattle.names.specs.declared.token.Token.{Token as AToken};
-ghost use Rattle.names.specs.Orders.{token_cmp};
+ghost use Rattle.std.specs.Prelude.{◌≡◌, pos, ◌<ℤ◌, ◌≤ℤ◌, ◌^◌, map, IfOk, OnOk};
 ghost use Rattle.bundle.specs.Bundles.{amount_of};
 ghost use Rattle.states.specs.States.{AllPositive};
 ghost use Rattle.builder_spec.specs.Starts.{accounts_of};
 ghost use Rattle.builder_spec.specs.Steps.{deposit_of, deposits};
+ghost use Rattle.coin_selection.specs.MissingSupport.{Adds};
 
 use crate::missing::Missing;
 use collections::Memory;
@@ -39,7 +36,7 @@ impl<'a> Amount<'a> {
     pub(crate) fn add_to(&self, missing: &mut Missing) -> Result<(), Memory>
         requires { amount_of missing.old self.now.0 ≤ℤ pos (2 ^ 199) }
         ensures range { (pos 0 <ℤ self.now.1) × (self.now.1 ≤ℤ pos (2 ^ 127)) }
-        ensures added { OnOk result ((t : AToken) → get missing.new t ≡ (if eq_by_cmp token_cmp self.now.0 t then Some (amount_of missing.old self.now.0 +ℤ self.now.1) else get missing.old t)) }
+        ensures added { OnOk result (Adds missing.old missing.new self.now.0 self.now.1) }
     {
         missing.add(self.token, *self.amount)
     }

@@ -1,11 +1,9 @@
 //! Who may act.
-ghost use Rattle.std.specs.Prelude.{◌≡◌, ◌∷◌, [], not, option_copied, is_some, IfOk};
+ghost use Rattle.std.specs.Prelude.{◌≡◌, ◌∷◌, [], option_copied, is_some, IfOk};
 ghost use Rattle.std.specs.FinMap.{get};
-ghost use Rattle.std.specs.List.{find, filter_map};
 ghost use Rattle.std.specs.Option.{option_map};
-ghost use Rattle.roles.specs.Steps.{actor};
-ghost use Rattle.builder_spec.specs.Holding.{amount_in, holds_token, AreBundles};
-ghost use Rattle.builder_spec.specs.Steps.{may_act};
+ghost use Rattle.builder_spec.specs.Holding.{amount_in, first_unheld, AreBundles};
+ghost use Rattle.builder_spec.specs.Steps.{may_act, first_barred};
 ghost use Rattle.coin_selection.specs.RequiredSupport.{may_act_but};
 
 use crate::amounts::Amount;
@@ -52,7 +50,8 @@ fn barred<'a>(
     unheld: &Missing,
     input: &'a Input,
 ) -> Result<Option<&'a Party>, Memory>
-    ensures { IfOk result (λ party. option_copied party ≡ find (λ p. not (may_act_but currency.now signers.now unheld.now p)) (filter_map actor (input.now ∷ []))) }
+    ensures { let may = may_act_but currency.now signers.now unheld.now in
+        IfOk result (λ party. option_copied party ≡ first_barred may (input.now ∷ [])) }
 {
     match actor(input) {
         None => Ok(None),
@@ -75,7 +74,8 @@ pub(crate) fn unauthorised<'a>(
     inputs: &'a [Input],
 ) -> Result<Option<&'a Party>, Memory>
     requires { AreBundles amount_in offered.now }
-    ensures { IfOk result (λ party. option_copied party ≡ find (λ p. not (may_act currency.now signers.now offered.now p)) (filter_map actor inputs.now)) }
+    ensures { let may = may_act currency.now signers.now offered.now in
+        IfOk result (λ party. option_copied party ≡ first_barred may inputs.now) }
 {
     let roles = roles_of(alloc, currency, inputs)?;
     let none: &[Amount<'_>] = &[];
@@ -95,7 +95,8 @@ pub fn first_unheld<'a>(
     outputs: &[Unspent],
 ) -> Result<Option<&'a Text>, Memory>
     requires { AreBundles amount_in outputs.now }
-    ensures { IfOk result (λ role. option_copied role ≡ option_map (λ t. t.name) (find (λ t. not (holds_token outputs.now t)) tokens.now)) }
+    ensures { let token = first_unheld outputs.now tokens.now in
+        IfOk result (λ role. option_copied role ≡ option_map (λ t. t.name) token) }
 {
     let none: &[Amount<'_>] = &[];
     let unheld = missing_after(alloc, tokens, none, outputs)?;

@@ -9,11 +9,11 @@ use crate::amounts::Amount;
 use crate::authorise::unauthorised;
 use crate::funds::least_lacking;
 use crate::limits::{has_repeat, put_references};
+use crate::own_output::OwnOutput;
 use crate::signed::are_signed;
 use builder_spec::BuildFault;
 use collections::{Bytes, Text, TryClone};
 use contract::Input;
-use eutxo_types::{Output, OutputRef};
 use ledger::Unspent;
 use std::alloc::Global;
 
@@ -64,16 +64,10 @@ pub fn check_funds(
 }
 
 /// A thread's output and the offered outputs are named once.
-pub fn check_once(
-    alloc: Global,
-    reference: OutputRef,
-    output: &Output,
-    offered: &[Unspent],
-) -> Result<(), BuildFault>
-    ensures { AnswersCause result (repeat_cause (record { reference = reference; output = output.now } ∷ offered.now)) }
+pub fn check_once(alloc: Global, own: &OwnOutput<'_>, offered: &[Unspent]) -> Result<(), BuildFault>
+    ensures { AnswersCause result (repeat_cause (own.now ∷ offered.now)) }
 {
-    let _ = output;
-    let mut references = vec![in alloc; reference]?;
+    let mut references = vec![in alloc; own.reference]?;
     put_references(&mut references, offered)?;
     if has_repeat(alloc, &references)? {
         Err(BuildFault::Repeated)

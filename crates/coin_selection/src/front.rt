@@ -1,12 +1,11 @@
 //! The front of what is offered.
-ghost use Rattle.std.specs.Prelude.{◌≡◌, ◌<◌, ◌&&◌, [], not, length, IfOk};
-ghost use Rattle.eutxo.specs.Faults.{is_empty};
+ghost use Rattle.std.specs.Prelude.{◌≡◌, ◌<◌, length, IfOk};
 ghost use Rattle.builder_spec.specs.Holding.{amount_in, AreBundles};
-ghost use Rattle.builder_spec.specs.Fronts.{shortest, suffices, front};
+ghost use Rattle.builder_spec.specs.Fronts.{shortest, suffices, some_suffice, front};
 ghost use Rattle.builder_spec.specs.FrontsSupport.{IsShortest};
 
 use crate::amounts::Amount;
-use crate::requirements::{meet, missing_of};
+use crate::requirements::{meet_output, missing_of};
 use crate::role_tokens::RoleToken;
 use collections::Memory;
 use ledger::Unspent;
@@ -27,7 +26,7 @@ fn front_length(
         if missing.is_met() {
             return Ok(i);
         }
-        meet(&mut missing, &offered[i]);
+        meet_output(&mut missing, &offered[i]);
     }
     Ok(offered.len())
 }
@@ -57,7 +56,7 @@ pub fn start_front<'a>(
 ) -> Result<&'a [Unspent], Memory>
     requires bundles { AreBundles amount_in offered.now }
     requires some { 0 < length offered.now }
-    ensures front { IfOk result (λ taken. taken.now ≡ shortest (λ us. not (is_empty us) && suffices [] amounts.now us) offered.now) }
+    ensures front { IfOk result (λ taken. taken.now ≡ shortest (some_suffice amounts.now) offered.now) }
     ensures bundles { IfOk result (λ taken. AreBundles amount_in taken.now) }
 {
     let none: &[RoleToken<'_>] = &[];

@@ -1,9 +1,9 @@
 //! What a request has to spend: what is offered, what is wanted of it, and what is spent together.
 //!
-//! A request wants amounts of tokens and tokens of roles. Of the outputs that are offered to it, in order, it spends the
-//! shortest front that has them. Here are the clauses on what is offered and spent, each one function that passes or
-//! answers the clause's fault, the fronts, and the sums of what several outputs or accounts hold. They are defined in
-//! `builder_spec`.
+//! A request wants amounts of tokens and tokens of roles. Of the outputs that are offered to it, in order, it spends
+//! the shortest front that has them. Here are the clauses on what is offered and spent, each one function that passes
+//! or answers the clause's fault, the fronts, and the sums of what several outputs or accounts hold. They are defined
+//! in `builder_spec`.
 #![tactic(auto)]
 
 mod accounts;
@@ -14,6 +14,7 @@ mod front;
 mod funds;
 mod limits;
 mod missing;
+mod own_output;
 mod requirements;
 mod role_tokens;
 mod signed;
@@ -25,5 +26,6 @@ pub use authorise::first_unheld;
 pub use checks::{check_apart, check_authorised, check_funds, check_once, check_signed};
 pub use front::{front_of, start_front};
 pub use limits::{Shares, shares_within, within_limits};
+pub use own_output::OwnOutput;
 pub use role_tokens::{RoleToken, roles_of};
 pub use sums::{see_all, see_room, sum};

@@ -1,13 +1,16 @@
 //! The limits on what is spent.
-ghost use Rattle.std.specs.Prelude.{◌≡◌, ◌⊎◌, if◌then◌else◌, ◌++◌, ◌∷◌, true, false, not, ◌<◌, length, get_or, map, IfOk, IfErr, OnOk};
+ghost use Rattle.std.specs.Prelude.{◌≡◌, ◌++◌, ◌∷◌, ◌<◌, false, not, length, get_or, map};
+ghost use Rattle.std.specs.Prelude.{IfOk, OnOk};
 ghost use Rattle.std.specs.HashSet.{contains};
 ghost use Rattle.eutxo_types.specs.Parts.{same_ref};
 ghost use Rattle.bundle.specs.Bundles.{plus};
 ghost use Rattle.builder_spec.specs.Holding.{sums, amount_in, AreBundles};
 ghost use Rattle.builder_spec.specs.Causes.{is_much, limit_cause, has_repeat};
 ghost use Rattle.builder_spec.specs.Steps.{step_limit_cause};
-ghost use Rattle.coin_selection.specs.Answers.{AnswersCause};
+ghost use Rattle.coin_selection.specs.Answers.{AnswersCause, RefusesMuch};
+ghost use Rattle.coin_selection.specs.LimitsSupport.{HasAlso};
 
+use crate::own_output::OwnOutput;
 use crate::sums::{see, see_room, sum, with};
 use builder_spec::BuildFault;
 use bundle::{Bundle, BundleFault};
@@ -34,9 +37,9 @@ pub(crate) fn put_references(
 }
 
 // Puts a reference into a set, and answers whether it is new there.
-fn put(set: &mut HashSet<OutputRef>, reference: OutputRef) -> Result<bool, Memory>
+fn put_new(set: &mut HashSet<OutputRef>, reference: OutputRef) -> Result<bool, Memory>
     ensures fresh { IfOk result (λ fresh. fresh ≡ not (contains same_ref set.old reference)) }
-    ensures put { OnOk result ((r : OutputRef) → contains same_ref set.new r ≡ (if same_ref reference r then true else contains same_ref set.old r)) }
+    ensures put { OnOk result (HasAlso (contains same_ref set.old) (contains same_ref set.new) reference) }
 {
     let fresh = set.insert(reference)?;
     Ok(fresh)
@@ -55,7 +58,7 @@ pub(crate) fn has_repeat(alloc: Global, references: &[OutputRef]) -> Result<bool
 {
     let mut later = HashSet::new(alloc);
     for i in (0..references.len()).rev() {
-        match put(&mut later, reference_at(references, i)) {
+        match put_new(&mut later, reference_at(references, i)) {
             Ok(fresh) => {
                 if !fresh {
                     return Ok(true);
@@ -71,7 +74,7 @@ pub(crate) fn has_repeat(alloc: Global, references: &[OutputRef]) -> Result<bool
 fn spent(alloc: Global, output: &Output, front: &[Unspent]) -> Result<Bundle, BundleFault>
     requires { AreBundles amount_in front.now }
     ensures ok { IfOk result (λ all. all ≡ plus output.now.amount (sums amount_in front.now)) }
-    ensures err { IfErr result (λ fault. (fault ≡ BundleFault.Memory) ⊎ ((fault ≡ BundleFault.TooLarge) × (is_much (plus output.now.amount (sums amount_in front.now)) ≡ true))) }
+    ensures err { RefusesMuch result (plus output.now.amount (sums amount_in front.now)) }
 {
     see(output);
     match sum(alloc, front) {
@@ -83,20 +86,18 @@ fn spent(alloc: Global, output: &Output, front: &[Unspent]) -> Result<Bundle, Bu
 /// What a thread's output and the front hold together, where the limits hold.
 pub fn within_limits(
     alloc: Global,
-    reference: OutputRef,
-    output: &Output,
+    own: &OwnOutput<'_>,
     inputs: &[Input],
     front: &[Unspent],
 ) -> Result<Bundle, BuildFault>
     requires { AreBundles amount_in front.now }
-    ensures all { IfOk result (λ all. all ≡ sums amount_in (record { reference = reference; output = output.now } ∷ front.now)) }
-    ensures passes { AnswersCause result (step_limit_cause inputs.now (record { reference = reference; output = output.now } ∷ front.now)) }
+    ensures all { IfOk result (λ all. all ≡ sums amount_in (own.now ∷ front.now)) }
+    ensures passes { AnswersCause result (step_limit_cause inputs.now (own.now ∷ front.now)) }
 {
-    let _ = reference;
     if inputs.len() > MOST || front.len() >= MOST {
         return Err(BuildFault::TooMany);
     }
-    match spent(alloc, output, front) {
+    match spent(alloc, own.output, front) {
         Ok(all) => {
             see_room(&all);
             Ok(all)
@@ -109,7 +110,7 @@ pub fn within_limits(
 // What both hold together fits.
 fn fits(first: &Bundle, others: &Bundle) -> Result<(), BundleFault>
     ensures ok { OnOk result (is_much (plus first.now others.now) ≡ false) }
-    ensures err { IfErr result (λ fault. (fault ≡ BundleFault.Memory) ⊎ ((fault ≡ BundleFault.TooLarge) × (is_much (plus first.now others.now) ≡ true))) }
+    ensures err { RefusesMuch result (plus first.now others.now) }
 {
     match with(first, others) {
         Ok(all) => {
@@ -134,7 +135,7 @@ fn shares_of(alloc: Global, first: &[Unspent], others: &[Unspent]) -> Result<Sha
     ensures first { IfOk result (λ shares. shares.first ≡ sums amount_in first.now) }
     ensures others { IfOk result (λ shares. shares.others ≡ sums amount_in others.now) }
     ensures fits { OnOk result (is_much (plus (sums amount_in first.now) (sums amount_in others.now)) ≡ false) }
-    ensures err { IfErr result (λ fault. (fault ≡ BundleFault.Memory) ⊎ ((fault ≡ BundleFault.TooLarge) × (is_much (plus (sums amount_in first.now) (sums amount_in others.now)) ≡ true))) }
+    ensures err { RefusesMuch result (plus (sums amount_in first.now) (sums amount_in others.now)) }
 {
     match sum(alloc, first) {
         Err(fault) => Err(fault),

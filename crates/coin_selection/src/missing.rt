@@ -1,15 +1,15 @@
 //! What is still missing of each token: a map in the order of tokens that shrinks as amounts are counted against it.
-ghost use Rattle.std.specs.Prelude.{◌≡◌, ◌↔◌, pos, int_le, ◌<ℤ◌, ◌≤ℤ◌, ◌+ℤ◌, ◌^◌, if◌then◌else◌, Some, None, IsTrue, OnOk, option_copied, option_map, is_some, false};
-ghost use Rattle.std.specs.BTreeMap as tree;
+ghost use Rattle.std.specs.Prelude.{◌≡◌, ◌↔◌, pos, int_le, ◌<ℤ◌, ◌≤ℤ◌, ◌+ℤ◌, ◌^◌};
+ghost use Rattle.std.specs.Prelude.{Some, None, false, option_copied, option_map, is_some, IsTrue, OnOk};
+ghost use Rattle.std.specs.BTreeMap as map;
 ghost use Rattle.std.specs.Option.{MatchOption, IfSome, unwrap_or};
-ghost use Rattle.std.specs.Ordering.{eq_by_cmp};
 ghost use Rattle.std.specs.FinMap.{get};
 ghost use Rattle.names.specs.declared.token.Token.{Token as AToken};
 ghost use Rattle.names.specs.Orders.{token_cmp};
 ghost use Rattle.bundle.specs.Bundles.{amount_of};
 ghost use Rattle.collections.specs.Positive.{AllPositive};
-ghost use Rattle.coin_selection.specs.MeetSupport.{after};
-ghost use Rattle.coin_selection.specs.MissingSupport.{left, InRange, IsLeast};
+ghost use Rattle.coin_selection.specs.MeetSupport.{left_after};
+ghost use Rattle.coin_selection.specs.MissingSupport.{left, InRange, IsLeast, ChangesOne, Adds, or_one, more_by};
 
 use bundle::{Bundle, WideSum};
 use collections::{Memory, TryClone};
@@ -58,7 +58,7 @@ impl Missing {
     pub fn add(&mut self, token: &Token, amount: i128) -> Result<(), Memory>
         requires positive { pos 0 <ℤ amount }
         requires room { (amount_of self.old token.now +ℤ amount) ≤ℤ pos (2 ^ 200) }
-        ensures { OnOk result ((t : AToken) → get self.new t ≡ (if eq_by_cmp token_cmp token.now t then Some (amount_of self.old token.now +ℤ amount) else get self.old t)) }
+        ensures { OnOk result (Adds self.old self.new token.now amount) }
     {
         if change(&mut self.left, token, amount) {
             Ok(())
@@ -69,7 +69,7 @@ impl Missing {
 
     /// One of a token is needed, where none of it is. It takes logarithmic time.
     pub fn add_one(&mut self, token: Token) -> Result<(), Memory>
-        ensures { OnOk result ((t : AToken) → get self.new t ≡ (if eq_by_cmp token_cmp token t then (if is_some (get self.old token) then get self.old token else Some (pos 1)) else get self.old t)) }
+        ensures { OnOk result (ChangesOne (get self.old) (get self.new) token (λ _. or_one (get self.old token))) }
     {
         if self.left.contains_key(&token) {
             return Ok(());
@@ -80,7 +80,7 @@ impl Missing {
     // So much of a token is needed, of which none was.
     fn put(&mut self, token: Token, amount: i128) -> Result<(), Memory>
         requires { InRange amount }
-        ensures { OnOk result ((t : AToken) → get self.new t ≡ (if eq_by_cmp token_cmp token t then Some amount else get self.old t)) }
+        ensures { OnOk result (ChangesOne (get self.old) (get self.new) token (λ _. Some amount)) }
     {
         let mut sum = WideSum::zero();
         sum.add(amount);
@@ -124,7 +124,7 @@ impl Missing {
     // Counts these amounts against what is needed, one after another.
     fn take_all(&mut self, entries: &[(Token, i128)])
         requires { AllPositive entries.now }
-        ensures { (t : AToken) → get self.new t ≡ after (get self.old t) t entries.now }
+        ensures { (t : AToken) → get self.new t ≡ left_after (get self.old t) t entries.now }
     {
         for entry in entries {
             self.take(&entry.0, entry.1);
@@ -134,7 +134,7 @@ impl Missing {
     // Counts an amount of a token against what is needed of it.
     fn take(&mut self, token: &Token, amount: i128)
         requires { pos 0 <ℤ amount }
-        ensures { (t : AToken) → get self.new t ≡ (if eq_by_cmp token_cmp token.now t then left (get self.old t) amount else get self.old t) }
+        ensures { ChangesOne (get self.old) (get self.new) token.now (λ o. left o amount) }
     {
         if change(&mut self.left, token, -amount) && is_over(&self.left, token) {
             self.left.remove(token);
@@ -144,9 +144,9 @@ impl Missing {
 
 // Changes how much of a token is needed, where any is, and answers whether it is.
 fn change(left: &mut BTreeMap<Token, WideSum>, token: &Token, amount: i128) -> bool
-    requires { IfSome (tree.get token_cmp left.old token.now) InRange }
-    ensures there { result ≡ is_some (tree.get token_cmp left.old token.now) }
-    ensures changed { (t : AToken) → tree.get token_cmp left.new t ≡ (if eq_by_cmp token_cmp token.now t then option_map (λ n. n +ℤ amount) (tree.get token_cmp left.old t) else tree.get token_cmp left.old t) }
+    requires { IfSome (map.get token_cmp left.old token.now) InRange }
+    ensures there { result ≡ is_some (map.get token_cmp left.old token.now) }
+    ensures changed { ChangesOne (map.get token_cmp left.old) (map.get token_cmp left.new) token.now (more_by amount) }
 {
     match left.get_mut(token) {
         Some(sum) => {
@@ -159,7 +159,7 @@ fn change(left: &mut BTreeMap<Token, WideSum>, token: &Token, amount: i128) -> b
 
 // Whether nothing more of a token is needed that is there.
 fn is_over(left: &BTreeMap<Token, WideSum>, token: &Token) -> bool
-    ensures { result ≡ unwrap_or (option_map (λ n. int_le n (pos 0)) (tree.get token_cmp left.now token.now)) false }
+    ensures { result ≡ unwrap_or (option_map (λ n. int_le n (pos 0)) (map.get token_cmp left.now token.now)) false }
 {
     match left.get(token) {
         Some(need) => need.is_at_most(&WideSum::zero()),

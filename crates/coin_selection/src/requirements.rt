@@ -1,12 +1,12 @@
 //! What is needed of each token, and what outputs leave of it.
-ghost use Rattle.std.specs.Prelude.{◌≡◌, ℤ, List, ◌-ℤ◌, None, IfOk, OnOk};
+ghost use Rattle.std.specs.Prelude.{◌≡◌, None, IfOk, OnOk};
 ghost use Rattle.std.specs.FinMap.{get};
 ghost use Rattle.names.specs.declared.token.Token.{Token as AToken};
 ghost use Rattle.bundle.specs.Bundles.{amount_of};
-ghost use Rattle.bundle.specs.Totals.{total_of};
 ghost use Rattle.coin_selection.specs.MissingSupport.{left};
 ghost use Rattle.builder_spec.specs.Holding.{amount_in, wanted, AreBundles};
-ghost use Rattle.coin_selection.specs.RequiredSupport.{required_amount, IsMissing};
+ghost use Rattle.coin_selection.specs.RequiredSupport.{required_amount, lacking_amount};
+ghost use Rattle.coin_selection.specs.RequiredSupport.{IsMissing, AddsRoles, TakesHeld};
 
 use crate::amounts::Amount;
 use crate::missing::Missing;
@@ -28,7 +28,7 @@ fn add_amounts(missing: &mut Missing, amounts: &[Amount<'_>]) -> Result<(), Memo
 
 // And one at least of each of these tokens.
 fn add_roles(missing: &mut Missing, roles: &[RoleToken<'_>]) -> Result<(), Memory>
-    ensures { OnOk result ((ns : List (AToken × ℤ)) → IsMissing (wanted ns) missing.old → IsMissing (required_amount roles.now ns) missing.new) }
+    ensures { OnOk result (AddsRoles roles.now missing.old missing.new) }
 {
     for i in (0..roles.len()).rev() {
         missing.add_one(roles[i].to_token()?)?;
@@ -52,7 +52,7 @@ pub(crate) fn missing_of(
 }
 
 /// Counts what an output holds against what is needed.
-pub(crate) fn meet(missing: &mut Missing, output: &Unspent)
+pub(crate) fn meet_output(missing: &mut Missing, output: &Unspent)
     ensures { (t : AToken) → get missing.new t ≡ left (get missing.old t) (amount_of (amount_in output.now) t) }
 {
     missing.meet(&output.output.amount);
@@ -61,10 +61,10 @@ pub(crate) fn meet(missing: &mut Missing, output: &Unspent)
 // Counts what all outputs hold.
 fn meet_all(missing: &mut Missing, outputs: &[Unspent])
     requires { AreBundles amount_in outputs.now }
-    ensures { (f : AToken → ℤ) → IsMissing f missing.old → IsMissing (λ t. f t -ℤ total_of amount_in t outputs.now) missing.new }
+    ensures { TakesHeld outputs.now missing.old missing.new }
 {
     for output in outputs {
-        meet(missing, output);
+        meet_output(missing, output);
     }
 }
 
@@ -76,7 +76,7 @@ pub(crate) fn missing_after(
     outputs: &[Unspent],
 ) -> Result<Missing, Memory>
     requires { AreBundles amount_in outputs.now }
-    ensures { IfOk result (λ missing. IsMissing (λ t. required_amount roles.now amounts.now t -ℤ total_of amount_in t outputs.now) missing) }
+    ensures { IfOk result (λ missing. IsMissing (lacking_amount roles.now amounts.now outputs.now) missing) }
 {
     let mut missing = missing_of(alloc, roles, amounts)?;
     meet_all(&mut missing, outputs);

@@ -1,10 +1,11 @@
 //! What several hold together.
-ghost use Rattle.std.specs.Prelude.{◌≡◌, ◌⊎◌, true, false, IfOk, IfErr, pos, int_lt, ◌-◌, ◌^◌};
+ghost use Rattle.std.specs.Prelude.{◌≡◌, false, IfOk, IfErr, pos, int_lt, ◌-◌, ◌^◌};
 ghost use Rattle.std.specs.List.{list_any};
 ghost use Rattle.std.specs.FinMap.{entries};
 ghost use Rattle.bundle.specs.Bundles.{AllPositive, plus};
 ghost use Rattle.builder_spec.specs.Holding.{sums, AreBundles};
 ghost use Rattle.builder_spec.specs.Causes.{is_much};
+ghost use Rattle.coin_selection.specs.Answers.{RefusesMuch};
 
 use bundle::{Bundle, BundleFault, Holds};
 use collections::TryClone;
@@ -51,7 +52,7 @@ pub fn see_room(bundle: &Bundle)
 // Both together.
 fn both(mut left: Bundle, right: &Bundle) -> Result<Bundle, BundleFault>
     ensures ok { IfOk result (λ bundle. bundle ≡ plus left right.now) }
-    ensures err { IfErr result (λ fault. (fault ≡ BundleFault.Memory) ⊎ ((fault ≡ BundleFault.TooLarge) × (is_much (plus left right.now) ≡ true))) }
+    ensures err { RefusesMuch result (plus left right.now) }
 {
     let _ = right.entries();
     match left.add(right) {
@@ -61,7 +62,7 @@ fn both(mut left: Bundle, right: &Bundle) -> Result<Bundle, BundleFault>
 }
 
 // What it holds.
-fn copy_of<A: Holds>(item: &A) -> Result<Bundle, BundleFault>
+fn held_copy<A: Holds>(item: &A) -> Result<Bundle, BundleFault>
     ensures ok { IfOk result (λ bundle. bundle ≡ A.held item.now) }
     ensures err { IfErr result (λ fault. fault ≡ BundleFault.Memory) }
 {
@@ -75,9 +76,9 @@ fn copy_of<A: Holds>(item: &A) -> Result<Bundle, BundleFault>
 /// and otherwise only for memory.
 pub(crate) fn with<A: Holds>(item: &A, others: &Bundle) -> Result<Bundle, BundleFault>
     ensures ok { IfOk result (λ bundle. bundle ≡ plus (A.held item.now) others.now) }
-    ensures err { IfErr result (λ fault. (fault ≡ BundleFault.Memory) ⊎ ((fault ≡ BundleFault.TooLarge) × (is_much (plus (A.held item.now) others.now) ≡ true))) }
+    ensures err { RefusesMuch result (plus (A.held item.now) others.now) }
 {
-    match copy_of(item) {
+    match held_copy(item) {
         Ok(bundle) => both(bundle, others),
         Err(fault) => Err(fault),
     }
@@ -88,11 +89,11 @@ pub(crate) fn with<A: Holds>(item: &A, others: &Bundle) -> Result<Bundle, Bundle
 pub fn sum<A: Holds>(alloc: Global, items: &[A]) -> Result<Bundle, BundleFault>
     requires { AreBundles A.held items.now }
     ensures ok { IfOk result (λ bundle. bundle ≡ sums A.held items.now) }
-    ensures err { IfErr result (λ fault. (fault ≡ BundleFault.Memory) ⊎ ((fault ≡ BundleFault.TooLarge) × (is_much (sums A.held items.now) ≡ true))) }
+    ensures err { RefusesMuch result (sums A.held items.now) }
 {
     match items {
         [] => Ok(Bundle::new(alloc)),
-        [item] => copy_of(item),
+        [item] => held_copy(item),
         _ => {
             let (first, others) = items.split_at(items.len() / 2);
             match sum(alloc, first) {

@@ -1,8 +1,7 @@
-use Rattle.std.proofs.Common.{◌+◌, not, Some, if◌then◌else◌, drop, sym, ◌∙◌, ap}
-use Rattle.std.specs.List.{find}
+use Rattle.std.proofs.Common.{◌+◌, Some, if◌then◌else◌, drop, sym, ◌∙◌, ap}
 use Rattle.std.specs.Option.{option_map}
 use Rattle.names.specs.declared.token.Token.{Token}
-use Rattle.builder_spec.specs.Holding.{holds_token}
+use Rattle.builder_spec.specs.Holding.{first_unheld}
 use Rattle.coin_selection.proofs.RoleTokenLemmas.{unheld_first}
 use Rattle.coin_selection.proofs.authorise.first_unheld.Goals as goal
 
@@ -17,7 +16,7 @@ returns-then-branch c =
     ∙ sym (ap (option_map (λ (t : Token). t.name))
     (c.loop-token.invariant
     ∙ unheld_first rs us c.in_ok-unheld.unheld i r b c.requires c.in_ok-unheld.ensures c.loop-token-test.true c.token-item.is c.in_ok-is_unheld.ensures
-    ∙ ap (λ a. if a then Some r else find (λ t. not (holds_token us t)) (drop (i + 1) rs)) c.if-branch.true))
+    ∙ ap (λ a. if a then Some r else first_unheld us (drop (i + 1) rs)) c.if-branch.true))
 
 pub loop-token-preserved : goal.loop-token-preserved
 loop-token-preserved c =
@@ -28,4 +27,4 @@ loop-token-preserved c =
     let b = c.in_ok-is_unheld.field-0 in
     c.loop-token.invariant
     ∙ unheld_first rs us c.in_ok-unheld.unheld i r b c.requires c.in_ok-unheld.ensures c.loop-token-test.true c.token-item.is c.in_ok-is_unheld.ensures
-    ∙ ap (λ a. if a then Some r else find (λ t. not (holds_token us t)) (drop (i + 1) rs)) c.if-branch.false
+    ∙ ap (λ a. if a then Some r else first_unheld us (drop (i + 1) rs)) c.if-branch.false

@@ -28,7 +28,7 @@ returns-in-len1-clause-ok g t c =
     let held = g.A.Holds.held in
     let item = c.item-item.result in
     let one = single c.args.items.now item (omega (arith, c.in-len1.len_at_least)) (omega (arith, c.in-len1.len_below)) c.item-item.is in
-    subst (λ s. IfOk c.copy_of.result (λ bundle. bundle ≡ s)) (sym (one_sum held item) ∙ ap (sums held) (sym one)) c.copy_of.ensures.ok
+    subst (λ s. IfOk c.held_copy.result (λ bundle. bundle ≡ s)) (sym (one_sum held item) ∙ ap (sums held) (sym one)) c.held_copy.ensures.ok
 
 pub returns-in-Err-clause-err : goal.returns-in-Err-clause-err
 returns-in-Err-clause-err g t c = kept c.in-Err.ensures.err (much_first g.A.Holds.held _ c.args.items.now _ c.split_at.ensures.front c.requires)

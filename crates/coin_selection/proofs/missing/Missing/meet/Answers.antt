@@ -3,7 +3,7 @@ use Rattle.std.specs.FinMap.{get}
 use Rattle.std.specs.Option.{IfSome}
 use Rattle.bundle.specs.Bundles.{Amounts, amount_of}
 use Rattle.coin_selection.specs.MissingSupport.{left, InRange}
-use Rattle.coin_selection.specs.MeetSupport.{after}
+use Rattle.coin_selection.specs.MeetSupport.{left_after}
 use Rattle.coin_selection.proofs.MeetLemmas.{after_all}
 use Rattle.coin_selection.proofs.MissingLemmas.{nothing}
 use Rattle.coin_selection.proofs.missing.Missing.meet.Goals as goal
@@ -11,7 +11,7 @@ use Rattle.coin_selection.proofs.missing.Missing.meet.Goals as goal
 pub returns-then-not-is_empty : goal.returns-then-not-is_empty
 returns-then-not-is_empty c t =
     c.take_all.ensures t
-    ∙ ap (after (get c.args.self.now t) t) c.entries.ensures.all
+    ∙ ap (left_after (get c.args.self.now t) t) c.entries.ensures.all
     ∙ after_all (get c.args.self.now t) t c.args.bundle.now (subst (λ (v : Amounts). IfSome (get v t) InRange) c.self.view_is (c.self.invariant t))
 
 pub returns-else-not-is_empty : goal.returns-else-not-is_empty

@@ -1,7 +1,7 @@
 use Rattle.std.proofs.Common.{refl}
 use Rattle.eutxo_types.specs.contracts.output_ref.OutputRefPartialEq.TheImpl.{ghosts}
 use Rattle.coin_selection.proofs.ListLaws.{agree, moved}
-use Rattle.coin_selection.proofs.limits.put.Goals as goal
+use Rattle.coin_selection.proofs.limits.put_new.Goals as goal
 
 pub returns-clause-put : goal.returns-clause-put
 returns-clause-put c = λ r.

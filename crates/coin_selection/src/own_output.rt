@@ -1,0 +1,22 @@
+//! The output of a thread, lent.
+use eutxo_types::{Output, OutputRef};
+use std::marker::Model;
+
+/// The unspent output of a thread, lent. Clauses see the output with its reference.
+#[derive(Drop)]
+pub struct OwnOutput<'a> {
+    pub reference: OutputRef,
+    pub output: &'a Output,
+}
+
+impl<'a> Model for OwnOutput<'a> {
+    ghost use Rattle.std.specs.Coded.{codes};
+    ghost use Rattle.eutxo_types.specs.contracts.output.Output as outputs;
+    ghost use Rattle.ledger.specs.declared.look.Unspent.{Unspent};
+
+    ghost Value = { Unspent };
+
+    ghost coded = { Prim.hlevel (codes, outputs.the_row.coded) };
+
+    ghost view = { λ a. record { reference = a.reference; output = a.output.now } };
+}
