@@ -5,7 +5,6 @@ use Rattle.std.specs.List.{list_all, find, filter_map}
 use Rattle.std.specs.Option.{option_map}
 use Rattle.std.specs.FinMap.{entries}
 use Rattle.std.specs.Ordering.{eq_by_cmp}
-use Rattle.collections.proofs.SameLaws.{same_by_decides}
 use Rattle.names.specs.declared.party.Party.{Party}
 use Rattle.names.specs.declared.payee.Payee.{Payee}
 use Rattle.names.specs.declared.payee.Payee.TheVariants as to
@@ -22,29 +21,28 @@ use Rattle.semantics.specs.Walk.{Standing, answer_of}
 use Rattle.semantics.specs.Laws.{EndsQuiet}
 use Rattle.semantics.specs.Money.{deposited, taken_out, paid_out, MoneyIsKept}
 use Rattle.semantics.specs.Naturals.{AreNatural, PaymentsAreNatural}
-use Rattle.bundle.specs.contracts.bundle.Bundle as bundles
 use Rattle.bundle.specs.Bundles.{Amounts, amount_of, covers, AllPositive}
 use Rattle.bundle.specs.Totals.{total_of}
 use Rattle.bundle.proofs.CoverLaws.{covers_each_token, each_token_is_covered}
-use Rattle.machine.specs.declared.datum.Datum.{Datum}
 use Rattle.eutxo_types.specs.declared.output.Output.{Output}
-use Rattle.eutxo_types.specs.Parts.{same_bytes}
 use Rattle.eutxo.specs.Faults.{is_empty}
 use Rattle.roles.specs.Sums.{sums_of}
-use Rattle.roles.specs.Steps.{same_amounts, role_token, actor}
-use Rattle.roles.specs.Terms.{terms_of}
-use Rattle.ledger.specs.declared.look.ThreadOutput.{ThreadOutput}
+use Rattle.roles.specs.Steps.{role_token, actor}
+use Rattle.roles.specs.declared.published.Published.{Published}
 use Rattle.ledger.specs.declared.look.Unspent.{Unspent}
 use Rattle.builder_spec.specs.Requests.{StepRequest}
 use Rattle.builder_spec.specs.Holding.{sums, amount_in, holds_token, wanted, least_lacking, AreBundles}
 use Rattle.builder_spec.specs.Fronts.{shortest, suffices, front}
-use Rattle.builder_spec.specs.Causes.{is_much}
-use Rattle.builder_spec.specs.Steps.{Thread, thread_terms, step_walk, token_of, roles_of, may_act, deposits, own_output, step_outputs_of, is_current, thread_in}
+use Rattle.builder_spec.specs.declared.fault.BuildFault.TheVariants.{NotAuthorised, NoFunds}
+use Rattle.builder_spec.specs.Causes.{is_much, funds_cause}
+use Rattle.builder_spec.specs.Steps.{Thread, thread_terms, step_walk, token_of, roles_of, may_act, deposits, authority_cause, own_output, step_outputs_of}
 use Rattle.builder_spec.specs.Starts.{accounts_of, fresh_state, covers_accounts}
 use Rattle.builder_spec.proofs.HoldingLaws.{amount_of-sums, positive_sums, much_at, much_of, most}
 use Rattle.builder_spec.proofs.SufficesLaws.{and_so, and_true, front_suffices}
 use Rattle.builder_spec.proofs.FrontsLaws.{shortest_passes}
 use Rattle.builder_spec.proofs.FundsLaws.{amount, funded, all_covered, wanted-accounts, amount_of-sums_in}
+use Rattle.builder.specs.FundsSupport.{AreStepFunds}
+use Rattle.builder.proofs.CausesLemmas.{front_is}
 
 not_so : (b : Bool) → (b ≡ true → true ≡ false) → b ≡ false
 not_so true h = absurd (cc (h refl))
@@ -89,9 +87,9 @@ spent_more s d t p f all h k l m n = omega (arith, ints, h, k, l, m, n)
 
 -- what a step starts from: its thread's output holds the sums of its accounts, it succeeds, and its front covers the deposits
 pub record IsFunded (r : StepRequest) (e : Thread) (a : Standing) (us : List Unspent) : Type 0 where
-  pub sums : e.0.output.amount ≡ sums_of e.1.state
+  pub sums : e.shown.output.amount ≡ sums_of e.datum.state
   pub ended : answer_of (step_walk r e) ≡ Ok a
-  pub accounts : states.AllPositive (entries e.1.state.accounts)
+  pub accounts : states.AllPositive (entries e.datum.state.accounts)
   pub covered : is_none (least_lacking (deposits r.inputs) us) ≡ true
   pub bundles : AreBundles amount_in (own_output e ∷ us)
 
@@ -106,14 +104,14 @@ step_covers money quiet natural r e a us f =
 pub step_room : MoneyIsKept → EndsQuiet → PaymentsAreNatural → (r : StepRequest) (e : Thread) (a : Standing) (us : List Unspent) → IsFunded r e a us → is_much (sums amount_in (own_output e ∷ us)) ≡ false → is_much (sums_of a.state) ≡ false
 step_room money quiet natural r e a us f room =
     let w = step_walk r e in
-    let c = (thread_terms e).tree e.1.cont in
+    let c = (thread_terms e).tree e.datum.cont in
     let well : w.end ≡ Ok a = ended_well _ w.end a f.ended in
     room_below (sums amount_in (own_output e ∷ us)) (sums_of a.state) room (λ t k.
-    let all : amount_of (sums amount_in (own_output e ∷ us)) t ≡ states.total_of t e.1.state +ℤ total_of amount_in t us = amount_of-sums amount_in (own_output e ∷ us) t
-    ∙ ap (λ n. n +ℤ total_of amount_in t us) (ap (λ m. amount_of m t) f.sums ∙ amount_of-sums_in (entries e.1.state.accounts) t) in
-    spent_more (states.total_of t e.1.state) (deposited t r.inputs) (states.total_of t a.state) (paid_out t w.payments) (total_of amount_in t us) (amount_of (sums amount_in (own_output e ∷ us)) t)
-    (money t r.interval e.1.state c r.inputs a well)
-    (paid_natural t w.payments (natural r.interval e.1.state c r.inputs f.accounts))
+    let all : amount_of (sums amount_in (own_output e ∷ us)) t ≡ states.total_of t e.datum.state +ℤ total_of amount_in t us = amount_of-sums amount_in (own_output e ∷ us) t
+    ∙ ap (λ n. n +ℤ total_of amount_in t us) (ap (λ m. amount_of m t) f.sums ∙ amount_of-sums_in (entries e.datum.state.accounts) t) in
+    spent_more (states.total_of t e.datum.state) (deposited t r.inputs) (states.total_of t a.state) (paid_out t w.payments) (total_of amount_in t us) (amount_of (sums amount_in (own_output e ∷ us)) t)
+    (money t r.interval e.datum.state c r.inputs a well)
+    (paid_natural t w.payments (natural r.interval e.datum.state c r.inputs f.accounts))
     (funded money quiet natural r e a us f.sums f.ended f.accounts f.covered f.bundles.1 t).covered
     all
     (subst (λ n. most <ℤ n) (amount_of-sums_in (entries a.state.accounts) t) k))
@@ -146,21 +144,19 @@ front_covers f g currency signers us xs h k =
     let some = and_true (list_all (holds_token us) (roles_of currency xs)) (is_none (least_lacking (deposits xs) us)) all (ap is_none (unmapped g _ k)) in
     (and_so (list_all (holds_token (front (roles_of currency xs) (deposits xs) us)) (roles_of currency xs)) _ (front_suffices (roles_of currency xs) (deposits xs) us some)).1
 
-abbrev datum_or : Datum → Option Thread → Datum
-datum_or d None = d
-datum_or d (Some e) = e.1
-
--- the output of a thread that stands holds the sums of its accounts
-pub thread_sums : (t : ThreadOutput) (o : Option (List ℕ × Datum)) (d : Datum) → thread_in t o ≡ Some (t, d) → t.output.amount ≡ sums_of d.state
-thread_sums t None d h = absurd (cc)
-thread_sums t (Some c) d h = by (is_current t c) refl h
-  where
-    by : (b : Bool) → is_current t c ≡ b → cond b (let o : Option Thread = Some (t, c.1) in o) None ≡ Some (t, d) → t.output.amount ≡ sums_of d.state
-    by false e k = absurd (cc)
-    by true e k =
-        let both = and_so (same_bytes c.0 t.published.id) _ e in
-        let last = and_so ((terms_of t.published).has c.1.cont) (same_amounts t.output.amount (sums_of c.1.state)) both.1 in
-        subst (λ (x : Datum). t.output.amount ≡ sums_of x.state) (ap (datum_or d) k) ((same_by_decides bundles.the_row.coded t.output.amount (sums_of c.1.state)).0 last.1)
+-- so what is at hand funds the step
+pub step_funds_are : (r s : StepRequest) (e t : Thread) (p : Published) (roles : List Token) (ns ms : List (Token × ℤ)) (own : Unspent) (taken : List Unspent) (all : Amounts) → s ≡ r → t ≡ e → p ≡ t.shown.published → roles ≡ roles_of p.currency s.inputs → ns ≡ deposits s.inputs → ms ≡ deposits s.inputs →
+    own ≡ own_output e → taken ≡ front roles ns s.offered → authority_cause p.currency s.signers s.offered s.inputs ≡ None → funds_cause ms s.offered ≡ None → all ≡ sums amount_in (own ∷ taken) → AreBundles amount_in taken → AreStepFunds r e (record { all = all; front = taken })
+step_funds_are r s e t p roles ns ms own taken all same k q h w v o f may held is b =
+    let part = front_is r s e t p roles ns taken same k q h w f in
+    let here = f ∙ ap (λ rs. front rs ns s.offered) h ∙ ap (λ xs. front (roles_of p.currency s.inputs) xs s.offered) w in
+    let enough = front_covers NotAuthorised NoFunds p.currency s.signers s.offered s.inputs may (subst (λ xs. funds_cause xs s.offered ≡ None) v held) in
+    record {
+      all = is ∙ ap (λ u. sums amount_in (u ∷ taken)) o ∙ ap (λ us. sums amount_in (own_output e ∷ us)) part;
+      front = part;
+      covered = subst (λ (x : StepRequest). is_none (least_lacking (deposits x.inputs) taken) ≡ true) same (subst (λ us. is_none (least_lacking (deposits s.inputs) us) ≡ true) (sym here) enough);
+      bundles = b;
+    }
 
 -- ---- starts
 

@@ -1,3 +1,4 @@
 pub mod CausesLemmas
 pub mod CopyLemmas
 pub mod CoveredLemmas
+pub mod FinishedLemmas

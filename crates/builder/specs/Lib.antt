@@ -1,1 +1,3 @@
 pub mod CausesSupport
+pub mod FundsSupport
+pub mod OutputsSupport

@@ -5,8 +5,8 @@ ghost use Rattle.builder_spec.specs.Holding.{sums, amount_in};
 ghost use Rattle.builder_spec.specs.Built.{build_answer};
 ghost use Rattle.builder_spec.specs.Laying.{by_key, by_claim, paid_to};
 ghost use Rattle.builder_spec.specs.Claims.{claim_front, hinders_claim, layout_claim};
-ghost use Rattle.coin_selection.specs.Answers.{AnswersCause};
 ghost use Rattle.builder_spec.specs.Requests.{claim_request};
+ghost use Rattle.coin_selection.specs.Answers.{AnswersCause};
 
 use crate::inputs::{copies_of, put_keys};
 use crate::outputs::put_paid;
@@ -18,9 +18,10 @@ use contract::Interval;
 use eutxo_types::Tx;
 use ledger::Unspent;
 use std::alloc::Global;
+use std::marker::Model;
 
-// What is asked for.
-#[derive(Clone, Copy)]
+// What is asked for. Clauses see the request.
+#[derive(Drop)]
 struct ClaimAsked<'a> {
     payouts: &'a [Unspent],
     interval: Interval,
@@ -28,6 +29,19 @@ struct ClaimAsked<'a> {
     offered: &'a [Unspent],
     to: &'a Text,
     change: &'a Text,
+}
+
+impl<'a> Model for ClaimAsked<'a> {
+    ghost use Rattle.std.specs.Coded.{codes};
+    ghost use Rattle.eutxo_types.specs.contracts.output.Output as outputs;
+    ghost use Rattle.builder_spec.specs.Requests.{ClaimRequest, claim_request};
+
+    ghost Value = { ClaimRequest };
+
+    ghost coded = { Prim.hlevel (codes, outputs.the_row.coded) };
+
+    ghost view = { λ a.
+        claim_request a.payouts.now a.interval a.signers.now a.offered.now a.to.now a.change.now };
 }
 
 // What is spent, where nothing hinders the claim.
@@ -38,11 +52,11 @@ struct ClaimFunds<'a> {
 }
 
 // What is spent, or the first clause that fails.
-fn funds_of<'a>(alloc: Global, asked: ClaimAsked<'a>) -> Result<ClaimFunds<'a>, BuildFault>
-    ensures first { IfOk result (λ funds. funds.shares.first ≡ sums amount_in asked.entry.payouts.now) }
-    ensures others { IfOk result (λ funds. funds.shares.others ≡ sums amount_in (claim_front (claim_request asked.entry.payouts.now asked.entry.interval asked.entry.signers.now asked.entry.offered.now asked.entry.to.now asked.entry.change.now))) }
-    ensures front { IfOk result (λ funds. funds.front.now ≡ claim_front (claim_request asked.entry.payouts.now asked.entry.interval asked.entry.signers.now asked.entry.offered.now asked.entry.to.now asked.entry.change.now)) }
-    ensures passes { AnswersCause result (hinders_claim (claim_request asked.entry.payouts.now asked.entry.interval asked.entry.signers.now asked.entry.offered.now asked.entry.to.now asked.entry.change.now)) }
+fn claim_funds<'a>(alloc: Global, asked: &ClaimAsked<'a>) -> Result<ClaimFunds<'a>, BuildFault>
+    ensures first { IfOk result (λ funds. funds.shares.first ≡ sums amount_in asked.now.payouts) }
+    ensures others { IfOk result (λ funds. funds.shares.others ≡ sums amount_in (claim_front asked.now)) }
+    ensures front { IfOk result (λ funds. funds.front.now ≡ claim_front asked.now) }
+    ensures passes { AnswersCause result (hinders_claim asked.now) }
 {
     let payouts = asked.payouts;
     let offered = asked.offered;
@@ -63,13 +77,17 @@ fn funds_of<'a>(alloc: Global, asked: ClaimAsked<'a>) -> Result<ClaimFunds<'a>, 
     }
 }
 
-// The transaction of a claim that nothing hinders.
-fn lay_out(alloc: Global, asked: ClaimAsked<'_>, funds: ClaimFunds<'_>) -> Result<Tx, BuildFault>
-    ensures ok { IfOk result (λ tx. tx ≡ record {
-      inputs = map by_claim asked.entry.payouts.now ++ map by_key funds.entry.front.now;
-      outputs = paid_to asked.entry.to.now funds.entry.shares.first ++ paid_to asked.entry.change.now funds.entry.shares.others;
-      interval = asked.entry.interval;
-      signers = asked.entry.signers.now;
+// The transaction of a claim, from what it spends.
+fn lay_out_claim(
+    alloc: Global,
+    asked: &ClaimAsked<'_>,
+    funds: ClaimFunds<'_>,
+) -> Result<Tx, BuildFault>
+    ensures ok { let shares = funds.entry.shares in IfOk result (λ tx. tx ≡ record {
+      inputs = map by_claim asked.now.payouts ++ map by_key funds.entry.front.now;
+      outputs = paid_to asked.now.to shares.first ++ paid_to asked.now.change shares.others;
+      interval = asked.now.interval;
+      signers = asked.now.signers;
     }) }
     ensures err { IfErr result (λ fault. fault ≡ BuildFault.Memory) }
 {
@@ -119,8 +137,8 @@ pub fn build_claim(
         to,
         change,
     };
-    match funds_of(alloc, asked) {
-        Ok(funds) => lay_out(alloc, asked, funds),
+    match claim_funds(alloc, &asked) {
+        Ok(funds) => lay_out_claim(alloc, &asked, funds),
         Err(fault) => Err(fault),
     }
 }

@@ -19,7 +19,10 @@ fn put_account(
 }
 
 // A map of these entries, which stand in the order of their keys.
-fn copy_of(alloc: Global, accounts: &[(Account, i128)]) -> Result<Entries<Account, i128>, Memory>
+fn copy_accounts(
+    alloc: Global,
+    accounts: &[(Account, i128)],
+) -> Result<Entries<Account, i128>, Memory>
     requires { T (is_sorted account_cmp accounts.now) }
     ensures { IfOk result (λ entries. entries ≡ accounts.now) }
 {
@@ -34,7 +37,7 @@ fn copy_of(alloc: Global, accounts: &[(Account, i128)]) -> Result<Entries<Accoun
 pub(crate) fn fresh(alloc: Global, state: &State) -> Result<State, Memory>
     ensures { IfOk result (λ copy. copy ≡ fresh_state state.now) }
 {
-    let accounts = copy_of(alloc, state.accounts())?;
+    let accounts = copy_accounts(alloc, state.accounts())?;
     let choices = Entries::new(alloc);
     let bound_values = Entries::new(alloc);
     let min_time = state.min_time();

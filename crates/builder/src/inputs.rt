@@ -1,10 +1,11 @@
 //! The inputs of a layout.
 ghost use Rattle.std.specs.Prelude.{◌≡◌, ◌++◌, map, IfOk, OnOk};
-ghost use Rattle.builder_spec.specs.Laying.{by_key};
+ghost use Rattle.builder_spec.specs.Laying.{by_key, by_step};
 
+use coin_selection::OwnOutput;
 use collections::{Items, Memory, TryClone};
 use contract::Input;
-use eutxo_types::{OutputRef, Redeemer, Spend};
+use eutxo_types::{Redeemer, Spend};
 use ledger::Unspent;
 use std::alloc::Global;
 
@@ -18,15 +19,11 @@ fn by_key(unspent: &Unspent) -> Spend
 }
 
 /// The input that spends a thread's output, with a step.
-pub(crate) fn by_step(
-    alloc: Global,
-    reference: OutputRef,
-    inputs: &[Input],
-) -> Result<Spend, Memory>
-    ensures { IfOk result (λ spend. spend ≡ record { reference = reference; redeemer = Redeemer.Step inputs.now }) }
+pub(crate) fn by_step(alloc: Global, own: &OwnOutput<'_>, inputs: &[Input]) -> Result<Spend, Memory>
+    ensures { IfOk result (λ spend. spend ≡ by_step inputs.now own.now) }
 {
     Ok(Spend {
-        reference,
+        reference: own.reference,
         redeemer: Redeemer::Step(copies_of(alloc, inputs)?),
     })
 }

@@ -8,6 +8,7 @@
 
 mod claim;
 mod fresh;
+mod funds;
 mod inputs;
 mod outputs;
 mod payouts;

@@ -1,5 +1,5 @@
 //! The outputs of a layout.
-ghost use Rattle.std.specs.Prelude.{◌≡◌, ◌++◌, ◌∷◌, [], true, false, pos, ◌<ℤ◌, if◌then◌else◌, IfOk, IfErr, OnOk};
+ghost use Rattle.std.specs.Prelude.{◌≡◌, ◌++◌, ◌<ℤ◌, true, false, pos, IfOk, IfErr, OnOk};
 ghost use Rattle.std.specs.FinMap.{entries};
 ghost use Rattle.bundle.specs.Bundles.{covers, minus};
 ghost use Rattle.eutxo.specs.Faults.{is_empty};
@@ -8,12 +8,13 @@ ghost use Rattle.roles.specs.Sums.{sums_of};
 ghost use Rattle.builder_spec.specs.Holding.{sums};
 ghost use Rattle.builder_spec.specs.Causes.{is_much};
 ghost use Rattle.builder_spec.specs.Laying.{paid_to};
+ghost use Rattle.builder.specs.OutputsSupport.{outcome_outputs};
 
 use builder_spec::BuildFault;
 use bundle::{Bundle, BundleFault};
 use coin_selection::{only, see_all, see_room, sum, sums_of};
 use collections::{Bytes, Items, Memory, Text, TryClone};
-use contract::{Outcome, Party, Payment, State};
+use contract::{Outcome, Party, Payment};
 use eutxo_types::{Cont, Datum, Lock, Output};
 use roles::{Published, due_to};
 use std::alloc::Global;
@@ -62,16 +63,14 @@ pub(crate) fn put_due(
 pub(crate) fn continuation(
     alloc: Global,
     script: &[u8; 32],
-    there: Cont,
-    state: State,
+    datum: Datum,
 ) -> Result<Output, BuildFault>
-    requires { is_much (sums_of state) ≡ false }
-    ensures ok { IfOk result (λ output. output ≡ continuation script.now there state) }
+    requires { is_much (sums_of datum.state) ≡ false }
+    ensures ok { IfOk result (λ output. output ≡ continuation script.now datum) }
     ensures err { IfErr result (λ fault. fault ≡ BuildFault.Memory) }
 {
-    match sums_of(alloc, &state) {
+    match sums_of(alloc, &datum.state) {
         Ok(amount) => {
-            let datum = Datum { cont: there, state };
             let lock = Lock::Contract {
                 script: *script,
                 datum,
@@ -116,7 +115,7 @@ pub(crate) fn step_outputs(
     outcome: Outcome<Cont>,
 ) -> Result<Items<Output>, BuildFault>
     requires { is_much (sums_of outcome.state) ≡ false }
-    ensures ok { IfOk result (λ outputs. outputs ≡ (if closed then [] else continuation published.now.id outcome.place outcome.state ∷ []) ++ due_outputs published.now.currency outcome.payments) }
+    ensures ok { IfOk result (λ outputs. outputs ≡ outcome_outputs published.now closed outcome) }
     ensures err { IfErr result (λ fault. fault ≡ BuildFault.Memory) }
 {
     let Outcome {
@@ -127,7 +126,8 @@ pub(crate) fn step_outputs(
     } = outcome;
     let mut outputs = Items::new(alloc);
     if !closed {
-        outputs.push(continuation(alloc, &published.id, place, state)?)?;
+        let datum = Datum { cont: place, state };
+        outputs.push(continuation(alloc, &published.id, datum)?)?;
     }
     let currency = &published.currency;
     put_due(alloc, &mut outputs, currency, payments.as_slice())?;

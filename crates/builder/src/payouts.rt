@@ -1,13 +1,11 @@
 //! Payouts that are claimed.
-ghost use Rattle.std.specs.Prelude.{◌≡◌, ◌++◌, not, IfOk, OnOk, map, option_map};
-ghost use Rattle.std.specs.List.{list_any, find};
-ghost use Rattle.names.specs.declared.party.Party.TheVariants.{Role};
-ghost use Rattle.eutxo.specs.Faults.{is_empty};
-ghost use Rattle.builder_spec.specs.declared.fault.BuildFault.TheVariants.{NotAuthorised};
-ghost use Rattle.builder_spec.specs.Holding.{amount_in, holds_token, AreBundles};
-ghost use Rattle.builder_spec.specs.Laying.{by_claim};
+ghost use Rattle.std.specs.Prelude.{◌≡◌, ◌++◌, not, IfOk, OnOk, map};
+ghost use Rattle.std.specs.List.{list_any};
 ghost use Rattle.eutxo_types.specs.Parts.{is_payout};
-ghost use Rattle.builder_spec.specs.Claims.{awaited_token, tokens_awaited, payout_cause};
+ghost use Rattle.eutxo.specs.Faults.{is_empty};
+ghost use Rattle.builder_spec.specs.Holding.{amount_in, AreBundles};
+ghost use Rattle.builder_spec.specs.Laying.{by_claim};
+ghost use Rattle.builder_spec.specs.Claims.{awaited_token, tokens_awaited, payout_cause, unheld_cause};
 ghost use Rattle.coin_selection.specs.Answers.{AnswersCause};
 
 use builder_spec::BuildFault;
@@ -18,20 +16,10 @@ use eutxo_types::{Lock, Redeemer, Spend};
 use ledger::Unspent;
 use std::alloc::Global;
 
-fn is_payout(lock: &Lock) -> bool
-    ensures { result ≡ is_payout lock.now }
-{
-    match lock {
-        Lock::Key(_) => false,
-        Lock::Payout { .. } => true,
-        Lock::Contract { .. } => false,
-    }
-}
-
 fn any_other(payouts: &[Unspent]) -> bool
     ensures { result ≡ list_any (λ u. not (is_payout u.output.lock)) payouts.now }
 {
-    payouts.iter().any(|u| !is_payout(&u.output.lock))
+    payouts.iter().any(|u| !u.output.lock.is_payout())
 }
 
 /// Whether there are none of these.
@@ -88,7 +76,7 @@ pub(crate) fn check_held(
     outputs: &[Unspent],
 ) -> Result<(), BuildFault>
     requires { AreBundles amount_in outputs.now }
-    ensures { AnswersCause result (option_map (λ t. NotAuthorised (Role t.name)) (find (λ t. not (holds_token outputs.now t)) tokens.now)) }
+    ensures { AnswersCause result (unheld_cause outputs.now tokens.now) }
 {
     match first_unheld(alloc, tokens, outputs)? {
         None => Ok(()),

@@ -1,40 +1,39 @@
 //! Starts of a contract.
-ghost use Rattle.std.specs.Prelude.{◌≡◌, ◌∷◌, [], true, false, Some, is_none, if◌then◌else◌, map, IfOk, IfErr};
+ghost use Rattle.std.specs.Prelude.{◌≡◌, false, Some, if◌then◌else◌, IfOk, IfErr};
 ghost use Rattle.collections.specs.Answers.{Aside};
 ghost use Rattle.names.specs.Equal.{ada};
-ghost use Rattle.bundle.specs.Bundles.{minus};
-ghost use Rattle.roles.specs.Steps.{continuation};
 ghost use Rattle.roles.specs.Sums.{sums_of};
-ghost use Rattle.builder_spec.specs.Holding.{sums, amount_in, least_lacking, AreBundles};
 ghost use Rattle.eutxo.specs.Faults.{is_empty};
 ghost use Rattle.builder_spec.specs.declared.fault.BuildFault.TheVariants.{NoFunds};
+ghost use Rattle.builder_spec.specs.Holding.{amount_in, AreBundles};
 ghost use Rattle.builder_spec.specs.Causes.{funds_cause, is_much};
 ghost use Rattle.builder_spec.specs.Built.{build_answer};
-ghost use Rattle.builder_spec.specs.Laying.{by_key, paid_to};
-ghost use Rattle.builder_spec.specs.Starts.{accounts_of, fresh_state, start_front, start_output, hinders_start, layout_start};
-ghost use Rattle.coin_selection.specs.Answers.{AnswersCause};
+ghost use Rattle.builder_spec.specs.Starts.{fresh_state, start_output, hinders_start, layout_start};
 ghost use Rattle.builder_spec.specs.Requests.{start_request};
+ghost use Rattle.coin_selection.specs.Answers.{AnswersCause};
+ghost use Rattle.builder.specs.FundsSupport.{AreStartFunds};
 
 use crate::fresh::fresh;
+use crate::funds::Funds;
 use crate::inputs::{copies_of, put_keys};
 use crate::outputs::{continuation, put_paid, rest};
 use crate::payouts::are_none;
 use builder_spec::BuildFault;
-use bundle::Bundle;
 use coin_selection::{
     Amount, Shares, accounts_of, check_apart, check_funds, check_signed, see_all, see_room,
     shares_within, start_front,
 };
 use collections::{Bytes, Items, Text};
 use contract::{Interval, State};
-use eutxo_types::{Output, Tx};
+use eutxo_types::{Datum, Output, Tx};
 use ledger::Unspent;
 use names::Token;
 use roles::Published;
 use std::alloc::Global;
+use std::marker::Model;
 
-// What is asked for.
-#[derive(Clone, Copy)]
+// What is asked for. Clauses see the request.
+#[derive(Drop)]
 struct StartAsked<'a> {
     published: &'a Published,
     state: &'a State,
@@ -44,11 +43,19 @@ struct StartAsked<'a> {
     change: &'a Text,
 }
 
-// What is spent, where nothing hinders the start.
-#[derive(Drop)]
-struct StartFunds<'a> {
-    all: Bundle,
-    front: &'a [Unspent],
+impl<'a> Model for StartAsked<'a> {
+    ghost use Rattle.std.specs.Coded.{codes};
+    ghost use Rattle.states.specs.contracts.state.State as states;
+    ghost use Rattle.eutxo_types.specs.contracts.output.Output as outputs;
+    ghost use Rattle.roles.specs.contracts.published.Published as publications;
+    ghost use Rattle.builder_spec.specs.Requests.{StartRequest, start_request};
+
+    ghost Value = { StartRequest };
+
+    ghost coded = { Prim.hlevel (codes, states.the_row.coded, outputs.the_row.coded, publications.the_row.coded) };
+
+    ghost view = { λ a.
+        start_request a.published.now a.state.now a.interval a.signers.now a.offered.now a.change.now };
 }
 
 fn ada(alloc: Global) -> Token
@@ -67,7 +74,8 @@ fn check_start_funds(
     offered: &[Unspent],
 ) -> Result<(), BuildFault>
     requires { AreBundles amount_in offered.now }
-    ensures { AnswersCause result (if is_empty offered.now then Some (NoFunds ada) else funds_cause amounts.now offered.now) }
+    ensures { let cause = funds_cause amounts.now offered.now in
+        AnswersCause result (if is_empty offered.now then Some (NoFunds ada) else cause) }
 {
     if are_none(offered) {
         Err(BuildFault::NoFunds(ada(alloc)))
@@ -77,12 +85,9 @@ fn check_start_funds(
 }
 
 // What is spent, or the first clause that fails.
-fn funds_of<'a>(alloc: Global, asked: StartAsked<'a>) -> Result<StartFunds<'a>, BuildFault>
-    ensures all { IfOk result (λ funds. funds.all ≡ sums amount_in (start_front (start_request asked.entry.published.now asked.entry.state.now asked.entry.interval asked.entry.signers.now asked.entry.offered.now asked.entry.change.now))) }
-    ensures front { IfOk result (λ funds. funds.front.now ≡ start_front (start_request asked.entry.published.now asked.entry.state.now asked.entry.interval asked.entry.signers.now asked.entry.offered.now asked.entry.change.now)) }
-    ensures covered { IfOk result (λ funds. is_none (least_lacking (accounts_of asked.entry.state.now) funds.front.now) ≡ true) }
-    ensures bundles { IfOk result (λ funds. AreBundles amount_in funds.front.now) }
-    ensures passes { AnswersCause result (hinders_start (start_request asked.entry.published.now asked.entry.state.now asked.entry.interval asked.entry.signers.now asked.entry.offered.now asked.entry.change.now)) }
+fn start_funds<'a>(alloc: Global, asked: &StartAsked<'a>) -> Result<Funds<'a>, BuildFault>
+    ensures funds { IfOk result (AreStartFunds asked.now) }
+    ensures passes { AnswersCause result (hinders_start asked.now) }
 {
     let offered = asked.offered;
     see_all(offered);
@@ -95,7 +100,7 @@ fn funds_of<'a>(alloc: Global, asked: StartAsked<'a>) -> Result<StartFunds<'a>, 
         Ok(shares) => match check_apart(alloc, none, offered) {
             Ok(()) => {
                 let Shares { others, .. } = shares;
-                Ok(StartFunds { all: others, front })
+                Ok(Funds { all: others, front })
             }
             Err(fault) => Err(fault),
         },
@@ -104,32 +109,30 @@ fn funds_of<'a>(alloc: Global, asked: StartAsked<'a>) -> Result<StartFunds<'a>, 
 }
 
 // The contract's output.
-fn start_output(alloc: Global, published: &Published, state: &State) -> Result<Output, BuildFault>
-    requires { is_much (sums_of (fresh_state state.now)) ≡ false }
-    ensures ok { IfOk result (λ output. output ≡ continuation published.now.id published.now.root (fresh_state state.now)) }
+fn start_output(alloc: Global, asked: &StartAsked<'_>) -> Result<Output, BuildFault>
+    requires { is_much (sums_of (fresh_state asked.now.state)) ≡ false }
+    ensures ok { IfOk result (λ output. output ≡ start_output asked.now) }
     ensures err { IfErr result (λ fault. fault ≡ BuildFault.Memory) }
 {
-    let state = fresh(alloc, state)?;
-    continuation(alloc, &published.id, published.root, state)
+    let published = asked.published;
+    let state = fresh(alloc, asked.state)?;
+    let datum = Datum {
+        cont: published.root,
+        state,
+    };
+    continuation(alloc, &published.id, datum)
 }
 
-// The transaction of a start, from what it spends.
-fn lay_out(alloc: Global, asked: StartAsked<'_>, funds: StartFunds<'_>) -> Result<Tx, BuildFault>
-    requires all { funds.all ≡ sums amount_in funds.front.now }
-    requires covered { is_none (least_lacking (accounts_of asked.state.now) funds.front.now) ≡ true }
-    requires bundles { AreBundles amount_in funds.front.now }
-    ensures ok { IfOk result (λ tx. tx ≡ record {
-      inputs = map by_key funds.entry.front.now;
-      outputs = start_output (start_request asked.entry.published.now asked.entry.state.now asked.entry.interval asked.entry.signers.now asked.entry.offered.now asked.entry.change.now) ∷ paid_to asked.entry.change.now (minus funds.entry.all (sums (λ o. o.amount) (start_output (start_request asked.entry.published.now asked.entry.state.now asked.entry.interval asked.entry.signers.now asked.entry.offered.now asked.entry.change.now) ∷ [])));
-      interval = asked.entry.interval;
-      signers = asked.entry.signers.now;
-    }) }
+// The transaction of a start that nothing hinders.
+fn lay_out_start(alloc: Global, asked: &StartAsked<'_>, funds: Funds<'_>) -> Result<Tx, BuildFault>
+    requires { AreStartFunds asked.now funds }
+    ensures ok { IfOk result (λ tx. tx ≡ layout_start asked.now) }
     ensures err { IfErr result (λ fault. fault ≡ BuildFault.Memory) }
 {
-    let StartFunds { all, front } = funds;
+    let Funds { all, front } = funds;
     see_room(&all);
     let mut outputs = Items::new(alloc);
-    outputs.push(start_output(alloc, asked.published, asked.state)?)?;
+    outputs.push(start_output(alloc, asked)?)?;
     let change = rest(alloc, all, outputs.as_slice())?;
     put_paid(&mut outputs, asked.change, change)?;
     let mut inputs = Items::new(alloc);
@@ -171,8 +174,8 @@ pub fn build_start(
         offered,
         change,
     };
-    match funds_of(alloc, asked) {
-        Ok(funds) => lay_out(alloc, asked, funds),
+    match start_funds(alloc, &asked) {
+        Ok(funds) => lay_out_start(alloc, &asked, funds),
         Err(fault) => Err(fault),
     }
 }

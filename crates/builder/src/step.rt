@@ -1,38 +1,37 @@
 //! Steps of a thread.
-ghost use Rattle.std.specs.Prelude.{◌≡◌, ◌∷◌, ◌++◌, true, Some, Ok, map, is_none, IfOk, IfErr};
+ghost use Rattle.std.specs.Prelude.{◌≡◌, ◌∷◌, ◌++◌, true, Some, map, IfOk, IfErr};
 ghost use Rattle.collections.specs.Answers.{Aside};
-ghost use Rattle.table.specs.Flat.{Has, a_cont, cont_tree};
-ghost use Rattle.semantics.specs.Walk.{standing, answer_of};
 ghost use Rattle.bundle.specs.Bundles.{covers, minus};
-ghost use Rattle.eutxo_types.specs.Parts.{contract_in};
-ghost use Rattle.roles.specs.Sums.{sums_of};
-ghost use Rattle.builder_spec.specs.Holding.{sums, amount_in, least_lacking, AreBundles};
+ghost use Rattle.builder_spec.specs.Holding.{sums};
 ghost use Rattle.builder_spec.specs.Built.{build_answer};
 ghost use Rattle.builder_spec.specs.Laying.{by_key, by_step, paid_to};
-ghost use Rattle.builder_spec.specs.Steps.{thread_in, thread_terms, step_walk, deposits, step_front, step_spent, hinders_thread, layout_thread, hinders_on, layout_on, hinders_step, layout_step};
-ghost use Rattle.coin_selection.specs.Answers.{AnswersCause};
+ghost use Rattle.builder_spec.specs.Steps.{thread_of, own_output, hinders_thread, layout_thread, hinders_on, layout_on};
+ghost use Rattle.builder_spec.specs.Steps.{hinders_step, layout_step};
 ghost use Rattle.builder_spec.specs.Requests.{request};
+ghost use Rattle.coin_selection.specs.Answers.{AnswersCause};
 ghost use Rattle.builder.specs.CausesSupport.{causes_after_contract};
+ghost use Rattle.builder.specs.FundsSupport.{AreStepFunds, IsFinished};
 
+use crate::funds::Funds;
 use crate::inputs::{by_step, copies_of, put_keys};
 use crate::outputs::{put_paid, rest, step_outputs};
-use crate::thread::{datum_of, is_closed};
+use crate::thread::{ThreadAt, thread_of};
 use builder_spec::BuildFault;
-use bundle::Bundle;
 use coin_selection::{
     check_authorised, check_funds, check_once, check_signed, deposits, front_of, roles_of, see_all,
     see_room, within_limits,
 };
 use collections::{Items, Text};
 use contract::{Input, Interval, Outcome, SemFault};
-use eutxo_types::{Cont, Datum, Output, Tx};
+use eutxo_types::{Cont, Output, Tx};
 use ledger::{Look, ThreadOutput, Unspent};
 use machine::compute;
 use semantics::{money_is_kept, payments_are_natural, transactions_end_quiet};
 use std::alloc::Global;
+use std::marker::Model;
 
-// What is asked for.
-#[derive(Clone, Copy)]
+// What is asked for. Clauses see the request.
+#[derive(Drop)]
 struct StepAsked<'a> {
     interval: Interval,
     inputs: &'a [Input],
@@ -41,40 +40,43 @@ struct StepAsked<'a> {
     change: &'a Text,
 }
 
-// What is spent of a thread's output and the offered outputs, where nothing after the contract's answer hinders the
-// step.
-#[derive(Drop)]
-struct StepFunds<'a> {
-    all: Bundle,
-    front: &'a [Unspent],
+impl<'a> Model for StepAsked<'a> {
+    ghost use Rattle.std.specs.Coded.{codes};
+    ghost use Rattle.eutxo_types.specs.contracts.output.Output as outputs;
+    ghost use Rattle.builder_spec.specs.Requests.{StepRequest, request};
+
+    ghost Value = { StepRequest };
+
+    ghost coded = { Prim.hlevel (codes, outputs.the_row.coded) };
+
+    ghost view = { λ a. request a.interval a.inputs.now a.signers.now a.offered.now a.change.now };
 }
 
 // What is spent, or the first of the clauses on signers, parties, funds, limits and repeats that fails.
-fn funds_of<'a>(
+fn step_funds<'a>(
     alloc: Global,
-    asked: StepAsked<'a>,
-    thread: &ThreadOutput,
-    datum: &Datum,
-) -> Result<StepFunds<'a>, BuildFault>
-    ensures all { IfOk result (λ funds. funds.all ≡ sums amount_in (step_spent (request asked.entry.interval asked.entry.inputs.now asked.entry.signers.now asked.entry.offered.now asked.entry.change.now) (thread.now, datum.now))) }
-    ensures front { IfOk result (λ funds. funds.front.now ≡ step_front (request asked.entry.interval asked.entry.inputs.now asked.entry.signers.now asked.entry.offered.now asked.entry.change.now) (thread.now, datum.now)) }
-    ensures covered { IfOk result (λ funds. is_none (least_lacking (deposits asked.entry.inputs.now) funds.front.now) ≡ true) }
-    ensures bundles { IfOk result (λ funds. AreBundles amount_in funds.front.now) }
-    ensures passes { AnswersCause result (causes_after_contract (request asked.entry.interval asked.entry.inputs.now asked.entry.signers.now asked.entry.offered.now asked.entry.change.now) (thread.now, datum.now)) }
+    asked: &StepAsked<'a>,
+    thread: &ThreadAt<'_>,
+) -> Result<Funds<'a>, BuildFault>
+    ensures funds { IfOk result (AreStepFunds asked.now thread.now) }
+    ensures passes { AnswersCause result (causes_after_contract asked.now thread.now) }
 {
-    let _ = datum;
-    let currency = &thread.published.get().currency;
+    let published = thread.shown.published.get();
+    let currency = &published.currency;
+    let signers = asked.signers;
+    let inputs = asked.inputs;
     let offered = asked.offered;
     see_all(offered);
-    check_signed(asked.signers, offered)?;
-    check_authorised(alloc, currency, asked.signers, offered, asked.inputs)?;
-    let amounts = deposits(alloc, asked.inputs)?;
+    check_signed(signers, offered)?;
+    check_authorised(alloc, currency, signers, offered, inputs)?;
+    let amounts = deposits(alloc, inputs)?;
     check_funds(alloc, &amounts, offered)?;
-    let roles = roles_of(alloc, currency, asked.inputs)?;
+    let roles = roles_of(alloc, currency, inputs)?;
     let front = front_of(alloc, &roles, &amounts, offered)?;
-    match within_limits(alloc, thread.reference, &thread.output, asked.inputs, front) {
-        Ok(all) => match check_once(alloc, thread.reference, &thread.output, offered) {
-            Ok(()) => Ok(StepFunds { all, front }),
+    let own = thread.own_output();
+    match within_limits(alloc, &own, inputs, front) {
+        Ok(all) => match check_once(alloc, &own, offered) {
+            Ok(()) => Ok(Funds { all, front }),
             Err(fault) => Err(fault),
         },
         Err(fault) => Err(fault),
@@ -82,27 +84,28 @@ fn funds_of<'a>(
 }
 
 // The transaction of a step, from what it spends and what it makes but for the change.
-fn lay_out(
+fn lay_out_step(
     alloc: Global,
-    asked: StepAsked<'_>,
-    thread: &ThreadOutput,
-    funds: StepFunds<'_>,
+    asked: &StepAsked<'_>,
+    thread: &ThreadAt<'_>,
+    funds: Funds<'_>,
     mut outputs: Items<Output>,
 ) -> Result<Tx, BuildFault>
     requires { covers funds.all (sums (λ o. o.amount) outputs) ≡ true }
     ensures ok { IfOk result (λ tx. tx ≡ record {
-      inputs = by_step asked.entry.inputs.now (record { reference = thread.now.reference; output = thread.now.output }) ∷ map by_key funds.entry.front.now;
-      outputs = outputs ++ paid_to asked.entry.change.now (minus funds.entry.all (sums (λ o. o.amount) outputs));
-      interval = asked.entry.interval;
-      signers = asked.entry.signers.now;
+      inputs = by_step asked.now.inputs (own_output thread.now) ∷ map by_key funds.entry.front;
+      outputs = outputs ++ paid_to asked.now.change (minus funds.entry.all (sums (λ o. o.amount) outputs));
+      interval = asked.now.interval;
+      signers = asked.now.signers;
     }) }
     ensures err { IfErr result (λ fault. fault ≡ BuildFault.Memory) }
 {
-    let StepFunds { all, front } = funds;
+    let Funds { all, front } = funds;
     let change = rest(alloc, all, outputs.as_slice())?;
     put_paid(&mut outputs, asked.change, change)?;
+    let own = thread.own_output();
     let mut inputs = Items::new(alloc);
-    inputs.push(by_step(alloc, thread.reference, asked.inputs)?)?;
+    inputs.push(by_step(alloc, &own, asked.inputs)?)?;
     put_keys(&mut inputs, front)?;
     let signers = copies_of(alloc, asked.signers)?;
     Ok(Tx {
@@ -116,53 +119,44 @@ fn lay_out(
 // The transaction of a step that nothing hinders.
 fn finish(
     alloc: Global,
-    asked: StepAsked<'_>,
-    thread: &ThreadOutput,
-    datum: &Datum,
-    funds: StepFunds<'_>,
+    asked: &StepAsked<'_>,
+    thread: &ThreadAt<'_>,
+    funds: Funds<'_>,
     outcome: Outcome<Cont>,
 ) -> Result<Tx, BuildFault>
-    requires ended { answer_of (step_walk (request asked.interval asked.inputs.now asked.signers.now asked.offered.now asked.change.now) (thread.now, datum.now)) ≡ Ok (standing outcome.state (cont_tree thread.now.published.table outcome.place.0)) }
-    requires paid { outcome.payments ≡ (step_walk (request asked.interval asked.inputs.now asked.signers.now asked.offered.now asked.change.now) (thread.now, datum.now)).payments }
-    requires led { (thread_terms (thread.now, datum.now)).at datum.now.cont (step_walk (request asked.interval asked.inputs.now asked.signers.now asked.offered.now asked.change.now) (thread.now, datum.now)).turns ≡ outcome.place }
-    requires has { Has thread.now.published.table (a_cont outcome.place.0) }
-    requires all { funds.all ≡ sums amount_in (step_spent (request asked.interval asked.inputs.now asked.signers.now asked.offered.now asked.change.now) (thread.now, datum.now)) }
-    requires front { funds.front.now ≡ step_front (request asked.interval asked.inputs.now asked.signers.now asked.offered.now asked.change.now) (thread.now, datum.now) }
-    requires sums { thread.now.output.amount ≡ sums_of datum.now.state }
-    requires covered { is_none (least_lacking (deposits asked.inputs.now) funds.front.now) ≡ true }
-    requires bundles { AreBundles amount_in funds.front.now }
-    ensures ok { IfOk result (λ tx. tx ≡ layout_thread (request asked.entry.interval asked.entry.inputs.now asked.entry.signers.now asked.entry.offered.now asked.entry.change.now) (thread.now, datum.now)) }
+    requires { IsFinished asked.now thread.now funds outcome }
+    ensures ok { IfOk result (λ tx. tx ≡ layout_thread asked.now thread.now) }
     ensures err { IfErr result (λ fault. fault ≡ BuildFault.Memory) }
 {
     money_is_kept();
     transactions_end_quiet();
     payments_are_natural();
+    let shown = thread.shown;
+    let datum = thread.datum;
+    // touch: amounts and accounts are above 0, and there is room for what is spent
     let _ = datum.state.accounts();
-    let _ = thread.output.amount.entries();
+    let _ = shown.output.amount.entries();
     see_room(&funds.all);
-    let published = thread.published.get();
-    let closed = is_closed(&published.table, outcome.place);
+    let published = shown.published.get();
+    let closed = published.table.is_close(outcome.place);
     match step_outputs(alloc, published, closed, outcome) {
-        Ok(made) => lay_out(alloc, asked, thread, funds, made),
+        Ok(made) => lay_out_step(alloc, asked, thread, funds, made),
         Err(fault) => Err(fault),
     }
 }
 
 // Builds on a thread that stands.
-fn build_at(
-    alloc: Global,
-    asked: StepAsked<'_>,
-    thread: &ThreadOutput,
-    datum: &Datum,
-) -> Result<Tx, BuildFault>
-    requires { thread_in thread.now (contract_in thread.now.output.lock) ≡ Some (thread.now, datum.now) }
-    ensures { Aside BuildFault.Memory result (build_answer (hinders_thread (request asked.entry.interval asked.entry.inputs.now asked.entry.signers.now asked.entry.offered.now asked.entry.change.now) (thread.now, datum.now)) (layout_thread (request asked.entry.interval asked.entry.inputs.now asked.entry.signers.now asked.entry.offered.now asked.entry.change.now) (thread.now, datum.now))) }
+fn build_at(alloc: Global, asked: &StepAsked<'_>, thread: &ThreadAt<'_>) -> Result<Tx, BuildFault>
+    requires { thread_of (Some thread.now.shown) ≡ Some thread.now }
+    ensures { let r = asked.now in
+        Aside BuildFault.Memory result (build_answer (hinders_thread r thread.now) (layout_thread r thread.now)) }
 {
-    let table = &thread.published.get().table;
+    let shown = thread.shown;
+    let table = &shown.published.get().table;
     table.turns_lead();
-    match compute(alloc, table, datum, asked.interval, asked.inputs) {
-        Ok(outcome) => match funds_of(alloc, asked, thread, datum) {
-            Ok(funds) => finish(alloc, asked, thread, datum, funds, outcome),
+    match compute(alloc, table, thread.datum, asked.interval, asked.inputs) {
+        Ok(outcome) => match step_funds(alloc, asked, thread) {
+            Ok(funds) => finish(alloc, asked, thread, funds, outcome),
             Err(fault) => Err(fault),
         },
         Err(SemFault::Memory) => Err(BuildFault::Memory),
@@ -170,14 +164,14 @@ fn build_at(
     }
 }
 
-// Builds on a thread.
-fn build_on(alloc: Global, asked: StepAsked<'_>, thread: &ThreadOutput) -> Result<Tx, BuildFault>
-    ensures { let e = thread_in thread.now (contract_in thread.now.output.lock) in
-        Aside BuildFault.Memory result (build_answer (hinders_on (request asked.entry.interval asked.entry.inputs.now asked.entry.signers.now asked.entry.offered.now asked.entry.change.now) e) (layout_on (request asked.entry.interval asked.entry.inputs.now asked.entry.signers.now asked.entry.offered.now asked.entry.change.now) e)) }
+// Builds on the output of a thread.
+fn build_on(alloc: Global, asked: &StepAsked<'_>, shown: &ThreadOutput) -> Result<Tx, BuildFault>
+    ensures { let e = thread_of (Some shown.now) in
+        Aside BuildFault.Memory result (build_answer (hinders_on asked.now e) (layout_on asked.now e)) }
 {
-    match datum_of(alloc, thread) {
+    match thread_of(alloc, shown) {
         Ok(None) => Err(BuildFault::NoThread),
-        Ok(Some(datum)) => build_at(alloc, asked, thread, datum),
+        Ok(Some(thread)) => build_at(alloc, asked, &thread),
         Err(_) => Err(BuildFault::Memory),
     }
 }
@@ -214,6 +208,6 @@ pub fn build_step(
     };
     match &look.thread {
         None => Err(BuildFault::NoThread),
-        Some(thread) => build_on(alloc, asked, thread),
+        Some(shown) => build_on(alloc, &asked, shown),
     }
 }

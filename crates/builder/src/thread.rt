@@ -1,64 +1,77 @@
 //! The thread that a look shows.
-ghost use Rattle.std.specs.Prelude.{◌≡◌, IfOk, option_map, option_copied};
-ghost use Rattle.table.specs.Flat.{Has, a_cont, cont_tree, is_close};
-ghost use Rattle.table.specs.Along.{has_cont};
-ghost use Rattle.eutxo_types.specs.Parts.{contract_in};
-ghost use Rattle.builder_spec.specs.Steps.{is_current, thread_in};
+ghost use Rattle.std.specs.Prelude.{◌≡◌, Some, IfOk};
+ghost use Rattle.builder_spec.specs.Steps.{is_current, thread_of, own_output};
 
+use coin_selection::OwnOutput;
 use collections::Memory;
-use eutxo_types::{Cont, Datum, Lock};
+use eutxo_types::{ContractLock, Datum};
 use ledger::ThreadOutput;
 use roles::holds_sums;
-use semantics::Steps;
 use std::alloc::Global;
-use table::Table;
+use std::marker::Model;
 
-fn has_cont(table: &Table, cont: Cont) -> bool
-    ensures { result ≡ has_cont table.now cont }
-{
-    table.turns_lead();
-    table.contains(cont)
+/// A thread's output with its datum, lent. Clauses see the thread.
+#[derive(Drop)]
+pub(crate) struct ThreadAt<'a> {
+    pub shown: &'a ThreadOutput,
+    pub datum: &'a Datum,
 }
 
-/// Whether the contract of a number is Close.
-pub(crate) fn is_closed(table: &Table, cont: Cont) -> bool
-    requires { Has table.now (a_cont cont.0) }
-    ensures { result ≡ is_close (cont_tree table.now cont.0) }
-{
-    table.is_closed(&cont)
+impl<'a> Model for ThreadAt<'a> {
+    ghost use Rattle.std.specs.Coded.{codes};
+    ghost use Rattle.machine.specs.contracts.datum.Datum as datums;
+    ghost use Rattle.ledger.specs.contracts.look.ThreadOutput as threads;
+    ghost use Rattle.builder_spec.specs.Steps.{Thread};
+
+    ghost Value = { Thread };
+
+    ghost coded = { Prim.hlevel (codes, datums.the_row.coded, threads.the_row.coded) };
+
+    ghost view = { λ a. record { shown = a.shown.now; datum = a.datum.now } };
+}
+
+impl<'a> ThreadAt<'a> {
+    /// The thread's output.
+    pub fn own_output(&self) -> OwnOutput<'a>
+        ensures { result ≡ own_output self.now }
+    {
+        let shown = self.shown;
+        OwnOutput {
+            reference: shown.reference,
+            output: &shown.output,
+        }
+    }
 }
 
 // Whether a thread's output is of the published script, at a number of its table, and holds exactly the sums of its
 // accounts.
-fn is_current(
-    alloc: Global,
-    thread: &ThreadOutput,
-    script: &[u8; 32],
-    datum: &Datum,
-) -> Result<bool, Memory>
-    ensures { IfOk result (λ answer. answer ≡ is_current thread.now (script.now, datum.now)) }
+fn is_current(alloc: Global, shown: &ThreadOutput, held: &ContractLock<'_>) -> Result<bool, Memory>
+    ensures { IfOk result (λ answer. answer ≡ is_current shown.now held.now) }
 {
-    let published = thread.published.get();
-    if *script == published.id && has_cont(&published.table, datum.cont) {
-        holds_sums(alloc, &thread.output.amount, &datum.state)
+    let published = shown.published.get();
+    let datum = held.datum;
+    if *held.script == published.id && published.table.contains(datum.cont) {
+        holds_sums(alloc, &shown.output.amount, &datum.state)
     } else {
         Ok(false)
     }
 }
 
-/// The datum of a thread that stands.
-pub(crate) fn datum_of(alloc: Global, thread: &ThreadOutput) -> Result<Option<&Datum>, Memory>
-    ensures { IfOk result (λ datum. option_map (λ d. (thread.now, d)) (option_copied datum) ≡ thread_in thread.now (contract_in thread.now.output.lock)) }
+/// The thread of an output that is shown, where it stands.
+pub(crate) fn thread_of(alloc: Global, shown: &ThreadOutput) -> Result<Option<ThreadAt<'_>>, Memory>
+    ensures { IfOk result (λ thread. thread ≡ thread_of (Some shown.now)) }
 {
-    match &thread.output.lock {
-        Lock::Contract { script, datum } => {
-            if is_current(alloc, thread, script, datum)? {
-                Ok(Some(datum))
+    match shown.output.lock.contract() {
+        Some(held) => {
+            if is_current(alloc, shown, &held)? {
+                Ok(Some(ThreadAt {
+                    shown,
+                    datum: held.datum,
+                }))
             } else {
                 Ok(None)
             }
         }
-        Lock::Key(_) => Ok(None),
-        Lock::Payout { .. } => Ok(None),
+        None => Ok(None),
     }
 }

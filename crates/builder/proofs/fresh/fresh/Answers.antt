@@ -6,8 +6,8 @@ use Rattle.names.specs.Orders.{account_cmp}
 use Rattle.builder.proofs.CopyLemmas.{state_of, fresh_is}
 use Rattle.builder.proofs.fresh.fresh.Goals as goal
 
-pub copy_of-requires : goal.copy_of-requires
-copy_of-requires c = subst (λ es. T (is_sorted account_cmp es)) (sym c.accounts.ensures.all) (entries_sorted c.args.state.now.accounts)
+pub copy_accounts-requires : goal.copy_accounts-requires
+copy_accounts-requires c = subst (λ es. T (is_sorted account_cmp es)) (sym c.accounts.ensures.all) (entries_sorted c.args.state.now.accounts)
 
 pub returns : goal.returns
 returns c =

@@ -2,7 +2,7 @@ use Rattle.std.proofs.Common.{◌∙◌, ap}
 use Rattle.std.specs.FinMap.Entries.{put}
 use Rattle.names.specs.Orders.{account_cmp}
 use Rattle.builder.proofs.CopyLemmas.{put_next}
-use Rattle.builder.proofs.fresh.copy_of.Goals as goal
+use Rattle.builder.proofs.fresh.copy_accounts.Goals as goal
 
 pub loop-account-preserved : goal.loop-account-preserved
 loop-account-preserved c =
