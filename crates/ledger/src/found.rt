@@ -1,23 +1,14 @@
 //! What is found of what a transaction names.
-ghost use Rattle.std.specs.Prelude.{◌≡◌, ◌++◌, IfOk, OnOk, map, option_copied};
+ghost use Rattle.std.specs.Prelude.{◌≡◌, ◌++◌, IfOk, OnOk, map};
 ghost use Rattle.eutxo.specs.Judgement.{with_script, made_names, found_names, scripts_found, outputs_found, found};
 ghost use Rattle.eutxo_types.specs.Parts.{script_in};
 ghost use Rattle.ledger.specs.ResolveSupport.{script_of, with_named};
 
 use crate::ledger::Ledger;
 use collections::{Items, Memory, TryClone};
-use eutxo::{Resolved, Scripts};
+use eutxo::{Resolved, Scripts, copy_option};
 use eutxo_types::{Output, Spend, Tx};
 use std::alloc::Global;
-
-fn copy_of(output: Option<&Output>) -> Result<Option<Output>, Memory>
-    ensures { IfOk result (λ copy. copy ≡ option_copied output.entry) }
-{
-    match output {
-        Some(output) => Ok(Some(output.try_clone()?)),
-        None => Ok(None),
-    }
-}
 
 // For each input the unspent output that it names, or `None`.
 pub(crate) fn outputs_found<V, L: Ledger<V>>(
@@ -29,7 +20,7 @@ pub(crate) fn outputs_found<V, L: Ledger<V>>(
 {
     let mut outputs = Items::new(alloc);
     for x in inputs {
-        outputs.push(copy_of(ledger.unspent_at(&x.reference))?)?;
+        outputs.push(copy_option(ledger.unspent_at(&x.reference))?)?;
     }
     Ok(outputs)
 }
