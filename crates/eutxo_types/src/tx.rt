@@ -55,10 +55,7 @@ impl Tx {
     pub fn steps(&self) -> bool
         ensures { result ≡ steps self.now }
     {
-        self.inputs
-            .as_slice()
-            .iter()
-            .any(|x| x.redeemer.is_step())
+        self.inputs.as_slice().iter().any(|x| x.redeemer.is_step())
     }
 
     /// The contract that it makes in the output at a place, counted from 0: its script, and the datum that it brings for it. None
