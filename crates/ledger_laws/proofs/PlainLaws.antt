@@ -1,8 +1,9 @@
 -- Plain facts about options, tests and lists.
-use Rattle.std.proofs.Common.{◌≡◌, ℕ, zero, suc, ◌<◌, ◌≤◌, Bool, true, false, not, ◌&&◌, ◌||◌, List, [], ◌∷◌, ◌++◌, refl, sym, ◌∙◌, ap, subst, arith, Option, Some, None, take, drop, length, ◌⊎◌, inl, inr}
-use Rattle.std.specs.Prelude.{nat_lt, is_some, is_none}
+use Rattle.std.proofs.Common.{◌≡◌, ℕ, zero, suc, ◌<◌, ◌≤◌, ◌+◌, Bool, true, false, not, ◌&&◌, ◌||◌, List, [], ◌∷◌, ◌++◌, refl, sym, ◌∙◌, ap, subst, arith, Option, Some, None, take, drop, length, ◌⊎◌, inl, inr}
+use Rattle.std.specs.Prelude.{nat_lt, is_some, is_none, count_by}
 use Rattle.std.specs.List.{slice_get, list_any}
 use Rattle.std.proofs.lemmas.List.{take-append-drop}
+use Rattle.std.proofs.lemmas.List.Sums.{sum_by-cons}
 
 -- ---- tests
 
@@ -118,6 +119,12 @@ taken_at (suc n) m [] y h = cc
 taken_at (suc n) zero (x ∷ xs) y h = (h, omega arith)
 taken_at (suc n) (suc m) (x ∷ xs) y h = let q = taken_at n m xs y h in (q.0, let l = q.1 in omega (arith, l))
 
+pub taken_so : {A : Type 0} (n m : ℕ) (xs : List A) (y : A) → slice_get xs m ≡ Some y → m < n → slice_get (take n xs) m ≡ Some y
+taken_so zero m xs y h l = absurd (omega (arith, l))
+taken_so (suc n) m [] y h l = cc
+taken_so (suc n) zero (x ∷ xs) y h l = h
+taken_so (suc n) (suc m) (x ∷ xs) y h l = taken_so n m xs y h (omega (arith, l))
+
 pub any_taken : {A : Type 0} (p : A → Bool) (xs : List A) (n k : ℕ) (x : A) → n < k → slice_get xs n ≡ Some x → p x ≡ true → list_any p (take k xs) ≡ true
 any_taken p [] n k x l e h = cc
 any_taken p (y ∷ ys) n zero x l e h = absurd (omega arith)
@@ -136,6 +143,49 @@ any_take p (suc m) (suc n) [] l h = refl
 any_take p (suc m) (suc n) (x ∷ xs) l h =
     let q = or_false (p x) (list_any p (take n xs)) h in
     ap (λ b. b || list_any p (take m xs)) q.0 ∙ any_take p m n xs (omega (arith, l)) q.1
+
+-- where one of a list passes, one at a place does
+pub any_there : {A : Type 0} (p : A → Bool) (xs : List A) → list_any p xs ≡ true → (n : ℕ) × (x : A) × (slice_get xs n ≡ Some x) × (p x ≡ true)
+any_there p [] h = cc
+any_there p (y ∷ ys) h = by (p y) refl h (any_there p ys)
+  where
+    by : (b : Bool) → p y ≡ b → (b || list_any p ys) ≡ true → (list_any p ys ≡ true → (n : ℕ) × (x : _) × (slice_get ys n ≡ Some x) × (p x ≡ true)) → (n : ℕ) × (x : _) × (slice_get (y ∷ ys) n ≡ Some x) × (p x ≡ true)
+    by true e h go = (0, y, refl, e)
+    by false e h go = let q = go h in (suc q.0, q.1, q.2, q.3)
+
+-- ---- how many pass
+
+at_least_one : {A : Type 0} (p : A → Bool) (x : A) (xs : List A) → p x ≡ true → 1 ≤ count_by p (x ∷ xs)
+at_least_one p x xs h = rw sum_by-cons (rw h (omega arith))
+
+counted : {A : Type 0} (p : A → Bool) (x : A) (xs : List A) → count_by p xs ≤ count_by p (x ∷ xs)
+counted p x xs = rw sum_by-cons (omega arith)
+
+pub fewer : {A : Type 0} (p : A → Bool) (x : A) (xs : List A) → count_by p (x ∷ xs) ≤ 1 → count_by p xs ≤ 1
+fewer p x xs h = let k = counted p x xs in omega arith
+
+one_there : {A : Type 0} (p : A → Bool) (xs : List A) (n : ℕ) (x : A) → slice_get xs n ≡ Some x → p x ≡ true → 1 ≤ count_by p xs
+one_there p [] n x e h = cc
+one_there p (y ∷ ys) zero x e h = at_least_one p y ys (ap p (same_some y x e) ∙ h)
+one_there p (y ∷ ys) (suc n) x e h = let a = one_there p ys n x e h in let b = counted p y ys in omega arith
+
+-- where at most one passes, and one does that comes later, the first doesn't
+pub first_fails : {A : Type 0} (p : A → Bool) (y : A) (ys : List A) (n : ℕ) (x : A) → count_by p (y ∷ ys) ≤ 1 → slice_get ys n ≡ Some x → p x ≡ true → p y ≡ false
+first_fails p y ys n x few e h =
+    elim (bool_cases (p y)) [
+      | inl k ↦ let one = one_there p ys n x e h in let q : count_by p (y ∷ ys) ≡ 1 + count_by p ys = rw sum_by-cons (rw k refl) in absurd (omega arith)
+      | inr k ↦ k
+    ]
+
+-- and two places at which one passes are one
+pub only_one : {A : Type 0} (p : A → Bool) (xs : List A) (n m : ℕ) (x y : A) → count_by p xs ≤ 1 → slice_get xs n ≡ Some x → p x ≡ true → slice_get xs m ≡ Some y → p y ≡ true → n ≡ m
+only_one p [] n m x y few e h f k = cc
+only_one p (z ∷ zs) zero zero x y few e h f k = refl
+only_one p (z ∷ zs) zero (suc m) x y few e h f k = absurd (not_both (ap p (same_some z x e) ∙ h) (first_fails p z zs m y few f k))
+only_one p (z ∷ zs) (suc n) zero x y few e h f k = absurd (not_both (ap p (same_some z y f) ∙ k) (first_fails p z zs n x few e h))
+only_one p (z ∷ zs) (suc n) (suc m) x y few e h f k = ap suc (only_one p zs n m x y (fewer p z zs few) e h f k)
+
+-- ---- lists that grow
 
 -- the element at n of a list that grew
 pub get_grown : {A : Type 0} (xs : List A) (y : A) (n : ℕ) (x : A) → slice_get (xs ++ y ∷ []) n ≡ Some x →
