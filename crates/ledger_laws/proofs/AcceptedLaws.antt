@@ -242,10 +242,10 @@ module _ {V : Type 0} (j : Judges V) (enough : FoundIsEnough j) (named : List �
   input_published n i tx x o c k h = published n x.reference o c.script k.there (script_so o.lock c h)
 
   -- and passes its step
-  pub step_passes : (n i : ℕ) (tx : Tx) (x : Spend) (o : Output) (c : ContractLock) (v : V) → (k : IsContractInput past n i tx x o) → contract_in o.lock ≡ Some c → named c.script ≡ Some v →
-      after_answer tx.outputs (j.step v (step_asked tx (spent_at n tx k.accepted).ys (step_with c (inputs_of x.redeemer)))) ≡ None
-  step_passes n i tx x o c v k h is =
-      let s = spent_at n tx k.accepted in
+  pub step_passes : (n i : ℕ) (tx : Tx) (x : Spend) (o : Output) (c : ContractLock) (v : V) → (at : slice_get past.accepted n ≡ Some tx) → IsContractInput past n i tx x o → contract_in o.lock ≡ Some c → named c.script ≡ Some v →
+      after_answer tx.outputs (j.step v (step_asked tx (spent_at n tx at).ys (step_with c (inputs_of x.redeemer)))) ≡ None
+  step_passes n i tx x o c v at k h is =
+      let s = spent_at n tx at in
       let p = pair_at (unspent_at (before past n)) i x tx.inputs s.ys s.pairs k.input in
       let same : p.0 ≡ o = same_some p.0 o (sym p.2 ∙ k.there) in
       let z = step_with c (inputs_of x.redeemer) in

@@ -58,7 +58,7 @@ module _ {V : Type 0} (j : Judges V) (enough : FoundIsEnough j) (named : List â„
       let l = contract_of_lock o.lock input.contract in
       let v = input_published j enough named past sound n i tx x o l.0 input l.1 in
       let out = output_so tx k c h in
-      first_alone (j.step v.0 _) tx.outputs (step_passes j enough named past sound n i tx x o l.0 v.0 input l.1 v.1) k out.0 out.1 (is_contract_so (out.0).lock (lock_of c) out.2)
+      first_alone (j.step v.0 _) tx.outputs (step_passes j enough named past sound n i tx x o l.0 v.0 input.accepted input l.1 v.1) k out.0 out.1 (is_contract_so (out.0).lock (lock_of c) out.2)
 
   pub flow : Flow next_of past
   flow = record {

@@ -63,7 +63,7 @@ module _ (enough : FoundIsEnough marlowe) (named : List ℕ → Option Published
       let q = input_published marlowe enough named past sound n i tx x u l.0 input l.1 in
       let ys = (spent_at marlowe enough named past sound n tx input.accepted).ys in
       let s : Stepping = step_asked tx ys (step_with l.0 (inputs_of x.redeemer)) in
-      let z = stepped_so (terms_of q.0) s (step_passes marlowe enough named past sound n i tx x u l.0 q.0 input l.1 q.1) in
+      let z = stepped_so (terms_of q.0) s (step_passes marlowe enough named past sound n i tx x u l.0 q.0 input.accepted input l.1 q.1) in
       let on = continues (terms_of q.0) s z k c make in
       let same : q.0 ≡ p = same_some q.0 p (sym q.1 ∙ ap (λ (e : Instance). named e.script) (sym on.contract) ∙ is) in
       record {

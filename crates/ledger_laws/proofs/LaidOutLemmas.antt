@@ -145,7 +145,7 @@ goes_first t s state h =
 pub record Continues (t : Terms) (s : Stepping) (a : Standing) (i : ℕ) (c : Instance) : Type 0 where
   pub contract : c ≡ record { script = s.script; datum = datum_after t s a.state }
   pub output : slice_get s.tx.outputs i ≡ Some (continuation s.script (datum_after t s a.state))
-  pub open : a.contract ≡ close → ⊥
+  pub goes : a.contract ≡ close → ⊥
 
 later_at : (os : List Output) (i : ℕ) (o : Output) → slice_get os (suc i) ≡ Some o → slice_get (drop 1 os) i ≡ Some o
 later_at [] i o h = cc
@@ -160,7 +160,7 @@ continues t s z i c h = by (is_close (z.at).contract) refl z.rules z.stray
     first : is_close (z.at).contract ≡ false → first_of (rules_after t s (z.at).state false) ≡ None → stray_after 1 s.tx.outputs ≡ None → (i : ℕ) → contract_at s.tx i ≡ Some c → Continues t s z.at i c
     first e r f zero h =
         let g = goes_first t s (z.at).state r in
-        record { contract = same_some c _ (sym h ∙ g.0); output = g.1; open = λ q. not_both (ap is_close q) e }
+        record { contract = same_some c _ (sym h ∙ g.0); output = g.1; goes = λ q. not_both (ap is_close q) e }
     first e r f (suc i) h = let o = output_so s.tx (suc i) c h in absurd (none_at i 1 (drop 1 s.tx.outputs) o.0 f (later_at s.tx.outputs i o.0 o.1) o.2)
 
     by : (b : Bool) → is_close (z.at).contract ≡ b → first_of (rules_after t s (z.at).state b) ≡ None → stray_after (payments_from b 0) s.tx.outputs ≡ None → Continues t s z.at i c

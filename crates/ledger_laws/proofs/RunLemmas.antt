@@ -100,39 +100,39 @@ module _ (turns : TurnsLead) (enough : FoundIsEnough marlowe) (named : List ℕ 
       pub points : Points (next_of r tx) member.outcome.contract member.outcome.state
       pub gone : member.outcome.contract ≡ close → next_of r tx ≡ None
 
+    abbrev stepping : Tx → Datum → List (Spend × Output) → List Input → Stepping
+    stepping tx d ys xs = step_asked tx ys (step_with (lock_of (at_datum d)) xs)
+
     acts : (n : ℕ) (tx : Tx) (r : OutputRef) (d : Datum) → slice_get past.accepted n ≡ Some tx → is_input_of r tx ≡ true → IsMade past r (at_datum d) → Acts tx r d
     acts n tx r d at named_r made =
         let o = made_output marlowe enough named past sound r (at_datum d) made in
         let k = named_input marlowe enough named past sound n tx at r o.0 named_r o.1 (is_contract_so (o.0).lock (lock_of (at_datum d)) o.2) in
-        let ys = (spent_at marlowe enough named past sound n tx k.1.accepted).ys in
+        let ys = (spent_at marlowe enough named past sound n tx at).ys in
         let xs = inputs_of k.0.input.redeemer in
-        let z = stepped_so t (stepping ys xs) (step_passes marlowe enough named past sound n k.0.index tx k.0.input o.0 (lock_of (at_datum d)) p k.1 o.2 is) in
+        let z = stepped_so t (stepping tx d ys xs) (step_passes marlowe enough named past sound n k.0.index tx k.0.input o.0 (lock_of (at_datum d)) p at k.1 o.2 is) in
         record {
-          member = record { interval = tx.interval; inputs = xs; outcome = effect_of (walk_of t (stepping ys xs)) (z.at).state (z.at).contract };
+          member = record { interval = tx.interval; inputs = xs; outcome = effect_of (walk_of t (stepping tx d ys xs)) (z.at).state (z.at).contract };
           gives = (z.answer, refl, refl);
           interval = refl;
           given = k.0.given;
-          lays = laid_so turns t (tables script p is) (stepping ys xs) z;
+          lays = laid_so turns t (tables script p is) (stepping tx d ys xs) z;
           points = stands ys xs z (contract_at tx 0) refl;
           gone = λ closed. over ys xs z closed (contract_at tx 0) refl;
         }
       where
-        abbrev stepping : List (Spend × Output) → List Input → Stepping
-        stepping ys xs = step_asked tx ys (step_with (lock_of (at_datum d)) xs)
-
-        stands : (ys : List (Spend × Output)) (xs : List Input) → (z : Stepped t (stepping ys xs)) → (c : Option Instance) → contract_at tx 0 ≡ c → Points (option_map (λ c. Made (id_of tx) 0) c) (z.at).contract (z.at).state
+        stands : (ys : List (Spend × Output)) (xs : List Input) → (z : Stepped t (stepping tx d ys xs)) → (c : Option Instance) → contract_at tx 0 ≡ c → Points (option_map (λ c. Made (id_of tx) 0) c) (z.at).contract (z.at).state
         stands ys xs z None e = tt
         stands ys xs z (Some c) e =
-            let k = continues t (stepping ys xs) z 0 c e in (
-              datum_after t (stepping ys xs) (z.at).state,
+            let k = continues t (stepping tx d ys xs) z 0 c e in (
+              datum_after t (stepping tx d ys xs) (z.at).state,
               record { number = n; tx = tx; accepted = at; index = 0; name = refl; contract = e ∙ ap Some k.contract },
-              (led_so turns t (tables script p is) (stepping ys xs) z).1,
+              (led_so turns t (tables script p is) (stepping tx d ys xs) z).1,
               refl,
             )
 
-        over : (ys : List (Spend × Output)) (xs : List Input) → (z : Stepped t (stepping ys xs)) → (z.at).contract ≡ close → (c : Option Instance) → contract_at tx 0 ≡ c → option_map (λ c. Made (id_of tx) 0) c ≡ None
+        over : (ys : List (Spend × Output)) (xs : List Input) → (z : Stepped t (stepping tx d ys xs)) → (z.at).contract ≡ close → (c : Option Instance) → contract_at tx 0 ≡ c → option_map (λ c. Made (id_of tx) 0) c ≡ None
         over ys xs z closed None e = refl
-        over ys xs z closed (Some c) e = absurd ((continues t (stepping ys xs) z 0 c e).open closed)
+        over ys xs z closed (Some c) e = absurd ((continues t (stepping tx d ys xs) z 0 c e).goes closed)
 
     none_after : (z : Option OutputRef) (txs : List Tx) → z ≡ None → spine z txs ≡ []
     none_after None txs h = refl
