@@ -25,8 +25,8 @@ use Rattle.ledger_laws.specs.Laws.{IsContractInput}
 use Rattle.ledger_laws.proofs.PlainLaws.{EachFalse, both, not_both, not_false, few, same_some, is_there, each_at, any_at, any_there, only_one, any_taken, any_take, take_some, taken_at}
 use Rattle.ledger_laws.proofs.ReferenceLaws.{itself, unspent_so, unspent_created, output_nth, none_created, spender}
 use Rattle.ledger_laws.proofs.JudgedLemmas.{found, each_none, nowhere, unless, Passes, passes, made_known}
-use Rattle.ledger_laws.proofs.PartLaws.{is_contract_so, script_so}
-use Rattle.ledger_laws.proofs.PairedLemmas.{Paired, paired, spent_known, pair_at, input_at, NamedAt, named_at, holds, misfits, step_opens, contract_steps, step_with, step_read}
+use Rattle.ledger_laws.proofs.PartLaws.{script_so}
+use Rattle.ledger_laws.proofs.PairedLemmas.{Paired, paired, spent_known, pair_at, NamedAt, named_at, holds, misfits, step_opens, contract_steps, step_with, step_read}
 
 key_opens : (l : Lock) → is_key l ≡ true → is_contract l ≡ true → ⊥
 key_opens (Key a) h e = cc
@@ -158,61 +158,43 @@ module _ {V : Type 0} (j : Judges V) (enough : FoundIsEnough j) (named : List �
   pub made_there : (n : ℕ) (tx : Tx) → slice_get past.accepted n ≡ Some tx → (i : ℕ) (o : Output) → slice_get tx.outputs i ≡ Some o → lookup (same_ref (Made (id_of tx) i)) (created past) ≡ Some o
   made_there n tx at i o m = output_nth past n i tx o at (fresh_at n tx at) m
 
-  -- what it names it finds
-  pub record NamedThere (n : ℕ) (tx : Tx) (r : OutputRef) : Type 0 where
-    pub input : NamedAt r tx.inputs
-    pub output : Output
-    pub there : unspent_at (before past n) input.input.reference ≡ Some output
-    pub found : unspent_at (before past n) r ≡ Some output
-
-  named_there : (n : ℕ) (tx : Tx) → slice_get past.accepted n ≡ Some tx → (r : OutputRef) → is_input_of r tx ≡ true → NamedThere n tx r
-  named_there n tx at r named_r =
-      let s = spent_at n tx at in
-      let m = named_at r tx.inputs named_r in
-      let p = pair_at (unspent_at (before past n)) m.index m.input tx.inputs s.ys s.pairs m.at in
-      record { input = m; output = p.0; there = p.2; found = ap (unspent_at (before past n)) (sym m.name) ∙ p.2 }
-
-  pub finds : (n : ℕ) (tx : Tx) → slice_get past.accepted n ≡ Some tx → (r : OutputRef) (o : Output) → is_input_of r tx ≡ true → lookup (same_ref r) (created past) ≡ Some o → unspent_at (before past n) r ≡ Some o
-  finds n tx at r o named_r out =
-      let f = named_there n tx at r named_r in
-      f.found ∙ ap Some (same_some f.output o (sym (unspent_created past n r f.output f.found) ∙ out))
-
   -- ---- the contract that it steps
 
-  -- an input that names a contract
+  -- what is spent at a place
+  beside : (n i : ℕ) (tx : Tx) (x : Spend) (o : Output) → (at : slice_get past.accepted n ≡ Some tx) → slice_get tx.inputs i ≡ Some x → unspent_at (before past n) x.reference ≡ Some o → slice_get (spent_at n tx at).ys i ≡ Some (x, o)
+  beside n i tx x o at in_at there =
+      let p = pair_at (unspent_at (before past n)) i x tx.inputs (spent_at n tx at).ys (spent_at n tx at).pairs in_at in
+      p.1 ∙ ap (λ (u : Output). Some (let y : Spend × Output = (x, u) in y)) (same_some p.0 o (sym p.2 ∙ there))
+
+  -- its redeemer is of its kind
+  fits : (n i : ℕ) (tx : Tx) (x : Spend) (o : Output) → slice_get past.accepted n ≡ Some tx → slice_get tx.inputs i ≡ Some x → unspent_at (before past n) x.reference ≡ Some o → opens x.redeemer o.lock ≡ true
+  fits n i tx x o at in_at there = not_false (opens x.redeemer o.lock) (each_at misfits i (spent_at n tx at).ys (x, o) (spent_at n tx at).kinds (beside n i tx x o at in_at there))
+
+  finds : (n i : ℕ) (tx : Tx) (x : Spend) → slice_get past.accepted n ≡ Some tx → slice_get tx.inputs i ≡ Some x → (o : Output) × (unspent_at (before past n) x.reference ≡ Some o)
+  finds n i tx x at in_at = let s = spent_at n tx at in let p = pair_at (unspent_at (before past n)) i x tx.inputs s.ys s.pairs in_at in (p.0, p.2)
+
+  -- what it names is an input's, which finds it
+  named_there : (n : ℕ) (tx : Tx) → slice_get past.accepted n ≡ Some tx → (r : OutputRef) → is_input_of r tx ≡ true → (m : NamedAt r tx.inputs) × (o : Output) × (unspent_at (before past n) m.input.reference ≡ Some o)
+  named_there n tx at r named_r = let m = named_at r tx.inputs named_r in let f = finds n m.index tx m.input at m.at in (m, f.0, f.1)
+
+  -- where that is a contract's it is a contract input
   pub named_input : (n : ℕ) (tx : Tx) → slice_get past.accepted n ≡ Some tx → (r : OutputRef) (o : Output) → is_input_of r tx ≡ true → lookup (same_ref r) (created past) ≡ Some o → is_contract o.lock ≡ true →
       (m : NamedAt r tx.inputs) × IsContractInput past n m.index tx m.input o
   named_input n tx at r o named_r out c =
       let f = named_there n tx at r named_r in
-      let same : f.output ≡ o = same_some f.output o (sym f.found ∙ finds n tx at r o named_r out) in
-      (f.input, record { accepted = at; input = f.input.at; there = f.there ∙ ap Some same; contract = c })
+      let same : f.1 ≡ o = same_some f.1 o (sym (unspent_created past n f.0.input.reference f.1 f.2) ∙ ap (λ (q : OutputRef). lookup (same_ref q) (created past)) f.0.name ∙ out) in
+      (f.0, record { accepted = at; input = f.0.at; there = f.2 ∙ ap Some same; contract = c })
 
   -- a contract input brings a step
   pub steps_contract : (n i : ℕ) (tx : Tx) (x : Spend) (o : Output) → IsContractInput past n i tx x o → is_step x.redeemer ≡ true
-  steps_contract n i tx x o k =
-      let s = spent_at n tx k.accepted in
-      let p = pair_at (unspent_at (before past n)) i x tx.inputs s.ys s.pairs k.input in
-      let same : p.0 ≡ o = same_some p.0 o (sym p.2 ∙ k.there) in
-      contract_steps x.redeemer p.0.lock (ap (λ (z : Output). is_contract z.lock) same ∙ k.contract) (not_false (opens x.redeemer p.0.lock) (each_at misfits i s.ys (x, p.0) s.kinds p.1))
+  steps_contract n i tx x o k = contract_steps x.redeemer o.lock k.contract (fits n i tx x o k.accepted k.input k.there)
 
   -- and an input that brings a step is one
   pub step_input : (n i : ℕ) (tx : Tx) (x : Spend) (o : Output) → slice_get past.accepted n ≡ Some tx → slice_get tx.inputs i ≡ Some x → unspent_at (before past n) x.reference ≡ Some o → is_step x.redeemer ≡ true → IsContractInput past n i tx x o
-  step_input n i tx x o at in_at there h =
-      let s = spent_at n tx at in
-      let p = pair_at (unspent_at (before past n)) i x tx.inputs s.ys s.pairs in_at in
-      let same : p.0 ≡ o = same_some p.0 o (sym p.2 ∙ there) in
-      record {
-        accepted = at;
-        input = in_at;
-        there = there;
-        contract = ap (λ (z : Output). is_contract z.lock) (sym same) ∙ step_opens x.redeemer p.0.lock h (not_false (opens x.redeemer p.0.lock) (each_at misfits i s.ys (x, p.0) s.kinds p.1));
-      }
+  step_input n i tx x o at in_at there h = record { accepted = at; input = in_at; there = there; contract = step_opens x.redeemer o.lock h (fits n i tx x o at in_at there) }
 
   pub contract_stepped : (n i : ℕ) (tx : Tx) (x : Spend) → slice_get past.accepted n ≡ Some tx → slice_get tx.inputs i ≡ Some x → is_step x.redeemer ≡ true → (o : Output) × IsContractInput past n i tx x o
-  contract_stepped n i tx x at in_at h =
-      let s = spent_at n tx at in
-      let p = pair_at (unspent_at (before past n)) i x tx.inputs s.ys s.pairs in_at in
-      (p.0, step_input n i tx x p.0 at in_at p.2 h)
+  contract_stepped n i tx x at in_at h = let f = finds n i tx x at in_at in (f.0, step_input n i tx x f.0 at in_at f.1 h)
 
   -- a transaction with a contract input steps
   pub input_steps : (n i : ℕ) (tx : Tx) (x : Spend) (o : Output) → IsContractInput past n i tx x o → steps tx ≡ true
@@ -229,12 +211,8 @@ module _ {V : Type 0} (j : Judges V) (enough : FoundIsEnough j) (named : List �
   pub one_input : (n i k : ℕ) (tx : Tx) (x y : Spend) (o p : Output) → IsContractInput past n i tx x o → IsContractInput past n k tx y p → x.reference ≡ y.reference
   one_input n i k tx x y o p a b =
       let s = spent_at n tx a.accepted in
-      let find = unspent_at (before past n) in
-      let f = pair_at find i x tx.inputs s.ys s.pairs a.input in
-      let g = pair_at find k y tx.inputs s.ys s.pairs b.input in
-      let hold : (z : Spend) (u w : Output) → find z.reference ≡ Some u → find z.reference ≡ Some w → is_contract w.lock ≡ true → is_contract u.lock ≡ true =
-      λ z u w e q c. ap (λ (v : Output). is_contract v.lock) (same_some u w (sym e ∙ q)) ∙ c in
-      let place : i ≡ k = only_one holds s.ys i k (x, f.0) (y, g.0) s.single f.1 (hold x f.0 o f.2 a.there a.contract) g.1 (hold y g.0 p g.2 b.there b.contract) in
+      let at = beside n i tx x o a.accepted a.input a.there in
+      let place : i ≡ k = only_one holds s.ys i k (x, o) (y, p) s.single at a.contract (beside n k tx y p a.accepted b.input b.there) b.contract in
       ap (λ (z : Spend). z.reference) (same_some x y (sym a.input ∙ ap (slice_get tx.inputs) place ∙ b.input))
 
   -- its script was published
@@ -246,10 +224,8 @@ module _ {V : Type 0} (j : Judges V) (enough : FoundIsEnough j) (named : List �
       after_answer tx.outputs (j.step v (step_asked tx (spent_at n tx at).ys (step_with c (inputs_of x.redeemer)))) ≡ None
   step_passes n i tx x o c v at k h is =
       let s = spent_at n tx at in
-      let p = pair_at (unspent_at (before past n)) i x tx.inputs s.ys s.pairs k.input in
-      let same : p.0 ≡ o = same_some p.0 o (sym p.2 ∙ k.there) in
       let z = step_with c (inputs_of x.redeemer) in
-      let r = step_read s.ys i (x, p.0) c s.single p.1 (ap (λ (w : Output). contract_in w.lock) same ∙ h) in
+      let r = step_read s.ys i (x, o) c s.single (beside n i tx x o at k.input k.there) h in
       let step : script_fault j (named c.script) (step_asked tx s.ys z) ≡ None = subst (λ (l : List Step). step_fault j named tx s.ys l ≡ None) r.1 s.step in
       subst (λ (w : Option V). script_fault j w (step_asked tx s.ys z) ≡ None) is step
 
@@ -262,8 +238,8 @@ module _ {V : Type 0} (j : Judges V) (enough : FoundIsEnough j) (named : List �
       by : (b : Bool) → is_input_of (Made id i) tx ≡ b → b ≡ false
       by true e =
           let f = named_there n tx at (Made id i) e in
-          let out = (unspent_so (before past n) (Made id i) f.output f.found).1 in
-          let g : (let o : Option Output = Some f.output in o) ≡ None = sym out ∙ none_created (before past n) id i new in
+          let out = (unspent_so (before past n) (Made id i) f.1 (ap (unspent_at (before past n)) (sym f.0.name) ∙ f.2)).1 in
+          let g : (let o : Option Output = Some f.1 in o) ≡ None = sym out ∙ none_created (before past n) id i new in
           cc
       by false e = refl
 

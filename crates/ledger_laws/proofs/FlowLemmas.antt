@@ -8,7 +8,7 @@ use Rattle.eutxo_types.specs.declared.output_ref.OutputRef.TheVariants.{Made}
 use Rattle.eutxo_types.specs.declared.spend.Spend.{Spend}
 use Rattle.eutxo_types.specs.declared.tx.Tx.{Tx}
 use Rattle.eutxo_types.specs.Ids.{id_of}
-use Rattle.eutxo_types.specs.Parts.{same_ref, is_contract, Instance, lock_of, contract_at, steps}
+use Rattle.eutxo_types.specs.Parts.{same_ref, is_contract, Instance, lock_of, contract_at}
 use Rattle.eutxo.specs.Laws.{FoundIsEnough}
 use Rattle.eutxo.specs.declared.validator.StepAnswer.{StepAnswer}
 use Rattle.eutxo.specs.declared.validator.StepAnswer.TheVariants as answers
@@ -18,7 +18,7 @@ use Rattle.ledger_laws.specs.Past.{Past, before, is_input_of, unspent_at}
 use Rattle.ledger_laws.specs.Sound.{IsSound}
 use Rattle.ledger_laws.specs.Laws.{IsContractInput}
 use Rattle.ledger_laws.specs.Threads.{next_of}
-use Rattle.ledger_laws.proofs.PlainLaws.{same_some, not_both, each_at, any_at}
+use Rattle.ledger_laws.proofs.PlainLaws.{not_both, each_at, any_at}
 use Rattle.ledger_laws.proofs.JudgedLemmas.{nowhere}
 use Rattle.ledger_laws.proofs.PartLaws.{contract_of_lock, is_contract_so, output_so}
 use Rattle.ledger_laws.proofs.ReferenceLaws.{same_ref-refl, unspent_so}
@@ -66,15 +66,15 @@ module _ {V : Type 0} (j : Judges V) (enough : FoundIsEnough j) (named : List �
     goes = λ n tx p q at h. let g = next_so p tx q h in (0, g.1.0, g.0, g.1.1);
     stepped = λ n tx p at s. let k = spent_input n tx p at s in input_steps j enough named past sound n k.0 tx k.1 k.2 k.3;
     apart = λ n tx p q r at s t g h.
-      let a = spent_input n tx p at s in
-      let b = spent_input n tx q at t in
-      sym a.4 ∙ one_input j enough named past sound n a.0 b.0 tx a.1 b.1 a.2 b.2 a.3 b.3 ∙ b.4;
+        let a = spent_input n tx p at s in
+        let b = spent_input n tx q at t in
+        sym a.4 ∙ one_input j enough named past sound n a.0 b.0 tx a.1 b.1 a.2 b.2 a.3 b.3 ∙ b.4;
     onto = λ n tx i c at h k.
-      let one = steps_one j enough named past sound n tx at h in
-      let first : i ≡ 0 = alone n one.0 tx one.1 one.2 one.3 i c k in (
-        one.1.reference,
-        opened n one.1.reference one.2 one.3.there one.3.contract,
-        spends_it n one.0 tx one.1 one.2 one.3,
-        next_there one.1.reference tx c (subst (λ (z : ℕ). contract_at tx z ≡ Some c) first k) ∙ ap (λ (z : ℕ). Some (Made (id_of tx) z)) (sym first),
-      );
+        let one = steps_one j enough named past sound n tx at h in
+        let first : i ≡ 0 = alone n one.0 tx one.1 one.2 one.3 i c k in (
+          one.1.reference,
+          opened n one.1.reference one.2 one.3.there one.3.contract,
+          spends_it n one.0 tx one.1 one.2 one.3,
+          next_there one.1.reference tx c (subst (λ (z : ℕ). contract_at tx z ≡ Some c) first k) ∙ ap (λ (z : ℕ). Some (Made (id_of tx) z)) (sym first),
+        );
   }

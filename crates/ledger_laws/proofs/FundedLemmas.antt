@@ -69,9 +69,9 @@ module _ (enough : FoundIsEnough marlowe) (named : List ℕ → Option Published
       record {
         sums = ap (λ (e : Output). e.amount) (same_some o _ (sym out ∙ on.output)) ∙ ap (λ (e : Instance). sums_of e.datum.state) (sym on.contract);
         number = λ turns table.
-          ap (λ (e : Instance). (terms_of p).has e.datum.cont) on.contract
-          ∙ ap (λ (v : Published). (terms_of v).has (datum_after (terms_of q.0) s (z.at).state).cont) (sym same)
-          ∙ (led_so turns (terms_of q.0) (subst (λ (v : Published). IsTable (terms_of v)) (sym same) table) s z).0;
+            ap (λ (e : Instance). (terms_of p).has e.datum.cont) on.contract
+            ∙ ap (λ (v : Published). (terms_of v).has (datum_after (terms_of q.0) s (z.at).state).cont) (sym same)
+            ∙ (led_so turns (terms_of q.0) (subst (λ (v : Published). IsTable (terms_of v)) (sym same) table) s z).0;
       }
 
   made_stands : (n : ℕ) (tx : Tx) → slice_get past.accepted n ≡ Some tx → (k : ℕ) (o : Output) (c : Instance) → slice_get tx.outputs k ≡ Some o → contract_at tx k ≡ Some c → (p : Published) → named c.script ≡ Some p → Stands p o c

@@ -1,6 +1,6 @@
 -- Threads in a past whose transactions let contracts flow, however they go on: each contract input stands on exactly one thread, each
 -- unspent contract output ends exactly one, and where a thread ends there is one.
-use Rattle.std.proofs.Common.{◌≡◌, ℕ, zero, suc, ◌<◌, Bool, true, false, List, [], ◌∷◌, ◌++◌, refl, sym, ◌∙◌, ap, subst, arith, Option, Some, None, take, length, ◌⊎◌, inl, inr}
+use Rattle.std.proofs.Common.{◌≡◌, ℕ, zero, suc, Bool, true, false, List, refl, sym, ◌∙◌, ap, subst, arith, Option, Some, None, take, length, ◌⊎◌, inl, inr}
 use Rattle.std.specs.Prelude.{if◌then◌else◌}
 use Rattle.std.specs.List.{slice_get}
 use Rattle.eutxo_types.specs.declared.output_ref.OutputRef.{OutputRef}
@@ -9,9 +9,9 @@ use Rattle.eutxo_types.specs.declared.tx.Tx.{Tx}
 use Rattle.eutxo_types.specs.Ids.{id_of}
 use Rattle.eutxo_types.specs.Parts.{Instance, contract_at, steps}
 use Rattle.ledger_laws.specs.Past.{Past, before, is_input_of, is_spent}
-use Rattle.ledger_laws.specs.Threads.{Link, spine_by, ends_by, IsMade, StartsThread}
+use Rattle.ledger_laws.specs.Threads.{spine_by, ends_by, IsMade, StartsThread}
 use Rattle.ledger_laws.specs.Laws.{ExactlyOne}
-use Rattle.ledger_laws.proofs.PlainLaws.{or_false, not_both, same_some, take_none, take_some, take_whole, taken_at, taken_so}
+use Rattle.ledger_laws.proofs.PlainLaws.{or_false, not_both, same_some, take_none, take_some, take_whole, taken_at, get_grown}
 use Rattle.ledger_laws.proofs.ReferenceLaws.{spent_more}
 use Rattle.ledger_laws.proofs.SpineLaws.{reached, moved, reached_more, ends_reached, stays, member_stood, member_at, led}
 
@@ -58,9 +58,6 @@ module _ (next : OutputRef → Tx → Option OutputRef) (past : Past) (flow : Fl
   some_stands zero q o = let e : (let z : Option Tx = None in z) ≡ Some (o.made).tx = (o.made).accepted in cc
   some_stands (suc n) q o = by (slice_get txs n) refl (some_stands n)
     where
-      place : (slice_get txs (o.made).number ≡ Some (o.made).tx) × ((o.made).number < suc n)
-      place = taken_at (suc n) (o.made).number txs (o.made).tx (o.made).accepted
-
       old : (tx : Tx) → slice_get txs n ≡ Some tx → is_input_of q tx ≡ false → StandsAt n q → StandsAt (suc n) q
       old tx at apart t = record {
         start = t.start;
@@ -71,10 +68,13 @@ module _ (next : OutputRef → Tx → Option OutputRef) (past : Past) (flow : Fl
       new : (tx : Tx) → slice_get txs n ≡ Some tx → (o.made).tx ≡ tx → ((q : OutputRef) → IsOpen (before past n) q → StandsAt n q) → (b : Bool) → steps tx ≡ b → StandsAt (suc n) q
       new tx at e go false bare = record {
         start = q;
-        starts = (o.contract, record {
-          made = record { number = (o.made).number; tx = (o.made).tx; accepted = place.0; index = (o.made).index; name = (o.made).name; contract = (o.made).contract };
-          bare = ap steps e ∙ bare;
-        });
+        starts = (
+          o.contract,
+          record {
+            made = record { number = (o.made).number; tx = (o.made).tx; accepted = (taken_at (suc n) (o.made).number txs (o.made).tx (o.made).accepted).0; index = (o.made).index; name = (o.made).name; contract = (o.made).contract };
+            bare = ap steps e ∙ bare;
+          },
+        );
         stands = stays next q (take (suc n) txs) o.unspent;
       }
       new tx at e go true step =
@@ -87,28 +87,18 @@ module _ (next : OutputRef → Tx → Option OutputRef) (past : Past) (flow : Fl
             stands = step_on n tx (Some t.start) at ∙ ap (λ z. moved next z tx) t.stands ∙ ap (λ (b : Bool). if b then next w.0 tx else Some w.0) w.2 ∙ w.3 ∙ ap Some (sym here);
           }
 
-      last_or_before : (k n : ℕ) → k < suc n → (k ≡ n) ⊎ (k < n)
-      last_or_before zero zero l = inl refl
-      last_or_before zero (suc n) l = inr (omega arith)
-      last_or_before (suc k) zero l = absurd (omega (arith, l))
-      last_or_before (suc k) (suc n) l = elim (last_or_before k n (omega (arith, l))) [
-        | inl e ↦ inl (ap suc e)
-        | inr l ↦ inr (omega (arith, l))
-      ]
-
       by : (z : Option Tx) → slice_get txs n ≡ z → ((q : OutputRef) → IsOpen (before past n) q → StandsAt n q) → StandsAt (suc n) q
       by None e go =
           let t = go q (subst (λ (l : List Tx). IsOpen (record past { accepted = l }) q) (take_none n txs e) o) in
           record { start = t.start; starts = t.starts; stands = ap (reached next (Some t.start)) (take_none n txs e) ∙ t.stands }
       by (Some tx) at go =
-          let a = or_false (is_spent (take n txs) q) (is_input_of q tx) (sym (spent_more (take n txs) tx q) ∙ ap (λ (l : List Tx). is_spent l q) (sym (take_some n txs tx at)) ∙ o.unspent) in
-          elim (last_or_before (o.made).number n place.1) [
-            | inl e ↦ new tx at (same_some (o.made).tx tx (sym place.0 ∙ ap (slice_get txs) e ∙ at)) go (steps tx) refl
-            | inr l ↦ old tx at a.1 (go q (record {
-                contract = o.contract;
-                made = record { number = (o.made).number; tx = (o.made).tx; accepted = taken_so n (o.made).number txs (o.made).tx place.0 l; index = (o.made).index; name = (o.made).name; contract = (o.made).contract };
-                unspent = a.0;
-              }))
+          let grown = take_some n txs tx at in
+          let a = or_false (is_spent (take n txs) q) (is_input_of q tx) (sym (spent_more (take n txs) tx q) ∙ ap (λ (l : List Tx). is_spent l q) (sym grown) ∙ o.unspent) in
+          elim (get_grown (take n txs) tx (o.made).number (o.made).tx (ap (λ (l : List Tx). slice_get l (o.made).number) (sym grown) ∙ (o.made).accepted)) [
+            | inl p ↦
+                let made : IsMade (before past n) q o.contract = record { number = (o.made).number; tx = (o.made).tx; accepted = p.0; index = (o.made).index; name = (o.made).name; contract = (o.made).contract } in
+                old tx at a.1 (go q (record { contract = o.contract; made = made; unspent = a.0 }))
+            | inr p ↦ new tx at (sym p.0) go (steps tx) refl
           ]
 
   -- ---- and no other
@@ -176,19 +166,25 @@ module _ (next : OutputRef → Tx → Option OutputRef) (past : Past) (flow : Fl
   pub inputs_stand : (n : ℕ) (tx : Tx) (q : OutputRef) → slice_get txs n ≡ Some tx → is_input_of q tx ≡ true → IsOpen (before past n) q →
       ExactlyOne (λ r. StartsThread past r × ((i : ℕ) × (slice_get (spine_by next (Some r) txs) i ≡ Some (record { spends = q; tx = tx }))))
   inputs_stand n tx q at named o =
-      let t = some_stands n q o in
-      (t.start, (t.starts, member_at next (Some t.start) txs n q tx at t.stands named), λ s h.
-        let w = member_stood next (Some s) txs h.1.0 q tx h.1.1 in
-        let place = flow.single w.number n tx tx w.at at refl in
-        one_stands n q s t.start h.0 t.starts (subst (λ (i : ℕ). reached next (Some s) (take i txs) ≡ Some q) place w.stood) t.stands)
+      let t = some_stands n q o in (
+        t.start,
+        (t.starts, member_at next (Some t.start) txs n q tx at t.stands named),
+        λ s h.
+            let w = member_stood next (Some s) txs h.1.0 q tx h.1.1 in
+            let place = flow.single w.number n tx tx w.at at refl in
+            one_stands n q s t.start h.0 t.starts (subst (λ (i : ℕ). reached next (Some s) (take i txs) ≡ Some q) place w.stood) t.stands,
+      )
 
   -- and every open contract output ends exactly one
   pub opens_end : (q : OutputRef) → IsOpen past q → ExactlyOne (λ r. StartsThread past r × (ends_by next (Some r) (spine_by next (Some r) txs) ≡ Some q))
   opens_end q o =
       let all = take_whole txs in
-      let t = some_stands (length txs) q (subst (λ (l : List Tx). IsOpen (record past { accepted = l }) q) (sym all) o) in
-      (t.start, (t.starts, ends_reached next (Some t.start) txs ∙ ap (reached next (Some t.start)) (sym all) ∙ t.stands), λ s h.
-        one_stands (length txs) q s t.start h.0 t.starts (ap (reached next (Some s)) all ∙ sym (ends_reached next (Some s) txs) ∙ h.1) t.stands)
+      let t = some_stands (length txs) q (subst (λ (l : List Tx). IsOpen (record past { accepted = l }) q) (sym all) o) in (
+        t.start,
+        (t.starts, ends_reached next (Some t.start) txs ∙ ap (reached next (Some t.start)) (sym all) ∙ t.stands),
+        λ s h.
+            one_stands (length txs) q s t.start h.0 t.starts (ap (reached next (Some s)) all ∙ sym (ends_reached next (Some s) txs) ∙ h.1) t.stands,
+      )
 
   -- where a thread ends a contract was made
   pub ends_made : (r q : OutputRef) → StartsThread past r → ends_by next (Some r) (spine_by next (Some r) txs) ≡ Some q → (c : Instance) × IsMade past q c

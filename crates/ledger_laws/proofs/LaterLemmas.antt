@@ -12,7 +12,7 @@ use Rattle.eutxo_types.specs.declared.spend.Spend.{Spend}
 use Rattle.eutxo_types.specs.declared.tx.Tx.{Tx}
 use Rattle.eutxo_types.specs.Parts.{Instance, lock_of, contract_at}
 use Rattle.eutxo.specs.Laws.{FoundIsEnough}
-use Rattle.eutxo.specs.Faults.{first_of, first_index}
+use Rattle.eutxo.specs.Faults.{first_of}
 use Rattle.eutxo.specs.Found.{is_known, all_known, if_known}
 use Rattle.eutxo.specs.Rules.{Step, steps_of, step_asked, script_fault, step_fault, starts_wrong, starts_wrong_at}
 use Rattle.eutxo.specs.Local.{spent_rules, spent_fault, whole_fault}

@@ -1,5 +1,5 @@
 -- Inputs with the outputs that they find, and the contracts among them.
-use Rattle.std.proofs.Common.{◌≡◌, ℕ, zero, suc, ◌≤◌, Bool, true, false, not, ◌||◌, List, [], ◌∷◌, ◌++◌, refl, sym, ◌∙◌, ap, subst, Option, Some, None}
+use Rattle.std.proofs.Common.{◌≡◌, ℕ, zero, suc, ◌≤◌, Bool, true, false, not, ◌||◌, List, [], ◌∷◌, ◌++◌, refl, sym, ◌∙◌, ap, Option, Some, None}
 use Rattle.std.specs.Prelude.{is_none, count_by, map, if◌then◌else◌}
 use Rattle.std.specs.List.{slice_get, list_any, list_all}
 use Rattle.contract.specs.declared.input.Input.{Input}

@@ -23,10 +23,6 @@ pub both_false : (a b : Bool) → a ≡ false → b ≡ false → (a || b) ≡ f
 both_false true b p q = cc
 both_false false b p q = q
 
-pub or_cases : (a b : Bool) → (a || b) ≡ true → (a ≡ true) ⊎ (b ≡ true)
-or_cases true b h = inl refl
-or_cases false b h = inr h
-
 pub or_true : (a b : Bool) → b ≡ true → (a || b) ≡ true
 or_true true b h = refl
 or_true false b h = h
@@ -49,10 +45,6 @@ few n h = grind arith
 
 pub same_some : {A : Type 0} (a b : A) → ◌≡◌ {A = Option A} (Some a) (Some b) → a ≡ b
 same_some a b e = cc
-
-pub some_not_none : {A : Type 0} (o : Option A) (a : A) → o ≡ Some a → o ≡ None → ⊥
-some_not_none None a h e = cc
-some_not_none (Some b) a h e = cc
 
 pub is_there : {A : Type 0} (o : Option A) → is_some o ≡ true → (x : A) × (o ≡ Some x)
 is_there None h = cc
@@ -118,12 +110,6 @@ taken_at zero m xs y h = cc
 taken_at (suc n) m [] y h = cc
 taken_at (suc n) zero (x ∷ xs) y h = (h, omega arith)
 taken_at (suc n) (suc m) (x ∷ xs) y h = let q = taken_at n m xs y h in (q.0, let l = q.1 in omega (arith, l))
-
-pub taken_so : {A : Type 0} (n m : ℕ) (xs : List A) (y : A) → slice_get xs m ≡ Some y → m < n → slice_get (take n xs) m ≡ Some y
-taken_so zero m xs y h l = absurd (omega (arith, l))
-taken_so (suc n) m [] y h l = cc
-taken_so (suc n) zero (x ∷ xs) y h l = h
-taken_so (suc n) (suc m) (x ∷ xs) y h l = taken_so n m xs y h (omega (arith, l))
 
 pub any_taken : {A : Type 0} (p : A → Bool) (xs : List A) (n k : ℕ) (x : A) → n < k → slice_get xs n ≡ Some x → p x ≡ true → list_any p (take k xs) ≡ true
 any_taken p [] n k x l e h = cc

@@ -1,10 +1,9 @@
 -- Each contract input stands on exactly one thread, and each unspent contract output ends one.
-use Rattle.std.proofs.Common.{◌≡◌, cond, not, ℕ, suc, Bool, true, false, ◌∷◌, List, [], ◌++◌, refl, sym, ◌∙◌, ap, subst, Option, Some, None, take, drop, length, ◌⊎◌, inl, inr}
+use Rattle.std.proofs.Common.{◌≡◌, cond, not, ℕ, suc, Bool, false, ◌∷◌, List, [], ◌++◌, sym, ◌∙◌, ap, Option, Some, None, take, drop, inl, inr}
 use Rattle.std.specs.List.{slice_get}
 use Rattle.std.specs.Map.{lookup}
 use Rattle.std.proofs.lemmas.List.{take-append-drop}
 use Rattle.std.proofs.lemmas.List.Folds.{list_any-append}
-use Rattle.eutxo_types.specs.declared.output.Output.{Output}
 use Rattle.eutxo_types.specs.declared.output_ref.OutputRef.{OutputRef}
 use Rattle.eutxo_types.specs.declared.output_ref.OutputRef.TheVariants.{Made}
 use Rattle.eutxo_types.specs.declared.tx.Tx.{Tx}
@@ -12,11 +11,11 @@ use Rattle.eutxo_types.specs.Ids.{id_of}
 use Rattle.eutxo_types.specs.Parts.{same_ref, Instance, lock_of}
 use Rattle.eutxo.specs.Laws.{FoundIsEnough}
 use Rattle.eutxo.specs.Asked.{Judges}
-use Rattle.ledger_laws.specs.Past.{Past, before, created, is_input_of, is_spent, unspent_at}
+use Rattle.ledger_laws.specs.Past.{Past, created, is_input_of, is_spent}
 use Rattle.ledger_laws.specs.Sound.{IsSound}
 use Rattle.ledger_laws.specs.Threads.{next_of, ends, StartsThread, IsMade, thread}
 use Rattle.ledger_laws.specs.Laws.{StepsStandOnThreads, StepsSpendContracts, StepsNameContracts, ContractsEndThreads, EndsAreUnspent}
-use Rattle.ledger_laws.proofs.PlainLaws.{both_false, same_some, take_some, take_whole, cut_at}
+use Rattle.ledger_laws.proofs.PlainLaws.{both_false, take_some}
 use Rattle.ledger_laws.proofs.PartLaws.{is_contract_so}
 use Rattle.ledger_laws.proofs.ReferenceLaws.{unspent_so, unspent_is}
 use Rattle.ledger_laws.proofs.AcceptedLaws.{still_there, steps_contract, contract_stepped}
