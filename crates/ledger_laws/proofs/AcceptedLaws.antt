@@ -135,7 +135,8 @@ module _ {V : Type 0} (j : Judges V) (enough : FoundIsEnough j) (named : List �
   published n r o script f l = known_script o.lock script l (find_known n r o f)
 
   -- and that of what it makes
-  pub made_published : (n : ℕ) (tx : Tx) → slice_get past.accepted n ≡ Some tx → (i : ℕ) (o : Output) (script : List ℕ) → slice_get tx.outputs i ≡ Some o → script_in o.lock ≡ Some script → (v : V) × (named script ≡ Some v)
+  pub made_published : (n : ℕ) (tx : Tx) → slice_get past.accepted n ≡ Some tx → (i : ℕ) (o : Output) (script : List ℕ) → slice_get tx.outputs i ≡ Some o →
+      script_in o.lock ≡ Some script → (v : V) × (named script ≡ Some v)
   made_published n tx at i o script m l = known_script o.lock script l (not_false (is_known named o.lock) (each_at (is_unknown named) i tx.outputs o (passes_at n tx at).known m))
 
   -- ---- ids and references
@@ -161,24 +162,28 @@ module _ {V : Type 0} (j : Judges V) (enough : FoundIsEnough j) (named : List �
   -- ---- the contract that it steps
 
   -- what is spent at a place
-  beside : (n i : ℕ) (tx : Tx) (x : Spend) (o : Output) → (at : slice_get past.accepted n ≡ Some tx) → slice_get tx.inputs i ≡ Some x → unspent_at (before past n) x.reference ≡ Some o → slice_get (spent_at n tx at).ys i ≡ Some (x, o)
+  beside : (n i : ℕ) (tx : Tx) (x : Spend) (o : Output) → (at : slice_get past.accepted n ≡ Some tx) → slice_get tx.inputs i ≡ Some x → unspent_at (before past n) x.reference ≡ Some o →
+      slice_get (spent_at n tx at).ys i ≡ Some (x, o)
   beside n i tx x o at in_at there =
       let p = pair_at (unspent_at (before past n)) i x tx.inputs (spent_at n tx at).ys (spent_at n tx at).pairs in_at in
       p.1 ∙ ap (λ (u : Output). Some (let y : Spend × Output = (x, u) in y)) (same_some p.0 o (sym p.2 ∙ there))
 
   -- its redeemer is of its kind
-  fits : (n i : ℕ) (tx : Tx) (x : Spend) (o : Output) → slice_get past.accepted n ≡ Some tx → slice_get tx.inputs i ≡ Some x → unspent_at (before past n) x.reference ≡ Some o → opens x.redeemer o.lock ≡ true
+  fits : (n i : ℕ) (tx : Tx) (x : Spend) (o : Output) → slice_get past.accepted n ≡ Some tx → slice_get tx.inputs i ≡ Some x → unspent_at (before past n) x.reference ≡ Some o →
+      opens x.redeemer o.lock ≡ true
   fits n i tx x o at in_at there = not_false (opens x.redeemer o.lock) (each_at misfits i (spent_at n tx at).ys (x, o) (spent_at n tx at).kinds (beside n i tx x o at in_at there))
 
   finds : (n i : ℕ) (tx : Tx) (x : Spend) → slice_get past.accepted n ≡ Some tx → slice_get tx.inputs i ≡ Some x → (o : Output) × (unspent_at (before past n) x.reference ≡ Some o)
   finds n i tx x at in_at = let s = spent_at n tx at in let p = pair_at (unspent_at (before past n)) i x tx.inputs s.ys s.pairs in_at in (p.0, p.2)
 
   -- what it names is an input's, which finds it
-  named_there : (n : ℕ) (tx : Tx) → slice_get past.accepted n ≡ Some tx → (r : OutputRef) → is_input_of r tx ≡ true → (m : NamedAt r tx.inputs) × (o : Output) × (unspent_at (before past n) m.input.reference ≡ Some o)
+  named_there : (n : ℕ) (tx : Tx) → slice_get past.accepted n ≡ Some tx → (r : OutputRef) → is_input_of r tx ≡ true →
+      (m : NamedAt r tx.inputs) × (o : Output) × (unspent_at (before past n) m.input.reference ≡ Some o)
   named_there n tx at r named_r = let m = named_at r tx.inputs named_r in let f = finds n m.index tx m.input at m.at in (m, f.0, f.1)
 
   -- where that is a contract's it is a contract input
-  pub named_input : (n : ℕ) (tx : Tx) → slice_get past.accepted n ≡ Some tx → (r : OutputRef) (o : Output) → is_input_of r tx ≡ true → lookup (same_ref r) (created past) ≡ Some o → is_contract o.lock ≡ true →
+  pub named_input : (n : ℕ) (tx : Tx) → slice_get past.accepted n ≡ Some tx → (r : OutputRef) (o : Output) → is_input_of r tx ≡ true → lookup (same_ref r) (created past) ≡ Some o →
+      is_contract o.lock ≡ true →
       (m : NamedAt r tx.inputs) × IsContractInput past n m.index tx m.input o
   named_input n tx at r o named_r out c =
       let f = named_there n tx at r named_r in
@@ -190,10 +195,12 @@ module _ {V : Type 0} (j : Judges V) (enough : FoundIsEnough j) (named : List �
   steps_contract n i tx x o k = contract_steps x.redeemer o.lock k.contract (fits n i tx x o k.accepted k.input k.there)
 
   -- and an input that brings a step is one
-  pub step_input : (n i : ℕ) (tx : Tx) (x : Spend) (o : Output) → slice_get past.accepted n ≡ Some tx → slice_get tx.inputs i ≡ Some x → unspent_at (before past n) x.reference ≡ Some o → is_step x.redeemer ≡ true → IsContractInput past n i tx x o
+  pub step_input : (n i : ℕ) (tx : Tx) (x : Spend) (o : Output) → slice_get past.accepted n ≡ Some tx → slice_get tx.inputs i ≡ Some x →
+      unspent_at (before past n) x.reference ≡ Some o → is_step x.redeemer ≡ true → IsContractInput past n i tx x o
   step_input n i tx x o at in_at there h = record { accepted = at; input = in_at; there = there; contract = step_opens x.redeemer o.lock h (fits n i tx x o at in_at there) }
 
-  pub contract_stepped : (n i : ℕ) (tx : Tx) (x : Spend) → slice_get past.accepted n ≡ Some tx → slice_get tx.inputs i ≡ Some x → is_step x.redeemer ≡ true → (o : Output) × IsContractInput past n i tx x o
+  pub contract_stepped : (n i : ℕ) (tx : Tx) (x : Spend) → slice_get past.accepted n ≡ Some tx → slice_get tx.inputs i ≡ Some x → is_step x.redeemer ≡ true →
+      (o : Output) × IsContractInput past n i tx x o
   contract_stepped n i tx x at in_at h = let f = finds n i tx x at in_at in (f.0, step_input n i tx x f.0 at in_at f.1 h)
 
   -- a transaction with a contract input steps
@@ -220,7 +227,8 @@ module _ {V : Type 0} (j : Judges V) (enough : FoundIsEnough j) (named : List �
   input_published n i tx x o c k h = published n x.reference o c.script k.there (script_so o.lock c h)
 
   -- and passes its step
-  pub step_passes : (n i : ℕ) (tx : Tx) (x : Spend) (o : Output) (c : ContractLock) (v : V) → (at : slice_get past.accepted n ≡ Some tx) → IsContractInput past n i tx x o → contract_in o.lock ≡ Some c → named c.script ≡ Some v →
+  pub step_passes : (n i : ℕ) (tx : Tx) (x : Spend) (o : Output) (c : ContractLock) (v : V) → (at : slice_get past.accepted n ≡ Some tx) → IsContractInput past n i tx x o →
+      contract_in o.lock ≡ Some c → named c.script ≡ Some v →
       after_answer tx.outputs (j.step v (step_asked tx (spent_at n tx at).ys (step_with c (inputs_of x.redeemer)))) ≡ None
   step_passes n i tx x o c v at k h is =
       let s = spent_at n tx at in

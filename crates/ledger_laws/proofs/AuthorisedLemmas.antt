@@ -30,7 +30,8 @@ module _ (enough : FoundIsEnough marlowe) (named : List ℕ → Option Published
       let c = contract_of_lock x.1.lock k.contract in
       let v = input_published marlowe enough named past sound n i tx x.0 x.1 c.0 k c.1 in
       let s : Stepping = step_asked tx spent (step_with c.0 (inputs_of x.0.redeemer)) in
-      record { lock = c.0; contract = c.1; object = v.0; named = v.1; parties = authorised_so (terms_of v.0) s (stepped_so (terms_of v.0) s (step_passes marlowe enough named past sound n i tx x.0 x.1 c.0 v.0 at k c.1 v.1)) }
+      let z = stepped_so (terms_of v.0) s (step_passes marlowe enough named past sound n i tx x.0 x.1 c.0 v.0 at k c.1 v.1) in
+      record { lock = c.0; contract = c.1; object = v.0; named = v.1; parties = authorised_so (terms_of v.0) s z }
 
 pub parties_are_authorised : FoundIsEnough marlowe → PartiesAreAuthorised
 parties_are_authorised enough named past sound n tx at =

@@ -50,7 +50,8 @@ module _ (enough : FoundIsEnough marlowe) (named : List ℕ → Option Published
       (p : Published) → named c.script ≡ Some p → (p.root ≡ c.datum.cont) × (o.amount ≡ sums_of c.datum.state)
   starting_at n tx at bare k o c out make p is =
       let s = spent_at marlowe enough named past sound n tx at in
-      let step : step_fault marlowe named tx s.ys [] ≡ None = subst (λ (l : List Step). step_fault marlowe named tx s.ys l ≡ None) (none_steps (unspent_at (before past n)) tx.inputs s.ys s.pairs s.kinds bare) s.step in
+      let none = none_steps (unspent_at (before past n)) tx.inputs s.ys s.pairs s.kinds bare in
+      let step : step_fault marlowe named tx s.ys [] ≡ None = subst (λ (l : List Step). step_fault marlowe named tx s.ys l ≡ None) none s.step in
       let here = unplaced (λ i (x : Output). starts_wrong marlowe named x.amount (contract_at tx i)) tx.outputs (mapped_none WrongStart _ step) k o out in
       let there : starts_wrong marlowe named o.amount (Some c) ≡ false = subst (λ (z : Option Instance). starts_wrong marlowe named o.amount z ≡ false) make here in
       started p c.datum o (not_false (starts_from p.root c.datum o.amount) (subst (λ (v : Option Published). starts_wrong_at marlowe v c.datum o.amount ≡ false) is there))
@@ -74,7 +75,8 @@ module _ (enough : FoundIsEnough marlowe) (named : List ℕ → Option Published
             ∙ (led_so turns (terms_of q.0) (subst (λ (v : Published). IsTable (terms_of v)) (sym same) table) s z).0;
       }
 
-  made_stands : (n : ℕ) (tx : Tx) → slice_get past.accepted n ≡ Some tx → (k : ℕ) (o : Output) (c : Instance) → slice_get tx.outputs k ≡ Some o → contract_at tx k ≡ Some c → (p : Published) → named c.script ≡ Some p → Stands p o c
+  made_stands : (n : ℕ) (tx : Tx) → slice_get past.accepted n ≡ Some tx → (k : ℕ) (o : Output) (c : Instance) → slice_get tx.outputs k ≡ Some o → contract_at tx k ≡ Some c →
+      (p : Published) → named c.script ≡ Some p → Stands p o c
   made_stands n tx at k o c out make p is = by (steps tx) refl
     where
       by : (b : Bool) → steps tx ≡ b → Stands p o c

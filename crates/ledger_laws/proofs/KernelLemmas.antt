@@ -21,6 +21,10 @@ pub record IsOpen (past : Past) (r : OutputRef) : Type 0 where
   pub made : IsMade past r contract
   pub unspent : is_spent past.accepted r ≡ false
 
+-- what is made in a past is made in one that has accepted its transaction at the same place
+abbrev made_in : (past other : Past) (r : OutputRef) (c : Instance) → (m : IsMade past r c) → slice_get other.accepted m.number ≡ Some m.tx → IsMade other r c
+made_in past other r c m at = record { number = m.number; tx = m.tx; accepted = at; index = m.index; name = m.name; contract = m.contract }
+
 -- a transaction spends a contract output that the past made
 abbrev pub Spends : Past → Tx → OutputRef → Type 0
 Spends past tx r = (is_input_of r tx ≡ true) × ((c : Instance) × IsMade past r c)
@@ -71,7 +75,7 @@ module _ (next : OutputRef → Tx → Option OutputRef) (past : Past) (flow : Fl
         starts = (
           o.contract,
           record {
-            made = record { number = (o.made).number; tx = (o.made).tx; accepted = (taken_at (suc n) (o.made).number txs (o.made).tx (o.made).accepted).0; index = (o.made).index; name = (o.made).name; contract = (o.made).contract };
+            made = made_in (before past (suc n)) past q o.contract o.made (taken_at (suc n) (o.made).number txs (o.made).tx (o.made).accepted).0;
             bare = ap steps e ∙ bare;
           },
         );
@@ -95,16 +99,15 @@ module _ (next : OutputRef → Tx → Option OutputRef) (past : Past) (flow : Fl
           let grown = take_some n txs tx at in
           let a = or_false (is_spent (take n txs) q) (is_input_of q tx) (sym (spent_more (take n txs) tx q) ∙ ap (λ (l : List Tx). is_spent l q) (sym grown) ∙ o.unspent) in
           elim (get_grown (take n txs) tx (o.made).number (o.made).tx (ap (λ (l : List Tx). slice_get l (o.made).number) (sym grown) ∙ (o.made).accepted)) [
-            | inl p ↦
-                let made : IsMade (before past n) q o.contract = record { number = (o.made).number; tx = (o.made).tx; accepted = p.0; index = (o.made).index; name = (o.made).name; contract = (o.made).contract } in
-                old tx at a.1 (go q (record { contract = o.contract; made = made; unspent = a.0 }))
+            | inl p ↦ old tx at a.1 (go q (record { contract = o.contract; made = made_in (before past (suc n)) (before past n) q o.contract o.made p.0; unspent = a.0 }))
             | inr p ↦ new tx at (sym p.0) go (steps tx) refl
           ]
 
   -- ---- and no other
 
   -- no thread stands at what a step makes before the step
-  not_yet : (n : ℕ) (tx : Tx) (p q : OutputRef) → slice_get txs n ≡ Some tx → Spends past tx p → next p tx ≡ Some q → (r : OutputRef) → StartsThread past r → reached next (Some r) (take n txs) ≡ Some q → ⊥
+  not_yet : (n : ℕ) (tx : Tx) (p q : OutputRef) → slice_get txs n ≡ Some tx → Spends past tx p → next p tx ≡ Some q → (r : OutputRef) → StartsThread past r →
+      reached next (Some r) (take n txs) ≡ Some q → ⊥
   not_yet n tx p q at spends goes r s h =
       let g = flow.goes n tx p q at goes in
       elim (led next (Some r) (take n txs) q h) [

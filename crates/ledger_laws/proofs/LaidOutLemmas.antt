@@ -154,7 +154,8 @@ later_at (x ∷ os) i o h = h
 pub continues : (t : Terms) (s : Stepping) → (z : Stepped t s) → (i : ℕ) (c : Instance) → contract_at s.tx i ≡ Some c → Continues t s z.at i c
 continues t s z i c h = by (is_close (z.at).contract) refl z.rules z.stray
   where
-    none_at : (k n : ℕ) (os : List Output) (o : Output) → option_map (λ (i : ℕ). StrayContract (n + i)) (position (λ o. is_contract o.lock) os) ≡ None → slice_get os k ≡ Some o → contract_in o.lock ≡ Some (lock_of c) → ⊥
+    none_at : (k n : ℕ) (os : List Output) (o : Output) → option_map (λ (i : ℕ). StrayContract (n + i)) (position (λ o. is_contract o.lock) os) ≡ None → slice_get os k ≡ Some o →
+        contract_in o.lock ≡ Some (lock_of c) → ⊥
     none_at k n os o f g l = not_both (is_contract_so o.lock (lock_of c) l) (each_at (λ o. is_contract o.lock) k os o (nowhere (λ (i : ℕ). StrayContract (n + i)) (λ o. is_contract o.lock) os f) g)
 
     first : is_close (z.at).contract ≡ false → first_of (rules_after t s (z.at).state false) ≡ None → stray_after 1 s.tx.outputs ≡ None → (i : ℕ) → contract_at s.tx i ≡ Some c → Continues t s z.at i c
@@ -169,19 +170,22 @@ continues t s z i c h = by (is_close (z.at).contract) refl z.rules z.stray
 
 -- ---- how it is laid out
 
-laid_out : (t : Terms) (s : Stepping) (state : StateMaps) (c : ContractTree) → first_of (rules_after t s state (is_close c)) ≡ None → t.tree (datum_after t s state).cont ≡ c → LaidOut t s.script (effect_of (walk_of t s) state c) 0 s.tx
+laid_out : (t : Terms) (s : Stepping) (state : StateMaps) (c : ContractTree) → first_of (rules_after t s state (is_close c)) ≡ None → t.tree (datum_after t s state).cont ≡ c →
+    LaidOut t s.script (effect_of (walk_of t s) state c) 0 s.tx
 laid_out t s state close h tree =
     pays 0 (due_outputs t.currency (walk_of t s).payments) s.tx.outputs (mapped_none WrongPayment _ (each_none (rules_after t s state true) h).1.1.0)
 laid_out t s state c h tree =
     let g = goes_first t s state h in
-    ((datum_after t s state).cont, tree, g.0, g.1, pays 1 (due_outputs t.currency (walk_of t s).payments) (drop 1 s.tx.outputs) (mapped_none WrongPayment _ (each_none (rules_after t s state false) h).1.1.0))
+    let paid = mapped_none WrongPayment _ (each_none (rules_after t s state false) h).1.1.0 in
+    ((datum_after t s state).cont, tree, g.0, g.1, pays 1 (due_outputs t.currency (walk_of t s).payments) (drop 1 s.tx.outputs) paid)
 
 ended_so : (b : Bool) (r : Result Standing SemFault) (f : SemFault) (a : Standing) → (if b then r else Err f) ≡ Ok a → r ≡ Ok a
 ended_so true r f a h = h
 ended_so false r f a h = cc
 
 -- the number to which a step leads stands for what remains
-pub led_so : TurnsLead → (t : Terms) → IsTable t → (s : Stepping) → (z : Stepped t s) → (t.has (datum_after t s (z.at).state).cont ≡ true) × (t.tree (datum_after t s (z.at).state).cont ≡ (z.at).contract)
+pub led_so : TurnsLead → (t : Terms) → IsTable t → (s : Stepping) → (z : Stepped t s) →
+    (t.has (datum_after t s (z.at).state).cont ≡ true) × (t.tree (datum_after t s (z.at).state).cont ≡ (z.at).contract)
 led_so turns t table s z =
     let w = walk_of t s in
     let end : w.end ≡ Ok z.at = ended_so (all_fit w.numbers) w.end _ z.at z.answer in

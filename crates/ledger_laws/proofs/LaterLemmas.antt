@@ -49,7 +49,8 @@ module _ {V : Type 0} (j : Judges V) (enough : FoundIsEnough j) (named later : L
   known_later [] h = tt
   known_later (o ∷ os) h = (ap not (still_known o.lock (not_false (is_known named o.lock) h.0)), known_later os h.1)
 
-  same_start : (tx : Tx) → EachFalse (is_unknown named) tx.outputs → (i : ℕ) (o : Output) → slice_get tx.outputs i ≡ Some o → starts_wrong j later o.amount (contract_at tx i) ≡ starts_wrong j named o.amount (contract_at tx i)
+  same_start : (tx : Tx) → EachFalse (is_unknown named) tx.outputs → (i : ℕ) (o : Output) → slice_get tx.outputs i ≡ Some o →
+      starts_wrong j later o.amount (contract_at tx i) ≡ starts_wrong j named o.amount (contract_at tx i)
   same_start tx known i o at = by (contract_at tx i) refl
     where
       by : (c : Option Instance) → contract_at tx i ≡ c → starts_wrong j later o.amount c ≡ starts_wrong j named o.amount c
@@ -61,7 +62,8 @@ module _ {V : Type 0} (j : Judges V) (enough : FoundIsEnough j) (named later : L
           ap (λ v. starts_wrong_at j v c.datum o.amount) (more c.script t.0 t.1 ∙ sym t.1)
 
   module _ (past : Past) (sound : IsSound j named past) (n : ℕ) (tx : Tx) (at : slice_get past.accepted n ≡ Some tx) where
-    same_step : (ys : List (Spend × Output)) → Paired (unspent_at (before past n)) tx.inputs ys → (z : List Step) → steps_of ys ≡ z → step_fault j named tx ys z ≡ None → step_fault j later tx ys z ≡ None
+    same_step : (ys : List (Spend × Output)) → Paired (unspent_at (before past n)) tx.inputs ys → (z : List Step) → steps_of ys ≡ z → step_fault j named tx ys z ≡ None →
+        step_fault j later tx ys z ≡ None
     same_step ys p [] e h =
         ap (option_map WrongStart) (same_places (λ i (o : Output). starts_wrong j later o.amount (contract_at tx i)) (λ i (o : Output). starts_wrong j named o.amount (contract_at tx i)) tx.outputs
         (same_start tx (passes_at j enough named past sound n tx at).known)) ∙ h

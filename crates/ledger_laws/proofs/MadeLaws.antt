@@ -10,17 +10,13 @@ use Rattle.eutxo_types.specs.Ids.{id_of}
 use Rattle.eutxo_types.specs.Parts.{is_contract, contract_in, Instance, lock_of, instance_of, contract_at, same_ref}
 use Rattle.eutxo.specs.Laws.{FoundIsEnough}
 use Rattle.eutxo.specs.Asked.{Judges}
-use Rattle.ledger_laws.specs.Past.{Past, before, created, unspent_at}
+use Rattle.ledger_laws.specs.Past.{Past, created, unspent_at}
 use Rattle.ledger_laws.specs.Sound.{AreKeys, IsSound}
 use Rattle.ledger_laws.specs.Threads.{IsMade}
-use Rattle.ledger_laws.proofs.PlainLaws.{same_some, taken_at}
+use Rattle.ledger_laws.proofs.PlainLaws.{same_some}
 use Rattle.ledger_laws.proofs.PartLaws.{contract_of_lock, output_so, instance_so}
 use Rattle.ledger_laws.proofs.ReferenceLaws.{maker, unspent_so}
 use Rattle.ledger_laws.proofs.AcceptedLaws.{no_contract_first, one_place, made_there}
-
--- a contract that is made before the n-th transaction is made
-pub made_later : (past : Past) (n : ℕ) (q : OutputRef) (c : Instance) → IsMade (before past n) q c → IsMade past q c
-made_later past n q c m = record { number = m.number; tx = m.tx; accepted = (taken_at n m.number past.accepted m.tx m.accepted).0; index = m.index; name = m.name; contract = m.contract }
 
 -- an unspent contract output was made with a contract, under whose lock it stands
 pub made_of : (past : Past) → AreKeys past.genesis → (q : OutputRef) (o : Output) → unspent_at past q ≡ Some o → is_contract o.lock ≡ true →
@@ -44,10 +40,12 @@ module _ {V : Type 0} (j : Judges V) (enough : FoundIsEnough j) (named : List �
       (o.0, ap (λ (k : OutputRef). lookup (same_ref k) (created past)) m.name ∙ made_there j enough named past sound m.number m.tx m.accepted m.index o.0 o.1, o.2)
 
   -- an unspent output is the one that was made
-  pub made_unspent : (q : OutputRef) (c : Instance) (o : Output) → (m : IsMade past q c) → unspent_at past q ≡ Some o → (slice_get (m.tx).outputs m.index ≡ Some o) × (contract_in o.lock ≡ Some (lock_of c))
+  pub made_unspent : (q : OutputRef) (c : Instance) (o : Output) → (m : IsMade past q c) → unspent_at past q ≡ Some o →
+      (slice_get (m.tx).outputs m.index ≡ Some o) × (contract_in o.lock ≡ Some (lock_of c))
   made_unspent q c o m h =
       let z = output_so m.tx m.index c m.contract in
-      let same : z.0 ≡ o = same_some z.0 o (sym (ap (λ (k : OutputRef). lookup (same_ref k) (created past)) m.name ∙ made_there j enough named past sound m.number m.tx m.accepted m.index z.0 z.1) ∙ (unspent_so past q o h).1) in
+      let there = made_there j enough named past sound m.number m.tx m.accepted m.index z.0 z.1 in
+      let same : z.0 ≡ o = same_some z.0 o (sym there ∙ sym (ap (λ (k : OutputRef). lookup (same_ref k) (created past)) m.name) ∙ (unspent_so past q o h).1) in
       (z.1 ∙ ap (λ (x : Output). Some x) same, ap (λ (x : Output). contract_in x.lock) (sym same) ∙ z.2)
 
   -- an output is made with one contract

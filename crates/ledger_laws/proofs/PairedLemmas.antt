@@ -118,8 +118,10 @@ pub step_read : (ys : List (Spend × Output)) (i : ℕ) (y : Spend × Output) (c
     (later : List Step) × (steps_of ys ≡ step_with c (inputs_of y.0.redeemer) ∷ later)
 step_read [] i y c few e h = cc
 step_read (z ∷ ys) zero y c few e h =
-    let q : z ≡ y = same_some z y e in
-    (steps_of ys, ap (λ (w : Spend × Output). step_in (contract_in w.1.lock) (inputs_of w.0.redeemer) ++ steps_of ys) q ∙ ap (λ (l : Option ContractLock). step_in l (inputs_of y.0.redeemer) ++ steps_of ys) h)
+    let q : z ≡ y = same_some z y e in (
+      steps_of ys,
+      ap (λ (w : Spend × Output). step_in (contract_in w.1.lock) (inputs_of w.0.redeemer) ++ steps_of ys) q ∙ ap (λ (l : Option ContractLock). step_in l (inputs_of y.0.redeemer) ++ steps_of ys) h,
+    )
 step_read (z ∷ ys) (suc i) y c few e h =
     let none = no_contract_in z.1.lock (first_fails holds z ys i y few e (is_contract_so y.1.lock c h)) in
     let s = step_read ys i y c (fewer holds z ys few) e h in
@@ -140,7 +142,8 @@ step_there (y ∷ ys) s later h = by (contract_in y.1.lock) refl h (step_there y
         (0, y, refl, e ∙ ap (λ (w : Step). Some (let l : ContractLock = record { script = w.script; datum = w.datum } in l)) q)
 
 -- where no redeemer steps, no contract is spent
-pub none_steps : (find : OutputRef → Option Output) (xs : List Spend) (ys : List (Spend × Output)) → Paired find xs ys → EachFalse misfits ys → list_any (λ x. is_step x.redeemer) xs ≡ false → steps_of ys ≡ []
+pub none_steps : (find : OutputRef → Option Output) (xs : List Spend) (ys : List (Spend × Output)) → Paired find xs ys → EachFalse misfits ys →
+    list_any (λ x. is_step x.redeemer) xs ≡ false → steps_of ys ≡ []
 none_steps find xs ys p kinds h = by (steps_of ys) refl
   where
     by : (z : List Step) → steps_of ys ≡ z → z ≡ []

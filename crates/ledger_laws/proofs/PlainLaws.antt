@@ -135,7 +135,8 @@ pub any_there : {A : Type 0} (p : A → Bool) (xs : List A) → list_any p xs �
 any_there p [] h = cc
 any_there p (y ∷ ys) h = by (p y) refl h (any_there p ys)
   where
-    by : (b : Bool) → p y ≡ b → (b || list_any p ys) ≡ true → (list_any p ys ≡ true → (n : ℕ) × (x : _) × (slice_get ys n ≡ Some x) × (p x ≡ true)) → (n : ℕ) × (x : _) × (slice_get (y ∷ ys) n ≡ Some x) × (p x ≡ true)
+    by : (b : Bool) → p y ≡ b → (b || list_any p ys) ≡ true → (list_any p ys ≡ true → (n : ℕ) × (x : _) × (slice_get ys n ≡ Some x) × (p x ≡ true)) →
+        (n : ℕ) × (x : _) × (slice_get (y ∷ ys) n ≡ Some x) × (p x ≡ true)
     by true e h go = (0, y, refl, e)
     by false e h go = let q = go h in (suc q.0, q.1, q.2, q.3)
 

@@ -118,7 +118,8 @@ module _ (turns : TurnsLead) (enough : FoundIsEnough marlowe) (named : List ℕ 
           gone = λ closed. over ys xs z closed (contract_at tx 0) refl;
         }
       where
-        stands : (ys : List (Spend × Output)) (xs : List Input) → (z : Stepped t (stepping tx d ys xs)) → (c : Option Instance) → contract_at tx 0 ≡ c → Points (option_map (λ c. Made (id_of tx) 0) c) (z.at).contract (z.at).state
+        stands : (ys : List (Spend × Output)) (xs : List Input) → (z : Stepped t (stepping tx d ys xs)) → (c : Option Instance) → contract_at tx 0 ≡ c →
+            Points (option_map (λ c. Made (id_of tx) 0) c) (z.at).contract (z.at).state
         stands ys xs z None e = tt
         stands ys xs z (Some c) e =
             let k = continues t (stepping tx d ys xs) z 0 c e in (
@@ -128,7 +129,8 @@ module _ (turns : TurnsLead) (enough : FoundIsEnough marlowe) (named : List ℕ 
               refl,
             )
 
-        over : (ys : List (Spend × Output)) (xs : List Input) → (z : Stepped t (stepping tx d ys xs)) → (z.at).contract ≡ close → (c : Option Instance) → contract_at tx 0 ≡ c → option_map (λ c. Made (id_of tx) 0) c ≡ None
+        over : (ys : List (Spend × Output)) (xs : List Input) → (z : Stepped t (stepping tx d ys xs)) → (z.at).contract ≡ close → (c : Option Instance) → contract_at tx 0 ≡ c →
+            option_map (λ c. Made (id_of tx) 0) c ≡ None
         over ys xs z closed None e = refl
         over ys xs z closed (Some c) e = absurd ((continues t (stepping tx d ys xs) z 0 c e).goes closed)
 

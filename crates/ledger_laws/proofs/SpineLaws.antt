@@ -105,7 +105,8 @@ module _ (next : OutputRef → Tx → Option OutputRef) where
       let f : r ≡ q = same_some r q h in
       let g : x ≡ tx = same_some x tx a in
       let k : is_input_of r x ≡ true = subst (λ (z : OutputRef). is_input_of z x ≡ true) (sym f) (subst (λ (z : Tx). is_input_of q z ≡ true) (sym g) e) in
-      (0, ap (λ (b : Bool). slice_get (if b then link r x ∷ spine_by next (next r x) xs else spine_by next (Some r) xs) 0) k ∙ ap (λ (z : Tx). Some (link r z)) g ∙ ap (λ (z : OutputRef). Some (link z tx)) f)
+      let first = ap (λ (b : Bool). slice_get (if b then link r x ∷ spine_by next (next r x) xs else spine_by next (Some r) xs) 0) k in
+      (0, first ∙ ap (λ (z : Tx). Some (link r z)) g ∙ ap (λ (z : OutputRef). Some (link z tx)) f)
   member_at (Some r) (x ∷ xs) (suc n) q tx a h e = by (is_input_of r x) h (λ k. member_at (next r x) xs n q tx a k e) (λ k. member_at (Some r) xs n q tx a k e)
     where
       by : (b : Bool) → (if b then reached (next r x) (take n xs) else reached (Some r) (take n xs)) ≡ Some q →
@@ -132,7 +133,8 @@ module _ (next : OutputRef → Tx → Option OutputRef) where
       later : Led xs q → Led (x ∷ xs) q
       later l = record { number = suc l.number; tx = l.tx; at = l.at; spends = l.spends; goes = l.goes; free = l.free }
 
-      by : (b : Bool) → is_input_of r x ≡ b → (if b then reached (next r x) xs else reached (Some r) xs) ≡ Some q → (reached (next r x) xs ≡ Some q → ((next r x ≡ Some q) × (is_spent xs q ≡ false)) ⊎ Led xs q) →
+      by : (b : Bool) → is_input_of r x ≡ b → (if b then reached (next r x) xs else reached (Some r) xs) ≡ Some q →
+          (reached (next r x) xs ≡ Some q → ((next r x ≡ Some q) × (is_spent xs q ≡ false)) ⊎ Led xs q) →
           (reached (Some r) xs ≡ Some q → ((Some r ≡ Some q) × (is_spent xs q ≡ false)) ⊎ Led xs q) → ((Some r ≡ Some q) × (is_spent (x ∷ xs) q ≡ false)) ⊎ Led (x ∷ xs) q
       by true e h go on = elim (go h) [
         | inl f ↦ inr (record { number = 0; tx = x; at = refl; spends = r; goes = f.0; free = f.1 })

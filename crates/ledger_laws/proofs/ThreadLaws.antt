@@ -26,7 +26,8 @@ use Rattle.ledger_laws.proofs.FlowLemmas.{opened, spends_it, flow}
 
 pub steps_stand : {V : Type 0} (j : Judges V) → FoundIsEnough j → StepsStandOnThreads j
 steps_stand j enough named past sound n i tx x o k =
-    inputs_stand next_of past (flow j enough named past sound) n tx x.reference k.accepted (spends_it j enough named past sound n i tx x o k) (opened j enough named past sound n x.reference o k.there k.contract)
+    inputs_stand next_of past (flow j enough named past sound) n tx x.reference k.accepted (spends_it j enough named past sound n i tx x o k)
+    (opened j enough named past sound n x.reference o k.there k.contract)
 
 pub contracts_are_stepped : {V : Type 0} (j : Judges V) → FoundIsEnough j → StepsSpendContracts j
 contracts_are_stepped j enough named past sound n i tx x o k = steps_contract j enough named past sound n i tx x o k
@@ -45,7 +46,8 @@ module _ {V : Type 0} (j : Judges V) (enough : FoundIsEnough j) (named : List �
   end_made r q s h = ends_made next_of past (flow j enough named past sound) r q s h
 
   -- which nobody has spent
-  made_free : (n : ℕ) (tx : Tx) (i : ℕ) (q : OutputRef) → slice_get past.accepted n ≡ Some tx → q ≡ Made (id_of tx) i → is_spent (drop (suc n) past.accepted) q ≡ false → is_spent past.accepted q ≡ false
+  made_free : (n : ℕ) (tx : Tx) (i : ℕ) (q : OutputRef) → slice_get past.accepted n ≡ Some tx → q ≡ Made (id_of tx) i → is_spent (drop (suc n) past.accepted) q ≡ false →
+      is_spent past.accepted q ≡ false
   made_free n tx i q at name later =
       ap (λ (txs : List Tx). is_spent txs q) (sym (take-append-drop (suc n) past.accepted)) ∙ list_any-append (is_input_of q) (take (suc n) past.accepted) (drop (suc n) past.accepted)
       ∙ both_false (is_spent (take (suc n) past.accepted) q) (is_spent (drop (suc n) past.accepted) q)

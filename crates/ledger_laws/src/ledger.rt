@@ -4,9 +4,9 @@ ghost use Rattle.ledger_laws.specs.Laws.{StepsStandOnThreads, StepsSpendContract
 
 use eutxo::{Validator, found_is_enough, sums_are_preserved};
 
-/// An accepted transaction that spends a contract output is, with it, a member of the thread of exactly
-/// one start output. A contract output is spent by a step alone, and a step spends one. So none is ever
-/// spent, and nothing is ever stepped, that doesn't belong to a thread.
+/// Each contract input of an accepted transaction is spent by a member of the thread of exactly one start
+/// output. A contract output is spent by a step alone, and a step spends one. So no contract output is
+/// ever spent, and none ever stepped, outside a thread.
 pub fn steps_stand_on_threads<V: Validator>()
     ensures thread { StepsStandOnThreads V.judges }
     ensures spends { StepsSpendContracts V.judges }
