@@ -12,7 +12,7 @@ use Rattle.ledger_laws.specs.Past.{Past, before, is_input_of, is_spent}
 use Rattle.ledger_laws.specs.Threads.{spine_by, ends_by, IsMade, StartsThread}
 use Rattle.ledger_laws.specs.Laws.{ExactlyOne}
 use Rattle.ledger_laws.proofs.PlainLaws.{or_false, not_both, same_some, take_none, take_some, take_whole, taken_at, get_grown}
-use Rattle.ledger_laws.proofs.ReferenceLaws.{spent_more}
+use Rattle.ledger_laws.proofs.ReferenceLaws.{same_made, spent_more}
 use Rattle.ledger_laws.proofs.SpineLaws.{reached, moved, reached_more, ends_reached, stays, member_stood, member_at, led}
 
 -- a contract output that the past made, and that it doesn't spend
@@ -39,9 +39,6 @@ pub record Flow (next : OutputRef → Tx → Option OutputRef) (past : Past) : T
   pub apart : (n : ℕ) (tx : Tx) (p q r : OutputRef) → slice_get past.accepted n ≡ Some tx → Spends past tx p → Spends past tx q → next p tx ≡ Some r → next q tx ≡ Some r → p ≡ q
   pub onto : (n : ℕ) (tx : Tx) (i : ℕ) (c : Instance) → slice_get past.accepted n ≡ Some tx → steps tx ≡ true → contract_at tx i ≡ Some c →
       (p : OutputRef) × IsOpen (before past n) p × (is_input_of p tx ≡ true) × (next p tx ≡ Some (Made (id_of tx) i))
-
-same_id : (a b : List ℕ) (i k : ℕ) → Made a i ≡ Made b k → a ≡ b
-same_id a b i k h = cc
 
 module _ (next : OutputRef → Tx → Option OutputRef) (past : Past) (flow : Flow next past) where
   abbrev txs : List Tx
@@ -113,13 +110,13 @@ module _ (next : OutputRef → Tx → Option OutputRef) (past : Past) (flow : Fl
       elim (led next (Some r) (take n txs) q h) [
         | inl e ↦
             let k = s.1.made in
-            let place = flow.single k.number n k.tx tx k.accepted at (same_id (id_of k.tx) (id_of tx) k.index g.0 (sym k.name ∙ same_some r q e.0 ∙ g.2)) in
+            let place = flow.single k.number n k.tx tx k.accepted at (same_made (id_of k.tx) (id_of tx) k.index g.0 (sym k.name ∙ same_some r q e.0 ∙ g.2)).0 in
             let same : k.tx ≡ tx = same_some k.tx tx (sym k.accepted ∙ ap (slice_get txs) place ∙ at) in
             not_both (ap steps same ∙ flow.stepped n tx p at spends) s.1.bare
         | inr l ↦
             let k = taken_at n l.number txs l.tx l.at in
             let f = flow.goes l.number l.tx l.spends q k.0 l.goes in
-            let place = flow.single l.number n l.tx tx k.0 at (same_id (id_of l.tx) (id_of tx) f.0 g.0 (sym f.2 ∙ g.2)) in
+            let place = flow.single l.number n l.tx tx k.0 at (same_made (id_of l.tx) (id_of tx) f.0 g.0 (sym f.2 ∙ g.2)).0 in
             let less = k.1 in
             omega (arith, place, less)
       ]

@@ -4,7 +4,6 @@ use Rattle.std.specs.List.{slice_get}
 use Rattle.std.specs.Map.{lookup}
 use Rattle.eutxo_types.specs.declared.output.Output.{Output}
 use Rattle.eutxo_types.specs.declared.output_ref.OutputRef.{OutputRef}
-use Rattle.eutxo_types.specs.declared.output_ref.OutputRef.TheVariants.{Made}
 use Rattle.eutxo_types.specs.declared.tx.Tx.{Tx}
 use Rattle.eutxo_types.specs.Ids.{id_of}
 use Rattle.eutxo_types.specs.Parts.{is_contract, contract_in, Instance, lock_of, instance_of, contract_at, same_ref}
@@ -15,7 +14,7 @@ use Rattle.ledger_laws.specs.Sound.{AreKeys, IsSound}
 use Rattle.ledger_laws.specs.Threads.{IsMade}
 use Rattle.ledger_laws.proofs.PlainLaws.{same_some}
 use Rattle.ledger_laws.proofs.PartLaws.{contract_of_lock, output_so, instance_so}
-use Rattle.ledger_laws.proofs.ReferenceLaws.{maker, unspent_so}
+use Rattle.ledger_laws.proofs.ReferenceLaws.{same_made, maker, unspent_so}
 use Rattle.ledger_laws.proofs.AcceptedLaws.{no_contract_first, one_place, made_there}
 
 -- an unspent contract output was made with a contract, under whose lock it stands
@@ -28,9 +27,6 @@ made_of past keys q o h c =
           let l = contract_of_lock o.lock c in
           (instance_of l.0, record { number = m.number; tx = m.tx; accepted = m.accepted; index = m.index; name = m.name; contract = instance_so m.tx m.index o l.0 m.made l.1 }, l.1)
     ]
-
-same_made : (a b : List ℕ) (i k : ℕ) → Made a i ≡ Made b k → (a ≡ b) × (i ≡ k)
-same_made a b i k h = (cc, cc)
 
 module _ {V : Type 0} (j : Judges V) (enough : FoundIsEnough j) (named : List ℕ → Option V) (past : Past) (sound : IsSound j named past) where
   -- what is made was created, under its contract's lock

@@ -142,19 +142,13 @@ any_there p (y ∷ ys) h = by (p y) refl h (any_there p ys)
 
 -- ---- how many pass
 
-at_least_one : {A : Type 0} (p : A → Bool) (x : A) (xs : List A) → p x ≡ true → 1 ≤ count_by p (x ∷ xs)
-at_least_one p x xs h = rw sum_by-cons (rw h (omega arith))
-
-counted : {A : Type 0} (p : A → Bool) (x : A) (xs : List A) → count_by p xs ≤ count_by p (x ∷ xs)
-counted p x xs = rw sum_by-cons (omega arith)
-
 pub fewer : {A : Type 0} (p : A → Bool) (x : A) (xs : List A) → count_by p (x ∷ xs) ≤ 1 → count_by p xs ≤ 1
-fewer p x xs h = let k = counted p x xs in omega arith
+fewer p x xs h = let k : count_by p xs ≤ count_by p (x ∷ xs) = rw sum_by-cons (omega arith) in omega arith
 
 one_there : {A : Type 0} (p : A → Bool) (xs : List A) (n : ℕ) (x : A) → slice_get xs n ≡ Some x → p x ≡ true → 1 ≤ count_by p xs
 one_there p [] n x e h = cc
-one_there p (y ∷ ys) zero x e h = at_least_one p y ys (ap p (same_some y x e) ∙ h)
-one_there p (y ∷ ys) (suc n) x e h = let a = one_there p ys n x e h in let b = counted p y ys in omega arith
+one_there p (y ∷ ys) zero x e h = let k : p y ≡ true = ap p (same_some y x e) ∙ h in rw sum_by-cons (rw k (omega arith))
+one_there p (y ∷ ys) (suc n) x e h = let a = one_there p ys n x e h in rw sum_by-cons (omega arith)
 
 -- where at most one passes, and one does that comes later, the first doesn't
 pub first_fails : {A : Type 0} (p : A → Bool) (y : A) (ys : List A) (n : ℕ) (x : A) → count_by p (y ∷ ys) ≤ 1 → slice_get ys n ≡ Some x → p x ≡ true → p y ≡ false

@@ -26,6 +26,9 @@ same_ref_so (Made n i) (Made k j) h =
 same_ref_so (Genesis i) (Made k j) h = cc
 same_ref_so (Made n i) (Genesis j) h = cc
 
+pub same_made : (a b : List ℕ) (i k : ℕ) → Made a i ≡ Made b k → (a ≡ b) × (i ≡ k)
+same_made a b i k h = (cc, cc)
+
 pub lookup_front : {K X : Type 0} (test : K → Bool) (es fs : List (K × X)) (v : X) → lookup test es ≡ Some v → lookup test (es ++ fs) ≡ Some v
 lookup_front test [] fs v h = cc
 lookup_front test (e ∷ es) fs v h = by (test e.0) h (lookup_front test es fs v)
