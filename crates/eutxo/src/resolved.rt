@@ -20,7 +20,7 @@ pub struct Resolved<V> {
     pub scripts: Scripts<V>,
 }
 
-// The drop is written, not derived: so it is proved here once, and not in each crate that drops a resolution.
+// Dropped once: the drop is written, not derived, so that no crate above proves it again.
 impl<V: Drop> Drop for Resolved<V> {
     fn drop(self) {
         let Resolved {

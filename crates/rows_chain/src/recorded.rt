@@ -6,7 +6,7 @@ use contract::{Input, Payment, Warning};
 use contract_json::{payment_to_json, warning_to_json};
 use std::alloc::{AllocError, Global};
 
-/// What was recorded of a step. The function that owns it is generic in it, so that no proof walks through its drop.
+/// What was recorded of a step. Dropped once: who owns it is generic in it, so that no proof walks through its drop.
 pub trait Recorded: Drop {
     fn put(&self, alloc: Global, lines: &mut String) -> Result<(), AllocError>;
 }

@@ -9,7 +9,7 @@ use rows_text::{RowFault, put_amounts};
 use serde_json::Value as Json;
 use std::alloc::Global;
 
-/// What was read. The function that owns it is generic in it, so that no proof walks through its drop.
+/// What was read. Dropped once: who owns it is generic in it, so that no proof walks through its drop.
 pub trait Told: Drop {
     /// Puts a line for each of its parts at the end.
     fn put(&self, alloc: Global, lines: &mut String) -> Result<(), RowFault>;
