@@ -4,8 +4,7 @@ use Rattle.std.specs.Prelude.{if◌then◌else◌}
 use Rattle.std.specs.Cmp.Lexicographic.{bytes_decides}
 use Rattle.collections.proofs.SameLaws.{same_by_decides}
 use Rattle.bundle.specs.contracts.bundle.Bundle as bundles
-use Rattle.eutxo_types.specs.declared.lock.Lock.{Lock}
-use Rattle.eutxo_types.specs.declared.lock.Lock.TheVariants.{Key, Payout, Contract}
+use Rattle.eutxo_types.specs.declared.lock.Lock.TheVariants.{Contract}
 use Rattle.eutxo_types.specs.Parts.{same_bytes, ContractLock, contract_in}
 use Rattle.roles.specs.Sums.{sums_of}
 use Rattle.roles.specs.Terms.{terms_of}
@@ -13,6 +12,7 @@ use Rattle.roles.specs.Steps.{same_amounts}
 use Rattle.ledger.specs.declared.look.Look.{Look}
 use Rattle.ledger.specs.declared.look.ThreadOutput.{ThreadOutput}
 use Rattle.builder_spec.specs.Steps.{Thread, thread_terms, is_current, thread_in, thread_of, look_thread}
+use Rattle.ledger_laws.proofs.PartLaws.{lock_so}
 use Rattle.builder_laws.proofs.TestLemmas.{both}
 
 -- it has the lock of what is published, at a number of the table, and holds the sums of its accounts
@@ -21,20 +21,13 @@ pub record IsThread (e : Thread) : Type 0 where
   pub number : (thread_terms e).has e.datum.cont ≡ true
   pub sums : e.shown.output.amount ≡ sums_of e.datum.state
 
-pub contract_so : (l : Lock) (c : ContractLock) → contract_in l ≡ Some c → l ≡ Contract c.script c.datum
-contract_so (Key a) c h = cc
-contract_so (Payout currency role) c h = cc
-contract_so (Contract script d) c h =
-    let q : (let z : ContractLock = record { script = script; datum = d } in z) ≡ c = cc in
-    ap (λ (z : ContractLock). Contract z.script z.datum) q
-
 stands_so : (t : ThreadOutput) (c : ContractLock) → contract_in t.output.lock ≡ Some c → is_current t c ≡ true → IsThread (record { shown = t; datum = c.datum })
 stands_so t c h s =
     let one = both (same_bytes c.script t.published.id) ((terms_of t.published).has c.datum.cont && same_amounts t.output.amount (sums_of c.datum.state)) s in
     let two = both ((terms_of t.published).has c.datum.cont) (same_amounts t.output.amount (sums_of c.datum.state)) one.1 in
     let id : c.script ≡ t.published.id = (bytes_decides c.script t.published.id).0 one.0 in
     record {
-      lock = contract_so t.output.lock c h ∙ ap (λ script. Contract script c.datum) id;
+      lock = lock_so t.output.lock c h ∙ ap (λ script. Contract script c.datum) id;
       number = two.0;
       sums = (same_by_decides bundles.the_row.coded t.output.amount (sums_of c.datum.state)).0 two.1;
     }

@@ -10,9 +10,9 @@ use Rattle.roles.specs.Steps.{same_amounts}
 use Rattle.roles.specs.Terms.{terms_of}
 use Rattle.builder_spec.specs.Steps.{Thread, is_current, thread_in, thread_of}
 use Rattle.ledger_laws.specs.Laws.{ContractsAreFunded, ContractsAreOfTables}
+use Rattle.ledger_laws.proofs.PartLaws.{is_contract_so}
 use Rattle.builder_laws.specs.ShownThreads.{ShownThreadsAreCurrent}
 use Rattle.builder_laws.proofs.TestLemmas.{together}
-use Rattle.builder_laws.proofs.LookThreadLemmas.{contract_so}
 
 same_some : {A : Type 0} (a b : A) → ◌≡◌ {A = Option A} (Some a) (Some b) → a ≡ b
 same_some a b e = cc
@@ -20,7 +20,7 @@ same_some a b e = cc
 pub shown_threads_stand : ContractsAreFunded → ContractsAreOfTables → ShownThreadsAreCurrent
 shown_threads_stand funded numbered published past look t d tables ids sound shown h =
     let c : ContractLock = record { script = h.script; datum = d } in
-    let is : is_contract t.output.lock ≡ true = ap is_contract (contract_so t.output.lock c h.contract) in
+    let is : is_contract t.output.lock ≡ true = is_contract_so t.output.lock c h.contract in
     let sums = funded published past sound t.reference t.output h.unspent is in
     let number = numbered published past tables sound t.reference t.output h.unspent is in
     let same : lock_of number.0 ≡ c = same_some (lock_of number.0) c (sym number.2 ∙ h.contract) in

@@ -248,11 +248,13 @@ end_contract past s q h =
     starts_so at (Made id i) n tx g k =
         let a = and_true (has_id id tx) (not (steps tx) && is_some (contract_at tx i)) k in
         let b = and_true (not (steps tx)) (is_some (contract_at tx i)) a.1 in
-        let c = is_there (contract_at tx i) b.1 in
-        (c.0, record {
-          made = record { number = n; tx = tx; accepted = g; index = i; name = ap (λ (x : List ℕ). Made x i) ((bytes_decides id (id_of tx)).0 a.0); contract = c.1 };
-          bare = not_true (steps tx) b.0;
-        })
+        let c = is_there (contract_at tx i) b.1 in (
+          c.0,
+          record {
+            made = record { number = n; tx = tx; accepted = g; index = i; name = ap (λ (x : List ℕ). Made x i) ((bytes_decides id (id_of tx)).0 a.0); contract = c.1 };
+            bare = not_true (steps tx) b.0;
+          },
+        )
 
 list_none : {A : Type 0} (test : A → Bool) (xs ys : List A) → list_any test xs ≡ false → list_any test ys ≡ false → list_any test (xs ++ ys) ≡ false
 list_none test xs ys h k = list_any-append test xs ys ∙ both_false (list_any test xs) (list_any test ys) h k
