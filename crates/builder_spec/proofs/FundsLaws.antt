@@ -31,9 +31,10 @@ use Rattle.semantics.specs.Naturals.{AreNatural, PaymentsAreNatural}
 use Rattle.bundle.specs.Bundles.{Amounts, amount_of, minus}
 use Rattle.bundle.specs.Totals.{total_of}
 use Rattle.bundle.proofs.AmountLaws.{amount_of-with_amount, sums_are_of_each_token, rests_are_of_each_token}
+use Rattle.machine.specs.declared.datum.Datum.{Datum}
 use Rattle.eutxo_types.specs.declared.output.Output.{Output}
 use Rattle.table.specs.Flat.{is_close}
-use Rattle.roles.specs.Steps.{only, owed_output, due_above, due_to, and_owed_output, due_outputs, continuation}
+use Rattle.roles.specs.Steps.{only, owed_output, due_above, due_to, and_owed_output, due_outputs, continuation, next_datum}
 use Rattle.roles.specs.Sums.{sums_in, sums_of}
 use Rattle.ledger.specs.declared.look.Unspent.{Unspent}
 use Rattle.builder_spec.specs.Requests.{StepRequest}
@@ -158,17 +159,17 @@ quiet_total u a to (inr h) e = absurd (let k : is_close a.contract ≡ false = a
 last_of : (n : ℤ) → n +ℤ pos 0 ≡ n
 last_of n = omega (arith, ints)
 
-goes_on_by : (u : Token) (a : Standing) (o : Output) (b : Bool) → o.amount ≡ sums_of a.state → (b ≡ true → states.total_of u a.state ≡ pos 0) → total_of amount u (cond b [] (o ∷ [])) ≡ states.total_of u a.state
-goes_on_by u a o true e h = sym (h refl)
-goes_on_by u a o false e h = last_of (amount_of o.amount u) ∙ ap (λ m. amount_of m u) e ∙ amount_of-sums_in (entries a.state.accounts) u
+goes_on_by : (u : Token) (script : List ℕ) (d : Datum) (b : Bool) → (b ≡ true → states.total_of u d.state ≡ pos 0) → total_of amount u (map (continuation script) (cond b [] (d ∷ []))) ≡ states.total_of u d.state
+goes_on_by u script d true h = sym (h refl)
+goes_on_by u script d false h = last_of (amount_of (sums_of d.state) u) ∙ amount_of-sums_in (entries d.state.accounts) u
 
 -- what is made is what the accounts hold afterwards and what is paid out
 pub made_sum : (u : Token) (e : Thread) (w : Walk) (a : Standing) → (is_close a.contract ≡ true → states.total_of u a.state ≡ pos 0) → AreNatural w.payments →
     total_of amount u (step_outputs_of e w (Ok a)) ≡ states.total_of u a.state +ℤ paid_out u w.payments
 made_sum u e w a h n =
-    total_of-append amount u (continuing_outputs e w a) (due_outputs e.0.published.currency w.payments)
-    ∙ ap (λ x. x +ℤ total_of amount u (due_outputs e.0.published.currency w.payments)) (goes_on_by u a _ (is_close a.contract) refl h)
-    ∙ ap (λ x. states.total_of u a.state +ℤ x) (due_sum u e.0.published.currency w.payments n)
+    total_of-append amount u (continuing_outputs e w a) (due_outputs e.shown.published.currency w.payments)
+    ∙ ap (λ x. x +ℤ total_of amount u (due_outputs e.shown.published.currency w.payments)) (goes_on_by u e.shown.published.id (next_datum (thread_terms e) e.datum w a.state) (is_close a.contract) h)
+    ∙ ap (λ x. states.total_of u a.state +ℤ x) (due_sum u e.shown.published.currency w.payments n)
 
 ended_well : (b : Bool) (end : Result Standing SemFault) (a : Standing) → cond b end (Err Leaves128) ≡ Ok a → end ≡ Ok a
 ended_well true end a h = h
@@ -186,22 +187,22 @@ pub record Funded (r : StepRequest) (e : Thread) (a : Standing) (us : List Unspe
   pub there : total_of amount u (step_outputs_of e (step_walk r e) (Ok a)) ≤ℤ total_of amount_in u (own_output e ∷ us)
   pub covered : deposited u r.inputs ≤ℤ total_of amount_in u us
 
-pub funded : MoneyIsKept → EndsQuiet → PaymentsAreNatural → (r : StepRequest) (e : Thread) (a : Standing) (us : List Unspent) → e.0.output.amount ≡ sums_of e.1.state → answer_of (step_walk r e) ≡ Ok a →
-    AllPositive (entries e.1.state.accounts) → is_none (least_lacking (deposits r.inputs) us) ≡ true → AreBundles amount_in us → (u : Token) → Funded r e a us u
+pub funded : MoneyIsKept → EndsQuiet → PaymentsAreNatural → (r : StepRequest) (e : Thread) (a : Standing) (us : List Unspent) → e.shown.output.amount ≡ sums_of e.datum.state → answer_of (step_walk r e) ≡ Ok a →
+    AllPositive (entries e.datum.state.accounts) → is_none (least_lacking (deposits r.inputs) us) ≡ true → AreBundles amount_in us → (u : Token) → Funded r e a us u
 funded money quiet natural r e a us sums_held ok above covered bundles u =
     let w = step_walk r e in
-    let c = (thread_terms e).tree e.1.cont in
+    let c = (thread_terms e).tree e.datum.cont in
     let well : w.end ≡ Ok a = ended_well (all_fit w.numbers) w.end a ok in
-    let kept = money u r.interval e.1.state c r.inputs a well in
-    let all : total_of amount_in u (own_output e ∷ us) ≡ states.total_of u e.1.state +ℤ total_of amount_in u us = ap (λ n. n +ℤ total_of amount_in u us) (ap (λ m. amount_of m u) sums_held ∙ amount_of-sums_in (entries e.1.state.accounts) u) in
-    let out = made_sum u e w a (quiet_total u a r.interval.to (quiet r.interval e.1.state c r.inputs a well)) (natural r.interval e.1.state c r.inputs above) in
+    let kept = money u r.interval e.datum.state c r.inputs a well in
+    let all : total_of amount_in u (own_output e ∷ us) ≡ states.total_of u e.datum.state +ℤ total_of amount_in u us = ap (λ n. n +ℤ total_of amount_in u us) (ap (λ m. amount_of m u) sums_held ∙ amount_of-sums_in (entries e.datum.state.accounts) u) in
+    let out = made_sum u e w a (quiet_total u a r.interval.to (quiet r.interval e.datum.state c r.inputs a well)) (natural r.interval e.datum.state c r.inputs above) in
     let less = subst (λ n. n ≤ℤ total_of amount_in u us) (wanted-deposits u r.inputs) (all_covered u (deposits r.inputs) us bundles covered) in
     let m : ℤ = total_of amount u (step_outputs_of e w (Ok a)) in
     record {
-      rest = rest_is (states.total_of u e.1.state) (deposited u r.inputs) (states.total_of u a.state) (paid_out u w.payments) (total_of amount_in u us) (total_of amount_in u (own_output e ∷ us)) m (amount_of (rest (own_output e ∷ us) (step_outputs_of e w (Ok a))) u) kept all out
+      rest = rest_is (states.total_of u e.datum.state) (deposited u r.inputs) (states.total_of u a.state) (paid_out u w.payments) (total_of amount_in u us) (total_of amount_in u (own_output e ∷ us)) m (amount_of (rest (own_output e ∷ us) (step_outputs_of e w (Ok a))) u) kept all out
           (rests_are_of_each_token (sums amount_in (own_output e ∷ us)) (sums amount (step_outputs_of e w (Ok a))) u
           ∙ ap (λ n. n -ℤ amount_of (sums amount (step_outputs_of e w (Ok a))) u) (amount_of-sums amount_in (own_output e ∷ us) u)
           ∙ ap (λ n. total_of amount_in u (own_output e ∷ us) -ℤ n) (amount_of-sums amount (step_outputs_of e w (Ok a)) u));
-      there = enough_is (states.total_of u e.1.state) (deposited u r.inputs) (states.total_of u a.state) (paid_out u w.payments) (total_of amount_in u us) (total_of amount_in u (own_output e ∷ us)) m kept all out less;
+      there = enough_is (states.total_of u e.datum.state) (deposited u r.inputs) (states.total_of u a.state) (paid_out u w.payments) (total_of amount_in u us) (total_of amount_in u (own_output e ∷ us)) m kept all out less;
       covered = less;
     }

@@ -1,18 +1,19 @@
 -- Claims of payouts: what hinders one, and how it is laid out.
-use Rattle.std.specs.Prelude.{ℕ, Bool, true, false, not, ◌||◌, if◌then◌else◌, List, [], ◌∷◌, ◌++◌, map, Option, Some, None, option_map}
-use Rattle.std.specs.List.{list_any, filter_map, find}
+use Rattle.std.specs.Prelude.{not, ◌||◌, if◌then◌else◌, List, [], ◌∷◌, ◌++◌, map, Option, Some, None, option_map}
+use Rattle.std.specs.List.{list_any, filter_map}
 use Rattle.names.specs.declared.party.Party.TheVariants.{Role}
 use Rattle.names.specs.declared.token.Token.{Token}
 use Rattle.eutxo_types.specs.declared.lock.Lock.{Lock}
 use Rattle.eutxo_types.specs.declared.lock.Lock.TheVariants.{Key, Payout, Contract}
 use Rattle.eutxo_types.specs.declared.tx.Tx.{Tx}
+use Rattle.eutxo_types.specs.Parts.{is_payout}
 use Rattle.eutxo.specs.Faults.{first_of, is_empty}
 use Rattle.roles.specs.Steps.{role_token}
 use Rattle.ledger.specs.declared.look.Unspent.{Unspent}
 use Rattle.builder_spec.specs.declared.fault.BuildFault.{BuildFault}
 use Rattle.builder_spec.specs.declared.fault.BuildFault.TheVariants.{NoThread, NotAuthorised}
 use Rattle.builder_spec.specs.Requests.{ClaimRequest}
-use Rattle.builder_spec.specs.Holding.{sums, amount_in, holds_token}
+use Rattle.builder_spec.specs.Holding.{sums, amount_in, first_unheld}
 use Rattle.builder_spec.specs.Fronts.{front}
 use Rattle.builder_spec.specs.Causes.{signature_cause, limit_cause, repeat_cause}
 use Rattle.builder_spec.specs.Laying.{by_key, by_claim, paid_to}
@@ -30,9 +31,13 @@ tokens_awaited payouts = filter_map (λ u. awaited_token u.output.lock) payouts
 abbrev pub payout_cause : List Unspent → Option BuildFault
 payout_cause payouts = if is_empty payouts || list_any (λ u. not (is_payout u.output.lock)) payouts then Some NoThread else None
 
+-- the role of the first of these tokens that no output holds
+abbrev pub unheld_cause : List Unspent → List Token → Option BuildFault
+unheld_cause us ts = option_map (λ t. NotAuthorised (Role t.name)) (first_unheld us ts)
+
 -- 4: the role of the first payout whose token isn't offered
 abbrev pub role_cause : ClaimRequest → Option BuildFault
-role_cause r = option_map (λ t. NotAuthorised (Role t.name)) (find (λ t. not (holds_token r.offered t)) (tokens_awaited r.payouts))
+role_cause r = unheld_cause r.offered (tokens_awaited r.payouts)
 
 abbrev pub claim_front : ClaimRequest → List Unspent
 claim_front r = front (tokens_awaited r.payouts) [] r.offered

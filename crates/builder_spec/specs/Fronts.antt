@@ -1,7 +1,8 @@
 -- The front of what is offered: no more is spent than is needed.
-use Rattle.std.specs.Prelude.{ℤ, Bool, ◌&&◌, if◌then◌else◌, List, [], ◌∷◌, is_none}
+use Rattle.std.specs.Prelude.{ℤ, Bool, not, ◌&&◌, if◌then◌else◌, List, [], ◌∷◌, is_none}
 use Rattle.std.specs.List.{list_all}
 use Rattle.names.specs.declared.token.Token.{Token}
+use Rattle.eutxo.specs.Faults.{is_empty}
 use Rattle.ledger.specs.declared.look.Unspent.{Unspent}
 use Rattle.builder_spec.specs.Holding.{holds_token, least_lacking}
 
@@ -13,6 +14,10 @@ shortest test (x ∷ xs) = if test [] then [] else x ∷ shortest (λ ys. test (
 -- outputs suffice: they hold each of these roles' tokens, and as much of each token as is wanted
 abbrev pub suffices : List Token → List (Token × ℤ) → List Unspent → Bool
 suffices roles ns us = list_all (holds_token us) roles && is_none (least_lacking ns us)
+
+-- they hold as much of each token as is wanted, and there is one at least
+abbrev pub some_suffice : List (Token × ℤ) → List Unspent → Bool
+some_suffice ns us = not (is_empty us) && suffices [] ns us
 
 -- the shortest front that suffices
 abbrev pub front : List Token → List (Token × ℤ) → List Unspent → List Unspent

@@ -1,6 +1,6 @@
 -- What outputs hold together, and whether that is as much as is wanted.
-use Rattle.std.specs.Prelude.{ℤ, pos, int_lt, Bool, List, [], ◌∷◌, map, filter, Option}
-use Rattle.std.specs.List.{list_any}
+use Rattle.std.specs.Prelude.{ℤ, pos, int_lt, Bool, not, List, [], ◌∷◌, map, filter, Option}
+use Rattle.std.specs.List.{list_any, find}
 use Rattle.std.specs.FinMap.{empty, entries}
 use Rattle.collections.specs.Total.{total}
 use Rattle.names.specs.declared.token.Token.{Token}
@@ -21,13 +21,16 @@ AreBundles held [] = Unit {0}
 AreBundles held (x ∷ xs) = AllPositive (entries (held x)) × AreBundles held xs
 
 -- what an output holds
-
 abbrev pub amount_in : Unspent → Amounts
 amount_in u = u.output.amount
 
 -- one of them holds the token
 abbrev pub holds_token : List Unspent → Token → Bool
 holds_token us t = list_any (λ u. int_lt (pos 0) (amount_of (amount_in u) t)) us
+
+-- the first of these tokens that none of them holds
+abbrev pub first_unheld : List Unspent → List Token → Option Token
+first_unheld us ts = find (λ t. not (holds_token us t)) ts
 
 -- how much of a token is wanted, where all of these are
 abbrev pub wanted : List (Token × ℤ) → Token → ℤ

@@ -1,5 +1,5 @@
 -- Starts of a contract: what hinders one, and how it is laid out.
-use Rattle.std.specs.Prelude.{ℤ, Bool, not, ◌&&◌, if◌then◌else◌, List, [], ◌∷◌, ◌++◌, map, Option, Some}
+use Rattle.std.specs.Prelude.{ℤ, Bool, if◌then◌else◌, List, [], ◌∷◌, map, Option, Some}
 use Rattle.std.specs.FinMap.{entries, empty}
 use Rattle.names.specs.declared.token.Token.{Token}
 use Rattle.names.specs.Equal.{ada}
@@ -7,15 +7,15 @@ use Rattle.states.specs.States.{StateMaps}
 use Rattle.eutxo_types.specs.declared.output.Output.{Output}
 use Rattle.eutxo_types.specs.declared.tx.Tx.{Tx}
 use Rattle.eutxo.specs.Faults.{first_of, is_empty}
+use Rattle.machine.specs.declared.datum.Datum.{Datum}
 use Rattle.roles.specs.Steps.{continuation}
 use Rattle.ledger.specs.declared.look.Unspent.{Unspent}
 use Rattle.builder_spec.specs.declared.fault.BuildFault.{BuildFault}
 use Rattle.builder_spec.specs.declared.fault.BuildFault.TheVariants.{NoFunds}
 use Rattle.builder_spec.specs.Requests.{StartRequest}
-use Rattle.builder_spec.specs.Fronts.{shortest, suffices}
+use Rattle.builder_spec.specs.Fronts.{shortest, some_suffice}
 use Rattle.builder_spec.specs.Causes.{signature_cause, funds_cause, limit_cause, repeat_cause}
 use Rattle.builder_spec.specs.Laying.{by_key, paid_to, rest}
-use Rattle.machine.specs.declared.datum.Datum.{Datum}
 
 -- of the state that is handed in, the accounts and the minimum time
 abbrev pub fresh_state : StateMaps → StateMaps
@@ -27,7 +27,7 @@ accounts_of s = map (λ e. (e.0.token, e.1)) (entries s.accounts)
 
 -- the shortest front that covers the accounts and has one output at least
 abbrev pub covers_accounts : StateMaps → List Unspent → Bool
-covers_accounts s us = not (is_empty us) && suffices [] (accounts_of s) us
+covers_accounts s us = some_suffice (accounts_of s) us
 
 abbrev pub start_front : StartRequest → List Unspent
 start_front r = shortest (covers_accounts r.state) r.offered

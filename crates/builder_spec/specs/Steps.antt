@@ -1,5 +1,5 @@
 -- Steps of a thread: what hinders one, and how it is laid out.
-use Rattle.std.specs.Prelude.{ℕ, ℤ, pos, int_lt, nat_lt, Bool, not, ◌&&◌, ◌||◌, if◌then◌else◌, List, [], ◌∷◌, ◌++◌, map, length, Option, Some, None, option_map, Result, Ok, Err}
+use Rattle.std.specs.Prelude.{ℕ, ℤ, pos, int_lt, nat_lt, Bool, not, ◌&&◌, if◌then◌else◌, List, [], ◌∷◌, ◌++◌, map, length, Option, Some, None, option_map, Result, Ok, Err}
 use Rattle.std.specs.List.{filter_map, find}
 use Rattle.names.specs.declared.party.Party.{Party}
 use Rattle.names.specs.declared.party.Party.TheVariants.{Address, Role}
@@ -7,8 +7,10 @@ use Rattle.names.specs.declared.token.Token.{Token}
 use Rattle.contract.specs.declared.fault.SemFault.{SemFault}
 use Rattle.contract.specs.declared.input.Input.{Input}
 use Rattle.contract.specs.declared.input.Input.TheVariants.{Deposit}
+use Rattle.contract.specs.declared.interval.Interval.{Interval}
 use Rattle.semantics.specs.Walk.{Standing, Walk, answer_of}
 use Rattle.semantics.specs.Computed.{computed}
+use Rattle.table.specs.Flat.{is_close}
 use Rattle.machine.specs.declared.datum.Datum.{Datum}
 use Rattle.eutxo_types.specs.declared.output.Output.{Output}
 use Rattle.eutxo_types.specs.declared.tx.Tx.{Tx}
@@ -17,7 +19,6 @@ use Rattle.eutxo.specs.Faults.{first_of}
 use Rattle.eutxo.specs.Rules.{has_signed}
 use Rattle.roles.specs.Sums.{sums_of}
 use Rattle.roles.specs.Terms.{Terms, terms_of}
-use Rattle.table.specs.Flat.{is_close}
 use Rattle.roles.specs.Steps.{same_amounts, role_token, actor, continuation, due_outputs, next_datum}
 use Rattle.ledger.specs.declared.look.Look.{Look}
 use Rattle.ledger.specs.declared.look.ThreadOutput.{ThreadOutput}
@@ -29,7 +30,6 @@ use Rattle.builder_spec.specs.Holding.{holds_token}
 use Rattle.builder_spec.specs.Fronts.{front}
 use Rattle.builder_spec.specs.Causes.{signature_cause, funds_cause, limit_cause, repeat_cause}
 use Rattle.builder_spec.specs.Laying.{by_key, by_step, paid_to, rest}
-use Rattle.contract.specs.declared.interval.Interval.{Interval}
 
 -- ---- the thread
 
@@ -101,9 +101,13 @@ abbrev pub may_act : List ℕ → List (List ℕ) → List Unspent → Party →
 may_act currency signers offered (Address a) = has_signed signers a
 may_act currency signers offered (Role r) = holds_token offered (role_token currency r)
 
--- 4: of the parties that the inputs need, in order, the first that may not act
+-- of the parties that inputs need, in order, the first that may not act
+abbrev pub first_barred : (Party → Bool) → List Input → Option Party
+first_barred may xs = find (λ p. not (may p)) (filter_map actor xs)
+
+-- 4: there is one
 abbrev pub authority_cause : List ℕ → List (List ℕ) → List Unspent → List Input → Option BuildFault
-authority_cause currency signers offered xs = option_map NotAuthorised (find (λ p. not (may_act currency signers offered p)) (filter_map actor xs))
+authority_cause currency signers offered xs = option_map NotAuthorised (first_barred (may_act currency signers offered) xs)
 
 -- ---- what is spent
 

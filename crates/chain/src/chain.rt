@@ -260,12 +260,13 @@ impl Chain {
     ///
     /// They are legal. And whatever was called, this holds of what was accepted. The thread of each start output
     /// is exactly one run of the contract that was published under its script, and where the thread has an end,
-    /// its datum says where that run stands. Every accepted step stands on exactly one thread, and a contract
-    /// output is spent by a step alone. Each party that a step's inputs need is authorised: an address among the
-    /// signers, or a role whose token a key input's output holds. Each unspent contract output is the end of
-    /// exactly one thread, and each thread's end is an unspent contract output. Such an output holds just the
-    /// sums of its accounts, and stands at a number of the table that was published under its script. No output is
-    /// spent twice. Of each token the unspent outputs hold together what the first outputs held.
+    /// its datum says where that run stands. Every input that spends a contract output stands on exactly one
+    /// thread; a contract output is spent by a step alone, and a step spends one. Each party that a step's inputs
+    /// need is authorised: an address among the signers, or a role whose token a key input's output holds. Each
+    /// unspent contract output is the end of exactly one thread, and each thread's end is an unspent contract
+    /// output. Such an output holds just the sums of its accounts, and stands at a number of the table that was
+    /// published under its script. No output is spent twice. Of each token the unspent outputs hold together what
+    /// the first outputs held.
     ///
     /// What is built of a request that nothing hinders would be accepted now, as `step` says. And a Look that comes after an accepted Submit shows what
     /// that made, where it asks for it and nothing that was accepted between the two spent it.
