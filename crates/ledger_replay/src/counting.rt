@@ -15,7 +15,13 @@ fn gives_ticket(entry: &Entry) -> bool
 pub fn count_tickets(entries: &[Entry]) -> u64
     ensures { result ≡ tickets entries.now }
 {
-    entries.iter().filter(|e| gives_ticket(e)).count() as u64
+    let mut count = 0;
+    for e in entries {
+        if gives_ticket(e) {
+            count += 1;
+        }
+    }
+    count
 }
 
 /// How many entries are of a seat.
