@@ -4,35 +4,23 @@ use Rattle.std.proofs.lemmas.Bool.{and_parts}
 use Rattle.std.specs.Str.{IsUtf8}
 use Rattle.serde_json.specs.Data.{Data}
 use Rattle.serde_json.specs.Read.{read}
-use Rattle.names.specs.declared.party.Party.{Party}
-use Rattle.names.specs.declared.payee.Payee.{Payee}
-use Rattle.names.specs.declared.choice_id.ChoiceId.{ChoiceId}
-use Rattle.names.specs.declared.bound.Bound.{Bound}
 use Rattle.contract.specs.declared.value.Value.{Value}
 use Rattle.contract.specs.declared.value.Observation.{Observation}
 use Rattle.contract.specs.declared.tree.Action.{Action}
 use Rattle.contract.specs.declared.tree.Case.{Case}
 use Rattle.contract.specs.declared.tree.Contract.{Contract}
-use Rattle.contract.specs.declared.input.Input.{Input}
 use Rattle.collections.specs.Answers.{◌>>=◌}
 use Rattle.contract.specs.Tree.{value_tree, observation_tree, action_tree, case_tree, contract_tree}
 use Rattle.contract.specs.TreeInverse.{action_of, contract_of}
 use Rattle.contract.proofs.TreeLaws.{value_of-value_tree, observation_of-observation_tree, action_of-action_tree, case_tree-parts, contract_of-contract_tree}
 use Rattle.json_read_names.specs.Parts.{Reading}
-use Rattle.json_read_names.specs.ReadsNames.{party, choice_id, payee, bound}
 use Rattle.json_read_names.specs.ReadsText.{of_text}
 use Rattle.json_read_names.proofs.TextLaws.{json_of-read}
 use Rattle.json_read_values.specs.ReadsAction.{action}
 use Rattle.json_read_values.specs.ReadsValue.{value, observation}
 use Rattle.json_read_contracts.specs.ReadsContract.{contract, case}
-use Rattle.json_read_inputs.specs.ReadsInput.{input, transaction}
-use Rattle.contract.specs.declared.transaction.Transaction.{Transaction}
-use Rattle.json_write_outcomes.specs.Each.{Each}
 use Rattle.json_write_contracts.specs.Symbols.{ValueSymbols, ObservationSymbols, ActionSymbols, CaseSymbols, ContractSymbols}
-use Rattle.json_write_contracts.specs.Written.{party_json, choice_id_json, payee_json, bound_json, value_json, observation_json, action_json, action_fits, case_json, case_fits, contract_json, contract_fits, time_fits}
-use Rattle.contract_json.specs.InputSymbols.{InputSymbols}
-use Rattle.contract_json.specs.WrittenInput.{input_json, transaction_json}
-use Rattle.contract_json.proofs.Hexes.{token-token_json}
+use Rattle.json_write_contracts.specs.Written.{value_json, observation_json, action_json, action_fits, case_json, case_fits, contract_json, contract_fits}
 use Rattle.contract_json.proofs.ReturnsNames.{party-party_json, payee-payee_json, choice_id-choice_id_json, bound-bound_json}
 use Rattle.contract_json.proofs.ReturnsValue.{value-back, observation-back}
 use Rattle.contract_json.proofs.ReturnsContract.{action-back, case-back, contract-back}
@@ -64,7 +52,7 @@ pub contract-text : (text : List ℕ) (c : Contract) → IsUtf8 text → read te
 contract-text text c utf8 reads back short =
     ap (λ (r : Reading Data). r >>= contract) (json_of-read text (contract_json (contract_tree c)) short utf8 reads) ∙ back
 
-pub ruleset names_returned = (party-party_json, token-token_json, payee-payee_json, choice_id-choice_id_json, bound-bound_json)
+pub ruleset names_returned = (party-party_json, payee-payee_json, choice_id-choice_id_json, bound-bound_json)
 
 pub ruleset values_returned = (value-returned, observation-returned)
 

@@ -50,7 +50,8 @@ pub(crate) fn text_of<T: PutJson>(alloc: Global, item: &T) -> Result<Vec<u8>, Wr
     Ok(out.into_inner())
 }
 
-/// The JSON value that stands for a thing. A number in it that JSON has to have and doesn't is out of range.
+/// The JSON value that stands for a thing. A number in it that JSON has to have and doesn't, since it doesn't lie from -2^63
+/// to 2^64 - 1, is out of range.
 #[tactic(auto, using(crate::proofs::InRange::fitting, crate::proofs::InRange::same_fault))]
 pub fn to_json<T: PutJson>(alloc: Global, item: &T) -> Result<Value, WriteFault>
     ensures written { AsideBy WriteFault.Memory view result (in_range (T.fits item.now) (T.json item.now)) }
@@ -64,7 +65,7 @@ pub fn to_json<T: PutJson>(alloc: Global, item: &T) -> Result<Value, WriteFault>
     }
 }
 
-/// The same of a thing that JSON has all numbers of, as it has of each party, token, choice id, payee, payment, warning and state.
+/// The same for a thing whose numbers JSON has, as each party, token, choice id, payee, payment, warning and state is one.
 /// Only memory can be refused.
 pub fn fitting_to_json<T: PutJson>(alloc: Global, item: &T) -> Result<Value, Memory>
     requires fits { T.fits item.now ≡ true }

@@ -50,7 +50,7 @@ impl PutJson for Token {
 
     ghost reads_as = { λ t d. reads.token d ≡ Ok t };
 
-    #[tactic(auto, using(crate::proofs::ReadableLemmas::readable, crate::proofs::Returned::names_returned))]
+    #[tactic(auto, using(crate::proofs::ReadableLemmas::readable))]
     fn put(&self, alloc: Global, out: &mut Writer) -> Result<(), WriteFault> {
         put_token(alloc, out, self)?;
         Ok(())
