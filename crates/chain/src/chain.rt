@@ -81,7 +81,7 @@ impl Model for Chain {
     ghost invariant = { λ a. IsKept a.published.items a.ids.items (record { genesis = a.genesis; first_tick = a.tick; entries = a.entries.items }) };
 }
 
-// The drop is written, not derived: so it is proved here once, and not in each crate that drops a chain.
+// Dropped once: the drop is written, not derived, so that no crate above proves it again.
 impl Drop for Chain {
     fn drop(self) {
         let Chain {
@@ -104,7 +104,7 @@ struct Answered<R, O> {
     ids: Vec<[u8; 32]>,
 }
 
-// With two copies of the reply, and the ids of what was accepted after the first so many.
+// With two copies of the reply, carried generically, and the ids of what was accepted after the first so many.
 fn with_copies<R: TryClone + Drop, O: Drop>(
     alloc: Global,
     world: &World<'_>,
@@ -194,6 +194,7 @@ impl Chain {
         starts_are_accepted();
         claims_are_accepted();
         shown_threads_are_current();
+        // touch: brings the invariant
         let _tick = self.tick;
     }
 
@@ -220,6 +221,7 @@ impl Chain {
         ensures err { OnErr result (self.new ≡ self.old) }
         ensures second { SecondHalf self.old }
     {
+        // touch: the laws that keep it sound
         self.layouts_are_accepted();
         accepting_is_sound::<Published>();
         publishing_is_sound::<Published>();
@@ -322,7 +324,7 @@ impl Chain {
     ) -> Result<Items<StepRecord>, Memory>
         ensures { IfOk result (λ records. AreSteps (published_at (published self.now.entries)) (past_of (world self.now)) reference.now records) }
     {
-        // To read it is to know that what it keeps is sound.
+        // touch: brings the invariant
         let _tick = self.tick;
         let world = self.world(alloc, &[])?;
         records(alloc, &world, reference)

@@ -36,7 +36,7 @@ pub struct Look {
     pub payouts: Items<Unspent>,
 }
 
-// The drop is written, not derived: so it is proved here once, and not in each crate that drops a look.
+// Dropped once: the drop is written, not derived, so that no crate above proves it again.
 impl Drop for Look {
     fn drop(self) {
         let Look {

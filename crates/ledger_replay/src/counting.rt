@@ -15,6 +15,7 @@ fn gives_ticket(entry: &Entry) -> bool
 pub fn count_tickets(entries: &[Entry]) -> u64
     ensures { result ≡ tickets entries.now }
 {
+    // written loop: the closure doesn't close
     let mut count = 0;
     for e in entries {
         if gives_ticket(e) {

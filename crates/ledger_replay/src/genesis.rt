@@ -20,6 +20,7 @@ fn are_keys(outputs: &[Output]) -> bool
 fn is_natural(output: &Output)
     ensures { IsNatural output.now }
 {
+    // touch: no amount is below 0
     let _ = output.amount.entries();
 }
 
@@ -27,6 +28,7 @@ fn is_natural(output: &Output)
 fn are_natural(outputs: &[Output])
     ensures { All IsNatural outputs.now }
 {
+    // touch: of each
     for o in outputs {
         is_natural(o);
     }

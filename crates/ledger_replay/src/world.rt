@@ -198,6 +198,7 @@ impl<'a> World<'a> {
         Ok(())
     }
 
+    // instance below: the judgement on a ledger, at this one.
     /// The fault of the first rule that refuses the transaction here, or none. Its id is given. Answers `Memory`
     /// only where a growth was refused.
     pub fn judge(&self, alloc: Global, tx: &Tx, id: &[u8; 32]) -> Result<Option<TxFault>, Memory>

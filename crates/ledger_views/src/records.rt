@@ -75,6 +75,7 @@ fn recorded(
     let (number, state) = at;
     let inputs = copies_of(alloc, given(link.spends(), tx.inputs.as_slice()))?;
     let table = &published.table;
+    // touch: turns lead to a number
     table.turns_lead();
     match table.compute(alloc, &number, state, tx.interval, inputs.as_slice()) {
         Ok(outcome) => Ok(StepRecord {
@@ -125,6 +126,7 @@ fn steps_from(
     requires start { IsStart (past_of world.now) reference start.now }
     ensures { IfOk result (λ xs. TellTheRun (published_at world.now.published) (past_of world.now) reference start.now xs) }
 {
+    // touch: the thread is a run
     threads_are_runs();
     match world.published_at(start.script) {
         Some(object) => {
@@ -147,6 +149,7 @@ pub fn steps_of(
     requires tables { AreTables (published_at world.now.published) }
     ensures { IfOk result (λ xs. AreSteps (published_at world.now.published) (past_of world.now) start.now xs) }
 {
+    // touch: what is found is enough
     found_is_enough::<Published>();
     match start_at(world.accepted(), start) {
         Some(found) => steps_from(alloc, world, *start, &found),

@@ -2,6 +2,7 @@ use Rattle.std.proofs.Common.{◌≡◌, true, List, Some, map, sym, ◌∙◌, 
 use Rattle.std.specs.Option.{option_copied}
 use Rattle.std.specs.List.{All}
 use Rattle.eutxo_types.specs.declared.tx.Tx.{Tx}
+use Rattle.eutxo_types.specs.Parts.{Instance}
 use Rattle.roles.specs.Terms.{terms_of}
 use Rattle.ledger_laws.specs.Threads.{Link, Member, spine}
 use Rattle.ledger_spec.specs.Replay.{past_of, published_at}
@@ -15,14 +16,14 @@ unreachable-requires c =
     let w = c.args.world.now in
     let start = c.args.start.now in
     is_named c.threads_are_runs.ensures.run (published_at w.published) (past_of w) c.requires.tables c.requires.sound c.args.reference start c.requires.start
-    (sym c.published_at.ensures ∙ ap option_copied c.in-None.is)
+    (ap (λ (s : Instance). published_at w.published s.script) (sym c.start.view_is) ∙ sym c.published_at.ensures ∙ ap option_copied c.in-None.is)
 
 pub records_of-requires-clause-run : goal.records_of-requires-clause-run
 records_of-requires-clause-run c =
     let w = c.args.world.now in
     let start = c.args.start.now in
     let p = c.get.result.now in
-    let known = sym c.published_at.ensures ∙ ap option_copied c.in-Some.is ∙ ap Some (sym c.get.ensures) in
+    let known = ap (λ (s : Instance). published_at w.published s.script) (sym c.start.view_is) ∙ sym c.published_at.ensures ∙ ap option_copied c.in-Some.is ∙ ap Some (sym c.get.ensures) in
     let links = c.deref.ensures.value ∙ c.in_ok-links-in-Some.ensures ∙ ap (λ (txs : List Tx). spine (Some c.args.reference) txs) c.accepted.ensures in
     subst (λ (ls : List Link). (run : List Member) × IsRunOf (terms_of p) (point p.root start.datum.state) start.script ls run) (sym links)
     (run_there c.threads_are_runs.ensures.run (published_at w.published) (past_of w) c.requires.tables c.requires.sound c.args.reference start c.requires.start p known)
@@ -32,7 +33,7 @@ returns c =
     let w = c.args.world.now in
     let start = c.args.start.now in
     let p = c.get.result.now in
-    let known = sym c.published_at.ensures ∙ ap option_copied c.in-Some.is ∙ ap Some (sym c.get.ensures) in
+    let known = ap (λ (s : Instance). published_at w.published s.script) (sym c.start.view_is) ∙ sym c.published_at.ensures ∙ ap option_copied c.in-Some.is ∙ ap Some (sym c.get.ensures) in
     let links = c.deref.ensures.value ∙ c.in_ok-links-in-Some.ensures ∙ ap (λ (txs : List Tx). spine (Some c.args.reference) txs) c.accepted.ensures in
     both_ok c.records_of.result
     (λ xs. IsRunOf (terms_of p) (point p.root start.datum.state) start.script c.deref.result.now (map (member_of (terms_of p)) xs))

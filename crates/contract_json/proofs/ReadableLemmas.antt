@@ -1,4 +1,3 @@
--- No reader needs this file: it serves the proofs of this crate and those above it.
 -- Whatever is written reads as it was, where its numbers fit.
 use Rattle.std.proofs.Common.{◌≡◌, ℕ, ℤ, pos, negsuc, true, false, cond, ◌&&◌, Bool, List, map, [], ◌∷◌, refl, arith}
 use Rattle.std.proofs.lemmas.Bool.{and_parts}
@@ -173,3 +172,5 @@ state-readable s h = (
 pub outcome-readable : (ws : List Warning) (ps : List Payment) (s : StateMaps) (c : ContractTree) → contract_fits c ≡ true → time_fits s.min_time ≡ true → Readable (outcome_json ws ps s c)
 outcome-readable ws ps s c h time =
     ((contract-readable c h, (list-readable payment_json payment-readable ps, (state-readable s time, (list-readable warning_json warning-readable ws, tt)))), refl)
+
+pub ruleset readable = (party-readable, token-readable, choice_id-readable, payee-readable, bound-readable, value-readable, observation-readable, action-readable, case-readable, contract-readable, input-readable, transaction-readable, payment-readable, warning-readable, state-readable, outcome-readable)
