@@ -29,14 +29,14 @@ hinders_after (Ok a) much = if much then Some TooMany else None
 hinders_after (Err f) much = Some (Semantics f)
 
 closes_by : (r : StepRequest) (e : Thread) (end : Result Standing SemFault) (much : Bool) → answer_of (step_walk r e) ≡ end → much ≡ false → IsThread e → r.inputs ≡ [] →
-    ClosesSo r.interval e.1.state ((thread_terms e).tree e.1.cont) end → Closes r e (hinders_after end much)
+    ClosesSo r.interval e.datum.state ((thread_terms e).tree e.datum.cont) end → Closes r e (hinders_after end much)
 closes_by r e (Ok a) true q m is n h = cc
 closes_by r e (Ok a) false q m is n h = (
   a,
   q,
   h.0,
-  λ t. ap (λ xs. paid_out t (computed r.interval e.1.state ((thread_terms e).tree e.1.cont) xs).payments) n
-      ∙ h.1 t ∙ sym (ap (λ m. amount_of m t) is.sums ∙ amount_of-sums_in (entries e.1.state.accounts) t),
+  λ t. ap (λ xs. paid_out t (computed r.interval e.datum.state ((thread_terms e).tree e.datum.cont) xs).payments) n
+      ∙ h.1 t ∙ sym (ap (λ m. amount_of m t) is.sums ∙ amount_of-sums_in (entries e.datum.state.accounts) t),
 )
 closes_by r e (Err f) much q m is n (inl h) = inl (ap Semantics h)
 closes_by r e (Err f) much q m is n (inr h) = inr (ap Semantics h.0, h.1)
@@ -49,9 +49,9 @@ alone : (m : Amounts) → plus m empty ≡ m
 alone m = ap (each (λ a b. a +ℤ b) m) entries-empty
 
 after_is : (i : Interval) (signers : List (List ℕ)) (change : List ℕ) (e : Thread) (end : Result Standing SemFault) → answer_of (step_walk (closing i signers change) e) ≡ end →
-    hinders_thread (closing i signers change) e ≡ hinders_after end (is_much e.0.output.amount)
+    hinders_thread (closing i signers change) e ≡ hinders_after end (is_much e.shown.output.amount)
 after_is i signers change e (Err f) q = rw q refl
-after_is i signers change e (Ok a) q = rw q (last_clause (is_much (sums amount_in (own_output e ∷ []))) ∙ ap (λ m. if is_much m then Some TooMany else None) (alone e.0.output.amount))
+after_is i signers change e (Ok a) q = rw q (last_clause (is_much (sums amount_in (own_output e ∷ []))) ∙ ap (λ m. if is_much m then Some TooMany else None) (alone e.shown.output.amount))
 
 past : (a : ℤ) → a ≤ℤ most → most <ℤ a → ⊥
 past a h k = omega (arith, ints, h, k)
@@ -64,7 +64,7 @@ pub anyone_closes : ClosesAfterLast → AnyoneCloses
 anyone_closes law look e i signers change shown small h g m =
     let r = closing i signers change in
     subst (Closes r e) (sym (ap (hinders_on r) shown ∙ after_is i signers change e (answer_of (step_walk r e)) refl))
-    (closes_by r e (answer_of (step_walk r e)) (is_much e.0.output.amount) refl (not_much e.0.output.amount (is_much e.0.output.amount) refl small) (thread_so look e shown) refl (law i e.1.state ((thread_terms e).tree e.1.cont) h g m))
+    (closes_by r e (answer_of (step_walk r e)) (is_much e.shown.output.amount) refl (not_much e.shown.output.amount (is_much e.shown.output.amount) refl small) (thread_so look e shown) refl (law i e.datum.state ((thread_terms e).tree e.datum.cont) h g m))
 
 pub no_thread_hinders : NoThreadHinders
 no_thread_hinders look i signers change none = ap (hinders_on (closing i signers change)) none

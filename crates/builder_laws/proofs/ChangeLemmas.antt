@@ -33,7 +33,7 @@ bundles_front (u ∷ us) later h = (h.0, bundles_front us later h.1)
 front_bundles : (fs later offered : List Unspent) → offered ≡ fs ++ later → AreBundles amount_in offered → AreBundles amount_in fs
 front_bundles fs later offered e h = bundles_front fs later (subst (AreBundles amount_in) e h)
 
-of_thread : MoneyIsKept → EndsQuiet → PaymentsAreNatural → (r : StepRequest) (e : Thread) (t : Token) → IsThread e → hinders_thread r e ≡ None → AllPositive (entries e.1.state.accounts) → AreBundles amount_in r.offered →
+of_thread : MoneyIsKept → EndsQuiet → PaymentsAreNatural → (r : StepRequest) (e : Thread) (t : Token) → IsThread e → hinders_thread r e ≡ None → AllPositive (entries e.datum.state.accounts) → AreBundles amount_in r.offered →
     (amount_of (rest (step_spent r e) (step_outputs r e)) t ≡ total_of amount_in t (step_front r e) -ℤ deposited t r.inputs) × (deposited t r.inputs ≤ℤ total_of amount_in t (step_front r e))
 of_thread money quiet natural r e t is clear above offered =
     let fs = step_front r e in

@@ -1,11 +1,10 @@
 -- A claim that nothing hinders is accepted.
-use Rattle.std.proofs.Common.{◌≡◌, ℕ, nat_lt, ◌+ℤ◌, Bool, true, false, not, ◌||◌, List, [], ◌∷◌, ◌++◌, map, refl, sym, ap, ◌∙◌, Option, None}
+use Rattle.std.proofs.Common.{◌≡◌, ℕ, nat_lt, ◌+ℤ◌, Bool, true, false, not, ◌||◌, List, [], ◌∷◌, ◌++◌, map, refl, sym, ap, ◌∙◌, Option, Some, None}
 use Rattle.std.specs.Prelude.{is_none, count_by}
 use Rattle.std.specs.List.{list_all, list_any, cons_option, AllByRecursion}
 use Rattle.names.specs.declared.party.Party.TheVariants.{Role}
 use Rattle.names.specs.declared.token.Token.{Token}
 use Rattle.bundle.specs.Totals.{total_of}
-use Rattle.eutxo_types.specs.declared.fault.TxFault.TheVariants.{WrongStart}
 use Rattle.eutxo_types.specs.declared.lock.Lock.{Lock}
 use Rattle.eutxo_types.specs.declared.lock.Lock.TheVariants.{Key, Payout, Contract}
 use Rattle.eutxo_types.specs.declared.output.Output.{Output}
@@ -15,9 +14,9 @@ use Rattle.eutxo_types.specs.declared.tx.Tx.{Tx}
 use Rattle.eutxo.specs.Found.{script_at, is_known, all_known}
 use Rattle.eutxo.specs.Laws.{FoundIsEnough}
 use Rattle.eutxo.specs.Local.{tx_fault, spent_fault}
-use Rattle.eutxo_types.specs.Parts.{is_contract, contract_in, is_key, is_payout}
+use Rattle.eutxo_types.specs.Parts.{is_contract, contract_in, instance_in, is_key, is_payout}
 use Rattle.eutxo.specs.Faults.{is_empty}
-use Rattle.eutxo.specs.Rules.{lacks_role, opens, starts_wrong, stepped_contract, step_fault}
+use Rattle.eutxo.specs.Rules.{lacks_role, opens, starts_wrong, steps_of, step_fault}
 use Rattle.roles.specs.declared.published.Published.{Published}
 use Rattle.roles.specs.Steps.{holds_role, role_token, marlowe}
 use Rattle.ledger.specs.declared.look.Unspent.{Unspent}
@@ -32,11 +31,11 @@ use Rattle.builder_spec.proofs.HoldingLaws.{amount_of-sums, total_of-append}
 use Rattle.builder_spec.proofs.FrontsLaws.{shortest_passes}
 use Rattle.builder_laws.specs.Accepting.{ClaimsPass, ClaimsAreAccepted}
 use Rattle.builder_laws.specs.AfterPasts.{ClaimsAreAcceptedAfter}
-use Rattle.builder_laws.proofs.TestLemmas.{Everywhere, both, together, neither, not_not, each-append, each_so, any_nowhere, all_everywhere, everywhere_all, none_counted, found_nowhere, each_none, unless, unmapped, mapped, no_place}
+use Rattle.builder_laws.proofs.TestLemmas.{Everywhere, both, together, neither, not_not, each-append, each_so, any_nowhere, all_everywhere, everywhere_all, none_counted, found_nowhere, each_none, unless, unmapped}
 use Rattle.builder_laws.proofs.PairLemmas.{laid, pairs, paired, all_paired, all_named, AreKeyed, nowhere_keys, nowhere_paired, front_holds, no_step}
 use Rattle.builder_laws.proofs.SumsLemmas.{total-given}
 use Rattle.builder_laws.proofs.FrontLemmas.{shortest_rest}
-use Rattle.builder_laws.proofs.OutputLemmas.{IsSo, each_given, each_given_so}
+use Rattle.builder_laws.proofs.OutputLemmas.{IsSo, each_given, each_given_so, none_starts_wrong}
 use Rattle.builder_laws.proofs.SpentLemmas.{first_rules, IsOpened, passing}
 use Rattle.builder_laws.proofs.CausesLemmas.{keyed_front, named_once, not_many, pairs_known}
 use Rattle.builder_laws.proofs.AcceptingLemmas.{IsClean, passes, judged}
@@ -148,13 +147,13 @@ module _ (r : ClaimRequest) (clear : hinders_claim r ≡ None) where
       ∙ sym (total_of-append (λ (o : Output). o.amount) t paid change)
 
   module _ (named : List ℕ → Option Published) where
-    steps : step_fault marlowe named tx ys (stepped_contract ys) ≡ None
+    steps : step_fault marlowe named tx ys (steps_of ys) ≡ None
     steps =
         ap (step_fault marlowe named tx ys) (no_step with.Claim r.signers us fs no_contracts signed)
-        ∙ mapped WrongStart _ (no_place (λ (o : Output). starts_wrong marlowe named o.amount o.lock) 0 tx.outputs
-        (each-append (λ (o : Output). starts_wrong marlowe named o.amount o.lock ≡ false) paid change
-        (each_given_so (λ (o : Output). starts_wrong marlowe named o.amount o.lock ≡ false) r.to (sums amount_in us) refl)
-        (each_given_so (λ (o : Output). starts_wrong marlowe named o.amount o.lock ≡ false) r.change (sums amount_in fs) refl)))
+        ∙ none_starts_wrong named tx
+        (each-append (λ (o : Output). starts_wrong marlowe named o.amount (instance_in (Some o)) ≡ false) paid change
+        (each_given_so (λ (o : Output). starts_wrong marlowe named o.amount (instance_in (Some o)) ≡ false) r.to (sums amount_in us) refl)
+        (each_given_so (λ (o : Output). starts_wrong marlowe named o.amount (instance_in (Some o)) ≡ false) r.change (sums amount_in fs) refl))
 
     known_is : all_known named tx.outputs ys ≡ true
     known_is =

@@ -1,52 +1,44 @@
 -- The thread that a look shows.
-use Rattle.std.proofs.Common.{◌≡◌, ℕ, Bool, true, false, ◌&&◌, List, refl, ap, ◌∙◌, subst, Option, Some, None}
+use Rattle.std.proofs.Common.{◌≡◌, Bool, true, false, ◌&&◌, refl, ap, ◌∙◌, subst, Option, Some, None}
 use Rattle.std.specs.Prelude.{if◌then◌else◌}
 use Rattle.std.specs.Cmp.Lexicographic.{bytes_decides}
 use Rattle.collections.proofs.SameLaws.{same_by_decides}
 use Rattle.bundle.specs.contracts.bundle.Bundle as bundles
-use Rattle.machine.specs.declared.datum.Datum.{Datum}
-use Rattle.eutxo_types.specs.declared.lock.Lock.{Lock}
-use Rattle.eutxo_types.specs.declared.lock.Lock.TheVariants.{Key, Payout, Contract}
-use Rattle.eutxo_types.specs.Parts.{same_bytes, contract_in}
+use Rattle.eutxo_types.specs.declared.lock.Lock.TheVariants.{Contract}
+use Rattle.eutxo_types.specs.Parts.{same_bytes, ContractLock, contract_in}
 use Rattle.roles.specs.Sums.{sums_of}
 use Rattle.roles.specs.Terms.{terms_of}
 use Rattle.roles.specs.Steps.{same_amounts}
 use Rattle.ledger.specs.declared.look.Look.{Look}
 use Rattle.ledger.specs.declared.look.ThreadOutput.{ThreadOutput}
 use Rattle.builder_spec.specs.Steps.{Thread, thread_terms, is_current, thread_in, thread_of, look_thread}
+use Rattle.ledger_laws.proofs.PartLaws.{lock_so}
 use Rattle.builder_laws.proofs.TestLemmas.{both}
 
 -- it has the lock of what is published, at a number of the table, and holds the sums of its accounts
 pub record IsThread (e : Thread) : Type 0 where
-  pub lock : e.0.output.lock ≡ Contract e.0.published.id e.1
-  pub number : (thread_terms e).has e.1.cont ≡ true
-  pub sums : e.0.output.amount ≡ sums_of e.1.state
+  pub lock : e.shown.output.lock ≡ Contract e.shown.published.id e.datum
+  pub number : (thread_terms e).has e.datum.cont ≡ true
+  pub sums : e.shown.output.amount ≡ sums_of e.datum.state
 
-pub contract_so : (l : Lock) (c : List ℕ × Datum) → contract_in l ≡ Some c → l ≡ Contract c.0 c.1
-contract_so (Key a) c h = cc
-contract_so (Payout currency role) c h = cc
-contract_so (Contract script d) c h =
-    let q : (let z : List ℕ × Datum = (script, d) in z) ≡ c = cc in
-    ap (λ (z : List ℕ × Datum). Contract z.0 z.1) q
-
-stands_so : (t : ThreadOutput) (c : List ℕ × Datum) → contract_in t.output.lock ≡ Some c → is_current t c ≡ true → IsThread (t, c.1)
+stands_so : (t : ThreadOutput) (c : ContractLock) → contract_in t.output.lock ≡ Some c → is_current t c ≡ true → IsThread (record { shown = t; datum = c.datum })
 stands_so t c h s =
-    let one = both (same_bytes c.0 t.published.id) ((terms_of t.published).has c.1.cont && same_amounts t.output.amount (sums_of c.1.state)) s in
-    let two = both ((terms_of t.published).has c.1.cont) (same_amounts t.output.amount (sums_of c.1.state)) one.1 in
-    let id : c.0 ≡ t.published.id = (bytes_decides c.0 t.published.id).0 one.0 in
+    let one = both (same_bytes c.script t.published.id) ((terms_of t.published).has c.datum.cont && same_amounts t.output.amount (sums_of c.datum.state)) s in
+    let two = both ((terms_of t.published).has c.datum.cont) (same_amounts t.output.amount (sums_of c.datum.state)) one.1 in
+    let id : c.script ≡ t.published.id = (bytes_decides c.script t.published.id).0 one.0 in
     record {
-      lock = contract_so t.output.lock c h ∙ ap (λ script. Contract script c.1) id;
+      lock = lock_so t.output.lock c h ∙ ap (λ script. Contract script c.datum) id;
       number = two.0;
-      sums = (same_by_decides bundles.the_row.coded t.output.amount (sums_of c.1.state)).0 two.1;
+      sums = (same_by_decides bundles.the_row.coded t.output.amount (sums_of c.datum.state)).0 two.1;
     }
 
-in_so : (t : ThreadOutput) (o : Option (List ℕ × Datum)) (e : Thread) → contract_in t.output.lock ≡ o → thread_in t o ≡ Some e → IsThread e
+in_so : (t : ThreadOutput) (o : Option ContractLock) (e : Thread) → contract_in t.output.lock ≡ o → thread_in t o ≡ Some e → IsThread e
 in_so t None e q h = cc
 in_so t (Some c) e q h = by (is_current t c) refl h
   where
-    by : (b : Bool) → is_current t c ≡ b → (if b then (let z : Thread = (t, c.1) in Some z) else None) ≡ Some e → IsThread e
+    by : (b : Bool) → is_current t c ≡ b → (if b then (let z : Thread = record { shown = t; datum = c.datum } in Some z) else None) ≡ Some e → IsThread e
     by true s k =
-        let same : (let z : Thread = (t, c.1) in z) ≡ e = cc in
+        let same : (let z : Thread = record { shown = t; datum = c.datum } in z) ≡ e = cc in
         subst IsThread same (stands_so t c q s)
     by false s k = cc
 

@@ -1,29 +1,31 @@
 -- The outputs that layouts make.
-use Rattle.std.proofs.Common.{◌≡◌, ℕ, ◌+◌, Bool, true, false, ◌||◌, List, [], ◌∷◌, ◌++◌, refl, ap, ◌∙◌, Option, Some, None}
+use Rattle.std.proofs.Common.{◌≡◌, ℕ, ◌+◌, Bool, true, false, ◌||◌, List, [], ◌∷◌, ◌++◌, map, refl, ap, ◌∙◌, arith, Option, Some, None}
 use Rattle.std.specs.Prelude.{if◌then◌else◌}
-use Rattle.std.specs.List.{AllByRecursion}
+use Rattle.std.specs.List.{slice_get, AllByRecursion}
 use Rattle.std.specs.FinMap.{entries}
 use Rattle.collections.proofs.SameLaws.{same_by_decides}
 use Rattle.names.specs.declared.party.Party.{Party}
 use Rattle.names.specs.declared.party.Party.TheVariants.{Address, Role}
 use Rattle.contract.specs.declared.payment.Payment.{Payment}
 use Rattle.bundle.specs.Bundles.{Amounts}
-use Rattle.bundle.specs.contracts.bundle.Bundle as bundles
+use Rattle.machine.specs.declared.datum.Datum.{Datum}
 use Rattle.eutxo_types.specs.contracts.output.Output as outputs
+use Rattle.eutxo_types.specs.declared.fault.TxFault.TheVariants.{WrongStart}
 use Rattle.eutxo_types.specs.declared.lock.Lock.{Lock}
-use Rattle.eutxo_types.specs.declared.lock.Lock.TheVariants.{Key, Payout}
+use Rattle.eutxo_types.specs.declared.lock.Lock.TheVariants.{Key, Payout, Contract}
 use Rattle.eutxo_types.specs.declared.output.Output.{Output}
-use Rattle.eutxo_types.specs.Parts.{outputs_from}
+use Rattle.eutxo_types.specs.declared.tx.Tx.{Tx}
+use Rattle.eutxo_types.specs.Parts.{instance_in, contract_at, outputs_from}
 use Rattle.eutxo.specs.Faults.{is_empty}
-use Rattle.eutxo.specs.Rules.{stray_after, after_answer}
-use Rattle.roles.specs.Steps.{same_output, same_amounts, lock_for, due_to, and_owed_output, due_outputs, first_unpaid, is_first, outputs_before, answer_by}
+use Rattle.eutxo.specs.Rules.{stray_after, after_answer, starts_wrong, wrong_start}
+use Rattle.roles.specs.declared.published.Published.{Published}
+use Rattle.roles.specs.Steps.{same_output, lock_for, continuation, due_to, and_owed_output, due_outputs, first_unpaid, goes_on_in, payments_from, answer_by, marlowe}
 use Rattle.builder_spec.specs.Laying.{paid_to}
+use Rattle.builder_laws.proofs.TestLemmas.{each_at, no_place, mapped}
+use Rattle.builder_laws.proofs.GoesOnLemmas.{goes_on_there}
 
 pub same_output_itself : (o : Output) → same_output o o ≡ true
 same_output_itself o = (same_by_decides outputs.the_row.coded o o).1 refl
-
-pub same_amounts_itself : (m : Amounts) → same_amounts m m ≡ true
-same_amounts_itself m = (same_by_decides bundles.the_row.coded m m).1 refl
 
 -- ---- locks
 
@@ -57,25 +59,32 @@ pub each_given : (test : Lock → Bool) (v : Bool) → IsSo test v → (address 
 each_given test v h address m = each_given_so (λ (o : Output). test o.lock ≡ v) address m (h.key address)
 
 -- of an output that is there unless the contract is over
-pub each_unless : (test : Lock → Bool) (v b : Bool) (o : Output) → test o.lock ≡ v → AllByRecursion (λ (x : Output). test x.lock ≡ v) (if b then [] else o ∷ [])
-each_unless test v true o h = tt
-each_unless test v false o h = (h, tt)
+pub each_unless : (test : Lock → Bool) (v b : Bool) (script : List ℕ) (d : Datum) → test (Contract script d) ≡ v → AllByRecursion (λ (x : Output). test x.lock ≡ v) (map (continuation script) (if b then [] else d ∷ []))
+each_unless test v true script d h = tt
+each_unless test v false script d h = (h, tt)
+
+-- where none of the outputs is a wrong start, the rule on starts refuses nothing
+pub none_starts_wrong : (named : List ℕ → Option Published) (tx : Tx) → AllByRecursion (λ (o : Output). starts_wrong marlowe named o.amount (instance_in (Some o)) ≡ false) tx.outputs → wrong_start marlowe named tx ≡ None
+none_starts_wrong named tx h =
+    mapped WrongStart _ (no_place (λ i (o : Output). starts_wrong marlowe named o.amount (contract_at tx i)) 0 tx.outputs
+    (λ k o e. ap (λ (x : Option Output). starts_wrong marlowe named o.amount (instance_in x)) (ap (λ n. slice_get tx.outputs n) (let f : 0 + k ≡ k = omega arith in f) ∙ e)
+    ∙ each_at (λ (x : Output). starts_wrong marlowe named x.amount (instance_in (Some x)) ≡ false) tx.outputs h k o e))
 
 -- ---- the step's
 
-pub after_first : (b : Bool) (o : Output) (xs ys : List Output) → outputs_from (outputs_before b) (((if b then [] else o ∷ []) ++ xs) ++ ys) ≡ xs ++ ys
-after_first true o xs ys = refl
-after_first false o xs ys = refl
+pub after_first : (b : Bool) (script : List ℕ) (d : Datum) (xs ys : List Output) → outputs_from (payments_from b 0) ((map (continuation script) (if b then [] else d ∷ []) ++ xs) ++ ys) ≡ xs ++ ys
+after_first true script d xs ys = refl
+after_first false script d xs ys = refl
 
-pub goes_on_first : (b : Bool) (o : Output) (xs ys : List Output) → b || is_first o (((if b then [] else o ∷ []) ++ xs) ++ ys) ≡ true
-goes_on_first true o xs ys = refl
-goes_on_first false o xs ys = same_output_itself o
+pub goes_on_first : (b : Bool) (tx : Tx) (script : List ℕ) (d : Datum) (xs ys : List Output) → tx.outputs ≡ (map (continuation script) (if b then [] else d ∷ []) ++ xs) ++ ys → b || goes_on_in tx 0 script d ≡ true
+goes_on_first true tx script d xs ys h = refl
+goes_on_first false tx script d xs ys h = goes_on_there tx 0 script d (ap (λ (os : List Output). slice_get os 0) h)
 
 pub all_paid : (i : ℕ) (xs ys : List Output) → first_unpaid i xs (xs ++ ys) ≡ None
 all_paid i [] ys = refl
 all_paid i (x ∷ xs) ys = ap (λ b. if b then first_unpaid (i + 1) xs (xs ++ ys) else Some i) (same_output_itself x) ∙ all_paid (i + 1) xs ys
 
 -- where no rule of the script refuses, those on stray contracts follow
-pub after_passing : (b : Bool) (os : List Output) → after_answer os (answer_by None b) ≡ stray_after (outputs_before b) os
+pub after_passing : (b : Bool) (os : List Output) → after_answer os (answer_by None b) ≡ stray_after (payments_from b 0) os
 after_passing true os = refl
 after_passing false os = refl

@@ -17,7 +17,7 @@ use Rattle.eutxo_types.specs.declared.spend.Spend.{Spend}
 use Rattle.eutxo_types.specs.declared.tx.Tx.{Tx}
 use Rattle.eutxo.specs.Found.{with_outputs}
 use Rattle.eutxo_types.specs.Parts.{inputs_of, contract_in, is_key}
-use Rattle.eutxo.specs.Rules.{has_signed, or_contract, stepped_contract}
+use Rattle.eutxo.specs.Rules.{has_signed, step_in, steps_of}
 use Rattle.roles.specs.Steps.{role_token, holds_role}
 use Rattle.ledger.specs.declared.look.Unspent.{Unspent}
 use Rattle.builder_spec.specs.Causes.{is_signed}
@@ -122,11 +122,11 @@ total_pairs w t (u ∷ us) fs = ap (λ n. amount_of u.output.amount t +ℤ n) (t
 
 -- ---- the step
 
-pub no_keys_step : (signers : List (List ℕ)) (fs : List Unspent) → AreKeyed signers fs → stepped_contract (paired with.None fs) ≡ None
+pub no_keys_step : (signers : List (List ℕ)) (fs : List Unspent) → AreKeyed signers fs → steps_of (paired with.None fs) ≡ []
 no_keys_step signers [] g = refl
-no_keys_step signers (f ∷ fs) g = ap (λ l. or_contract (contract_in l) [] (stepped_contract (paired with.None fs))) g.0.lock ∙ no_keys_step signers fs g.1
+no_keys_step signers (f ∷ fs) g = ap (λ l. step_in (contract_in l) [] ++ steps_of (paired with.None fs)) g.0.lock ∙ no_keys_step signers fs g.1
 
 -- where none of the others is a contract, nothing is stepped
-pub no_step : (w : Redeemer) (signers : List (List ℕ)) (us fs : List Unspent) → AllByRecursion (λ u. contract_in u.output.lock ≡ None) us → AreKeyed signers fs → stepped_contract (pairs w us fs) ≡ None
+pub no_step : (w : Redeemer) (signers : List (List ℕ)) (us fs : List Unspent) → AllByRecursion (λ u. contract_in u.output.lock ≡ None) us → AreKeyed signers fs → steps_of (pairs w us fs) ≡ []
 no_step w signers [] fs h g = no_keys_step signers fs g
-no_step w signers (u ∷ us) fs h g = ap (λ c. or_contract c (inputs_of w) (stepped_contract (pairs w us fs))) h.0 ∙ no_step w signers us fs h.1 g
+no_step w signers (u ∷ us) fs h g = ap (λ c. step_in c (inputs_of w) ++ steps_of (pairs w us fs)) h.0 ∙ no_step w signers us fs h.1 g

@@ -17,7 +17,7 @@ use Rattle.eutxo_types.specs.declared.tx.Tx.{Tx}
 use Rattle.eutxo.specs.Local.{tx_fault, spent_fault, spent_rules}
 use Rattle.eutxo_types.specs.Parts.{inputs_of, is_contract, is_key}
 use Rattle.eutxo.specs.Faults.{is_empty}
-use Rattle.eutxo.specs.Rules.{no_inputs, too_many, has_too_many, repeated_input, lacks_signer, not_signed, opens, wrong_redeemer, lacks_role, role_missing, stepped_contract, step_fault}
+use Rattle.eutxo.specs.Rules.{no_inputs, too_many, has_too_many, repeated_input, lacks_signer, not_signed, opens, wrong_redeemer, lacks_role, role_missing, steps_of, step_fault}
 use Rattle.roles.specs.declared.published.Published.{Published}
 use Rattle.roles.specs.Steps.{holds_role, marlowe}
 use Rattle.ledger.specs.declared.look.Unspent.{Unspent}
@@ -96,7 +96,7 @@ module _ (w : Redeemer) (signers : List (List ℕ)) (us fs : List Unspent) (h : 
 
   -- the others are met too, where one contract at most is spent, each payout is granted, the step is taken and sums are kept
   pub passing : (named : List ℕ → Option Published) (tx : Tx) → tx.signers ≡ signers → nat_lt 1 (count_by (λ (x : Spend × Output). is_contract x.1.lock) ys) ≡ false →
-      AllByRecursion (λ u. lacks_role (holds_role ys) u.output.lock ≡ false) us → step_fault marlowe named tx ys (stepped_contract ys) ≡ None →
+      AllByRecursion (λ u. lacks_role (holds_role ys) u.output.lock ≡ false) us → step_fault marlowe named tx ys (steps_of ys) ≡ None →
       ((t : Token) → total_of amount_in t (us ++ fs) ≡ total_of (λ (o : Output). o.amount) t tx.outputs) → spent_fault marlowe named tx ys ≡ None
   passing named tx s one granted step kept =
       none_of (spent_rules marlowe named tx ys) (

@@ -8,8 +8,6 @@ use Rattle.std.specs.declared.cmp.Ordering.{Ordering}
 use Rattle.collections.proofs.Maps.{no_entries}
 use Rattle.names.specs.Equal.{ada}
 use Rattle.names.specs.Orders.{bytes_cmp, choice_id_cmp}
-use Rattle.machine.specs.declared.datum.Datum.{Datum}
-use Rattle.eutxo_types.specs.declared.fault.TxFault.TheVariants.{WrongStart}
 use Rattle.eutxo_types.specs.declared.output.Output.{Output}
 use Rattle.eutxo_types.specs.declared.redeemer.Redeemer.TheVariants as with
 use Rattle.eutxo_types.specs.declared.spend.Spend.{Spend}
@@ -17,9 +15,9 @@ use Rattle.eutxo_types.specs.declared.tx.Tx.{Tx}
 use Rattle.eutxo.specs.Found.{script_at, is_known, all_known}
 use Rattle.eutxo.specs.Laws.{FoundIsEnough}
 use Rattle.eutxo.specs.Local.{tx_fault, spent_fault}
-use Rattle.eutxo_types.specs.Parts.{is_contract}
+use Rattle.eutxo_types.specs.Parts.{is_contract, instance_in}
 use Rattle.eutxo.specs.Faults.{is_empty}
-use Rattle.eutxo.specs.Rules.{starts_wrong, starts_wrong_at, stepped_contract, step_fault}
+use Rattle.eutxo.specs.Rules.{starts_wrong, starts_wrong_at, steps_of, step_fault}
 use Rattle.roles.specs.declared.published.Published.{Published}
 use Rattle.roles.specs.Sums.{sums_of}
 use Rattle.roles.specs.Steps.{same_cont, is_fresh, same_amounts, starts_from, marlowe}
@@ -29,15 +27,16 @@ use Rattle.builder_spec.specs.Requests.{StartRequest}
 use Rattle.builder_spec.specs.Holding.{least_lacking}
 use Rattle.builder_spec.specs.Causes.{signature_cause, funds_cause, limit_cause, repeat_cause}
 use Rattle.builder_spec.specs.Laying.{by_key, paid_to, rest}
-use Rattle.builder_spec.specs.Starts.{fresh_state, accounts_of, covers_accounts, start_front, start_funds_cause, hinders_start, start_output, layout_start}
+use Rattle.builder_spec.specs.Starts.{fresh_state, accounts_of, covers_accounts, start_front, start_funds_cause, hinders_start, start_datum, start_output, layout_start}
 use Rattle.builder_spec.proofs.FrontsLaws.{shortest_passes}
 use Rattle.builder_laws.specs.Accepting.{StartsPass, StartsAreAccepted}
 use Rattle.builder_laws.specs.AfterPasts.{StartsAreAcceptedAfter}
-use Rattle.builder_laws.proofs.TestLemmas.{both, together, not_so, none_counted, each_none, unmapped, mapped, no_place, everywhere_all}
+use Rattle.builder_laws.proofs.TestLemmas.{both, together, not_so, none_counted, each_none, unmapped, everywhere_all}
 use Rattle.builder_laws.proofs.PairLemmas.{laid, pairs, all_paired, all_named, AreKeyed, nowhere_keys, no_step}
 use Rattle.builder_laws.proofs.SumsLemmas.{total-changed}
 use Rattle.builder_laws.proofs.FrontLemmas.{shortest_rest}
-use Rattle.builder_laws.proofs.OutputLemmas.{same_amounts_itself, IsSo, each_given, each_given_so}
+use Rattle.builder_laws.proofs.GoesOnLemmas.{same_amounts_itself}
+use Rattle.builder_laws.proofs.OutputLemmas.{IsSo, each_given, each_given_so, none_starts_wrong}
 use Rattle.builder_laws.proofs.SpentLemmas.{first_rules, passing}
 use Rattle.builder_laws.proofs.CausesLemmas.{is_nothing, unless_else, keyed_front, named_once, not_many, pairs_known}
 use Rattle.builder_laws.proofs.AcceptingLemmas.{IsClean, passes, judged}
@@ -90,7 +89,7 @@ module _ (r : StartRequest) (clear : hinders_start r ≡ None) where
   first = first_rules with.None [] fs (output ∷ change) r.interval r.signers (no_keys fs enough.0) (not_many fs clauses.1.1.0) refl (named_once [] fs later.0 r.offered later.1 clauses.1.1.1.0)
 
   -- it is a start
-  starts : starts_from r.published.root (record { cont = r.published.root; state = fresh_state r.state }) output.amount ≡ true
+  starts : starts_from r.published.root (start_datum r) output.amount ≡ true
   starts =
       together (same_cont r.published.root r.published.root && is_fresh (fresh_state r.state)) (same_amounts (sums_of (fresh_state r.state)) (sums_of (fresh_state r.state)))
       (together (same_cont r.published.root r.published.root) (is_fresh (fresh_state r.state)) (eq-eqb r.published.root.0 r.published.root.0 refl)
@@ -98,14 +97,14 @@ module _ (r : StartRequest) (clear : hinders_start r ≡ None) where
       (same_amounts_itself (sums_of (fresh_state r.state)))
 
   module _ (named : List ℕ → Option Published) (there : named r.published.id ≡ Some r.published) where
-    starts_well : starts_wrong marlowe named output.amount output.lock ≡ false
-    starts_well = ap (λ v. starts_wrong_at marlowe v (let d : Datum = record { cont = r.published.root; state = fresh_state r.state } in d) output.amount) there ∙ ap not starts
+    starts_well : starts_wrong marlowe named output.amount (instance_in (Some output)) ≡ false
+    starts_well = ap (λ v. starts_wrong_at marlowe v (start_datum r) output.amount) there ∙ ap not starts
 
-    steps : step_fault marlowe named tx ys (stepped_contract ys) ≡ None
+    steps : step_fault marlowe named tx ys (steps_of ys) ≡ None
     steps =
         ap (step_fault marlowe named tx ys) (no_step with.None r.signers [] fs tt signed)
-        ∙ mapped WrongStart _ (no_place (λ (o : Output). starts_wrong marlowe named o.amount o.lock) 0 tx.outputs
-        (starts_well, each_given_so (λ (o : Output). starts_wrong marlowe named o.amount o.lock ≡ false) r.change (rest fs (output ∷ [])) refl))
+        ∙ none_starts_wrong named tx
+        (starts_well, each_given_so (λ (o : Output). starts_wrong marlowe named o.amount (instance_in (Some o)) ≡ false) r.change (rest fs (output ∷ [])) refl)
 
     known_is : all_known named tx.outputs ys ≡ true
     known_is =

@@ -9,7 +9,6 @@ use Rattle.names.specs.declared.party.Party.{Party}
 use Rattle.names.specs.declared.party.Party.TheVariants.{Address, Role}
 use Rattle.semantics.specs.Walk.{Standing, answer_of}
 use Rattle.machine.specs.declared.datum.Datum.{Datum}
-use Rattle.contract.specs.declared.input.Input.{Input}
 use Rattle.eutxo_types.specs.declared.fault.TxFault.TheVariants.{StrayContract}
 use Rattle.eutxo.specs.declared.step_fault.StepFault.TheVariants as faults
 use Rattle.eutxo_types.specs.declared.output.Output.{Output}
@@ -23,10 +22,10 @@ use Rattle.eutxo.specs.Found.{script_at, is_known, all_known}
 use Rattle.eutxo.specs.Laws.{FoundIsEnough}
 use Rattle.eutxo.specs.Local.{tx_fault, spent_fault}
 use Rattle.eutxo_types.specs.Parts.{is_contract, contract_in, is_key}
-use Rattle.eutxo.specs.Rules.{lacks_role, or_contract, stepped_contract, step_asked, stray_after, after_answer, script_fault, step_fault, opens}
+use Rattle.eutxo.specs.Rules.{lacks_role, Step, step_in, steps_of, step_asked, stray_after, after_answer, script_fault, step_fault, opens}
 use Rattle.roles.specs.declared.published.Published.{Published}
 use Rattle.table.specs.Flat.{is_close}
-use Rattle.roles.specs.Steps.{holds_role, role_token, actor, authorised, unauthorised, continuation, due_outputs, first_unpaid, is_first, outputs_before, by_answer, answer_by, outcome_answer, step_of, marlowe}
+use Rattle.roles.specs.Steps.{holds_role, role_token, actor, authorised, due_outputs, first_unpaid, payments_from, next_datum, by_answer, answer_by, step_of, marlowe}
 use Rattle.roles.specs.Steps as roles
 use Rattle.ledger.specs.declared.look.Look.{Look}
 use Rattle.ledger.specs.declared.look.Unspent.{Unspent}
@@ -72,7 +71,7 @@ ends_well (Err f) h = cc
 
 module _ (r : StepRequest) (e : Thread) (clear : hinders_thread r e ≡ None) where
   abbrev p : Published
-  p = e.0.published
+  p = e.shown.published
 
   abbrev fs : List Unspent
   fs = step_front r e
@@ -114,8 +113,8 @@ module _ (r : StepRequest) (e : Thread) (clear : hinders_thread r e ≡ None) wh
     abbrev ys : List (Spend × Output)
     ys = pairs w us fs
 
-    abbrev going : Output
-    going = continuation p.id ((thread_terms e).at e.1.cont (step_walk r e).turns) a.state
+    abbrev next : Datum
+    next = next_datum (thread_terms e) e.datum (step_walk r e) a.state
 
     abbrev firsts : List Output
     firsts = continuing_outputs e (step_walk r e) a ++ due_outputs p.currency (step_walk r e).payments
@@ -134,11 +133,11 @@ module _ (r : StepRequest) (e : Thread) (clear : hinders_thread r e ≡ None) wh
 
     -- ---- the script
 
-    abbrev step : List ℕ × Datum × List Input
-    step = (p.id, e.1, r.inputs)
+    abbrev step : Step
+    step = record { script = p.id; datum = e.datum; inputs = r.inputs }
 
-    stepped_is : stepped_contract ys ≡ Some step
-    stepped_is = ap (λ l. or_contract (contract_in l) r.inputs (stepped_contract (paired with.None fs))) is.lock
+    stepped_is : steps_of ys ≡ step ∷ steps_of (paired with.None fs)
+    stepped_is = ap (λ l. step_in (contract_in l) r.inputs ++ steps_of (paired with.None fs)) is.lock
 
     abbrev s : Stepping
     s = step_asked tx ys step
@@ -151,20 +150,20 @@ module _ (r : StepRequest) (e : Thread) (clear : hinders_thread r e ≡ None) wh
         mapped faults.NotAuthorised _ (not_found (λ q. not (authorised p.currency r.signers ys q)) (filter_map actor r.inputs)
         (all_act p.currency r.signers r.offered fs ys (λ role. front_holds w r.signers p.currency role us fs (ap is_key is.lock, tt) signed) (filter_map actor r.inputs) parties (all_everywhere (holds_token fs) (roles_of p.currency r.inputs) enough.0)))
 
-    continued : roles.wrong_continuation closed ((thread_terms e).at e.1.cont (step_walk r e).turns) a.state s ≡ None
-    continued = if_not _ faults.WrongContinuation (ap not (goes_on_first closed going (due_outputs p.currency (step_walk r e).payments) change))
+    continued : roles.wrong_continuation closed 0 next s ≡ None
+    continued = if_not _ faults.WrongContinuation (ap not (goes_on_first closed tx p.id next (due_outputs p.currency (step_walk r e).payments) change refl))
 
-    paid : roles.wrong_payment p.currency closed (step_walk r e).payments s ≡ None
+    paid : roles.wrong_payment p.currency closed 0 (step_walk r e).payments s ≡ None
     paid =
         let os = due_outputs p.currency (step_walk r e).payments in
-        mapped faults.WrongPayment _ (ap (first_unpaid (outputs_before closed) os) (after_first closed going os change) ∙ all_paid (outputs_before closed) os change)
+        mapped faults.WrongPayment _ (ap (first_unpaid (payments_from closed 0) os) (after_first closed p.id next os change) ∙ all_paid (payments_from closed 0) os change)
 
-    no_stray : stray_after (outputs_before closed) tx.outputs ≡ None
+    no_stray : stray_after (payments_from closed 0) tx.outputs ≡ None
     no_stray =
         let os = due_outputs p.currency (step_walk r e).payments in
         let none : IsSo is_contract false = record { key = λ x. refl; payout = λ x y. refl } in
-        ap (λ zs. option_map (λ k. StrayContract (outputs_before closed + k)) (position (λ (o : Output). is_contract o.lock) zs)) (after_first closed going os change)
-        ∙ no_fault (λ k. StrayContract (outputs_before closed + k)) (λ (o : Output). is_contract o.lock) (os ++ change)
+        ap (λ zs. option_map (λ k. StrayContract (payments_from closed 0 + k)) (position (λ (o : Output). is_contract o.lock) zs)) (after_first closed p.id next os change)
+        ∙ no_fault (λ k. StrayContract (payments_from closed 0 + k)) (λ (o : Output). is_contract o.lock) (os ++ change)
         (each-append (λ (o : Output). is_contract o.lock ≡ false) os change (each_due is_contract false none p.currency (step_walk r e).payments) (each_given is_contract false none r.change (rest (us ++ fs) firsts)))
 
     answered : after_answer tx.outputs (step_of (thread_terms e) s) ≡ None
@@ -172,12 +171,12 @@ module _ (r : StepRequest) (e : Thread) (clear : hinders_thread r e ≡ None) wh
         ap (λ b. after_answer tx.outputs (if b then by_answer (thread_terms e) s (step_walk r e) (answer_of (step_walk r e)) else Refused (faults.Semantics NoMatch))) is.number
         ∙ ap (λ end. after_answer tx.outputs (by_answer (thread_terms e) s (step_walk r e) end)) ok
         ∙ ap (λ f. after_answer tx.outputs (answer_by f closed))
-        (none_of (roles.not_authorised p.currency s ∷ roles.wrong_continuation closed ((thread_terms e).at e.1.cont (step_walk r e).turns) a.state s ∷ roles.wrong_payment p.currency closed (step_walk r e).payments s ∷ []) (acting, (continued, (paid, tt))))
+        (none_of (roles.not_authorised p.currency s ∷ roles.wrong_continuation closed 0 next s ∷ roles.wrong_payment p.currency closed 0 (step_walk r e).payments s ∷ []) (acting, (continued, (paid, tt))))
         ∙ after_passing closed tx.outputs
         ∙ no_stray
 
     module _ (named : List ℕ → Option Published) (there : named p.id ≡ Some p) where
-      steps : step_fault marlowe named tx ys (stepped_contract ys) ≡ None
+      steps : step_fault marlowe named tx ys (steps_of ys) ≡ None
       steps = ap (step_fault marlowe named tx ys) stepped_is ∙ ap (λ v. script_fault marlowe v s) there ∙ answered
 
       known_is : is_some (named p.id) ≡ true
@@ -191,14 +190,14 @@ module _ (r : StepRequest) (e : Thread) (clear : hinders_thread r e ≡ None) wh
           together (list_all (λ (o : Output). is_known named o.lock) tx.outputs) (list_all (λ (x : Spend × Output). is_known named x.1.lock) ys)
           (everywhere_all (λ (o : Output). is_known named o.lock) tx.outputs
           (each-append (λ (o : Output). is_known named o.lock ≡ true) firsts change
-          (each-append (λ (o : Output). is_known named o.lock ≡ true) (continuing_outputs e (step_walk r e) a) (due_outputs p.currency (step_walk r e).payments) (each_unless (is_known named) true closed going known_is) (each_due (is_known named) true so_known p.currency (step_walk r e).payments))
+          (each-append (λ (o : Output). is_known named o.lock ≡ true) (continuing_outputs e (step_walk r e) a) (due_outputs p.currency (step_walk r e).payments) (each_unless (is_known named) true closed p.id next known_is) (each_due (is_known named) true so_known p.currency (step_walk r e).payments))
           (each_given (is_known named) true so_known r.change (rest (us ++ fs) firsts))))
           (pairs_known named w r.signers us fs (ap (is_known named) is.lock ∙ known_is, tt) signed)
 
       rules : spent_fault marlowe named tx ys ≡ None
       rules =
           passing w r.signers us fs opened signed named tx refl
-          (ap (nat_lt 1) (one_counted (λ (x : Spend × Output). is_contract x.1.lock) (spend_with w (own_output e), e.0.output) (paired with.None fs) (ap is_contract is.lock)
+          (ap (nat_lt 1) (one_counted (λ (x : Spend × Output). is_contract x.1.lock) (spend_with w (own_output e), e.shown.output) (paired with.None fs) (ap is_contract is.lock)
           (nowhere_keys r.signers (λ (x : Spend × Output). is_contract x.1.lock) (λ u k. ap is_contract k.lock) fs signed)))
           (ap (lacks_role (holds_role ys)) is.lock, tt) steps
           (λ t. sym (total-changed r.change (us ++ fs) firsts t))
@@ -209,13 +208,13 @@ module _ (r : StepRequest) (e : Thread) (clear : hinders_thread r e ≡ None) wh
 abbrev its_pairs : StepRequest → Thread → List (Spend × Output)
 its_pairs r e = pairs (with.Step r.inputs) (own_output e ∷ []) (step_front r e)
 
-clean_thread : (r : StepRequest) (e : Thread) → IsThread e → hinders_thread r e ≡ None → (named : List ℕ → Option Published) → named e.0.published.id ≡ Some e.0.published → IsClean named (layout_thread r e) (step_spent r e) (its_pairs r e)
+clean_thread : (r : StepRequest) (e : Thread) → IsThread e → hinders_thread r e ≡ None → (named : List ℕ → Option Published) → named e.shown.published.id ≡ Some e.shown.published → IsClean named (layout_thread r e) (step_spent r e) (its_pairs r e)
 clean_thread r e is clear named there =
     let end = succeeds r e clear in
     subst (λ os. IsClean named (laid (with.Step r.inputs) (own_output e ∷ []) (step_front r e) (os ++ paid_to r.change (rest (step_spent r e) os)) r.interval r.signers) (step_spent r e) (its_pairs r e))
     (sym (ap (step_outputs_of e (step_walk r e)) end.1)) (clean r e clear is end.0 end.1 named there)
 
-clean_step : (look : Look) (r : StepRequest) (e : Thread) → look_thread look ≡ Some e → hinders_on r (look_thread look) ≡ None → (named : List ℕ → Option Published) → named e.0.published.id ≡ Some e.0.published → IsClean named (layout_on r (look_thread look)) (step_spent r e) (its_pairs r e)
+clean_step : (look : Look) (r : StepRequest) (e : Thread) → look_thread look ≡ Some e → hinders_on r (look_thread look) ≡ None → (named : List ℕ → Option Published) → named e.shown.published.id ≡ Some e.shown.published → IsClean named (layout_on r (look_thread look)) (step_spent r e) (its_pairs r e)
 clean_step look r e shown clear named there =
     subst (λ o. IsClean named (layout_on r o) (step_spent r e) (its_pairs r e)) (sym shown)
     (clean_thread r e (thread_so look e shown) (ap (hinders_on r) (sym shown) ∙ clear) named there)

@@ -1,7 +1,7 @@
 -- Tests that hold nowhere, or everywhere, and the first of several.
-use Rattle.std.proofs.Common.{◌≡◌, ℕ, suc, ◌+◌, Bool, true, false, ◌&&◌, ◌||◌, not, cond, List, [], ◌∷◌, ◌++◌, refl, ◌∙◌, ap, arith, Option, Some, None}
+use Rattle.std.proofs.Common.{◌≡◌, ℕ, zero, suc, ◌+◌, Bool, true, false, ◌&&◌, ◌||◌, not, cond, List, [], ◌∷◌, ◌++◌, refl, ◌∙◌, ap, subst, arith, Option, Some, None}
 use Rattle.std.specs.Prelude.{if◌then◌else◌, count_by, fold, All}
-use Rattle.std.specs.List.{list_any, list_all, find, filter, position, position_from, AllByRecursion}
+use Rattle.std.specs.List.{list_any, list_all, find, filter, position, position_from, slice_get, AllByRecursion}
 use Rattle.std.specs.Option.{option_map}
 use Rattle.std.proofs.lemmas.Iterator.Adapters.{position_from-zero}
 use Rattle.eutxo.specs.Faults.{first_of, first_index}
@@ -59,6 +59,12 @@ pub by_recursion : {A : Type 0} (P : A → Type 0) (xs : List A) → All P xs �
 by_recursion P [] h = tt
 by_recursion P (x ∷ xs) h = (h 0 x (omega arith), by_recursion P xs (λ k d l. h (suc k) d (omega (arith, l))))
 
+-- and of the element at a place
+pub each_at : {A : Type 0} (P : A → Type 0) (xs : List A) → AllByRecursion P xs → (k : ℕ) (x : A) → slice_get xs k ≡ Some x → P x
+each_at P [] h k x e = cc
+each_at P (y ∷ ys) h zero x e = let same : y ≡ x = cc in subst P same h.0
+each_at P (y ∷ ys) h (suc k) x e = each_at P ys h.1 k x e
+
 pub not_any : {A : Type 0} (test : A → Bool) (xs : List A) → Nowhere test xs → list_any test xs ≡ false
 not_any test [] h = refl
 not_any test (x ∷ xs) h = none_of_two (test x) (list_any test xs) h.0 (not_any test xs h.1)
@@ -97,9 +103,12 @@ no_position test i (x ∷ xs) h = no_place_if (test x) i (position_from test (i 
 pub no_fault : {A F : Type 0} (f : ℕ → F) (test : A → Bool) (xs : List A) → Nowhere test xs → option_map f (position test xs) ≡ None
 no_fault f test xs h = ap (option_map f) (position_from-zero test xs ∙ no_position test 0 xs h)
 
-pub no_place : {A : Type 0} (test : A → Bool) (i : ℕ) (xs : List A) → Nowhere test xs → first_index (λ _. test) i xs ≡ None
+-- nor does one whose test reads the place
+pub no_place : {A : Type 0} (test : ℕ → A → Bool) (i : ℕ) (xs : List A) → ((k : ℕ) (x : A) → slice_get xs k ≡ Some x → test (i + k) x ≡ false) → first_index test i xs ≡ None
 no_place test i [] h = refl
-no_place test i (x ∷ xs) h = no_place_if (test x) i (first_index (λ _. test) (i + 1) xs) h.0 (no_place test (i + 1) xs h.1)
+no_place test i (x ∷ xs) h =
+    no_place_if (test i x) i (first_index test (i + 1) xs) (ap (λ n. test n x) (let e : i ≡ i + 0 = omega arith in e) ∙ h 0 x refl)
+    (no_place test (i + 1) xs (λ k y e. ap (λ n. test n y) (let f : i + 1 + k ≡ i + suc k = omega arith in f) ∙ h (suc k) y e))
 
 pub not_found : {A : Type 0} (test : A → Bool) (xs : List A) → Nowhere test xs → find test xs ≡ None
 not_found test [] h = refl

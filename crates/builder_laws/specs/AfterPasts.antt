@@ -7,7 +7,6 @@ use Rattle.eutxo_types.specs.Spelling.{tx_bytes}
 use Rattle.eutxo.specs.Judgement.{judge}
 use Rattle.roles.specs.declared.published.Published.{Published}
 use Rattle.ledger.specs.declared.look.Look.{Look}
-use Rattle.ledger.specs.declared.look.Unspent.{Unspent}
 use Rattle.builder_spec.specs.Requests.{StepRequest, StartRequest, ClaimRequest}
 use Rattle.builder_spec.specs.Steps.{Thread, look_thread, step_spent, hinders_step, layout_step}
 use Rattle.builder_spec.specs.Starts.{start_front, hinders_start, layout_start}

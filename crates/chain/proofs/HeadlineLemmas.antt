@@ -2,9 +2,11 @@
 use Rattle.std.proofs.Common.{◌≡◌, ℕ, Bool, true, false, cond, List, [], ◌∷◌, refl, sym, ap, ◌∙◌, subst, Option, Some, None}
 use Rattle.std.specs.Cmp.Lexicographic.{bytes_decides}
 use Rattle.machine.specs.declared.datum.Datum.{Datum}
+use Rattle.eutxo_types.specs.declared.lock.Lock.{Lock}
+use Rattle.eutxo_types.specs.declared.lock.Lock.TheVariants.{Key, Payout, Contract}
 use Rattle.eutxo_types.specs.declared.output.Output.{Output}
 use Rattle.eutxo_types.specs.declared.output_ref.OutputRef.{OutputRef}
-use Rattle.eutxo_types.specs.Parts.{same_bytes, contract_in}
+use Rattle.eutxo_types.specs.Parts.{same_bytes, script_in, contract_in}
 use Rattle.roles.specs.declared.published.Published.{Published}
 use Rattle.ledger.specs.declared.look.ThreadOutput.{ThreadOutput}
 use Rattle.ledger_laws.specs.Past.{Past, unspent_at}
@@ -39,20 +41,21 @@ under_ids (q ∷ ps) id p h = by (same_bytes q.id id) refl h (under_ids ps id p)
     by true e k go = let same : q ≡ p = cc in ap (λ (x : Published). x.id) (sym same) ∙ (bytes_decides q.id id).0 e
     by false e k go = go k
 
-with_so : (ps : List Published) (past : Past) (q : OutputRef) (o : Output) → unspent_at past q ≡ Some o → (c : Option (List ℕ × Datum)) → contract_in o.lock ≡ c → (t : ThreadOutput) → thread_output q o (object_under ps c) ≡ Some t →
+with_so : (ps : List Published) (past : Past) (q : OutputRef) (o : Output) → unspent_at past q ≡ Some o → (lock : Lock) → o.lock ≡ lock → (t : ThreadOutput) → thread_output q o (object_under ps (script_in lock)) ≡ Some t →
     (d : Datum) × IsShown (published_at ps) past t d
-with_so ps past q o h None e t k = cc
-with_so ps past q o h (Some c) e t k = by (published_at ps c.0) refl k
+with_so ps past q o h (Key a) e t k = cc
+with_so ps past q o h (Payout currency role) e t k = cc
+with_so ps past q o h (Contract script d) e t k = by (published_at ps script) refl k
   where
-    by : (v : Option Published) → published_at ps c.0 ≡ v → thread_output q o v ≡ Some t → (d : Datum) × IsShown (published_at ps) past t d
+    by : (v : Option Published) → published_at ps script ≡ v → thread_output q o v ≡ Some t → (there : Datum) × IsShown (published_at ps) past t there
     by None f m = cc
     by (Some p) f m =
         let same : (let z : ThreadOutput = record { reference = q; output = o; published = p } in z) ≡ t = cc in
-        (c.1, subst (λ (z : ThreadOutput). IsShown (published_at ps) past z c.1) same (record { script = c.0; unspent = h; contract = e; named = f }))
+        (d, subst (λ (z : ThreadOutput). IsShown (published_at ps) past z d) same (record { script = script; unspent = h; contract = ap contract_in e; named = f }))
 
 output_so : (ps : List Published) (past : Past) (q : OutputRef) (o : Option Output) → unspent_at past q ≡ o → (t : ThreadOutput) → thread_output_in ps q o ≡ Some t → (d : Datum) × IsShown (published_at ps) past t d
 output_so ps past q None h t k = cc
-output_so ps past q (Some o) h t k = with_so ps past q o h (contract_in o.lock) refl t k
+output_so ps past q (Some o) h t k = with_so ps past q o h o.lock refl t k
 
 at_so : (w : World) (q : Option OutputRef) (t : ThreadOutput) → thread_output_at w q ≡ Some t → (d : Datum) × IsShown (published_at w.published) (past_of w) t d
 at_so w None t k = cc

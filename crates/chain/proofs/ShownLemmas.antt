@@ -1,10 +1,9 @@
 -- What looks show of what was made before them.
-use Rattle.std.proofs.Common.{◌≡◌, ℕ, zero, suc, ◌+◌, ◌<◌, ◌≤◌, ℤ, Bool, true, false, not, ◌&&◌, ◌||◌, cond, List, [], ◌∷◌, ◌++◌, refl, sym, ◌∙◌, ap, subst, arith, append_assoc, Option, Some, None, ◌⊎◌, inl, inr, map, take, drop, length, length-append}
+use Rattle.std.proofs.Common.{◌≡◌, ℕ, zero, suc, ◌+◌, ◌<◌, ◌≤◌, Bool, true, false, not, ◌&&◌, ◌||◌, cond, List, [], ◌∷◌, ◌++◌, refl, sym, ◌∙◌, ap, subst, arith, append_assoc, Option, Some, None, map, take, drop, length}
 use Rattle.std.specs.Prelude.{if◌then◌else◌, is_some, filter}
 use Rattle.std.specs.List.{slice_get, list_any, Contains, slice_index_or}
 use Rattle.std.specs.Map.{lookup}
 use Rattle.std.proofs.lemmas.List.Folds.{list_any-append}
-use Rattle.machine.specs.declared.datum.Datum.{Datum}
 use Rattle.eutxo_types.specs.declared.lock.Lock.{Lock}
 use Rattle.eutxo_types.specs.declared.lock.Lock.TheVariants.{Key, Payout, Contract}
 use Rattle.eutxo_types.specs.declared.output.Output.{Output}
@@ -13,7 +12,7 @@ use Rattle.eutxo_types.specs.declared.output_ref.OutputRef.TheVariants.{Genesis,
 use Rattle.eutxo_types.specs.declared.tx.Tx.{Tx}
 use Rattle.eutxo_types.specs.Ids.{id_of}
 use Rattle.eutxo.specs.Laws.{FoundIsEnough}
-use Rattle.eutxo_types.specs.Parts.{same_ref, is_contract, contract_in, contract_at, steps}
+use Rattle.eutxo_types.specs.Parts.{same_ref, is_contract, script_in, contract_at, steps}
 use Rattle.std.specs.Cmp.Lexicographic.{bytes_decides}
 use Rattle.roles.specs.declared.published.Published.{Published}
 use Rattle.ledger.specs.declared.ask.Ask.{Ask}
@@ -29,15 +28,15 @@ use Rattle.ledger_laws.specs.Past.{Past, unspent, unspent_at, is_input_of, is_sp
 use Rattle.ledger_laws.specs.Sound.{IsSound}
 use Rattle.roles.specs.Steps.{marlowe}
 use Rattle.ledger_laws.specs.Laws.{StartIsSound, AfterIsSound, LaterIsSound, EndsAreUnspent}
-use Rattle.ledger_laws.specs.Threads.{thread, ends, StartsThread}
+use Rattle.ledger_laws.specs.Threads.{next_of, thread, ends, StartsThread}
 use Rattle.ledger_laws.proofs.AcceptedLaws.{made_there, still_there, made_published}
 use Rattle.ledger_laws.proofs.PlainLaws.{and_true, both_false, same_some, is_there, cut_at, take_some, take_none}
 use Rattle.ledger_laws.proofs.ReferenceLaws.{same_ref_so, unspent_is}
 use Rattle.ledger_laws.proofs.SpineLaws.{reached, reached_append, ends_reached, stays}
-use Rattle.ledger_spec.specs.Legal.{IsLegal, Follows, before_entry, with_entry, entry_of}
+use Rattle.ledger_spec.specs.Legal.{IsLegal, before_entry, with_entry, entry_of}
 use Rattle.ledger_spec.specs.Calls.{reply_to}
 use Rattle.ledger_spec.specs.Replay.{Replay, World, Course, after_call, accepted_among, replay, replay_from, with_pending, world, past_of, published, published_at}
-use Rattle.ledger_spec.specs.Shown.{accepted_between, IsShown, ShowsWhatWasMade}
+use Rattle.ledger_spec.specs.Shown.{IsShown, ShowsWhatWasMade}
 use Rattle.ledger_spec.specs.Views.{is_key_of, is_payout_of, unspent_of, under_locks, starts_in, end_of, thread_output, thread_output_at, thread_output_in, object_under, thread_shown, look}
 use Rattle.ledger.specs.Replies.{is_advanced, is_accepted, ticket_in, verdicts_in}
 use Rattle.chain.proofs.LegalLemmas.{same_entry, published_after_one}
@@ -215,15 +214,15 @@ if_some false o x h = cc
 end_stays : (genesis : List Output) (txs more : List Tx) (r q : OutputRef) → end_of (record { genesis = genesis; accepted = txs }) r ≡ Some q → is_spent more q ≡ false → end_of (record { genesis = genesis; accepted = txs ++ more }) r ≡ Some q
 end_stays genesis txs more r q h free =
     let p = if_some (list_any (starts_in r) txs) (ends (Some r) (thread (record { genesis = genesis; accepted = txs }) r)) q h in
-    let at : reached (Some r) txs ≡ Some q = sym (ends_reached (Some r) txs) ∙ p.1 in
-    let on : reached (Some r) (txs ++ more) ≡ Some q = reached_append (Some r) txs more ∙ ap (λ (s : Option OutputRef). reached s more) at ∙ stays q more free in
-    rw (list_some (starts_in r) txs more p.0) (ends_reached (Some r) (txs ++ more) ∙ on)
+    let at : reached next_of (Some r) txs ≡ Some q = sym (ends_reached next_of (Some r) txs) ∙ p.1 in
+    let on : reached next_of (Some r) (txs ++ more) ≡ Some q = reached_append next_of (Some r) txs more ∙ ap (λ (s : Option OutputRef). reached next_of s more) at ∙ stays next_of q more free in
+    rw (list_some (starts_in r) txs more p.0) (ends_reached next_of (Some r) (txs ++ more) ∙ on)
 
 -- what is published under the script of an output
-published_so : (ps : List Published) (lock : Lock) → ((script : List ℕ) (d : Datum) → lock ≡ Contract script d → (p : Published) × (published_at ps script ≡ Some p)) → is_contract lock ≡ true → (p : Published) × (object_under ps (contract_in lock) ≡ Some p)
+published_so : (ps : List Published) (lock : Lock) → ((script : List ℕ) → script_in lock ≡ Some script → (p : Published) × (published_at ps script ≡ Some p)) → is_contract lock ≡ true → (p : Published) × (object_under ps (script_in lock) ≡ Some p)
 published_so ps (Key a) known h = cc
 published_so ps (Payout currency role) known h = cc
-published_so ps (Contract script d) known h = known script d refl
+published_so ps (Contract script d) known h = known script refl
 
 not_true : (b : Bool) → not b ≡ true → b ≡ false
 not_true true h = cc
@@ -249,8 +248,13 @@ end_contract past s q h =
     starts_so at (Made id i) n tx g k =
         let a = and_true (has_id id tx) (not (steps tx) && is_some (contract_at tx i)) k in
         let b = and_true (not (steps tx)) (is_some (contract_at tx i)) a.1 in
-        let c = is_there (contract_at tx i) b.1 in
-        (c.0.0, c.0.1, record { number = n; tx = tx; accepted = g; bare = not_true (steps tx) b.0; index = i; name = ap (λ (x : List ℕ). Made x i) ((bytes_decides id (id_of tx)).0 a.0); contract = c.1 })
+        let c = is_there (contract_at tx i) b.1 in (
+          c.0,
+          record {
+            made = record { number = n; tx = tx; accepted = g; index = i; name = ap (λ (x : List ℕ). Made x i) ((bytes_decides id (id_of tx)).0 a.0); contract = c.1 };
+            bare = not_true (steps tx) b.0;
+          },
+        )
 
 list_none : {A : Type 0} (test : A → Bool) (xs ys : List A) → list_any test xs ≡ false → list_any test ys ≡ false → list_any test (xs ++ ys) ≡ false
 list_none test xs ys h k = list_any-append test xs ys ∙ both_false (list_any test xs) (list_any test ys) h k
@@ -277,7 +281,7 @@ look_of a b h = same_some a b (ap look_in h)
 
 -- the unspent end of a thread is shown with what is published under its script
 shown_thread : (w : World) (asked : Option OutputRef) (s r : OutputRef) (o : Output) (p : Published) → asked ≡ Some s → end_of (past_of w) s ≡ Some r → unspent_at (past_of w) r ≡ Some o →
-    object_under w.published (contract_in o.lock) ≡ Some p → (let t : ThreadOutput = record { reference = r; output = o; published = p } in thread_shown w asked ≡ Some t)
+    object_under w.published (script_in o.lock) ≡ Some p → (let t : ThreadOutput = record { reference = r; output = o; published = p } in thread_shown w asked ≡ Some t)
 shown_thread w asked s r o p a e u k =
     ap (λ (z : Option OutputRef). thread_shown w z) a ∙ ap (λ (z : Option OutputRef). thread_output_at w z) e ∙ ap (λ (z : Option Output). thread_output_in w.published r z) u
     ∙ ap (λ (z : Option Published). thread_output r o z) k
@@ -320,7 +324,7 @@ module _ (enough : FoundIsEnough marlowe) (start : StartIsSound marlowe) (after 
           let q = end_contract past s r e in
           let z = ends_unspent named past sound s r q.0 q.1 in
           let is : is_contract o.lock ≡ true = subst (λ (x : Output). is_contract x.lock ≡ true) (same_some z.0 o (sym z.1 ∙ there)) z.2 in
-          let p = published_so (published c.entries) o.lock (λ script d l. made_published marlowe enough named past sound k tx at i o script d made l) is in
+          let p = published_so (published c.entries) o.lock (λ script l. made_published marlowe enough named past sound k tx at i o script made l) is in
           (p.0, shown_thread (world c) ask.thread s r o p.0 asked e there p.1)
 
   pub shows : (c : Course) (ps : List Published) → IsSound marlowe (published_at ps) (past_of (world c)) → IsLegal c → ShowsWhatWasMade c

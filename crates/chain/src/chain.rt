@@ -81,7 +81,7 @@ impl Model for Chain {
     ghost invariant = { λ a. IsKept a.published.items a.ids.items (record { genesis = a.genesis; first_tick = a.tick; entries = a.entries.items }) };
 }
 
-// The drop is written, not derived: so it is proved here once, and not in each crate that drops a chain.
+// Dropped once: the drop is written, not derived, so that no crate above proves it again.
 impl Drop for Chain {
     fn drop(self) {
         let Chain {
@@ -104,7 +104,7 @@ struct Answered<R, O> {
     ids: Vec<[u8; 32]>,
 }
 
-// With two copies of the reply, and the ids of what was accepted after the first so many.
+// With two copies of the reply, carried generically, and the ids of what was accepted after the first so many.
 fn with_copies<R: TryClone + Drop, O: Drop>(
     alloc: Global,
     world: &World<'_>,
@@ -194,6 +194,7 @@ impl Chain {
         starts_are_accepted();
         claims_are_accepted();
         shown_threads_are_current();
+        // touch: brings the invariant
         let _tick = self.tick;
     }
 
@@ -220,6 +221,7 @@ impl Chain {
         ensures err { OnErr result (self.new ≡ self.old) }
         ensures second { SecondHalf self.old }
     {
+        // touch: the laws that keep it sound
         self.layouts_are_accepted();
         accepting_is_sound::<Published>();
         publishing_is_sound::<Published>();
@@ -260,12 +262,13 @@ impl Chain {
     ///
     /// They are legal. And whatever was called, this holds of what was accepted. The thread of each start output
     /// is exactly one run of the contract that was published under its script, and where the thread has an end,
-    /// its datum says where that run stands. Every accepted step stands on exactly one thread, and a contract
-    /// output is spent by a step alone. Each party that a step's inputs need is authorised: an address among the
-    /// signers, or a role whose token a key input's output holds. Each unspent contract output is the end of
-    /// exactly one thread, and each thread's end is an unspent contract output. Such an output holds just the
-    /// sums of its accounts, and stands at a number of the table that was published under its script. No output is
-    /// spent twice. Of each token the unspent outputs hold together what the first outputs held.
+    /// its datum says where that run stands. Every input that spends a contract output stands on exactly one
+    /// thread; a contract output is spent by a step alone, and a step spends one. Each party that a step's inputs
+    /// need is authorised: an address among the signers, or a role whose token a key input's output holds. Each
+    /// unspent contract output is the end of exactly one thread, and each thread's end is an unspent contract
+    /// output. Such an output holds just the sums of its accounts, and stands at a number of the table that was
+    /// published under its script. No output is spent twice. Of each token the unspent outputs hold together what
+    /// the first outputs held.
     ///
     /// What is built of a request that nothing hinders would be accepted now, as `step` says. And a Look that comes after an accepted Submit shows what
     /// that made, where it asks for it and nothing that was accepted between the two spent it.
@@ -321,7 +324,7 @@ impl Chain {
     ) -> Result<Items<StepRecord>, Memory>
         ensures { IfOk result (λ records. AreSteps (published_at (published self.now.entries)) (past_of (world self.now)) reference.now records) }
     {
-        // To read it is to know that what it keeps is sound.
+        // touch: brings the invariant
         let _tick = self.tick;
         let world = self.world(alloc, &[])?;
         records(alloc, &world, reference)

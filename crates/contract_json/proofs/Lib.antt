@@ -1,3 +1,4 @@
+pub mod ReadableLemmas
 pub mod ReadBack
 pub mod Whole
 pub mod Hexes

@@ -147,11 +147,11 @@ state-four : (a b c t : Data) (s : StateMaps) → rows account_cmp account_row a
 state-four a b c t s h i j k = rw (h, i, j, k) refl
 
 -- a state that was written is read as it was, where JSON has its numbers
-pub state-back : (d : Data) (s : StateMaps) → d ≡ state_json s → Each HasBytes (entries s.accounts) → AllPositive (entries s.accounts) → time_fits s.min_time ≡ true → state_fits s ≡ true → state d ≡ Ok s
-state-back d s is bytes positive time fits =
+pub state-back : (s : StateMaps) → Each HasBytes (entries s.accounts) → AllPositive (entries s.accounts) → time_fits s.min_time ≡ true → state_fits s ≡ true → state (state_json s) ≡ Ok s
+state-back s bytes positive time fits =
     let parts = both (list_all (λ e. number_fits e.1) (entries s.accounts)) _ fits in
     let others = both (list_all (λ e. number_fits e.1) (entries s.choices)) (list_all (λ e. number_fits e.1) (entries s.bound_values)) parts.1 in
-    ap state is ∙ state-four (array (items_of (map account_row_json (entries s.accounts)))) (array (items_of (map bound_row_json (entries s.bound_values)))) (array (items_of (map choice_row_json (entries s.choices)))) (number_json s.min_time) s
+    state-four (array (items_of (map account_row_json (entries s.accounts)))) (array (items_of (map bound_row_json (entries s.bound_values)))) (array (items_of (map choice_row_json (entries s.choices)))) (number_json s.min_time) s
     (rows-list account_cmp account_total account_exact account_row (array (items_of (map account_row_json (entries s.accounts)))) s.accounts (accounts-back (entries s.accounts) bytes (accounts_fit (entries s.accounts) positive parts.0)))
     (rows-list choice_id_cmp choice_id_total choice_id_exact choice_row (array (items_of (map choice_row_json (entries s.choices)))) s.choices (choices-back (entries s.choices) others.0))
     (rows-list bytes_cmp bytes_total bytes_exact bound_row (array (items_of (map bound_row_json (entries s.bound_values)))) s.bound_values (bounds-back (entries s.bound_values) others.1))

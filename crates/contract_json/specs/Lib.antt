@@ -1,13 +1,3 @@
-pub mod Parts
-pub mod Forms
-pub mod ReadsNames
-pub mod ReadsValue
-pub mod ReadsContract
-pub mod ReadsInput
-pub mod ReadsState
-pub mod ReadsText
 pub mod WrittenInput
-pub mod Written
 pub mod Readable
-pub mod ReadableLaws
 pub mod InputSymbols

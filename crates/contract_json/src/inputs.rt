@@ -2,13 +2,14 @@
 ghost use Rattle.std.specs.Prelude.{◌≡◌, true, map, codes, OnOk};
 ghost use Rattle.std.specs.List.{list_all};
 ghost use Rattle.hex.specs.Hex.{IsBytes};
-ghost use Rattle.serde_json.specs.Data.{array, string};
+ghost use Rattle.serde_json.specs.Data.{array};
 ghost use Rattle.serde_json.specs.View.{items_of};
 ghost use Rattle.json_write_outcomes.specs.Each.{Each};
 ghost use Rattle.json_write_contracts.specs.Tokens.{Puts, PutsFitting};
 ghost use Rattle.contract_json.specs.InputSymbols.{InputSymbols};
-ghost use Rattle.contract_json.specs.Written as written;
-ghost use Rattle.contract_json.specs.Written.{number_fits, time_fits, input_fits, transaction_fits};
+ghost use Rattle.json_write_contracts.specs.Written as written;
+ghost use Rattle.json_write_contracts.specs.Written.{number_fits, time_fits};
+ghost use Rattle.contract_json.specs.WrittenInput.{input_json, input_fits, interval_json, transaction_json, transaction_fits};
 
 use collections::{Items, Memory};
 use contract::{Input, Interval, Transaction};
@@ -64,7 +65,7 @@ fn put_choice(out: &mut Writer, id: &ChoiceId, number: &i128) -> Result<(), Writ
 }
 
 pub(crate) fn put_input(alloc: Global, out: &mut Writer, input: &Input) -> Result<(), WriteFault>
-    ensures put { PutsFitting result out.old out.new (input_fits input.now) (written.input_json input.now) }
+    ensures put { PutsFitting result out.old out.new (input_fits input.now) (input_json input.now) }
     ensures symbols { OnOk result (InputSymbols input.now) }
 {
     match input {
@@ -80,7 +81,7 @@ pub(crate) fn put_input(alloc: Global, out: &mut Writer, input: &Input) -> Resul
 }
 
 fn put_inputs(alloc: Global, out: &mut Writer, inputs: &Items<Input>) -> Result<(), WriteFault>
-    ensures put { PutsFitting result out.old out.new (list_all input_fits inputs.now) (array (items_of (map written.input_json inputs.now))) }
+    ensures put { PutsFitting result out.old out.new (list_all input_fits inputs.now) (array (items_of (map input_json inputs.now))) }
     ensures symbols { OnOk result (Each InputSymbols inputs.now) }
 {
     out.begin_array()?;
@@ -99,7 +100,7 @@ fn put_moment(out: &mut Writer, time: &i64) -> Result<(), Memory>
 }
 
 fn put_interval(out: &mut Writer, interval: &Interval) -> Result<(), Memory>
-    ensures put { OnOk result (Puts out.old out.new (written.interval_json interval.now)) }
+    ensures put { OnOk result (Puts out.old out.new (interval_json interval.now)) }
     ensures from { OnOk result (time_fits interval.now.from ≡ true) }
     ensures to { OnOk result (time_fits interval.now.to ≡ true) }
 {
@@ -117,7 +118,7 @@ pub(crate) fn put_transaction(
     out: &mut Writer,
     transaction: &Transaction,
 ) -> Result<(), WriteFault>
-    ensures put { PutsFitting result out.old out.new (transaction_fits transaction.now) (written.transaction_json transaction.now) }
+    ensures put { PutsFitting result out.old out.new (transaction_fits transaction.now) (transaction_json transaction.now) }
     ensures symbols { OnOk result (Each InputSymbols transaction.now.inputs) }
     ensures from { OnOk result (time_fits transaction.now.interval.from ≡ true) }
     ensures to { OnOk result (time_fits transaction.now.interval.to ≡ true) }

@@ -1,5 +1,5 @@
 //! Marlowe contracts, inputs, transactions, states and outcomes as JSON: read from texts and from `serde_json` values,
-//! and written to them.
+//! and written to them. `PutJson` says what each is written as.
 #![tactic(auto)]
 
 mod inputs;
@@ -7,7 +7,6 @@ mod laws;
 mod put_json;
 mod puts;
 mod texts;
-mod to_json;
 
 pub use contract::Transaction;
 pub use json_read_contracts::{case_from_json, contract_from_json, contracts_are_read_by_form};
@@ -22,12 +21,7 @@ pub use json_read_values::{
 pub use json_tree::JsonValue;
 pub use json_write_contracts::WriteFault;
 pub use laws::what_is_read_can_be_written;
+pub use put_json::{PutJson, fitting_to_json, to_json};
 pub use texts::{
     read_contract, read_input, read_state, read_transaction, write_contract, write_outcome,
-};
-pub use to_json::{
-    action_to_json, bound_to_json, case_to_json, choice_id_to_json, contract_to_json,
-    input_to_json, observation_to_json, outcome_to_json, party_to_json, payee_to_json,
-    payment_to_json, state_to_json, token_to_json, transaction_to_json, value_to_json,
-    warning_to_json,
 };

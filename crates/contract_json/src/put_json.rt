@@ -17,23 +17,22 @@ use json_write_contracts::WriteFault;
 use serde_json::Value;
 use std::alloc::{AllocError, Global};
 
-// What is written as one JSON value.
-pub(crate) trait PutJson {
-    // The value that stands for it.
+/// What is written as one JSON value.
+pub trait PutJson {
+    /// The value that stands for it.
     ghost json: { Self → Data };
 
-    // Whether JSON has all its numbers.
+    /// Whether JSON has all its numbers.
     ghost fits: { Self → Bool };
 
-    // What its type sees to, and is known once it was written.
-    ghost known: { Self → Type 0 };
+    /// A JSON value is read as it. This says nothing where no reader reads what stands for it.
+    ghost reads_as: { Self → Data → Type 0 };
 
+    /// Writes it. A number that JSON has to have and doesn't is out of range.
     fn put(&self, alloc: Global, out: &mut Writer) -> Result<(), WriteFault>
         ensures put { PutsFitting result out.old out.new (fits self.now) (json self.now) }
-        ensures known { OnOk result (known self.now) };
-
-    // What was written reads as it was.
-    ghost readable: { (x : Self) → fits x ≡ true → known x → Readable (json x) };
+        ensures readable { OnOk result (Readable (json self.now)) }
+        ensures reads_back { OnOk result (reads_as self.now (json self.now)) };
 }
 
 // The compact text of the value.
@@ -41,7 +40,7 @@ pub(crate) trait PutJson {
 pub(crate) fn text_of<T: PutJson>(alloc: Global, item: &T) -> Result<Vec<u8>, WriteFault>
     ensures written { AsideBy WriteFault.Memory (λ text. text.items) result (in_range (T.fits item.now) (compact_text (T.json item.now))) }
     ensures fits { OnOk result (T.fits item.now ≡ true) }
-    ensures known { OnOk result (T.known item.now) }
+    ensures reads_back { OnOk result (T.reads_as item.now (T.json item.now)) }
     ensures utf8 { IfOk result (λ text. IsUtf8 text.items) }
     ensures reads { IfOk result (λ text. depth (T.json item.now) ≤ max_depth → read text.items ≡ Some (T.json item.now)) }
     ensures reads_within { IfOk result (λ text. read_within (length text.items) text.items ≡ Some (T.json item.now)) }
@@ -51,13 +50,12 @@ pub(crate) fn text_of<T: PutJson>(alloc: Global, item: &T) -> Result<Vec<u8>, Wr
     Ok(out.into_inner())
 }
 
-// The value itself.
+/// The JSON value that stands for a thing. A number in it that JSON has to have and doesn't, since it doesn't lie from -2^63
+/// to 2^64 - 1, is out of range.
 #[tactic(auto, using(crate::proofs::InRange::fitting, crate::proofs::InRange::same_fault))]
-pub(crate) fn value_of<T: PutJson>(alloc: Global, item: &T) -> Result<Value, WriteFault>
+pub fn to_json<T: PutJson>(alloc: Global, item: &T) -> Result<Value, WriteFault>
     ensures written { AsideBy WriteFault.Memory view result (in_range (T.fits item.now) (T.json item.now)) }
-    ensures fits { OnOk result (T.fits item.now ≡ true) }
-    ensures json { IfOk result (λ v. view v ≡ T.json item.now) }
-    ensures known { OnOk result (T.known item.now) }
+    ensures reads_back { IfOk result (λ v. T.reads_as item.now (view v)) }
 {
     let text = text_of(alloc, item)?;
     match value_of_text(alloc, text.as_slice()) {
@@ -67,13 +65,14 @@ pub(crate) fn value_of<T: PutJson>(alloc: Global, item: &T) -> Result<Value, Wri
     }
 }
 
-// The value itself, where JSON has all numbers of it in any case.
-pub(crate) fn sure_value_of<T: PutJson>(alloc: Global, item: &T) -> Result<Value, Memory>
-    requires { T.fits item.now ≡ true }
+/// The same for a thing whose numbers JSON has, as each party, token, choice id, payee, payment, warning and state is one.
+/// Only memory can be refused.
+pub fn fitting_to_json<T: PutJson>(alloc: Global, item: &T) -> Result<Value, Memory>
+    requires fits { T.fits item.now ≡ true }
     ensures json { IfOk result (λ v. view v ≡ T.json item.now) }
-    ensures known { OnOk result (T.known item.now) }
+    ensures reads_back { IfOk result (λ v. T.reads_as item.now (view v)) }
 {
-    match value_of(alloc, item) {
+    match to_json(alloc, item) {
         Ok(value) => Ok(value),
         Err(WriteFault::Memory) => Err(AllocError),
         Err(WriteFault::OutOfRange) => unreachable!(),

@@ -1,15 +1,16 @@
 //! What each form is written as.
-ghost use Rattle.std.specs.Prelude.{◌≡◌, true, ⊤};
-ghost use Rattle.std.specs.FinMap.{entries};
-ghost use Rattle.hex.specs.Hex.{IsBytes};
+ghost use Rattle.std.specs.Prelude.{◌≡◌, true, ⊤, Ok};
 ghost use Rattle.contract.specs.Tree.{value_tree, observation_tree, action_tree, case_tree, contract_tree};
-ghost use Rattle.json_write_outcomes.specs.Each.{Each, HasBytes};
-ghost use Rattle.json_write_contracts.specs.Symbols.{ValueSymbols, ObservationSymbols, ActionSymbols, CaseSymbols, ContractSymbols};
-ghost use Rattle.contract_json.specs.InputSymbols.{InputSymbols};
-ghost use Rattle.contract_json.specs.ReadableLaws.{party-readable, token-readable, choice_id-readable, payee-readable, bound-readable, value-readable, observation-readable, action-readable, case-readable, contract-readable};
-ghost use Rattle.contract_json.specs.ReadableLaws.{input-readable, transaction-readable, payment-readable, warning-readable, state-readable, outcome-readable};
-ghost use Rattle.contract_json.specs.Written as written;
-ghost use Rattle.contract_json.specs.Written.{bound_fits, value_fits, observation_fits, action_fits, case_fits, contract_fits, input_fits, transaction_fits, time_fits};
+ghost use Rattle.json_read_names.specs.ReadsNames as reads;
+ghost use Rattle.json_read_values.specs.ReadsValue as value_reads;
+ghost use Rattle.json_read_values.specs.ReadsAction.{action};
+ghost use Rattle.json_read_contracts.specs.ReadsContract as contract_reads;
+ghost use Rattle.json_read_inputs.specs.ReadsInput as input_reads;
+ghost use Rattle.json_read_inputs.specs.ReadsState as state_reads;
+ghost use Rattle.json_write_contracts.specs.Written as written;
+ghost use Rattle.json_write_contracts.specs.Written.{bound_fits, value_fits, observation_fits, action_fits, case_fits, contract_fits};
+ghost use Rattle.json_write_outcomes.specs.WrittenOutcome.{payment_json, warning_json, state_json, state_fits, outcome_json};
+ghost use Rattle.contract_json.specs.WrittenInput.{input_json, input_fits, transaction_json, transaction_fits};
 
 use crate::inputs::{put_input, put_transaction};
 use crate::put_json::PutJson;
@@ -26,234 +27,246 @@ use json_write_outcomes::{put_outcome, put_payment, put_state, put_warning};
 use names::{Bound, ChoiceId, Party, Payee, Token};
 use std::alloc::Global;
 
+/// A party.
 impl PutJson for Party {
     ghost json = { written.party_json };
 
     ghost fits = { λ _. true };
 
-    ghost known = { λ _. ⊤ };
+    ghost reads_as = { λ p d. reads.party d ≡ Ok p };
 
+    #[tactic(auto, using(crate::proofs::ReadableLemmas::readable, crate::proofs::Returned::names_returned))]
     fn put(&self, alloc: Global, out: &mut Writer) -> Result<(), WriteFault> {
         put_party(out, self)?;
         Ok(())
     }
-
-    ghost readable = { λ p fits known. party-readable p };
 }
 
+/// A token: its currency symbol in lower-case hexadecimal.
 impl PutJson for Token {
     ghost json = { written.token_json };
 
     ghost fits = { λ _. true };
 
-    ghost known = { λ t. IsBytes t.symbol };
+    ghost reads_as = { λ t d. reads.token d ≡ Ok t };
 
+    #[tactic(auto, using(crate::proofs::ReadableLemmas::readable))]
     fn put(&self, alloc: Global, out: &mut Writer) -> Result<(), WriteFault> {
         put_token(alloc, out, self)?;
         Ok(())
     }
-
-    ghost readable = { λ t fits known. token-readable t };
 }
 
+/// A choice id.
 impl PutJson for ChoiceId {
     ghost json = { written.choice_id_json };
 
     ghost fits = { λ _. true };
 
-    ghost known = { λ _. ⊤ };
+    ghost reads_as = { λ id d. reads.choice_id d ≡ Ok id };
 
+    #[tactic(auto, using(crate::proofs::ReadableLemmas::readable, crate::proofs::Returned::names_returned))]
     fn put(&self, alloc: Global, out: &mut Writer) -> Result<(), WriteFault> {
         put_choice_id(out, self)?;
         Ok(())
     }
-
-    ghost readable = { λ id fits known. choice_id-readable id };
 }
 
+/// A payee.
 impl PutJson for Payee {
     ghost json = { written.payee_json };
 
     ghost fits = { λ _. true };
 
-    ghost known = { λ _. ⊤ };
+    ghost reads_as = { λ p d. reads.payee d ≡ Ok p };
 
+    #[tactic(auto, using(crate::proofs::ReadableLemmas::readable, crate::proofs::Returned::names_returned))]
     fn put(&self, alloc: Global, out: &mut Writer) -> Result<(), WriteFault> {
         put_payee(out, self)?;
         Ok(())
     }
-
-    ghost readable = { λ p fits known. payee-readable p };
 }
 
+/// A bound. An end that doesn't lie from -2^63 to 2^64 - 1 is out of range.
 impl PutJson for Bound {
     ghost json = { written.bound_json };
 
     ghost fits = { bound_fits };
 
-    ghost known = { λ _. ⊤ };
+    ghost reads_as = { λ b d. reads.bound d ≡ Ok b };
 
+    #[tactic(auto, using(crate::proofs::ReadableLemmas::readable, crate::proofs::Returned::names_returned))]
     fn put(&self, alloc: Global, out: &mut Writer) -> Result<(), WriteFault> {
         put_bound(out, self)
     }
-
-    ghost readable = { λ b fits known. bound-readable b fits };
 }
 
+/// A value (Marlowe specification version 3, "Values and observations"): a constant as a number, and each other form
+/// as an object or a word of its own. A constant that doesn't lie from -2^63 to 2^64 - 1 is out of range.
 impl PutJson for Value {
     ghost json = { λ v. written.value_json (value_tree v) };
 
     ghost fits = { λ v. value_fits (value_tree v) };
 
-    ghost known = { λ v. ValueSymbols (value_tree v) };
+    ghost reads_as = { λ v d. value_reads.value d ≡ Ok v };
 
+    #[tactic(auto, using(crate::proofs::ReadableLemmas::readable, crate::proofs::Returned::values_returned))]
     fn put(&self, alloc: Global, out: &mut Writer) -> Result<(), WriteFault> {
         put_value(alloc, out, self)
     }
-
-    ghost readable = { λ v fits known. value-readable (value_tree v) fits };
 }
 
+/// An observation (Marlowe specification version 3, "Values and observations"): `true`, `false`, or an object. A constant
+/// in it that doesn't lie from -2^63 to 2^64 - 1 is out of range.
 impl PutJson for Observation {
     ghost json = { λ o. written.observation_json (observation_tree o) };
 
     ghost fits = { λ o. observation_fits (observation_tree o) };
 
-    ghost known = { λ o. ObservationSymbols (observation_tree o) };
+    ghost reads_as = { λ o d. value_reads.observation d ≡ Ok o };
 
+    #[tactic(auto, using(crate::proofs::ReadableLemmas::readable, crate::proofs::Returned::values_returned))]
     fn put(&self, alloc: Global, out: &mut Writer) -> Result<(), WriteFault> {
         put_observation(alloc, out, self)
     }
-
-    ghost readable = { λ o fits known. observation-readable (observation_tree o) fits };
 }
 
+/// An action (Marlowe specification version 3, "Actions and inputs"). A number in it that doesn't lie from -2^63 to
+/// 2^64 - 1 is out of range.
 impl PutJson for Action {
     ghost json = { λ a. written.action_json (action_tree a) };
 
     ghost fits = { λ a. action_fits (action_tree a) };
 
-    ghost known = { λ a. ActionSymbols (action_tree a) };
+    ghost reads_as = { λ a d. action d ≡ Ok a };
 
+    #[tactic(auto, using(crate::proofs::ReadableLemmas::readable, crate::proofs::Returned::contracts_returned))]
     fn put(&self, alloc: Global, out: &mut Writer) -> Result<(), WriteFault> {
         put_action(alloc, out, self)
     }
-
-    ghost readable = { λ a fits known. action-readable (action_tree a) fits };
 }
 
+/// A case: its action, and the contract that is gone on with. A number in them that doesn't lie from -2^63 to 2^64 - 1
+/// is out of range.
 impl PutJson for Case {
     ghost json = { λ k. written.case_json (case_tree k) };
 
     ghost fits = { λ k. case_fits (case_tree k) };
 
-    ghost known = { λ k. CaseSymbols (case_tree k) };
+    ghost reads_as = { λ k d. contract_reads.case d ≡ Ok k };
 
+    #[tactic(auto, using(crate::proofs::ReadableLemmas::readable, crate::proofs::Returned::contracts_returned))]
     fn put(&self, alloc: Global, out: &mut Writer) -> Result<(), WriteFault> {
         put_case(alloc, out, self)
     }
-
-    ghost readable = { λ k fits known. case-readable (case_tree k) fits };
 }
 
+/// A contract (Marlowe specification version 3, "Contracts"). A number in it that doesn't lie from -2^63 to 2^64 - 1
+/// is out of range.
 impl PutJson for Contract {
     ghost json = { λ c. written.contract_json (contract_tree c) };
 
     ghost fits = { λ c. contract_fits (contract_tree c) };
 
-    ghost known = { λ c. ContractSymbols (contract_tree c) };
+    ghost reads_as = { λ c d. contract_reads.contract d ≡ Ok c };
 
+    #[tactic(auto, using(crate::proofs::ReadableLemmas::readable, crate::proofs::Returned::contracts_returned))]
     fn put(&self, alloc: Global, out: &mut Writer) -> Result<(), WriteFault> {
         put_contract(alloc, out, self)
     }
-
-    ghost readable = { λ c fits known. contract-readable (contract_tree c) fits };
 }
 
+/// An input (Marlowe specification version 3, "Actions and inputs"). An amount or a choice that doesn't lie from -2^63
+/// to 2^64 - 1 is out of range.
 impl PutJson for Input {
-    ghost json = { written.input_json };
+    ghost json = { input_json };
 
     ghost fits = { input_fits };
 
-    ghost known = { InputSymbols };
+    ghost reads_as = { λ i d. input_reads.input d ≡ Ok i };
 
+    #[tactic(auto, using(crate::proofs::ReadableLemmas::readable, crate::proofs::Returned::inputs_returned))]
     fn put(&self, alloc: Global, out: &mut Writer) -> Result<(), WriteFault> {
         put_input(alloc, out, self)
     }
-
-    ghost readable = { λ i fits known. input-readable i fits };
 }
 
+/// A transaction: its interval, and its inputs in order. A number of an input that doesn't lie from -2^63 to 2^64 - 1
+/// is out of range.
 impl PutJson for Transaction {
-    ghost json = { written.transaction_json };
+    ghost json = { transaction_json };
 
     ghost fits = { transaction_fits };
 
-    ghost known = { λ t. Each InputSymbols t.inputs × ((time_fits t.interval.from ≡ true) × (time_fits t.interval.to ≡ true)) };
+    ghost reads_as = { λ t d. input_reads.transaction d ≡ Ok t };
 
+    #[tactic(auto, using(crate::proofs::ReadableLemmas::readable, crate::proofs::Returned::inputs_returned))]
     fn put(&self, alloc: Global, out: &mut Writer) -> Result<(), WriteFault> {
         put_transaction(alloc, out, self)?;
         Ok(())
     }
-
-    ghost readable = { λ t fits known. transaction-readable t fits known.1.0 known.1.1 };
 }
 
+/// A payment. An amount that JSON doesn't have is a text of its decimal digits.
 impl PutJson for Payment {
-    ghost json = { written.payment_json };
+    ghost json = { payment_json };
 
     ghost fits = { λ _. true };
 
-    ghost known = { λ _. ⊤ };
+    ghost reads_as = { λ _ _. ⊤ };
 
+    #[tactic(auto, using(crate::proofs::ReadableLemmas::readable))]
     fn put(&self, alloc: Global, out: &mut Writer) -> Result<(), WriteFault> {
         put_payment(alloc, out, self)?;
         Ok(())
     }
-
-    ghost readable = { λ p fits known. payment-readable p };
 }
 
+/// A warning (Marlowe specification version 3, "Compute transaction"): an object with its name under the key `warning`,
+/// beside what it says. A number that JSON doesn't have is a text of its decimal digits.
 impl PutJson for Warning {
-    ghost json = { written.warning_json };
+    ghost json = { warning_json };
 
     ghost fits = { λ _. true };
 
-    ghost known = { λ _. ⊤ };
+    ghost reads_as = { λ _ _. ⊤ };
 
+    #[tactic(auto, using(crate::proofs::ReadableLemmas::readable))]
     fn put(&self, alloc: Global, out: &mut Writer) -> Result<(), WriteFault> {
         put_warning(alloc, out, self)?;
         Ok(())
     }
-
-    ghost readable = { λ w fits known. warning-readable w };
 }
 
+/// A state, the rows of each map in the order of their keys. A number that JSON doesn't have is a text of its decimal
+/// digits; such a state isn't read again.
 impl PutJson for State {
-    ghost json = { written.state_json };
+    ghost json = { state_json };
 
     ghost fits = { λ _. true };
 
-    ghost known = { λ s. Each HasBytes (entries s.accounts) × (time_fits s.min_time ≡ true) };
+    ghost reads_as = { λ s d. state_fits s ≡ true → state_reads.state d ≡ Ok s };
 
+    #[tactic(auto, using(crate::proofs::ReadableLemmas::readable, crate::proofs::Returned::state_returned))]
     fn put(&self, alloc: Global, out: &mut Writer) -> Result<(), WriteFault> {
+        // touch: the accounts are above 0
+        let _accounts = self.accounts();
         put_state(alloc, out, self)?;
         Ok(())
     }
-
-    ghost readable = { λ s fits known. state-readable s known.1 };
 }
 
+/// An outcome: the contract that remains, the payments and the warnings in order, and the state. A number of the contract
+/// that doesn't lie from -2^63 to 2^64 - 1 is out of range.
 impl<'a> PutJson for Outcome<&'a Contract> {
-    ghost json = { λ o. written.outcome_json o.warnings o.payments o.state (contract_tree o.place.now) };
+    ghost json = { λ o. outcome_json o.warnings o.payments o.state (contract_tree o.place.now) };
 
     ghost fits = { λ o. contract_fits (contract_tree o.place.now) };
 
-    ghost known = { λ o. time_fits o.state.min_time ≡ true };
+    ghost reads_as = { λ _ _. ⊤ };
 
+    #[tactic(auto, using(crate::proofs::ReadableLemmas::readable))]
     fn put(&self, alloc: Global, out: &mut Writer) -> Result<(), WriteFault> {
         put_outcome(alloc, out, self)
     }
-
-    ghost readable = { λ o fits known. outcome-readable o.warnings o.payments o.state (contract_tree o.place.now) fits known };
 }

@@ -5,12 +5,13 @@ ghost use Rattle.serde_json.specs.Data.{depth};
 ghost use Rattle.serde_json.specs.Read.{max_depth};
 ghost use Rattle.serde_json.specs.Written.{compact_text};
 ghost use Rattle.contract.specs.Tree.{contract_tree};
-ghost use Rattle.contract_json.specs.ReadsContract as contract_reads;
-ghost use Rattle.contract_json.specs.ReadsInput as input_reads;
-ghost use Rattle.contract_json.specs.ReadsState as state_reads;
-ghost use Rattle.contract_json.specs.ReadsText.{of_text};
-ghost use Rattle.contract_json.specs.Written as written;
-ghost use Rattle.contract_json.specs.Written.{in_range, contract_fits};
+ghost use Rattle.json_read_names.specs.ReadsText.{of_text};
+ghost use Rattle.json_read_contracts.specs.ReadsContract as contract_reads;
+ghost use Rattle.json_read_inputs.specs.ReadsInput as input_reads;
+ghost use Rattle.json_read_inputs.specs.ReadsState as state_reads;
+ghost use Rattle.json_write_contracts.specs.Written as written;
+ghost use Rattle.json_write_contracts.specs.Written.{in_range, contract_fits};
+ghost use Rattle.json_write_outcomes.specs.WrittenOutcome.{outcome_json};
 
 use crate::put_json::text_of;
 use contract::{Contract, Input, Outcome, State, Transaction};
@@ -72,7 +73,7 @@ pub fn write_contract(alloc: Global, contract: &Contract) -> Result<Vec<u8>, Wri
 /// the payments, the warnings and the state that JSON doesn't have is a text of its decimal digits.
 pub fn write_outcome(alloc: Global, outcome: &Outcome<&Contract>) -> Result<Vec<u8>, WriteFault>
     ensures written { AsideBy WriteFault.Memory (λ text. text.items) result (in_range (contract_fits (contract_tree outcome.now.place.now))
-        (compact_text (written.outcome_json outcome.now.warnings outcome.now.payments outcome.now.state (contract_tree outcome.now.place.now)))) }
+        (compact_text (outcome_json outcome.now.warnings outcome.now.payments outcome.now.state (contract_tree outcome.now.place.now)))) }
 {
     let text = text_of(alloc, outcome)?;
     Ok(text)

@@ -1,6 +1,6 @@
 -- What a transaction decides depends on the answers of the scripts that it and the outputs that it spends name.
-use Rattle.std.proofs.Common.{◌≡◌, ℕ, ◌+◌, Bool, true, false, not, ◌&&◌, List, [], ◌∷◌, ◌++◌, Option, Some, None, refl, ◌∙◌, ap, subst}
-use Rattle.std.specs.Prelude.{if◌then◌else◌, is_some}
+use Rattle.std.proofs.Common.{◌≡◌, ℕ, zero, suc, ◌+◌, Bool, true, false, not, ◌&&◌, List, [], ◌∷◌, ◌++◌, Option, Some, None, refl, ◌∙◌, ap, subst}
+use Rattle.std.specs.Prelude.{if◌then◌else◌, is_some, slice_get}
 use Rattle.std.specs.List.{list_all, AllByRecursion}
 use Rattle.std.specs.Option.{option_map}
 use Rattle.contract.specs.declared.input.Input.{Input}
@@ -18,9 +18,9 @@ use Rattle.eutxo.specs.Found.{script_at, is_known, all_known, with_outputs, if_k
 use Rattle.eutxo.specs.Judgement.{name_in, made_names, found_names, names_of}
 use Rattle.eutxo.specs.Laws.{AnswerAlike, Agree}
 use Rattle.eutxo.specs.Local.{spent_fault, whole_fault, tx_fault, local}
-use Rattle.eutxo_types.specs.Parts.{inputs_of, contract_in}
+use Rattle.eutxo_types.specs.Parts.{inputs_of, script_in, contract_in, instance_of, instance_in, contract_at}
 use Rattle.eutxo.specs.Faults.{first_of, or_else, first_index}
-use Rattle.eutxo.specs.Rules.{or_later, stepped_contract, step_asked, after_answer, script_fault, step_fault, starts_wrong, starts_wrong_at, not_signed, two_contracts, wrong_redeemer, role_missing, not_preserved}
+use Rattle.eutxo.specs.Rules.{Step, step_in, steps_of, step_asked, after_answer, script_fault, step_fault, starts_wrong, starts_wrong_at, not_signed, two_contracts, wrong_redeemer, role_missing, not_preserved}
 
 pub all_append : {A : Type 0} (P : A → Type 0) (xs ys : List A) → AllByRecursion P (xs ++ ys) → AllByRecursion P xs × AllByRecursion P ys
 all_append P [] ys h = (tt, h)
@@ -50,7 +50,7 @@ module _ {V : Type 0} (j : Judges V) (named other : List ℕ → Option V) where
   Alike id = AnswerAlike j (named id) (other id)
 
   abbrev AlikeIn : Lock → Type 0
-  AlikeIn l = AllByRecursion Alike (name_in (contract_in l))
+  AlikeIn l = AllByRecursion Alike (name_in (script_in l))
 
   abbrev AlikeMade : List Output → Type 0
   AlikeMade [] = Unit {0}
@@ -67,12 +67,12 @@ module _ {V : Type 0} (j : Judges V) (named other : List ℕ → Option V) where
 
   made_alike : (os : List Output) → AllByRecursion Alike (made_names os) → AlikeMade os
   made_alike [] h = tt
-  made_alike (o ∷ os) h = let parts = all_append Alike (name_in (contract_in o.lock)) (made_names os) h in (parts.0, made_alike os parts.1)
+  made_alike (o ∷ os) h = let parts = all_append Alike (name_in (script_in o.lock)) (made_names os) h in (parts.0, made_alike os parts.1)
 
   found_alike : (os : List (Option Output)) → AllByRecursion Alike (found_names os) → AlikeFound os
   found_alike [] h = tt
   found_alike (None ∷ os) h = found_alike os h
-  found_alike (Some o ∷ os) h = let parts = all_append Alike (name_in (contract_in o.lock)) (found_names os) h in (parts.0, found_alike os parts.1)
+  found_alike (Some o ∷ os) h = let parts = all_append Alike (name_in (script_in o.lock)) (found_names os) h in (parts.0, found_alike os parts.1)
 
   spent_alike : (xs : List Spend) (os : List (Option Output)) → AlikeFound os → (ys : List (Spend × Output)) → with_outputs xs os ≡ Some ys → AlikeSpent ys
   spent_alike [] os h [] e = tt
@@ -98,35 +98,41 @@ module _ {V : Type 0} (j : Judges V) (named other : List ℕ → Option V) where
   all_spent [] h = refl
   all_spent (y ∷ ys) h = ap (λ b. b && list_all (λ x. is_known named x.1.lock) ys) (same_known y.1.lock h.0) ∙ ap (λ b. is_known other y.1.lock && b) (all_spent ys h.1)
 
-  same_start : (held : Amounts) (l : Lock) → AlikeIn l → starts_wrong j named held l ≡ starts_wrong j other held l
+  same_start : (held : Amounts) (l : Lock) → AlikeIn l → starts_wrong j named held (option_map instance_of (contract_in l)) ≡ starts_wrong j other held (option_map instance_of (contract_in l))
   same_start held (Key a) h = refl
   same_start held (Payout c r) h = refl
   same_start held (Contract script d) h = start_alike j d held (named script) (other script) h.0
 
-  same_places : (k : ℕ) (os : List Output) → AlikeMade os → first_index (λ i (o : Output). starts_wrong j named o.amount o.lock) k os ≡ first_index (λ i (o : Output). starts_wrong j other o.amount o.lock) k os
-  same_places k [] h = refl
-  same_places k (o ∷ os) h =
-      ap (λ b. if b then Some k else first_index (λ i (o : Output). starts_wrong j named o.amount o.lock) (k + 1) os) (same_start o.amount o.lock h.0)
-      ∙ ap (λ r. if starts_wrong j other o.amount o.lock then Some k else r) (same_places (k + 1) os h.1)
+  same_at : (os : List Output) → AlikeMade os → (i : ℕ) (held : Amounts) → starts_wrong j named held (instance_in (slice_get os i)) ≡ starts_wrong j other held (instance_in (slice_get os i))
+  same_at [] h i held = refl
+  same_at (o ∷ os) h zero held = same_start held o.lock h.0
+  same_at (o ∷ os) h (suc i) held = same_at os h.1 i held
 
-  stepped_if : (l : Lock) (i : List Input) (later : Option (List ℕ × Datum × List Input)) (s : List ℕ × Datum × List Input) → AlikeIn l → or_later l i later ≡ Some s → (later ≡ Some s → Alike s.0) → Alike s.0
-  stepped_if (Key a) i later s h e go = go e
-  stepped_if (Payout c r) i later s h e go = go e
-  stepped_if (Contract script d) i later s h e go =
-      let q : (let z : List ℕ × Datum × List Input = (script, d, i) in z) ≡ s = cc in
-      subst (λ (z : List ℕ × Datum × List Input). Alike z.0) q h.0
+  same_places : (tx : Tx) → AlikeMade tx.outputs → (k : ℕ) (os : List Output) →
+      first_index (λ i (o : Output). starts_wrong j named o.amount (contract_at tx i)) k os ≡ first_index (λ i (o : Output). starts_wrong j other o.amount (contract_at tx i)) k os
+  same_places tx m k [] = refl
+  same_places tx m k (o ∷ os) =
+      ap (λ b. if b then Some k else first_index (λ i (o : Output). starts_wrong j named o.amount (contract_at tx i)) (k + 1) os) (same_at tx.outputs m k o.amount)
+      ∙ ap (λ r. if starts_wrong j other o.amount (contract_at tx k) then Some k else r) (same_places tx m (k + 1) os)
 
-  stepped_alike : (ys : List (Spend × Output)) (s : List ℕ × Datum × List Input) → AlikeSpent ys → stepped_contract ys ≡ Some s → Alike s.0
-  stepped_alike [] s h e = cc
-  stepped_alike (y ∷ ys) s h e = stepped_if y.1.lock (inputs_of y.0.redeemer) (stepped_contract ys) s h.0 e (stepped_alike ys s h.1)
+  stepped_if : (l : Lock) (i : List Input) (later : List Step) (s : Step) (ss : List Step) → AlikeIn l → step_in (contract_in l) i ++ later ≡ s ∷ ss → (later ≡ s ∷ ss → Alike s.script) → Alike s.script
+  stepped_if (Key a) i later s ss h e go = go e
+  stepped_if (Payout c r) i later s ss h e go = go e
+  stepped_if (Contract script d) i later s ss h e go =
+      let q : (let z : Step = record { script = script; datum = d; inputs = i } in z) ≡ s = cc in
+      subst (λ (z : Step). Alike z.script) q h.0
 
-  same_step : (tx : Tx) (ys : List (Spend × Output)) → AlikeMade tx.outputs → AlikeSpent ys → (z : Option (List ℕ × Datum × List Input)) → stepped_contract ys ≡ z → step_fault j named tx ys z ≡ step_fault j other tx ys z
-  same_step tx ys m s None e = ap (option_map WrongStart) (same_places 0 tx.outputs m)
-  same_step tx ys m s (Some z) e = step_alike j (step_asked tx ys z) (named z.0) (other z.0) (stepped_alike ys z s e)
+  first_alike : (ys : List (Spend × Output)) (s : Step) (ss : List Step) → AlikeSpent ys → steps_of ys ≡ s ∷ ss → Alike s.script
+  first_alike [] s ss h e = cc
+  first_alike (y ∷ ys) s ss h e = stepped_if y.1.lock (inputs_of y.0.redeemer) (steps_of ys) s ss h.0 e (first_alike ys s ss h.1)
+
+  same_step : (tx : Tx) (ys : List (Spend × Output)) → AlikeMade tx.outputs → AlikeSpent ys → (zs : List Step) → steps_of ys ≡ zs → step_fault j named tx ys zs ≡ step_fault j other tx ys zs
+  same_step tx ys m s [] e = ap (option_map WrongStart) (same_places tx m 0 tx.outputs)
+  same_step tx ys m s (z ∷ zs) e = step_alike j (step_asked tx ys z) (named z.script) (other z.script) (first_alike ys z zs s e)
 
   same_spent : (tx : Tx) (ys : List (Spend × Output)) → AlikeMade tx.outputs → AlikeSpent ys → spent_fault j named tx ys ≡ spent_fault j other tx ys
   same_spent tx ys m s =
-      ap (λ f. first_of (not_signed tx.signers ys ∷ two_contracts ys ∷ wrong_redeemer ys ∷ role_missing j ys ∷ f ∷ not_preserved ys tx.outputs ∷ [])) (same_step tx ys m s (stepped_contract ys) refl)
+      ap (λ f. first_of (not_signed tx.signers ys ∷ two_contracts ys ∷ wrong_redeemer ys ∷ role_missing j ys ∷ f ∷ not_preserved ys tx.outputs ∷ [])) (same_step tx ys m s (steps_of ys) refl)
 
   same_whole : (tx : Tx) → AlikeMade tx.outputs → (o : Option (List (Spend × Output))) → ((ys : List (Spend × Output)) → o ≡ Some ys → AlikeSpent ys) →
       whole_fault j named tx (if_known named tx.outputs o) ≡ whole_fault j other tx (if_known other tx.outputs o)

@@ -23,6 +23,7 @@ fn verdict_in<'a, V: Validator>(
     requires { IsOf V.eq tx.now found.now checked.now }
     ensures { result.now ≡ verdict_of (local V.judges tx.now found.now) }
 {
+    // touch: equal resolutions decide alike
     equal_resolutions_decide_alike::<V>();
     checked.verdict()
 }

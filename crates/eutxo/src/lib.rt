@@ -33,7 +33,7 @@ pub use laws::{
     sums_are_preserved, worked_judgements,
 };
 pub use local::{local_fault, spent_fault};
-pub use resolved::Resolved;
+pub use resolved::{Resolved, copy_option};
 pub use scripts::Scripts;
 pub use shared::Shared;
 pub use spent::Spent;

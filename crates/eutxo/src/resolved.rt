@@ -20,7 +20,7 @@ pub struct Resolved<V> {
     pub scripts: Scripts<V>,
 }
 
-// The drop is written, not derived: so it is proved here once, and not in each crate that drops a resolution.
+// Dropped once: the drop is written, not derived, so that no crate above proves it again.
 impl<V: Drop> Drop for Resolved<V> {
     fn drop(self) {
         let Resolved {
@@ -43,11 +43,12 @@ impl<V> Resolved<V> {
     }
 }
 
-fn copy_of(output: &Option<Output>) -> Result<Option<Output>, Memory>
-    ensures { IfOk result (λ copy. copy ≡ output.now) }
+/// A copy of what is there, if anything is. Answers `Memory` only where a growth was refused.
+pub fn copy_option<T: TryClone>(value: Option<&T>) -> Result<Option<T>, Memory>
+    ensures { IfOk result (λ copy. copy ≡ option_copied value.entry) }
 {
-    match output {
-        Some(output) => Ok(Some(output.try_clone()?)),
+    match value {
+        Some(value) => Ok(Some(value.try_clone()?)),
         None => Ok(None),
     }
 }
@@ -57,7 +58,7 @@ fn copies_of(alloc: Global, outputs: &[Option<Output>]) -> Result<Items<Option<O
 {
     let mut copies = Vec::with_capacity(alloc, outputs.len())?;
     for output in outputs {
-        copies.push(copy_of(output)?)?;
+        copies.push(copy_option(output.as_ref())?)?;
     }
     Ok(Items::from_vec(copies))
 }

@@ -54,9 +54,14 @@ struct Step<'a> {
 }
 
 impl<'a> Model for Step<'a> {
+    ghost use Rattle.std.specs.Coded.{codes};
+    ghost use Rattle.machine.specs.contracts.datum.Datum as datums;
+    ghost use Rattle.contract.specs.contracts.input.Input as given;
     ghost use Rattle.eutxo.specs.Rules as rules;
 
     ghost Value = { rules.Step };
+
+    ghost coded = { Prim.hlevel (codes, datums.the_row.coded, given.the_row.coded) };
 
     ghost view = { λ a. record { script = a.script.now; datum = a.datum.now; inputs = a.inputs.now } };
 }
@@ -92,7 +97,7 @@ fn starts_wrong<V: Validator>(
     amount: &Bundle,
     made: Option<Instance<'_>>,
 ) -> Result<bool, Memory>
-    ensures { IfOk result (λ b. b ≡ starts_wrong V.judges (script_at scripts.now) amount.now made) }
+    ensures { IfOk result (λ b. b ≡ starts_wrong V.judges (script_at scripts.now) amount.now made.entry) }
 {
     match made {
         Some(c) => match scripts.get(c.script) {
@@ -139,7 +144,7 @@ fn script_fault<V: Validator>(
     tx: &Tx,
     spent: &[Spent<'_>],
 ) -> Result<Option<TxFault>, Memory>
-    ensures { IfOk result (λ fault. fault ≡ script_fault V.judges (script_at scripts.now step.script) (step_asked tx.now spent.now step)) }
+    ensures { IfOk result (λ fault. fault ≡ script_fault V.judges (script_at scripts.now step.entry.script) (step_asked tx.now spent.now step.entry)) }
 {
     match scripts.get(step.script) {
         Some(object) => {

@@ -47,9 +47,7 @@ fn too_many(tx: &Tx) -> Option<TxFault>
 fn is_named(earlier: &[Spend], spend: &Spend) -> bool
     ensures { result ≡ list_any (λ y. same_ref y.reference spend.now.reference) earlier.now }
 {
-    earlier
-        .iter()
-        .any(|y| y.reference.is_same(spend.reference))
+    earlier.iter().any(|y| y.reference.is_same(spend.reference))
 }
 
 #[tactic(auto, using(crate::proofs::FaultsLemmas::found_place, crate::proofs::FaultsLemmas::next_place))]

@@ -1,5 +1,5 @@
 -- Spellings of inputs, outputs and transactions tell their values apart.
-use Rattle.std.proofs.Common.{◌≡◌, refl, sym, ◌∙◌, List}
+use Rattle.std.proofs.Common.{◌≡◌, refl, sym, ◌∙◌, ℕ, List}
 use Rattle.std.specs.FinMap.{entries, same_entries_map}
 use Rattle.bundle.specs.Bundles.{Amounts}
 use Rattle.contract_bytes.specs.Numbers.{text_bytes, TextFits}

@@ -5,13 +5,13 @@ use Rattle.contract_bytes.specs.Names.{holding_bytes}
 use Rattle.contract_bytes.specs.States.{money_bytes, chosen_bytes, bound_value_bytes}
 use Rattle.std.specs.Prelude.{pos, replicate}
 use Rattle.machine.specs.Spelling.{cont_bytes}
-use Rattle.eutxo_types.specs.Worked.{BeginsTheLedger, IsMade, NoneIsZero, ClaimIsOne, StepIsTwo, KeyOfX, PayoutOfB, StartOfCloses, NothingHeld, FiveAda, OneTransaction}
+use Rattle.eutxo_types.specs.Worked.{BeginsTheLedger, MadeByOneTransaction, NoneIsZero, ClaimIsOne, StepIsTwo, KeyOfX, PayoutOfB, StartOfCloses, NothingHeld, FiveAda, OneTransaction}
 
 pub begins_the_ledger : BeginsTheLedger
 unfolding length_bytes
 begins_the_ledger = refl
 
-pub is_made : IsMade
+pub is_made : MadeByOneTransaction
 unfolding length_bytes
 is_made = refl
 

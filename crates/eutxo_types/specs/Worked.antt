@@ -15,8 +15,8 @@ abbrev pub BeginsTheLedger : Type 0
 BeginsTheLedger = reference_bytes (references.Genesis 1) ≡ 0x00 ∷ 0 ∷ 0 ∷ 0 ∷ 0 ∷ 0 ∷ 0 ∷ 0 ∷ 1 ∷ []
 
 -- the first output of the transaction whose id is all ff
-abbrev pub IsMade : Type 0
-IsMade = reference_bytes (references.Made (replicate 32 0xff) 0) ≡ 0x01 ∷ replicate 32 0xff ++ replicate 8 0
+abbrev pub MadeByOneTransaction : Type 0
+MadeByOneTransaction = reference_bytes (references.Made (replicate 32 0xff) 0) ≡ 0x01 ∷ replicate 32 0xff ++ replicate 8 0
 
 abbrev pub NoneIsZero : Type 0
 NoneIsZero = redeemer_bytes redeemers.None ≡ 0x00 ∷ []

@@ -2,7 +2,7 @@
 ghost use Rattle.contract_bytes.specs.Unambiguous.{ReadsOneWay, BeginsNoOther};
 ghost use Rattle.eutxo_types.specs.Spelling.{output_bytes, spend_bytes, tx_bytes};
 ghost use Rattle.eutxo_types.specs.Fitting.{OutputFits, SpendFits, TxFits};
-ghost use Rattle.eutxo_types.specs.Worked.{BeginsTheLedger, IsMade, NoneIsZero, ClaimIsOne, StepIsTwo, KeyOfX, PayoutOfB, StartOfCloses, NothingHeld, FiveAda, OneTransaction};
+ghost use Rattle.eutxo_types.specs.Worked.{BeginsTheLedger, MadeByOneTransaction, NoneIsZero, ClaimIsOne, StepIsTwo, KeyOfX, PayoutOfB, StartOfCloses, NothingHeld, FiveAda, OneTransaction};
 
 /// Among transactions whose times fit 8 bytes, whose numbers fit 16, whose lengths and places are below 2^64 and
 /// whose ids are of 32 bytes, what begins with a spelling begins with that of one transaction alone, and what
@@ -19,7 +19,7 @@ pub fn no_transaction_begins_another()
 /// Worked spellings, each computed on the definitions.
 pub fn worked_transactions()
     ensures genesis { BeginsTheLedger }
-    ensures made { IsMade }
+    ensures made { MadeByOneTransaction }
     ensures none { NoneIsZero }
     ensures claim { ClaimIsOne }
     ensures step { StepIsTwo }

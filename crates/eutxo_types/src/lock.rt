@@ -26,9 +26,13 @@ pub struct ContractLock<'a> {
 }
 
 impl<'a> Model for ContractLock<'a> {
+    ghost use Rattle.std.specs.Coded.{codes};
+    ghost use Rattle.machine.specs.contracts.datum.Datum as datums;
     ghost use Rattle.eutxo_types.specs.Parts as parts;
 
     ghost Value = { parts.ContractLock };
+
+    ghost coded = { Prim.hlevel (codes, datums.the_row.coded) };
 
     ghost view = { λ a. record { script = a.script.now; datum = a.datum.now } };
 }

@@ -27,14 +27,18 @@ pub struct Instance<'a> {
 }
 
 impl<'a> Model for Instance<'a> {
+    ghost use Rattle.std.specs.Coded.{codes};
+    ghost use Rattle.machine.specs.contracts.datum.Datum as datums;
     ghost use Rattle.eutxo_types.specs.Parts as parts;
 
     ghost Value = { parts.Instance };
 
+    ghost coded = { Prim.hlevel (codes, datums.the_row.coded) };
+
     ghost view = { λ a. record { script = a.script.now; datum = a.datum.now } };
 }
 
-// The drop is written, not derived: so it is proved here once, and not in each crate that drops a transaction.
+// Dropped once: the drop is written, not derived, so that no crate above proves it again.
 impl Drop for Tx {
     fn drop(self) {
         let Tx {
@@ -51,10 +55,7 @@ impl Tx {
     pub fn steps(&self) -> bool
         ensures { result ≡ steps self.now }
     {
-        self.inputs
-            .as_slice()
-            .iter()
-            .any(|x| x.redeemer.is_step())
+        self.inputs.as_slice().iter().any(|x| x.redeemer.is_step())
     }
 
     /// The contract that it makes in the output at a place, counted from 0: its script, and the datum that it brings for it. None

@@ -141,6 +141,7 @@ impl<J: Session> Hub<J> {
         check_all_seats(&journal, &seats);
         let mut all = merged(rest, seats);
         calls.audit(&mut all);
+        // touch: the history is legal
         let _ = chain.history();
         closed_of(chain, journal)
     }

@@ -64,8 +64,7 @@ pub struct Entry {
     pub reply: Reply,
 }
 
-// The drops of calls, replies and entries are written, not derived: so each is proved here once, and not in each crate
-// that drops one.
+// Dropped once: the drops of calls, replies and entries are written, not derived, so that no crate above proves them again.
 impl Drop for Call {
     fn drop(self) {
         match self {

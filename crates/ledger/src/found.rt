@@ -1,26 +1,17 @@
 //! What is found of what a transaction names.
-ghost use Rattle.std.specs.Prelude.{◌≡◌, ◌++◌, IfOk, OnOk, map, option_copied};
-ghost use Rattle.eutxo.specs.Judgement.{with_script, made_names, found_names, scripts_found, found};
-ghost use Rattle.eutxo_types.specs.Parts.{contract_in, contract_of};
-ghost use Rattle.ledger.specs.ResolveSupport.{with_named};
+ghost use Rattle.std.specs.Prelude.{◌≡◌, ◌++◌, IfOk, OnOk, map};
+ghost use Rattle.eutxo.specs.Judgement.{with_script, made_names, found_names, scripts_found, outputs_found, found};
+ghost use Rattle.eutxo_types.specs.Parts.{script_in};
+ghost use Rattle.ledger.specs.ResolveSupport.{script_of, with_named};
 
 use crate::ledger::Ledger;
 use collections::{Items, Memory, TryClone};
-use eutxo::{Resolved, Scripts};
-use eutxo_types::{Lock, Output, Spend, Tx};
+use eutxo::{Resolved, Scripts, copy_option};
+use eutxo_types::{Output, Spend, Tx};
 use std::alloc::Global;
 
-fn copy_of(output: Option<&Output>) -> Result<Option<Output>, Memory>
-    ensures { IfOk result (λ copy. copy ≡ option_copied output.entry) }
-{
-    match output {
-        Some(output) => Ok(Some(output.try_clone()?)),
-        None => Ok(None),
-    }
-}
-
 // For each input the unspent output that it names, or `None`.
-fn outputs_found<V, L: Ledger<V>>(
+pub(crate) fn outputs_found<V, L: Ledger<V>>(
     alloc: Global,
     ledger: &L,
     inputs: &[Spend],
@@ -29,7 +20,7 @@ fn outputs_found<V, L: Ledger<V>>(
 {
     let mut outputs = Items::new(alloc);
     for x in inputs {
-        outputs.push(copy_of(ledger.unspent_at(&x.reference))?)?;
+        outputs.push(copy_option(ledger.unspent_at(&x.reference))?)?;
     }
     Ok(outputs)
 }
@@ -53,12 +44,11 @@ fn put_named<V: Drop, L: Ledger<V>>(
     output: &Output,
     scripts: &mut Scripts<V>,
 ) -> Result<(), Memory>
-    ensures { OnOk result (scripts.new ≡ with_named (L.moment ledger.now).published (contract_in output.now.lock) scripts.old) }
+    ensures { OnOk result (scripts.new ≡ with_named (L.moment ledger.now).published (script_in output.now.lock) scripts.old) }
 {
-    match &output.lock {
-        Lock::Contract { script, .. } => put_script(ledger, script, scripts),
-        Lock::Key(_) => Ok(()),
-        Lock::Payout { .. } => Ok(()),
+    match output.lock.contract() {
+        Some(lock) => put_script(ledger, lock.script, scripts),
+        None => Ok(()),
     }
 }
 
@@ -67,7 +57,7 @@ fn put_found<V: Drop, L: Ledger<V>>(
     output: &Option<Output>,
     scripts: &mut Scripts<V>,
 ) -> Result<(), Memory>
-    ensures { OnOk result (scripts.new ≡ with_named (L.moment ledger.now).published (contract_of output.now) scripts.old) }
+    ensures { OnOk result (scripts.new ≡ with_named (L.moment ledger.now).published (script_of output.now) scripts.old) }
 {
     match output {
         Some(output) => put_named(ledger, output, scripts),
@@ -106,6 +96,26 @@ fn put_made<V: Drop, L: Ledger<V>>(
     Ok(())
 }
 
+// What is found of what a transaction names, where these outputs were found of its inputs.
+pub(crate) fn with_scripts<V: Drop, L: Ledger<V>>(
+    alloc: Global,
+    ledger: &L,
+    tx: &Tx,
+    outputs: Items<Option<Output>>,
+) -> Result<Resolved<V>, Memory>
+    requires { outputs ≡ outputs_found (L.moment ledger.now) tx.now }
+    ensures { IfOk result (λ resolved. resolved ≡ found (L.moment ledger.now) tx.now) }
+{
+    let mut scripts = scripts_found(alloc, ledger, outputs.as_slice())?;
+    put_made(
+        ledger,
+        tx.outputs.as_slice(),
+        outputs.as_slice(),
+        &mut scripts,
+    )?;
+    Ok(Resolved { outputs, scripts })
+}
+
 /// What is found of what a transaction names: for each input the unspent output, where there is one, and of
 /// the scripts that the transaction's outputs and those unspent outputs name the ones that are published.
 /// Answers `Memory` only where a growth was refused.
@@ -117,12 +127,5 @@ pub fn resolve<V: Drop, L: Ledger<V>>(
     ensures { IfOk result (λ resolved. resolved ≡ found (L.moment ledger.now) tx.now) }
 {
     let outputs = outputs_found(alloc, ledger, tx.inputs.as_slice())?;
-    let mut scripts = scripts_found(alloc, ledger, outputs.as_slice())?;
-    put_made(
-        ledger,
-        tx.outputs.as_slice(),
-        outputs.as_slice(),
-        &mut scripts,
-    )?;
-    Ok(Resolved { outputs, scripts })
+    with_scripts(alloc, ledger, tx, outputs)
 }

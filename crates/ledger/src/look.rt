@@ -1,9 +1,9 @@
 //! What is shown of a ledger.
-ghost use Rattle.std.specs.Prelude.{◌≡◌, ◌↔◌, IsTrue, IfOk};
+ghost use Rattle.std.specs.Prelude.{◌≡◌, ◌↔◌, IsTrue};
 
 use bundle::{Bundle, Holds};
 use collections::{Items, Memory, Same, TryClone};
-use eutxo::Shared;
+use eutxo::{Shared, copy_option};
 use eutxo_types::{Output, OutputRef};
 use roles::Published;
 
@@ -36,7 +36,7 @@ pub struct Look {
     pub payouts: Items<Unspent>,
 }
 
-// The drop is written, not derived: so it is proved here once, and not in each crate that drops a look.
+// Dropped once: the drop is written, not derived, so that no crate above proves it again.
 impl Drop for Look {
     fn drop(self) {
         let Look {
@@ -92,20 +92,11 @@ impl Same for ThreadOutput {
     }
 }
 
-fn copy_of(thread: &Option<ThreadOutput>) -> Result<Option<ThreadOutput>, Memory>
-    ensures { IfOk result (λ copy. copy ≡ thread.now) }
-{
-    match thread {
-        Some(thread) => Ok(Some(thread.try_clone()?)),
-        None => Ok(None),
-    }
-}
-
 impl TryClone for Look {
     fn try_clone(&self) -> Result<Look, Memory> {
         let keys = self.keys.try_clone()?;
         let payouts = self.payouts.try_clone()?;
-        let thread = copy_of(&self.thread)?;
+        let thread = copy_option(self.thread.as_ref())?;
         Ok(Look {
             tick: self.tick,
             thread,

@@ -1,30 +1,32 @@
 //! The judgement.
-ghost use Rattle.std.specs.Prelude.{◌≡◌, ◌∷◌, Option, IfOk, position, is_none};
+ghost use Rattle.std.specs.Prelude.{◌≡◌, ◌∷◌, Option, None, IfOk, position, is_none};
 ghost use Rattle.eutxo_types.specs.declared.fault.TxFault.{TxFault as ATxFault};
+ghost use Rattle.eutxo_types.specs.declared.fault.TxFault.TheVariants as TxFault;
 ghost use Rattle.eutxo_types.specs.Ids.{id_of};
 ghost use Rattle.eutxo.specs.Found.{is_known};
-ghost use Rattle.eutxo.specs.Local.{verdict_of};
-ghost use Rattle.eutxo.specs.Judgement.{not_unspent, outside_interval, is_unknown, unknown_script, judge};
+ghost use Rattle.eutxo.specs.Local.{verdict_of, tx_fault, local};
+ghost use Rattle.eutxo.specs.Faults.{fault_at};
+ghost use Rattle.eutxo.specs.Judgement.{outside_interval, is_unknown, unknown_script, outputs_found, judge};
+ghost use Rattle.ledger.specs.ResolveSupport.{moment_fault};
 
-use crate::found::resolve;
+use crate::found::{outputs_found, with_scripts};
 use crate::ledger::Ledger;
 use collections::Memory;
-use eutxo::{Checked, Validator, recheck, tx_fault};
-use eutxo_types::{Lock, Output, Spend, Tx, TxFault, Verdict};
+use eutxo::{Checked, Resolved, Validator, recheck, spent_fault, tx_fault};
+use eutxo_types::{Lock, Output, Tx, TxFault, Verdict};
 use std::alloc::Global;
 
-fn missing_index<V, L: Ledger<V>>(ledger: &L, inputs: &[Spend]) -> Option<usize>
-    ensures { result ≡ position (λ x. is_none ((L.moment ledger.now).unspent x.reference)) inputs.now }
+fn missing_index(outputs: &[Option<Output>]) -> Option<usize>
+    ensures { result ≡ position is_none outputs.now }
 {
-    inputs
-        .iter()
-        .position(|x| ledger.unspent_at(&x.reference).is_none())
+    outputs.iter().position(|o| o.is_none())
 }
 
-fn not_unspent<V, L: Ledger<V>>(ledger: &L, tx: &Tx) -> Option<TxFault>
-    ensures { result ≡ not_unspent (L.moment ledger.now) tx.now }
+// Rule 4, read off what was found of the inputs.
+fn not_unspent(outputs: &[Option<Output>]) -> Option<TxFault>
+    ensures { result ≡ fault_at TxFault.NotUnspent is_none outputs.now }
 {
-    match missing_index(ledger, tx.inputs.as_slice()) {
+    match missing_index(outputs) {
         Some(i) => Some(TxFault::NotUnspent(i as u64)),
         None => None,
     }
@@ -66,6 +68,30 @@ fn unknown_script<V, L: Ledger<V>>(ledger: &L, tx: &Tx) -> Option<TxFault>
     }
 }
 
+// The fault of the lowest of rules 4 to 7 that refuses, where these outputs were found of the inputs.
+#[tactic(auto, using(crate::proofs::MomentLemmas::unspent_so))]
+fn moment_fault<V, L: Ledger<V>>(
+    ledger: &L,
+    tx: &Tx,
+    id: &[u8; 32],
+    outputs: &[Option<Output>],
+) -> Option<TxFault>
+    requires id { id.now ≡ id_of tx.now }
+    requires found { outputs.now ≡ outputs_found (L.moment ledger.now) tx.now }
+    ensures { result ≡ moment_fault (L.moment ledger.now) tx.now }
+{
+    if let Some(fault) = not_unspent(outputs) {
+        return Some(fault);
+    }
+    if ledger.is_used(id) {
+        return Some(TxFault::IdInUse);
+    }
+    if let Some(fault) = outside_interval(ledger, tx) {
+        return Some(fault);
+    }
+    unknown_script(ledger, tx)
+}
+
 // The fault with which a verdict refuses.
 fn fault_in(verdict: Verdict) -> Option<TxFault>
     ensures { (fault : Option ATxFault) → verdict ≡ verdict_of fault → result ≡ fault }
@@ -73,6 +99,23 @@ fn fault_in(verdict: Verdict) -> Option<TxFault>
     match verdict {
         Verdict::Accepted => None,
         Verdict::Refused(fault) => Some(fault),
+    }
+}
+
+// The fault of rules 8 to 18 on what was found, where rules 1 to 3 don't refuse: by the checks at hand, where one is of
+// it, else by these rules alone.
+fn rest_fault<V: Validator>(
+    alloc: Global,
+    tx: &Tx,
+    found: &Resolved<V>,
+    cache: &[Checked<V>],
+) -> Result<Option<TxFault>, Memory>
+    requires { tx_fault tx.now ≡ None }
+    ensures { IfOk result (λ fault. fault ≡ local V.judges tx.now found.now) }
+{
+    match cache.iter().position(|c| c.is_of(tx, found)) {
+        Some(i) => Ok(fault_in(recheck(alloc, tx, found, &cache[i..])?)),
+        None => spent_fault(alloc, tx, found),
     }
 }
 
@@ -93,18 +136,10 @@ pub fn judge<V: Validator + Drop, L: Ledger<V>>(
     if let Some(fault) = tx_fault(tx) {
         return Ok(Some(fault));
     }
-    if let Some(fault) = not_unspent(ledger, tx) {
+    let outputs = outputs_found(alloc, ledger, tx.inputs.as_slice())?;
+    if let Some(fault) = moment_fault(ledger, tx, id, outputs.as_slice()) {
         return Ok(Some(fault));
     }
-    if ledger.is_used(id) {
-        return Ok(Some(TxFault::IdInUse));
-    }
-    if let Some(fault) = outside_interval(ledger, tx) {
-        return Ok(Some(fault));
-    }
-    if let Some(fault) = unknown_script(ledger, tx) {
-        return Ok(Some(fault));
-    }
-    let found = resolve(alloc, ledger, tx)?;
-    Ok(fault_in(recheck(alloc, tx, &found, cache)?))
+    let found = with_scripts(alloc, ledger, tx, outputs)?;
+    rest_fault(alloc, tx, &found, cache)
 }

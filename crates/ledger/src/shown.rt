@@ -9,7 +9,7 @@ use crate::found::resolve;
 use crate::ledger::Ledger;
 use crate::look::{Look, ThreadOutput, Unspent};
 use collections::Memory;
-use eutxo::{Resolved, Shared, is_same};
+use eutxo::{Resolved, Shared};
 use eutxo_types::{Output, OutputRef, Tx};
 use roles::Published;
 use std::alloc::Global;
@@ -18,7 +18,7 @@ fn output_among<'a>(outputs: &'a [Unspent], reference: &OutputRef) -> Option<&'a
     ensures { option_copied result ≡ output_among outputs.now reference.now }
 {
     for x in outputs {
-        if is_same(x.reference, *reference) {
+        if x.reference.is_same(*reference) {
             return Some(&x.output);
         }
     }
@@ -30,7 +30,7 @@ fn thread_output<'a>(thread: &'a Option<ThreadOutput>, reference: &OutputRef) ->
 {
     match thread {
         Some(x) => {
-            if is_same(x.reference, *reference) {
+            if x.reference.is_same(*reference) {
                 Some(&x.output)
             } else {
                 None

@@ -24,7 +24,7 @@ const MOST_PENDING: usize = 1024;
 
 // ---- transactions
 
-// Accepts a transaction where no fault of it was found. Answers the fault.
+// Accepts a transaction where no fault of it was found. Answers the fault, carried generically.
 fn accept_unless<'a, F: Drop>(
     world: &mut World<'a>,
     tx: &'a Tx,
@@ -171,7 +171,7 @@ fn publish_reply(world: &World<'_>, object: &Published) -> (Reply, bool)
     }
 }
 
-// Shares an object that is new, beside the reply.
+// Shares an object that is new, beside the reply: both carried generically.
 fn shared<R: Drop, T: Drop>(
     alloc: Global,
     reply: R,

@@ -19,6 +19,7 @@ use ledger_views::steps_of;
 use roles::Published;
 use std::alloc::Global;
 
+// instance below: of a world
 /// What is found of what a transaction names, by what stands: the unspent outputs of its inputs, and of the scripts
 /// that its outputs and those name the ones that are published. Answers `Memory` only where a growth was refused.
 pub fn resolution(alloc: Global, world: &World<'_>, tx: &Tx) -> Result<Resolved<Published>, Memory>
@@ -62,6 +63,7 @@ pub fn front(
     jobs_of(alloc, world, &pending[..first_of(pending, count)])
 }
 
+// instance below: of a world
 /// The records of the thread that starts at an output, in order: the thread's one run, with as many records as the
 /// thread has transactions. Where no thread starts there are none. Answers `Memory` only where a growth was
 /// refused.

@@ -1,9 +1,8 @@
 -- What every accepted transaction of a sound past meets.
 use Rattle.std.proofs.Common.{◌≡◌, ℕ, zero, suc, ◌+◌, ◌<◌, ◌≤◌, Bool, true, false, not, cond, List, [], ◌∷◌, ◌++◌, refl, sym, ◌∙◌, ap, subst, arith, Option, Some, None, take}
-use Rattle.std.specs.Prelude.{if◌then◌else◌, nat_lt, count_by}
+use Rattle.std.specs.Prelude.{if◌then◌else◌, nat_lt, is_some, count_by}
 use Rattle.std.specs.List.{slice_get, list_any, list_all}
 use Rattle.std.specs.Map.{lookup}
-use Rattle.machine.specs.declared.datum.Datum.{Datum}
 use Rattle.eutxo_types.specs.declared.fault.TxFault.TheVariants.{TwoContracts, WrongRedeemer}
 use Rattle.eutxo_types.specs.declared.lock.Lock.{Lock}
 use Rattle.eutxo_types.specs.declared.lock.Lock.TheVariants.{Key, Payout, Contract}
@@ -17,15 +16,17 @@ use Rattle.eutxo.specs.Laws.{FoundIsEnough}
 use Rattle.eutxo.specs.Asked.{Judges}
 use Rattle.eutxo.specs.Found.{is_known, all_known, if_known}
 use Rattle.eutxo.specs.Local.{spent_rules, spent_fault, whole_fault}
-use Rattle.eutxo.specs.Rules.{stepped_contract, step_fault, not_preserved}
-use Rattle.eutxo_types.specs.Parts.{is_contract, same_bytes, same_ref, is_key, is_step, steps}
+use Rattle.eutxo.specs.Rules.{opens, Step, steps_of, step_asked, after_answer, script_fault, step_fault, not_preserved}
+use Rattle.eutxo_types.specs.Parts.{is_contract, script_in, ContractLock, contract_in, inputs_of, same_bytes, same_ref, is_key, is_step, steps}
 use Rattle.ledger_laws.specs.Past.{Past, before, with_references, created_by, created_by_all, created, is_input_of, is_spent, unspent_at, has_id}
 use Rattle.eutxo.specs.Judgement.{is_unknown}
 use Rattle.ledger_laws.specs.Sound.{AreKeys, IsSound}
-use Rattle.ledger_laws.proofs.PlainLaws.{EachFalse, both, not_both, not_false, few, same_some, is_there, each_at, any_taken, any_take, take_some, taken_at}
+use Rattle.ledger_laws.specs.Laws.{IsContractInput}
+use Rattle.ledger_laws.proofs.PlainLaws.{EachFalse, both, not_both, not_false, few, same_some, is_there, each_at, any_at, any_there, only_one, any_taken, any_take, take_some, taken_at}
 use Rattle.ledger_laws.proofs.ReferenceLaws.{itself, unspent_so, unspent_created, output_nth, none_created, spender}
 use Rattle.ledger_laws.proofs.JudgedLemmas.{found, each_none, nowhere, unless, Passes, passes, made_known}
-use Rattle.ledger_laws.proofs.PairedLemmas.{Paired, paired, spent_known, found_at, holds, misfits, stepped_some, Stepping, stepping_found, named_steps, nth_steps, one_contract}
+use Rattle.ledger_laws.proofs.PartLaws.{script_so}
+use Rattle.ledger_laws.proofs.PairedLemmas.{Paired, paired, spent_known, pair_at, NamedAt, named_at, holds, misfits, step_opens, contract_steps, step_with, step_read}
 
 key_opens : (l : Lock) → is_key l ≡ true → is_contract l ≡ true → ⊥
 key_opens (Key a) h e = cc
@@ -96,7 +97,7 @@ module _ {V : Type 0} (j : Judges V) (enough : FoundIsEnough j) (named : List �
     pub there : found (unspent_at (before past n)) tx ≡ Some ys
     pub single : count_by holds ys ≤ 1
     pub kinds : EachFalse misfits ys
-    pub step : step_fault j named tx ys (stepped_contract ys) ≡ None
+    pub step : step_fault j named tx ys (steps_of ys) ≡ None
     pub sums : not_preserved ys tx.outputs ≡ None
 
   from_rules : (n : ℕ) (tx : Tx) (ys : List (Spend × Output)) → Paired (unspent_at (before past n)) tx.inputs ys → found (unspent_at (before past n)) tx ≡ Some ys → spent_fault j named tx ys ≡ None → Spent n tx
@@ -124,14 +125,19 @@ module _ {V : Type 0} (j : Judges V) (enough : FoundIsEnough j) (named : List �
       (subst (λ (b : Bool). whole_fault j named tx (if b then Some q.0 else None) ≡ None) known
       (subst (λ (o : Option (List (Spend × Output))). whole_fault j named tx (if_known named tx.outputs o) ≡ None) q.1 p.local))
 
+  known_script : (l : Lock) (script : List ℕ) → script_in l ≡ Some script → is_known named l ≡ true → (v : V) × (named script ≡ Some v)
+  known_script (Key a) script e h = cc
+  known_script (Payout c r) script e h = cc
+  known_script (Contract s d) script e h = is_there (named script) (subst (λ (id : List ℕ). is_some (named id) ≡ true) (same_some s script e) h)
+
   -- the script of what it finds was published
-  pub published : (n : ℕ) (r : OutputRef) (o : Output) (script : List ℕ) (d : Datum) → unspent_at (before past n) r ≡ Some o → o.lock ≡ Contract script d → (v : V) × (named script ≡ Some v)
-  published n r o script d f l = is_there (named script) (subst (λ (z : Lock). is_known named z ≡ true) l (find_known n r o f))
+  pub published : (n : ℕ) (r : OutputRef) (o : Output) (script : List ℕ) → unspent_at (before past n) r ≡ Some o → script_in o.lock ≡ Some script → (v : V) × (named script ≡ Some v)
+  published n r o script f l = known_script o.lock script l (find_known n r o f)
 
   -- and that of what it makes
-  pub made_published : (n : ℕ) (tx : Tx) → slice_get past.accepted n ≡ Some tx → (i : ℕ) (o : Output) (script : List ℕ) (d : Datum) → slice_get tx.outputs i ≡ Some o → o.lock ≡ Contract script d → (v : V) × (named script ≡ Some v)
-  made_published n tx at i o script d m l =
-      is_there (named script) (subst (λ (z : Lock). is_known named z ≡ true) l (not_false _ (each_at (is_unknown named) i tx.outputs o (passes_at n tx at).known m)))
+  pub made_published : (n : ℕ) (tx : Tx) → slice_get past.accepted n ≡ Some tx → (i : ℕ) (o : Output) (script : List ℕ) → slice_get tx.outputs i ≡ Some o →
+      script_in o.lock ≡ Some script → (v : V) × (named script ≡ Some v)
+  made_published n tx at i o script m l = known_script o.lock script l (not_false (is_known named o.lock) (each_at (is_unknown named) i tx.outputs o (passes_at n tx at).known m))
 
   -- ---- ids and references
 
@@ -153,37 +159,83 @@ module _ {V : Type 0} (j : Judges V) (enough : FoundIsEnough j) (named : List �
   pub made_there : (n : ℕ) (tx : Tx) → slice_get past.accepted n ≡ Some tx → (i : ℕ) (o : Output) → slice_get tx.outputs i ≡ Some o → lookup (same_ref (Made (id_of tx) i)) (created past) ≡ Some o
   made_there n tx at i o m = output_nth past n i tx o at (fresh_at n tx at) m
 
-  -- what it names it finds
-  pub finds : (n : ℕ) (tx : Tx) → slice_get past.accepted n ≡ Some tx → (r : OutputRef) (o : Output) → is_input_of r tx ≡ true → lookup (same_ref r) (created past) ≡ Some o → unspent_at (before past n) r ≡ Some o
-  finds n tx at r o named_r out =
-      let s = spent_at n tx at in
-      let f = found_at (unspent_at (before past n)) r tx.inputs s.ys s.pairs named_r in
-      f.1 ∙ ap Some (same_some f.0 o (sym (unspent_created past n r f.0 f.1) ∙ out))
-
   -- ---- the contract that it steps
 
-  pub names_contract : (n : ℕ) (tx : Tx) → slice_get past.accepted n ≡ Some tx → (r : OutputRef) (o : Output) → is_input_of r tx ≡ true → lookup (same_ref r) (created past) ≡ Some o → is_contract o.lock ≡ true → steps tx ≡ true
-  names_contract n tx at r o named_r out c =
-      let s = spent_at n tx at in
-      named_steps (unspent_at (before past n)) r o tx.inputs s.ys s.pairs s.kinds named_r (finds n tx at r o named_r out) c
+  -- what is spent at a place
+  beside : (n i : ℕ) (tx : Tx) (x : Spend) (o : Output) → (at : slice_get past.accepted n ≡ Some tx) → slice_get tx.inputs i ≡ Some x → unspent_at (before past n) x.reference ≡ Some o →
+      slice_get (spent_at n tx at).ys i ≡ Some (x, o)
+  beside n i tx x o at in_at there =
+      let p = pair_at (unspent_at (before past n)) i x tx.inputs (spent_at n tx at).ys (spent_at n tx at).pairs in_at in
+      p.1 ∙ ap (λ (u : Output). Some (let y : Spend × Output = (x, u) in y)) (same_some p.0 o (sym p.2 ∙ there))
 
-  pub step_at : (n i : ℕ) (tx : Tx) (x : Spend) (o : Output) → slice_get past.accepted n ≡ Some tx → slice_get tx.inputs i ≡ Some x → unspent_at (before past n) x.reference ≡ Some o → is_contract o.lock ≡ true → is_step x.redeemer ≡ true
-  step_at n i tx x o at in_at there c =
-      let s = spent_at n tx at in
-      nth_steps (unspent_at (before past n)) i x o tx.inputs s.ys s.pairs s.kinds in_at there c
+  -- its redeemer is of its kind
+  fits : (n i : ℕ) (tx : Tx) (x : Spend) (o : Output) → slice_get past.accepted n ≡ Some tx → slice_get tx.inputs i ≡ Some x → unspent_at (before past n) x.reference ≡ Some o →
+      opens x.redeemer o.lock ≡ true
+  fits n i tx x o at in_at there = not_false (opens x.redeemer o.lock) (each_at misfits i (spent_at n tx at).ys (x, o) (spent_at n tx at).kinds (beside n i tx x o at in_at there))
 
-  pub names_one : (n : ℕ) (tx : Tx) → slice_get past.accepted n ≡ Some tx → (r s : OutputRef) (o p : Output) → is_input_of r tx ≡ true → lookup (same_ref r) (created past) ≡ Some o → is_contract o.lock ≡ true →
-      is_input_of s tx ≡ true → lookup (same_ref s) (created past) ≡ Some p → is_contract p.lock ≡ true → r ≡ s
-  names_one n tx at r s o p named_r out c named_s there d =
-      let z = spent_at n tx at in
-      one_contract (unspent_at (before past n)) r s o p tx.inputs z.ys z.pairs z.single named_r (finds n tx at r o named_r out) c named_s (finds n tx at s p named_s there) d
+  finds : (n i : ℕ) (tx : Tx) (x : Spend) → slice_get past.accepted n ≡ Some tx → slice_get tx.inputs i ≡ Some x → (o : Output) × (unspent_at (before past n) x.reference ≡ Some o)
+  finds n i tx x at in_at = let s = spent_at n tx at in let p = pair_at (unspent_at (before past n)) i x tx.inputs s.ys s.pairs in_at in (p.0, p.2)
 
-  -- a transaction that steps names a contract
-  pub steps_one : (n : ℕ) (tx : Tx) → slice_get past.accepted n ≡ Some tx → steps tx ≡ true → (script : List ℕ) × (d : Datum) × Stepping (unspent_at (before past n)) tx.inputs script d
+  -- what it names is an input's, which finds it
+  named_there : (n : ℕ) (tx : Tx) → slice_get past.accepted n ≡ Some tx → (r : OutputRef) → is_input_of r tx ≡ true →
+      (m : NamedAt r tx.inputs) × (o : Output) × (unspent_at (before past n) m.input.reference ≡ Some o)
+  named_there n tx at r named_r = let m = named_at r tx.inputs named_r in let f = finds n m.index tx m.input at m.at in (m, f.0, f.1)
+
+  -- where that is a contract's it is a contract input
+  pub named_input : (n : ℕ) (tx : Tx) → slice_get past.accepted n ≡ Some tx → (r : OutputRef) (o : Output) → is_input_of r tx ≡ true → lookup (same_ref r) (created past) ≡ Some o →
+      is_contract o.lock ≡ true →
+      (m : NamedAt r tx.inputs) × IsContractInput past n m.index tx m.input o
+  named_input n tx at r o named_r out c =
+      let f = named_there n tx at r named_r in
+      let same : f.1 ≡ o = same_some f.1 o (sym (unspent_created past n f.0.input.reference f.1 f.2) ∙ ap (λ (q : OutputRef). lookup (same_ref q) (created past)) f.0.name ∙ out) in
+      (f.0, record { accepted = at; input = f.0.at; there = f.2 ∙ ap Some same; contract = c })
+
+  -- a contract input brings a step
+  pub steps_contract : (n i : ℕ) (tx : Tx) (x : Spend) (o : Output) → IsContractInput past n i tx x o → is_step x.redeemer ≡ true
+  steps_contract n i tx x o k = contract_steps x.redeemer o.lock k.contract (fits n i tx x o k.accepted k.input k.there)
+
+  -- and an input that brings a step is one
+  pub step_input : (n i : ℕ) (tx : Tx) (x : Spend) (o : Output) → slice_get past.accepted n ≡ Some tx → slice_get tx.inputs i ≡ Some x →
+      unspent_at (before past n) x.reference ≡ Some o → is_step x.redeemer ≡ true → IsContractInput past n i tx x o
+  step_input n i tx x o at in_at there h = record { accepted = at; input = in_at; there = there; contract = step_opens x.redeemer o.lock h (fits n i tx x o at in_at there) }
+
+  pub contract_stepped : (n i : ℕ) (tx : Tx) (x : Spend) → slice_get past.accepted n ≡ Some tx → slice_get tx.inputs i ≡ Some x → is_step x.redeemer ≡ true →
+      (o : Output) × IsContractInput past n i tx x o
+  contract_stepped n i tx x at in_at h = let f = finds n i tx x at in_at in (f.0, step_input n i tx x f.0 at in_at f.1 h)
+
+  -- a transaction with a contract input steps
+  pub input_steps : (n i : ℕ) (tx : Tx) (x : Spend) (o : Output) → IsContractInput past n i tx x o → steps tx ≡ true
+  input_steps n i tx x o k = any_at (λ (z : Spend). is_step z.redeemer) tx.inputs i x k.input (steps_contract n i tx x o k)
+
+  -- and one that steps has a contract input
+  pub steps_one : (n : ℕ) (tx : Tx) → slice_get past.accepted n ≡ Some tx → steps tx ≡ true → (i : ℕ) × (x : Spend) × (o : Output) × IsContractInput past n i tx x o
   steps_one n tx at h =
+      let a = any_there (λ (z : Spend). is_step z.redeemer) tx.inputs h in
+      let c = contract_stepped n a.0 tx a.1 at a.2 a.3 in
+      (a.0, a.1, c.0, c.1)
+
+  -- two contract inputs are one
+  pub one_input : (n i k : ℕ) (tx : Tx) (x y : Spend) (o p : Output) → IsContractInput past n i tx x o → IsContractInput past n k tx y p → x.reference ≡ y.reference
+  one_input n i k tx x y o p a b =
+      let s = spent_at n tx a.accepted in
+      let at = beside n i tx x o a.accepted a.input a.there in
+      let place : i ≡ k = only_one holds s.ys i k (x, o) (y, p) s.single at a.contract (beside n k tx y p a.accepted b.input b.there) b.contract in
+      ap (λ (z : Spend). z.reference) (same_some x y (sym a.input ∙ ap (slice_get tx.inputs) place ∙ b.input))
+
+  -- its script was published
+  pub input_published : (n i : ℕ) (tx : Tx) (x : Spend) (o : Output) (c : ContractLock) → IsContractInput past n i tx x o → contract_in o.lock ≡ Some c → (v : V) × (named c.script ≡ Some v)
+  input_published n i tx x o c k h = published n x.reference o c.script k.there (script_so o.lock c h)
+
+  -- and passes its step
+  pub step_passes : (n i : ℕ) (tx : Tx) (x : Spend) (o : Output) (c : ContractLock) (v : V) → (at : slice_get past.accepted n ≡ Some tx) → IsContractInput past n i tx x o →
+      contract_in o.lock ≡ Some c → named c.script ≡ Some v →
+      after_answer tx.outputs (j.step v (step_asked tx (spent_at n tx at).ys (step_with c (inputs_of x.redeemer)))) ≡ None
+  step_passes n i tx x o c v at k h is =
       let s = spent_at n tx at in
-      let z = stepped_some (unspent_at (before past n)) tx.inputs s.ys s.pairs h s.kinds in
-      (z.0.0, z.0.1, stepping_found (unspent_at (before past n)) tx.inputs s.ys z.0 s.pairs z.1)
+      let z = step_with c (inputs_of x.redeemer) in
+      let r = step_read s.ys i (x, o) c s.single (beside n i tx x o at k.input k.there) h in
+      let step : script_fault j (named c.script) (step_asked tx s.ys z) ≡ None = subst (λ (l : List Step). step_fault j named tx s.ys l ≡ None) r.1 s.step in
+      subst (λ (w : Option V). script_fault j w (step_asked tx s.ys z) ≡ None) is step
 
   -- ---- what it makes is new
 
@@ -193,10 +245,9 @@ module _ {V : Type 0} (j : Judges V) (enough : FoundIsEnough j) (named : List �
     where
       by : (b : Bool) → is_input_of (Made id i) tx ≡ b → b ≡ false
       by true e =
-          let s = spent_at n tx at in
-          let f = found_at (unspent_at (before past n)) (Made id i) tx.inputs s.ys s.pairs e in
-          let out = (unspent_so (before past n) (Made id i) f.0 f.1).1 in
-          let g : (let o : Option Output = Some f.0 in o) ≡ None = sym out ∙ none_created (before past n) id i new in
+          let f = named_there n tx at (Made id i) e in
+          let out = (unspent_so (before past n) (Made id i) f.1 (ap (unspent_at (before past n)) (sym f.0.name) ∙ f.2)).1 in
+          let g : (let o : Option Output = Some f.1 in o) ≡ None = sym out ∙ none_created (before past n) id i new in
           cc
       by false e = refl
 

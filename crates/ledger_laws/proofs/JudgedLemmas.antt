@@ -1,7 +1,7 @@
 -- What a transaction that no rule refuses meets.
-use Rattle.std.proofs.Common.{◌≡◌, ℕ, ◌+◌, Bool, true, false, cond, ℤ, List, [], ◌∷◌, refl, sym, ◌∙◌, Option, Some, None}
+use Rattle.std.proofs.Common.{◌≡◌, ℕ, zero, suc, ◌+◌, Bool, true, false, cond, ℤ, List, [], ◌∷◌, refl, sym, ◌∙◌, ap, arith, Option, Some, None}
 use Rattle.std.specs.Prelude.{if◌then◌else◌, is_none, map}
-use Rattle.std.specs.List.{list_any, list_all, position, position_from}
+use Rattle.std.specs.List.{slice_get, list_any, list_all, position, position_from}
 use Rattle.std.specs.Option.{option_map}
 use Rattle.std.proofs.lemmas.Iterator.Adapters.{position_from-zero}
 use Rattle.eutxo_types.specs.declared.fault.TxFault.{TxFault}
@@ -21,7 +21,7 @@ use Rattle.eutxo.specs.Judgement as judgement
 use Rattle.eutxo.specs.Laws.{FoundIsEnough}
 use Rattle.ledger_laws.specs.Past.{Past, unspent_at, has_id}
 use Rattle.ledger_laws.specs.Sound.{moment}
-use Rattle.ledger_laws.proofs.PlainLaws.{EachFalse, not_false, both}
+use Rattle.ledger_laws.proofs.PlainLaws.{EachFalse, not_false, both, same_some}
 
 -- none of them stands
 abbrev pub EachNone : {A : Type 0} → List (Option A) → Type 0
@@ -94,11 +94,28 @@ pub made_known : {V : Type 0} (named : List ℕ → Option V) (os : List Output)
 made_known named [] h = refl
 made_known named (o ∷ os) h = both (is_known named o.lock) (list_all (λ o. is_known named o.lock) os) (not_false (is_known named o.lock) h.0) (made_known named os h.1)
 
--- a rule with places, by place and element, refuses nowhere
+-- a rule by place and element that refuses nowhere holds of no place
 unplaced_if : (b : Bool) (n : ℕ) (later : Option ℕ) → (if b then Some n else later) ≡ None → (b ≡ false) × (later ≡ None)
 unplaced_if true n later h = cc
 unplaced_if false n later h = (refl, h)
 
-pub unplaced : {A : Type 0} (p : A → Bool) (k : ℕ) (xs : List A) → first_index (λ i x. p x) k xs ≡ None → EachFalse p xs
-unplaced p k [] h = tt
-unplaced p k (x ∷ xs) h = let q = unplaced_if (p x) k (first_index (λ i x. p x) (k + 1) xs) h in (q.0, unplaced p (k + 1) xs q.1)
+unplaced_from : {A : Type 0} (p : ℕ → A → Bool) (k : ℕ) (xs : List A) → first_index p k xs ≡ None → (i n : ℕ) (x : A) → slice_get xs i ≡ Some x → n ≡ k + i → p n x ≡ false
+unplaced_from p k [] h i n x at e = cc
+unplaced_from p k (y ∷ xs) h zero n x at e =
+    let here : p k y ≡ false = (unplaced_if (p k y) k (first_index p (k + 1) xs) h).0 in
+    let first : n ≡ k = omega (arith, e) in
+    ap (λ (m : ℕ). p m x) first ∙ ap (p k) (sym (same_some y x at)) ∙ here
+unplaced_from p k (y ∷ xs) h (suc i) n x at e = unplaced_from p (k + 1) xs (unplaced_if (p k y) k (first_index p (k + 1) xs) h).1 i n x at (omega (arith, e))
+
+pub unplaced : {A : Type 0} (p : ℕ → A → Bool) (xs : List A) → first_index p 0 xs ≡ None → (i : ℕ) (x : A) → slice_get xs i ≡ Some x → p i x ≡ false
+unplaced p xs h i x at = unplaced_from p 0 xs h i i x at (omega arith)
+
+-- two rules that say the same of each place and its element are one
+same_from : {A : Type 0} (p q : ℕ → A → Bool) (k : ℕ) (xs : List A) → ((i n : ℕ) (x : A) → slice_get xs i ≡ Some x → n ≡ k + i → p n x ≡ q n x) → first_index p k xs ≡ first_index q k xs
+same_from p q k [] h = refl
+same_from p q k (x ∷ xs) h =
+    ap (λ (b : Bool). if b then Some k else first_index p (k + 1) xs) (h 0 k x refl (omega arith))
+    ∙ ap (λ (o : Option ℕ). if q k x then Some k else o) (same_from p q (k + 1) xs (λ i n y at e. h (suc i) n y at (omega (arith, e))))
+
+pub same_places : {A : Type 0} (p q : ℕ → A → Bool) (xs : List A) → ((i : ℕ) (x : A) → slice_get xs i ≡ Some x → p i x ≡ q i x) → first_index p 0 xs ≡ first_index q 0 xs
+same_places p q xs h = same_from p q 0 xs (λ i n x at e. let same : n ≡ i = omega (arith, e) in ap (λ (m : ℕ). p m x) same ∙ h i x at ∙ ap (λ (m : ℕ). q m x) (sym same))

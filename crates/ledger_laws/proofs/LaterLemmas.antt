@@ -4,28 +4,28 @@ use Rattle.std.specs.Prelude.{if◌then◌else◌, is_some}
 use Rattle.std.specs.List.{list_all, position, position_from, slice_get}
 use Rattle.std.specs.Option.{option_map}
 use Rattle.std.proofs.lemmas.Iterator.Adapters.{position_from-zero}
-use Rattle.machine.specs.declared.datum.Datum.{Datum}
 use Rattle.eutxo_types.specs.declared.fault.TxFault.TheVariants.{UnknownScript, WrongStart}
 use Rattle.eutxo_types.specs.declared.lock.Lock.{Lock}
 use Rattle.eutxo_types.specs.declared.lock.Lock.TheVariants.{Key, Payout, Contract}
 use Rattle.eutxo_types.specs.declared.output.Output.{Output}
 use Rattle.eutxo_types.specs.declared.spend.Spend.{Spend}
 use Rattle.eutxo_types.specs.declared.tx.Tx.{Tx}
+use Rattle.eutxo_types.specs.Parts.{Instance, lock_of, contract_at}
 use Rattle.eutxo.specs.Laws.{FoundIsEnough}
-use Rattle.eutxo.specs.Faults.{first_of, first_index}
+use Rattle.eutxo.specs.Faults.{first_of}
 use Rattle.eutxo.specs.Found.{is_known, all_known, if_known}
-use Rattle.eutxo.specs.Rules.{stepped_contract, step_asked, script_fault, step_fault, starts_wrong, starts_wrong_at}
+use Rattle.eutxo.specs.Rules.{Step, steps_of, step_asked, script_fault, step_fault, starts_wrong, starts_wrong_at}
 use Rattle.eutxo.specs.Local.{spent_rules, spent_fault, whole_fault}
-use Rattle.bundle.specs.Bundles.{Amounts}
 use Rattle.eutxo.specs.Asked.{Judges}
 use Rattle.ledger_laws.specs.Past.{Past, before, unspent_at}
 use Rattle.eutxo.specs.Judgement.{is_unknown, judge}
 use Rattle.ledger_laws.specs.Sound.{moment, IsSound, IsMore}
 use Rattle.ledger_laws.specs.Laws.{LaterIsSound}
-use Rattle.ledger_laws.proofs.PlainLaws.{EachFalse, not_false, both, is_there}
-use Rattle.ledger_laws.proofs.JudgedLemmas.{found, all_rules, local_rules, EachNone, each_none, mapped_none, unplaced, made_known}
-use Rattle.ledger_laws.proofs.PairedLemmas.{Paired, paired, spent_known, stepping_found}
-use Rattle.ledger_laws.proofs.AcceptedLaws.{passes_at, find_known}
+use Rattle.ledger_laws.proofs.PlainLaws.{EachFalse, not_false, both, is_there, each_at}
+use Rattle.ledger_laws.proofs.PartLaws.{lock_so, script_so, output_so}
+use Rattle.ledger_laws.proofs.JudgedLemmas.{found, all_rules, local_rules, EachNone, each_none, made_known, same_places}
+use Rattle.ledger_laws.proofs.PairedLemmas.{Paired, paired, spent_known, input_at, step_there}
+use Rattle.ledger_laws.proofs.AcceptedLaws.{passes_at, find_known, published}
 
 first_none : {A : Type 0} (xs : List (Option A)) → EachNone xs → first_of xs ≡ None
 first_none [] h = refl
@@ -39,10 +39,6 @@ no_position_from p n (x ∷ xs) h = ap (λ b. cond b (Some n) (position_from p (
 no_position : {A : Type 0} (p : A → Bool) (xs : List A) → EachFalse p xs → position p xs ≡ None
 no_position p xs h = position_from-zero p xs ∙ no_position_from p 0 xs h
 
-placed : {A : Type 0} (p : A → Bool) (k : ℕ) (xs : List A) → EachFalse p xs → first_index (λ i x. p x) k xs ≡ None
-placed p k [] h = refl
-placed p k (x ∷ xs) h = ap (λ b. if b then Some k else first_index (λ i x. p x) (k + 1) xs) h.0 ∙ placed p (k + 1) xs h.1
-
 module _ {V : Type 0} (j : Judges V) (enough : FoundIsEnough j) (named later : List ℕ → Option V) (more : IsMore named later) where
   still_known : (l : Lock) → is_known named l ≡ true → is_known later l ≡ true
   still_known (Key a) h = refl
@@ -53,32 +49,34 @@ module _ {V : Type 0} (j : Judges V) (enough : FoundIsEnough j) (named later : L
   known_later [] h = tt
   known_later (o ∷ os) h = (ap not (still_known o.lock (not_false (is_known named o.lock) h.0)), known_later os h.1)
 
-  same_start : (held : Amounts) (l : Lock) → is_known named l ≡ true → starts_wrong j later held l ≡ starts_wrong j named held l
-  same_start held (Key a) h = refl
-  same_start held (Payout c r) h = refl
-  same_start held (Contract script d) h =
-      let t = is_there (named script) h in
-      ap (λ v. starts_wrong_at j v d held) (more script t.0 t.1 ∙ sym t.1)
-
-  same_starts : (os : List Output) → EachFalse (is_unknown named) os → EachFalse (λ o. starts_wrong j named o.amount o.lock) os → EachFalse (λ o. starts_wrong j later o.amount o.lock) os
-  same_starts [] k h = tt
-  same_starts (o ∷ os) k h = (same_start o.amount o.lock (not_false (is_known named o.lock) k.0) ∙ h.0, same_starts os k.1 h.1)
+  same_start : (tx : Tx) → EachFalse (is_unknown named) tx.outputs → (i : ℕ) (o : Output) → slice_get tx.outputs i ≡ Some o →
+      starts_wrong j later o.amount (contract_at tx i) ≡ starts_wrong j named o.amount (contract_at tx i)
+  same_start tx known i o at = by (contract_at tx i) refl
+    where
+      by : (c : Option Instance) → contract_at tx i ≡ c → starts_wrong j later o.amount c ≡ starts_wrong j named o.amount c
+      by None e = refl
+      by (Some c) e =
+          let z = output_so tx i c e in
+          let l = lock_so (z.0).lock (lock_of c) z.2 in
+          let t = is_there (named c.script) (subst (λ (l : Lock). is_known named l ≡ true) l (not_false (is_known named (z.0).lock) (each_at (is_unknown named) i tx.outputs z.0 known z.1))) in
+          ap (λ v. starts_wrong_at j v c.datum o.amount) (more c.script t.0 t.1 ∙ sym t.1)
 
   module _ (past : Past) (sound : IsSound j named past) (n : ℕ) (tx : Tx) (at : slice_get past.accepted n ≡ Some tx) where
-    same_step : (ys : List (Spend × Output)) → Paired (unspent_at (before past n)) tx.inputs ys → (z : Option (List ℕ × Datum × _)) → stepped_contract ys ≡ z →
-        step_fault j named tx ys z ≡ None → step_fault j later tx ys z ≡ None
-    same_step ys p None e h =
-        let each = unplaced (λ (o : Output). starts_wrong j named o.amount o.lock) 0 tx.outputs (mapped_none WrongStart (first_index (λ i (o : Output). starts_wrong j named o.amount o.lock) 0 tx.outputs) h) in
-        ap (option_map WrongStart) (placed (λ (o : Output). starts_wrong j later o.amount o.lock) 0 tx.outputs (same_starts tx.outputs (passes_at j enough named past sound n tx at).known each))
-    same_step ys p (Some s) e h =
-        let f = stepping_found (unspent_at (before past n)) tx.inputs ys s p e in
-        let t = is_there (named s.0) (subst (λ (l : Lock). is_known named l ≡ true) f.lock (find_known j enough named past sound n f.reference f.output f.there)) in
-        subst (λ (v : Option V). script_fault j v (step_asked tx ys s) ≡ None) (t.1 ∙ sym (more s.0 t.0 t.1)) h
+    same_step : (ys : List (Spend × Output)) → Paired (unspent_at (before past n)) tx.inputs ys → (z : List Step) → steps_of ys ≡ z → step_fault j named tx ys z ≡ None →
+        step_fault j later tx ys z ≡ None
+    same_step ys p [] e h =
+        ap (option_map WrongStart) (same_places (λ i (o : Output). starts_wrong j later o.amount (contract_at tx i)) (λ i (o : Output). starts_wrong j named o.amount (contract_at tx i)) tx.outputs
+        (same_start tx (passes_at j enough named past sound n tx at).known)) ∙ h
+    same_step ys p (s ∷ ss) e h =
+        let y = step_there ys s ss e in
+        let there = (input_at (unspent_at (before past n)) y.0 y.1 tx.inputs ys p y.2).1 in
+        let t = published j enough named past sound n y.1.0.reference y.1.1 s.script there (script_so y.1.1.lock _ y.3) in
+        subst (λ (v : Option V). script_fault j v (step_asked tx ys s) ≡ None) (t.1 ∙ sym (more s.script t.0 t.1)) h
 
     same_spent : (ys : List (Spend × Output)) → Paired (unspent_at (before past n)) tx.inputs ys → spent_fault j named tx ys ≡ None → spent_fault j later tx ys ≡ None
     same_spent ys p h =
         let e = each_none (spent_rules j named tx ys) h in
-        first_none (spent_rules j later tx ys) (e.0, (e.1.0, (e.1.1.0, (e.1.1.1.0, (same_step ys p (stepped_contract ys) refl e.1.1.1.1.0, (e.1.1.1.1.1.0, tt))))))
+        first_none (spent_rules j later tx ys) (e.0, (e.1.0, (e.1.1.0, (e.1.1.1.0, (same_step ys p (steps_of ys) refl e.1.1.1.1.0, (e.1.1.1.1.1.0, tt))))))
 
     known_both : (k : List ℕ → Option V) (ys : List (Spend × Output)) → EachFalse (is_unknown k) tx.outputs → list_all (λ x. is_known k x.1.lock) ys ≡ true → all_known k tx.outputs ys ≡ true
     known_both k ys h s = both (list_all (λ o. is_known k o.lock) tx.outputs) (list_all (λ x. is_known k x.1.lock) ys) (made_known k tx.outputs h) s

@@ -1,10 +1,14 @@
 pub mod PlainLaws
+pub mod PartLaws
 pub mod ReferenceLaws
 pub mod JudgedLemmas
 pub mod PairedLemmas
 pub mod AcceptedLaws
+pub mod MadeLaws
 pub mod SpineLaws
-pub mod ThreadLemmas
+pub mod KernelLemmas
+pub mod FlowLemmas
+pub mod ThreadLaws
 pub mod SoundLemmas
 pub mod LaterLemmas
 pub mod FreshLemmas

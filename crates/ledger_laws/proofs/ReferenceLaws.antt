@@ -26,6 +26,9 @@ same_ref_so (Made n i) (Made k j) h =
 same_ref_so (Genesis i) (Made k j) h = cc
 same_ref_so (Made n i) (Genesis j) h = cc
 
+pub same_made : (a b : List ℕ) (i k : ℕ) → Made a i ≡ Made b k → (a ≡ b) × (i ≡ k)
+same_made a b i k h = (cc, cc)
+
 pub lookup_front : {K X : Type 0} (test : K → Bool) (es fs : List (K × X)) (v : X) → lookup test es ≡ Some v → lookup test (es ++ fs) ≡ Some v
 lookup_front test [] fs v h = cc
 lookup_front test (e ∷ es) fs v h = by (test e.0) h (lookup_front test es fs v)
@@ -207,33 +210,6 @@ made_push (x ∷ txs) tx = ap (λ l. created_by x ++ l) (made_push txs tx) ∙ s
 pub created_grown : (past : Past) (txs : List Tx) (tx : Tx) → created (record past { accepted = txs ++ tx ∷ [] }) ≡ created (record past { accepted = txs }) ++ created_by tx
 created_grown past txs tx =
     ap (λ l. with_references (λ j. Genesis j) 0 past.genesis ++ l) (made_push txs tx) ∙ sym (append_assoc (with_references (λ j. Genesis j) 0 past.genesis) (created_by_all txs) (created_by tx))
-
--- what is unspent after a transaction was unspent before it, or the transaction made it; and it isn't named
-pub after_one : (past : Past) (txs : List Tx) (tx : Tx) (q : OutputRef) (o : Output) → unspent_at (record past { accepted = txs ++ tx ∷ [] }) q ≡ Some o →
-    (is_spent (txs ++ tx ∷ []) q ≡ false) × (is_input_of q tx ≡ false) × ((unspent_at (record past { accepted = txs }) q ≡ Some o) ⊎ ((i : ℕ) × (slice_get tx.outputs i ≡ Some o) × (q ≡ Made (id_of tx) i)))
-after_one past txs tx q o h = (u.0, parts.1, by (lookup (same_ref q) (created p)) refl)
-  where
-    p : Past
-    p = record past { accepted = txs }
-
-    u : (is_spent (txs ++ tx ∷ []) q ≡ false) × (lookup (same_ref q) (created (record past { accepted = txs ++ tx ∷ [] })) ≡ Some o)
-    u = unspent_so (record past { accepted = txs ++ tx ∷ [] }) q o h
-
-    parts : (is_spent txs q ≡ false) × (is_input_of q tx ≡ false)
-    parts =
-        let e = or_false (is_spent txs q) (is_spent (tx ∷ []) q) (sym (list_any-append (is_input_of q) txs (tx ∷ [])) ∙ u.0) in
-        (e.0, (or_false (is_input_of q tx) false e.1).0)
-
-    all : lookup (same_ref q) (created p ++ created_by tx) ≡ Some o
-    all = ap (λ es. lookup (same_ref q) es) (sym (created_grown past txs tx)) ∙ u.1
-
-    by : (z : Option Output) → lookup (same_ref q) (created p) ≡ z → (unspent_at p q ≡ Some o) ⊎ ((i : ℕ) × (slice_get tx.outputs i ≡ Some o) × (q ≡ Made (id_of tx) i))
-    by None e =
-        let r = in_referred (λ j. Made (id_of tx) j) q 0 tx.outputs o (sym (lookup_back (same_ref q) (created p) (created_by tx) e) ∙ all) in
-        inr (r.0, r.1, r.2 ∙ ap (λ (j : ℕ). Made (id_of tx) j) (sym (zero_plus r.0)))
-    by (Some x) e =
-        let same : x ≡ o = same_some x o (sym (lookup_front (same_ref q) (created p) (created_by tx) x e) ∙ all) in
-        inl (unspent_is p q ∙ ap (λ (b : Bool). cond (not b) (lookup (same_ref q) (created p)) None) parts.0 ∙ e ∙ ap Some same)
 
 -- ---- what an id names
 

@@ -3,18 +3,15 @@ use Rattle.std.proofs.Common.{◌≡◌, ℕ, suc, Bool, true, false, List, [], 
 use Rattle.std.specs.Prelude.{if◌then◌else◌}
 use Rattle.std.specs.Option.{option_map}
 use Rattle.std.specs.List.{slice_get}
-use Rattle.std.specs.Map.{lookup}
 use Rattle.contract.specs.declared.fault.SemFault.{SemFault}
 use Rattle.contract.specs.declared.interval.Interval.{Interval}
 use Rattle.contract.specs.declared.input.Input.{Input}
 use Rattle.states.specs.States.{StateMaps}
-use Rattle.contract.specs.Tree.{ContractTree}
+use Rattle.contract.specs.Tree.{ContractTree, close}
 use Rattle.semantics.specs.Walk.{Standing, standing, Walk, answer_of}
 use Rattle.semantics.specs.Computed.{computed}
 use Rattle.semantics.specs.Laws.{TurnsLead}
-use Rattle.nodes.specs.declared.cont.Cont.{Cont}
 use Rattle.machine.specs.declared.datum.Datum.{Datum}
-use Rattle.eutxo_types.specs.declared.lock.Lock.TheVariants.{Contract}
 use Rattle.eutxo_types.specs.declared.output.Output.{Output}
 use Rattle.eutxo_types.specs.declared.output_ref.OutputRef.{OutputRef}
 use Rattle.eutxo_types.specs.declared.output_ref.OutputRef.TheVariants.{Made}
@@ -22,22 +19,23 @@ use Rattle.eutxo_types.specs.declared.spend.Spend.{Spend}
 use Rattle.eutxo_types.specs.declared.tx.Tx.{Tx}
 use Rattle.eutxo_types.specs.Ids.{id_of}
 use Rattle.eutxo.specs.Laws.{FoundIsEnough}
-use Rattle.eutxo.specs.Rules.{step_asked, script_fault, step_fault}
+use Rattle.eutxo.specs.Asked.{Stepping}
+use Rattle.eutxo.specs.Rules.{step_asked}
 use Rattle.roles.specs.declared.published.Published.{Published}
 use Rattle.roles.specs.Terms.{Terms, terms_of}
-use Rattle.eutxo_types.specs.Parts.{contract_at, given_to, same_ref}
-use Rattle.ledger_laws.specs.Past.{Past, before, created, is_input_of, unspent_at}
+use Rattle.eutxo_types.specs.Parts.{inputs_of, Instance, lock_of, contract_at, given_to}
+use Rattle.ledger_laws.specs.Past.{Past, is_input_of}
 use Rattle.ledger_laws.specs.Sound.{IsSound}
-use Rattle.ledger_laws.specs.Threads.{Link, Effect, Member, Gives, Run, contract_after, state_after, next_of, spine, ends, thread, Carries, IsStart}
-use Rattle.roles.specs.Steps.{marlowe}
+use Rattle.ledger_laws.specs.Threads.{Link, Effect, Member, Gives, Run, contract_after, state_after, next_of, spine, ends, thread, LaidOut, Carries, IsMade, IsStart}
+use Rattle.roles.specs.Steps.{walk_of, marlowe}
 use Rattle.ledger_laws.specs.Laws.{AreTables, EachIsARun, ThreadsAreRuns, EndsWithItsRun, ThreadsEndWithRuns}
-use Rattle.ledger_laws.proofs.PlainLaws.{same_some, some_not_none, head_at}
-use Rattle.ledger_laws.proofs.ReferenceLaws.{unspent_so}
-use Rattle.ledger_laws.proofs.PairedLemmas.{stepped_at, stepped_none}
-use Rattle.ledger_laws.proofs.AcceptedLaws.{spent_at, made_published, made_there, finds}
-use Rattle.ledger_laws.proofs.ThreadLemmas.{there_of, some_holds}
-use Rattle.ledger_laws.proofs.FundedLemmas.{started, starting_at}
-use Rattle.ledger_laws.proofs.LaidOutLemmas.{same_script, same_datum, effect_of, Stepped, stepped_so, laid_so}
+use Rattle.ledger_laws.proofs.PlainLaws.{same_some, head_at}
+use Rattle.ledger_laws.proofs.PartLaws.{is_contract_so, script_so, output_so}
+use Rattle.ledger_laws.proofs.PairedLemmas.{step_with}
+use Rattle.ledger_laws.proofs.AcceptedLaws.{spent_at, made_published, named_input, step_passes}
+use Rattle.ledger_laws.proofs.MadeLaws.{made_output, made_once}
+use Rattle.ledger_laws.proofs.LaidOutLemmas.{effect_of, datum_after, Stepped, stepped_so, continues, led_so, laid_so}
+use Rattle.ledger_laws.proofs.FundedLemmas.{starting_at}
 
 -- ---- a run is settled by its transactions
 
@@ -82,132 +80,118 @@ module _ (turns : TurnsLead) (enough : FoundIsEnough marlowe) (named : List ℕ 
     abbrev t : Terms
     t = terms_of p
 
-    -- a transaction that names a contract steps it with the inputs that it gives to it
-    record StepOf (n : ℕ) (tx : Tx) (r : OutputRef) (d : Datum) : Type 0 where
-      pub inputs : List Input
-      pub given : given_to r tx.inputs ≡ Some inputs
-      pub spent : List (Spend × Output)
-      pub passed : Stepped t (step_asked tx spent (script, d, inputs))
+    abbrev at_datum : Datum → Instance
+    at_datum d = record { script = script; datum = d }
 
-    step_at : (n : ℕ) (tx : Tx) → slice_get past.accepted n ≡ Some tx → (r : OutputRef) (o : Output) (d : Datum) → is_input_of r tx ≡ true → lookup (same_ref r) (created past) ≡ Some o → o.lock ≡ Contract script d → StepOf n tx r d
-    step_at n tx e r o d named_r out lock =
-        let s = spent_at marlowe enough named past sound n tx e in
-        let at = stepped_at (unspent_at (before past n)) r o script d tx.inputs s.ys s.pairs named_r (finds marlowe enough named past sound n tx e r o named_r out) lock s.single in
-        let z : List ℕ × Datum × List Input = (script, d, at.0) in
-        let step : step_fault marlowe named tx s.ys (Some z) ≡ None = subst (λ z. step_fault marlowe named tx s.ys z ≡ None) at.2 s.step in
-        record { inputs = at.0; given = at.1; spent = s.ys; passed = stepped_so t (step_asked tx s.ys z) (subst (λ (v : Option Published). script_fault marlowe v (step_asked tx s.ys z) ≡ None) is step) }
+    -- where a thread stands: at a contract that was made at a number that stands for this, in this state
+    abbrev Points : Option OutputRef → ContractTree → StateMaps → Type 0
+    Points None c s = Unit {0}
+    Points (Some r) c s = (d : Datum) × IsMade past r (at_datum d) × (t.tree d.cont ≡ c) × (d.state ≡ s)
 
-    -- where a thread has an end: a contract output at a number that stands for this, in this state
-    record EndsAt (q : OutputRef) (c : ContractTree) (s : StateMaps) : Type 0 where
-      pub output : Output
-      pub datum : Datum
-      pub there : lookup (same_ref q) (created past) ≡ Some output
-      pub lock : output.lock ≡ Contract script datum
-      pub tree : t.tree datum.cont ≡ c
-      pub state : datum.state ≡ s
+    -- what a transaction that spends the contract does: a member of a run from it, after which the thread stands where the member ends
+    record Acts (tx : Tx) (r : OutputRef) (d : Datum) : Type 0 where
+      pub member : Member
+      pub gives : Gives (t.tree d.cont) d.state member
+      pub interval : tx.interval ≡ member.interval
+      pub given : given_to r tx.inputs ≡ Some member.inputs
+      pub lays : LaidOut t script member.outcome 0 tx
+      pub points : Points (next_of r tx) member.outcome.contract member.outcome.state
+      pub gone : member.outcome.contract ≡ close → next_of r tx ≡ None
 
-    -- these transactions are a run from here, which ends where they do
-    record RunsFrom (from : Option OutputRef) (ls : List Link) (c : ContractTree) (s : StateMaps) : Type 0 where
+    abbrev stepping : Tx → Datum → List (Spend × Output) → List Input → Stepping
+    stepping tx d ys xs = step_asked tx ys (step_with (lock_of (at_datum d)) xs)
+
+    acts : (n : ℕ) (tx : Tx) (r : OutputRef) (d : Datum) → slice_get past.accepted n ≡ Some tx → is_input_of r tx ≡ true → IsMade past r (at_datum d) → Acts tx r d
+    acts n tx r d at named_r made =
+        let o = made_output marlowe enough named past sound r (at_datum d) made in
+        let k = named_input marlowe enough named past sound n tx at r o.0 named_r o.1 (is_contract_so (o.0).lock (lock_of (at_datum d)) o.2) in
+        let ys = (spent_at marlowe enough named past sound n tx at).ys in
+        let xs = inputs_of k.0.input.redeemer in
+        let z = stepped_so t (stepping tx d ys xs) (step_passes marlowe enough named past sound n k.0.index tx k.0.input o.0 (lock_of (at_datum d)) p at k.1 o.2 is) in
+        record {
+          member = record { interval = tx.interval; inputs = xs; outcome = effect_of (walk_of t (stepping tx d ys xs)) (z.at).state (z.at).contract };
+          gives = (z.answer, refl, refl);
+          interval = refl;
+          given = k.0.given;
+          lays = laid_so turns t (tables script p is) (stepping tx d ys xs) z;
+          points = stands ys xs z (contract_at tx 0) refl;
+          gone = λ closed. over ys xs z closed (contract_at tx 0) refl;
+        }
+      where
+        stands : (ys : List (Spend × Output)) (xs : List Input) → (z : Stepped t (stepping tx d ys xs)) → (c : Option Instance) → contract_at tx 0 ≡ c →
+            Points (option_map (λ c. Made (id_of tx) 0) c) (z.at).contract (z.at).state
+        stands ys xs z None e = tt
+        stands ys xs z (Some c) e =
+            let k = continues t (stepping tx d ys xs) z 0 c e in (
+              datum_after t (stepping tx d ys xs) (z.at).state,
+              record { number = n; tx = tx; accepted = at; index = 0; name = refl; contract = e ∙ ap Some k.contract },
+              (led_so turns t (tables script p is) (stepping tx d ys xs) z).1,
+              refl,
+            )
+
+        over : (ys : List (Spend × Output)) (xs : List Input) → (z : Stepped t (stepping tx d ys xs)) → (z.at).contract ≡ close → (c : Option Instance) → contract_at tx 0 ≡ c →
+            option_map (λ c. Made (id_of tx) 0) c ≡ None
+        over ys xs z closed None e = refl
+        over ys xs z closed (Some c) e = absurd ((continues t (stepping tx d ys xs) z 0 c e).goes closed)
+
+    none_after : (z : Option OutputRef) (txs : List Tx) → z ≡ None → spine z txs ≡ []
+    none_after None txs h = refl
+    none_after (Some r) txs h = cc
+
+    -- links are a run from here, and the thread ends where the run does
+    record Runs (z : Option OutputRef) (ls : List Link) (c : ContractTree) (s : StateMaps) : Type 0 where
       pub run : List Member
       pub runs : Run c s run
       pub carried : Carries t script ls run
-      pub ended : (q : OutputRef) → ends from ls ≡ Some q → EndsAt q (contract_after c run) (state_after s run)
+      pub ended : Points (ends z ls) (contract_after c run) (state_after s run)
 
-    goes_to : (n : ℕ) (tx : Tx) → slice_get past.accepted n ≡ Some tx → (r : OutputRef) (d : Datum) (later : List Tx) (s : StepOf n tx r d) (go : Option (List ℕ × Datum)) → contract_at tx 0 ≡ go →
-        ((o : Output) (next : Datum) → lookup (same_ref (Made (id_of tx) 0)) (created past) ≡ Some o → o.lock ≡ Contract script next →
-        RunsFrom (Some (Made (id_of tx) 0)) (spine (Some (Made (id_of tx) 0)) later) (t.tree next.cont) next.state) →
-        RunsFrom (Some r) (record { spends = r; tx = tx } ∷ spine (option_map (λ c. Made (id_of tx) 0) go) later) (t.tree d.cont) d.state
-    goes_to n tx at r d later s (Some c) g tail =
-        let w : Walk = computed tx.interval d.state (t.tree d.cont) s.inputs in
-        let z = s.passed in
-        let laid = laid_so turns t (tables script p is) (step_asked tx s.spent (script, d, s.inputs)) z in
-        let k = laid.on c g in
-        let e = effect_of w (z.at).state (z.at).contract in
-        let there : RunsFrom (Some (Made (id_of tx) 0)) (spine (Some (Made (id_of tx) 0)) later) (t.tree (k.datum).cont) (k.datum).state =
-        tail k.output k.datum (made_there marlowe enough named past sound n tx at 0 k.output k.first) k.lock in
-        let u : RunsFrom (Some (Made (id_of tx) 0)) (spine (Some (Made (id_of tx) 0)) later) e.contract e.state =
-        subst (λ (c : ContractTree). RunsFrom (Some (Made (id_of tx) 0)) (spine (Some (Made (id_of tx) 0)) later) c e.state) k.tree
-        (subst (λ (s : StateMaps). RunsFrom (Some (Made (id_of tx) 0)) (spine (Some (Made (id_of tx) 0)) later) (t.tree (k.datum).cont) s) k.state there) in
-        record {
-          run = record { interval = tx.interval; inputs = s.inputs; outcome = e } ∷ u.run;
-          runs = ((z.answer, refl, refl), u.runs);
-          carried = (record { interval = refl; inputs = s.given; outputs = laid.out; over = λ close. absurd (some_not_none (contract_at tx 0) c g (laid.over close)); gone = λ close. absurd (some_not_none (contract_at tx 0) c g (laid.over close)) }, u.carried);
-          ended = λ q h. u.ended q (ap (λ y. ends y (spine (Some (Made (id_of tx) 0)) later)) (sym (ap (option_map (λ z. Made (id_of tx) 0)) g)) ∙ h);
-        }
-    goes_to n tx at r d later s None g tail =
-        let w : Walk = computed tx.interval d.state (t.tree d.cont) s.inputs in
-        let z = s.passed in
-        let laid = laid_so turns t (tables script p is) (step_asked tx s.spent (script, d, s.inputs)) z in
-        record {
-          run = record { interval = tx.interval; inputs = s.inputs; outcome = effect_of w (z.at).state (z.at).contract } ∷ [];
-          runs = ((z.answer, refl, refl), tt);
-          carried = (record { interval = refl; inputs = s.given; outputs = laid.out; over = λ _. refl; gone = λ _. ap (option_map (λ z. Made (id_of tx) 0)) g }, tt);
-          ended = λ q h. absurd (some_not_none (next_of tx) q h (ap (option_map (λ z. Made (id_of tx) 0)) g));
-        }
+    run_from : (n : ℕ) (txs : List Tx) → drop n past.accepted ≡ txs → (z : Option OutputRef) (c : ContractTree) (s : StateMaps) → Points z c s → Runs z (spine z txs) c s
+    run_from n txs cut None c s at = record { run = []; runs = tt; carried = tt; ended = tt }
+    run_from n [] cut (Some r) c s at = record { run = []; runs = tt; carried = tt; ended = at }
+    run_from n (tx ∷ txs) cut (Some r) c s at = by (is_input_of r tx) refl (run_from (suc n) txs here.1)
+      where
+        here : (slice_get past.accepted n ≡ Some tx) × (drop (suc n) past.accepted ≡ txs)
+        here = head_at n past.accepted tx txs cut
 
-    run_if : (tx : Tx) (txs : List Tx) (r : OutputRef) (d : Datum) (b : Bool) →
-        (is_input_of r tx ≡ true → RunsFrom (Some r) (record { spends = r; tx = tx } ∷ spine (next_of tx) txs) (t.tree d.cont) d.state) →
-        RunsFrom (Some r) (spine (Some r) txs) (t.tree d.cont) d.state → is_input_of r tx ≡ b →
-        RunsFrom (Some r) (if b then record { spends = r; tx = tx } ∷ spine (next_of tx) txs else spine (Some r) txs) (t.tree d.cont) d.state
-    run_if tx txs r d true here later n = here n
-    run_if tx txs r d false here later n = later
-
-    run_from : (n : ℕ) (txs : List Tx) → drop n past.accepted ≡ txs → (r : OutputRef) (o : Output) (d : Datum) → lookup (same_ref r) (created past) ≡ Some o → o.lock ≡ Contract script d →
-        RunsFrom (Some r) (spine (Some r) txs) (t.tree d.cont) d.state
-    run_from n [] cut r o d out lock = record {
-      run = [];
-      runs = tt;
-      carried = tt;
-      ended = λ q h. record { output = o; datum = d; there = ap (λ k. lookup (same_ref k) (created past)) (sym (same_some r q h)) ∙ out; lock = lock; tree = refl; state = refl };
-    }
-    run_from n (tx ∷ txs) cut r o d out lock =
-        let a = head_at n past.accepted tx txs cut in
-        run_if tx txs r d (is_input_of r tx)
-        (λ named_r. goes_to n tx a.0 r d txs (step_at n tx a.0 r o d named_r out lock) (contract_at tx 0) refl
-        (λ q next made_it k. run_from (suc n) txs a.1 (Made (id_of tx) 0) q next made_it k))
-        (run_from (suc n) txs a.1 r o d out lock)
-        refl
+        by : (b : Bool) → is_input_of r tx ≡ b → ((z : Option OutputRef) (c : ContractTree) (s : StateMaps) → Points z c s → Runs z (spine z txs) c s) →
+            Runs (Some r) (if b then record { spends = r; tx = tx } ∷ spine (next_of r tx) txs else spine (Some r) txs) c s
+        by false e go = go (Some r) c s at
+        by true e go =
+            let a = acts n tx r at.0 here.0 e at.1 in
+            let x = a.member in
+            let y = go (next_of r tx) x.outcome.contract x.outcome.state a.points in
+            record {
+              run = x ∷ y.run;
+              runs = (subst (λ (k : ContractTree). Gives k s x) at.2 (subst (λ (k : StateMaps). Gives (t.tree at.0.cont) k x) at.3 a.gives), y.runs);
+              carried = (record { interval = a.interval; inputs = a.given; outputs = a.lays; over = λ closed. none_after (next_of r tx) txs (a.gone closed); gone = a.gone }, y.carried);
+              ended = y.ended;
+            }
 
     -- a start is at the root
-    at_root : (r : OutputRef) (d : Datum) (start : IsStart past r script d) → t.root ≡ d.cont
-    at_root r d start =
-        let s = spent_at marlowe enough named past sound start.number start.tx start.accepted in
-        let none = stepped_none (unspent_at (before past start.number)) start.tx.inputs s.ys s.pairs start.bare s.kinds in
-        let o = there_of (slice_get start.tx.outputs start.index) script d start.contract in
-        (started p d o.0 (starting_at enough named past sound start.number start.tx start.accepted s none start.index o.0 o.1 script d o.2 p is)).0
-
-    one_thread : (r : OutputRef) (d : Datum) → IsStart past r script d → RunsFrom (Some r) (thread past r) (t.tree t.root) d.state
+    one_thread : (r : OutputRef) (d : Datum) → IsStart past r (at_datum d) → Runs (Some r) (thread past r) (t.tree t.root) d.state
     one_thread r d start =
-        let o = there_of (slice_get start.tx.outputs start.index) script d start.contract in
-        let out : lookup (same_ref r) (created past) ≡ Some o.0 =
-        ap (λ (q : OutputRef). lookup (same_ref q) (created past)) start.name ∙ made_there marlowe enough named past sound start.number start.tx start.accepted start.index o.0 o.1 in
-        subst (λ (k : Cont). RunsFrom (Some r) (thread past r) (t.tree k) d.state) (sym (at_root r d start)) (run_from 0 past.accepted refl r o.0 d out o.2)
-
-    -- the end of a thread, by the run that is carried
-    end_of : (r : OutputRef) (d : Datum) → IsStart past r script d → (run : List Member) → Run (t.tree t.root) d.state run → Carries t script (thread past r) run →
-        (q : OutputRef) → ends (Some r) (thread past r) ≡ Some q → EndsAt q (contract_after (t.tree t.root) run) (state_after d.state run)
-    end_of r d start run runs carried q h =
-        let a = one_thread r d start in
-        let same : a.run ≡ run = one_run t script (thread past r) (t.tree t.root) d.state run a.run runs carried a.runs a.carried in
-        subst (λ (l : List Member). EndsAt q (contract_after (t.tree t.root) l) (state_after d.state l)) same (a.ended q h)
+        let m = start.made in
+        let o = output_so m.tx m.index (at_datum d) m.contract in
+        let root = (starting_at enough named past sound m.number m.tx m.accepted start.bare m.index o.0 (at_datum d) o.1 m.contract p is).0 in
+        run_from 0 past.accepted refl (Some r) (t.tree t.root) d.state (d, m, ap t.tree (sym root), refl)
 
   pub each_is_a_run : EachIsARun named past
-  each_is_a_run r script d start =
-      let o = there_of (slice_get start.tx.outputs start.index) script d start.contract in
-      let p = made_published marlowe enough named past sound start.number start.tx start.accepted start.index o.0 script d o.1 o.2 in
-      let a = one_thread script p.0 p.1 r d start in
-      (p.0, p.1, (a.run, (a.runs, a.carried), λ b h. one_run (terms_of p.0) script (thread past r) ((terms_of p.0).tree (p.0).root) d.state a.run b a.runs a.carried h.0 h.1))
+  each_is_a_run r c start =
+      let m = start.made in
+      let o = output_so m.tx m.index c m.contract in
+      let p = made_published marlowe enough named past sound m.number m.tx m.accepted m.index o.0 c.script o.1 (script_so (o.0).lock (lock_of c) o.2) in
+      let a = one_thread c.script p.0 p.1 r c.datum start in
+      (p.0, p.1, (a.run, (a.runs, a.carried), λ b h. one_run (terms_of p.0) c.script (thread past r) ((terms_of p.0).tree (p.0).root) c.datum.state a.run b a.runs a.carried h.0 h.1))
 
   pub ends_with_its_run : EndsWithItsRun named past
-  ends_with_its_run r script d start p is run runs carried q o other e end there contract =
-      let a = end_of script p is r d start run runs carried q end in
-      let same : a.output ≡ o = same_some a.output o (sym a.there ∙ (unspent_so past q o there).1) in
-      let lock : Contract script a.datum ≡ Contract other e = sym a.lock ∙ ap (λ (z : Output). z.lock) same ∙ some_holds o.lock other e contract in
-      let datum : a.datum ≡ e = same_datum script other a.datum e lock in (
-        sym (same_script script other a.datum e lock),
-        ap (λ (z : Datum). (terms_of p).tree z.cont) (sym datum) ∙ a.tree,
-        ap (λ (z : Datum). z.state) (sym datum) ∙ a.state,
-      )
+  ends_with_its_run r c start p is run runs carried q e end made =
+      let a = one_thread c.script p is r c.datum start in
+      let same : a.run ≡ run = one_run (terms_of p) c.script (thread past r) ((terms_of p).tree p.root) c.datum.state run a.run runs carried a.runs a.carried in
+      let points : Points c.script p is (Some q) (contract_after ((terms_of p).tree p.root) run) (state_after c.datum.state run) =
+      subst (λ (l : List Member). Points c.script p is (Some q) (contract_after ((terms_of p).tree p.root) l) (state_after c.datum.state l)) same
+      (subst (λ (z : Option OutputRef). Points c.script p is z (contract_after ((terms_of p).tree p.root) a.run) (state_after c.datum.state a.run)) end a.ended) in
+      let it : e ≡ record { script = c.script; datum = points.0 } = made_once marlowe enough named past sound q (record { script = c.script; datum = points.0 }) e points.1 made in
+      (ap (λ (z : Instance). z.script) it, ap (λ (z : Instance). (terms_of p).tree z.datum.cont) it ∙ points.2, ap (λ (z : Instance). z.datum.state) it ∙ points.3)
 
 pub threads_are_runs : TurnsLead → FoundIsEnough marlowe → ThreadsAreRuns
 threads_are_runs turns enough named past tables sound = each_is_a_run turns enough named past tables sound

@@ -11,7 +11,7 @@ use Rattle.ledger_laws.specs.Sound.{IsSound}
 use Rattle.ledger_laws.specs.Laws.{OutputsAreSpentOnce}
 use Rattle.ledger_laws.proofs.PlainLaws.{same_some, not_both, each_at, any_at, any_taken}
 use Rattle.ledger_laws.proofs.ReferenceLaws.{same_ref-refl, unspent_so}
-use Rattle.ledger_laws.proofs.PairedLemmas.{found_at}
+use Rattle.ledger_laws.proofs.PairedLemmas.{pair_at}
 use Rattle.ledger_laws.proofs.FreshLemmas.{Fresh, fresh}
 use Rattle.ledger_laws.proofs.AcceptedLaws.{spent_at, passes_at}
 
@@ -35,8 +35,8 @@ module _ {V : Type 0} (j : Judges V) (enough : FoundIsEnough j) (named : List �
       slice_get s.inputs i ≡ Some x → slice_get t.inputs k ≡ Some y → x.reference ≡ y.reference → n < m → ⊥
   not_again n m i k s t x y es et a b e l =
       let z = spent_at j enough named past sound m t et in
-      let f = found_at (unspent_at (before past m)) y.reference t.inputs z.ys z.pairs (naming t k y b) in
-      let u = (unspent_so (before past m) y.reference f.0 f.1).0 in
+      let f = pair_at (unspent_at (before past m)) k y t.inputs z.ys z.pairs b in
+      let u = (unspent_so (before past m) y.reference f.0 f.2).0 in
       not_both (any_taken (is_input_of y.reference) past.accepted n m s l es (subst (λ r. is_input_of r s ≡ true) e (naming s i x a))) u
 
   pub spent_once : (n m i k : ℕ) (s t : Tx) (x y : Spend) → slice_get past.accepted n ≡ Some s → slice_get past.accepted m ≡ Some t →

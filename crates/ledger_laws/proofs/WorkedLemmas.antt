@@ -14,21 +14,22 @@ use Rattle.ledger_laws.specs.Past.{Past, with_references, created_by, created, i
 use Rattle.ledger_laws.specs.Threads.{Link, next_of, spine, ends}
 use Rattle.ledger_laws.specs.Worked.{NobodyCame, TwoSteps, NoneAfterTheEnd, GivenByName, OneMoves}
 use Rattle.ledger_laws.proofs.ReferenceLaws.{same_ref-refl, unspent_is}
+use Rattle.ledger_laws.proofs.SpineLaws.{next_there}
 
 -- a transaction that names the output is the thread's next member
-named_first : (r : OutputRef) (a : Tx) (txs : List Tx) → is_input_of r a ≡ true → spine (Some r) (a ∷ txs) ≡ record { spends = r; tx = a } ∷ spine (next_of a) txs
-named_first r a txs h = ap (λ (b : Bool). if b then record { spends = r; tx = a } ∷ spine (next_of a) txs else spine (Some r) txs) h
+named_first : (r : OutputRef) (a : Tx) (txs : List Tx) → is_input_of r a ≡ true → spine (Some r) (a ∷ txs) ≡ record { spends = r; tx = a } ∷ spine (next_of r a) txs
+named_first r a txs h = ap (λ (b : Bool). if b then record { spends = r; tx = a } ∷ spine (next_of r a) txs else spine (Some r) txs) h
 
 pub nobody_came : NobodyCame
 nobody_came r tx h =
-    let e : spine (Some r) (tx ∷ []) ≡ [] = ap (λ (b : Bool). if b then record { spends = r; tx = tx } ∷ spine (next_of tx) [] else []) h in
+    let e : spine (Some r) (tx ∷ []) ≡ [] = ap (λ (b : Bool). if b then record { spends = r; tx = tx } ∷ spine (next_of r tx) [] else []) h in
     (e, ap (ends (Some r)) e)
 
 pub two_steps : TwoSteps
 two_steps r a b c h k m n =
     let l : List Link = record { spends = r; tx = a } ∷ record { spends = Made (id_of a) 0; tx = b } ∷ [] in
-    let next : next_of a ≡ Some (Made (id_of a) 0) = ap (option_map (λ z. Made (id_of a) 0)) k in
-    let over : next_of b ≡ None = ap (option_map (λ z. Made (id_of b) 0)) n in
+    let next : next_of r a ≡ Some (Made (id_of a) 0) = next_there r a c k in
+    let over : next_of (Made (id_of a) 0) b ≡ None = ap (option_map (λ z. Made (id_of b) 0)) n in
     let e : spine (Some r) (a ∷ b ∷ []) ≡ l =
     named_first r a (b ∷ []) h
     ∙ ap (λ ls. record { spends = r; tx = a } ∷ ls)

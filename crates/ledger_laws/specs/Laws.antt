@@ -48,13 +48,16 @@ StepsStandOnThreads {V} j = (published : List ℕ → Option V) (past : Past) �
 abbrev pub ContractsAreStepped : Past → Type 0
 ContractsAreStepped past = (n i : ℕ) (tx : Tx) (x : Spend) (o : Output) → IsContractInput past n i tx x o → is_step x.redeemer ≡ true
 
+abbrev pub StepsSpendContracts : {V : Type 0} → Judges V → Type 0
+StepsSpendContracts {V} j = (published : List ℕ → Option V) (past : Past) → IsSound j published past → ContractsAreStepped past
+
 -- and a step spends a contract output: an input that brings one names it
 abbrev pub StepsAreOfContracts : Past → Type 0
 StepsAreOfContracts past =
     (n i : ℕ) (tx : Tx) (x : Spend) → slice_get past.accepted n ≡ Some tx → slice_get tx.inputs i ≡ Some x → is_step x.redeemer ≡ true → (o : Output) × IsContractInput past n i tx x o
 
-abbrev pub StepsSpendContracts : {V : Type 0} → Judges V → Type 0
-StepsSpendContracts {V} j = (published : List ℕ → Option V) (past : Past) → IsSound j published past → ContractsAreStepped past
+abbrev pub StepsNameContracts : {V : Type 0} → Judges V → Type 0
+StepsNameContracts {V} j = (published : List ℕ → Option V) (past : Past) → IsSound j published past → StepsAreOfContracts past
 
 -- what holds of each unspent contract output: it was made with a contract, under whose lock it stands, and of which this holds
 abbrev pub OfUnspentContracts : Past → (OutputRef → Output → Instance → Type 0) → Type 0

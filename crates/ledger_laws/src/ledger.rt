@@ -1,14 +1,16 @@
 //! Laws of every ledger, whatever its scripts.
 ghost use Rattle.ledger_laws.specs.Worked.{NobodyCame, TwoSteps, NoneAfterTheEnd, GivenByName, OneMoves};
-ghost use Rattle.ledger_laws.specs.Laws.{StepsStandOnThreads, StepsSpendContracts, ContractsEndThreads, EndsAreUnspent, TokensArePreserved, OutputsAreSpentOnce, StartIsSound, AfterIsSound, LaterIsSound};
+ghost use Rattle.ledger_laws.specs.Laws.{StepsStandOnThreads, StepsSpendContracts, StepsNameContracts, ContractsEndThreads, EndsAreUnspent, TokensArePreserved, OutputsAreSpentOnce, StartIsSound, AfterIsSound, LaterIsSound};
 
 use eutxo::{Validator, found_is_enough, sums_are_preserved};
 
-/// A transaction that steps a contract is a member of the thread of exactly one start output, and a
-/// contract output is spent by a step alone. So none is ever spent that doesn't belong to a thread.
+/// Each contract input of an accepted transaction is spent by a member of the thread of exactly one start
+/// output. A contract output is spent by a step alone, and a step spends one. So no contract output is
+/// ever spent, and none ever stepped, outside a thread.
 pub fn steps_stand_on_threads<V: Validator>()
     ensures thread { StepsStandOnThreads V.judges }
     ensures spends { StepsSpendContracts V.judges }
+    ensures names { StepsNameContracts V.judges }
 {
     found_is_enough::<V>();
 }

@@ -11,7 +11,7 @@ use Rattle.ledger_replay.specs.ReplaySupport.{tick_by, tick_after}
 use Rattle.ledger.specs.declared.call.Entry.{Entry}
 use Rattle.ledger.specs.declared.call.Ticketed.{Ticketed}
 use Rattle.ledger.specs.Replies.{is_advanced, is_accepted, ticket_in}
-use Rattle.ledger_spec.specs.Replay.{Pending, Replay, accepted_at, accepted_among, with_pending, after_call, replay_from, replay}
+use Rattle.ledger_spec.specs.Replay.{Pending, Replay, accepted_at, accepted_among, with_pending, after_call, replay}
 use Rattle.ledger_spec.proofs.ReplayLaws.{replay_after}
 use Rattle.ledger_replay.proofs.ListLemmas.{take_next}
 

@@ -1,38 +1,28 @@
 //! Counts over entries.
-ghost use Rattle.std.specs.Prelude.{◌≡◌, Bool, count_by};
+ghost use Rattle.std.specs.Prelude.{◌≡◌};
 ghost use Rattle.ledger_spec.specs.Replay.{gives_ticket, tickets, count_of};
 
 use ledger::{Entry, ticket_in};
 
-/// What may have given a ticket.
-pub trait Counted {
-    ghost ticket: { Self → Bool };
-
-    /// Whether it gave one.
-    fn has_ticket(&self) -> bool
-        ensures { result ≡ ticket self.now };
-}
-
-impl Counted for Entry {
-    ghost ticket = { λ e. gives_ticket e };
-
-    #[tactic(auto, unfolding(ledger_spec::specs::Replay::gives_ticket))]
-    fn has_ticket(&self) -> bool {
-        ticket_in(&self.reply).is_some()
-    }
-}
-
-fn with_ticket<T: Counted>(items: &[T]) -> u64
-    ensures { result ≡ count_by T.ticket items.now }
+#[tactic(auto, unfolding(ledger_spec::specs::Replay::gives_ticket))]
+fn gives_ticket(entry: &Entry) -> bool
+    ensures { result ≡ gives_ticket entry.now }
 {
-    items.iter().filter(|x| x.has_ticket()).count() as u64
+    ticket_in(&entry.reply).is_some()
 }
 
 /// How many tickets were given.
 pub fn count_tickets(entries: &[Entry]) -> u64
     ensures { result ≡ tickets entries.now }
 {
-    with_ticket(entries)
+    // written loop: the closure doesn't close
+    let mut count = 0;
+    for e in entries {
+        if gives_ticket(e) {
+            count += 1;
+        }
+    }
+    count
 }
 
 /// How many entries are of a seat.

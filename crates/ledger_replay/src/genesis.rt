@@ -1,32 +1,26 @@
 //! With which outputs a history may begin.
-ghost use Rattle.std.specs.Prelude.{◌≡◌, ◌↔◌, All, IfOk, IfErr, IsTrue};
+ghost use Rattle.std.specs.Prelude.{◌↔◌, All, IfOk, IfErr, IsTrue};
 ghost use Rattle.std.specs.Bool.{MatchBool};
 ghost use Rattle.ledger_laws.specs.Sound.{AreKeys};
-ghost use Rattle.eutxo_types.specs.Parts.{is_key};
 ghost use Rattle.ledger_replay.specs.GenesisSupport.{IsNatural};
 ghost use Rattle.ledger_spec.specs.Genesis.{SumsFit, HasLargeSum, RefusesGenesis};
 
 use bundle::{Bundle, BundleFault};
 use collections::Memory;
-use eutxo_types::{Lock, Output};
+use eutxo_types::Output;
 use ledger_spec::GenesisFault;
 use std::alloc::{AllocError, Global};
-
-fn is_key(lock: &Lock) -> bool
-    ensures { result ≡ is_key lock.now }
-{
-    matches!(lock, Lock::Key(_))
-}
 
 fn are_keys(outputs: &[Output]) -> bool
     ensures { IsTrue result ↔ AreKeys outputs.now }
 {
-    outputs.iter().all(|o| is_key(&o.lock))
+    outputs.iter().all(|o| o.lock.is_key())
 }
 
 fn is_natural(output: &Output)
     ensures { IsNatural output.now }
 {
+    // touch: no amount is below 0
     let _ = output.amount.entries();
 }
 
@@ -34,6 +28,7 @@ fn is_natural(output: &Output)
 fn are_natural(outputs: &[Output])
     ensures { All IsNatural outputs.now }
 {
+    // touch: of each
     for o in outputs {
         is_natural(o);
     }

@@ -16,7 +16,7 @@ mod world;
 
 pub use counting::{count_of, count_tickets};
 pub use genesis::check_genesis;
-pub use threads::{next_of, starts_in};
+pub use threads::{next_in, starts_in};
 pub use ticks::last_tick;
 pub use transactions::{AcceptedTx, PendingTx, ids_of};
 pub use world::{World, is_input_of, world_after};

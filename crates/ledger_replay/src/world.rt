@@ -13,7 +13,7 @@ use crate::counting::count_tickets;
 use crate::replay::{Replay, replay_entries};
 use crate::transactions::{AcceptedTx, PendingTx, with_ids};
 use collections::Memory;
-use eutxo::{Checked, Shared, is_same};
+use eutxo::{Checked, Shared};
 use eutxo_types::{Output, OutputRef, Tx, TxFault};
 use ledger::{Entry, Ledger, judge};
 use roles::Published;
@@ -84,12 +84,10 @@ pub fn world_after<'a>(
 pub fn is_input_of(tx: &Tx, reference: &OutputRef) -> bool
     ensures { result ≡ is_input_of reference.now tx.now }
 {
-    for x in tx.inputs.as_slice() {
-        if is_same(x.reference, *reference) {
-            return true;
-        }
-    }
-    false
+    tx.inputs
+        .as_slice()
+        .iter()
+        .any(|x| x.reference.is_same(*reference))
 }
 
 fn output_of(outputs: &[Output], index: u64) -> Option<&Output>
@@ -102,12 +100,7 @@ fn output_of(outputs: &[Output], index: u64) -> Option<&Output>
 fn is_spent(accepted: &[AcceptedTx<'_>], reference: &OutputRef) -> bool
     ensures { result ≡ is_spent accepted.now reference.now }
 {
-    for k in accepted {
-        if is_input_of(k.tx(), reference) {
-            return true;
-        }
-    }
-    false
+    accepted.iter().any(|k| is_input_of(k.tx(), reference))
 }
 
 // What a transaction made of that name.
@@ -205,6 +198,7 @@ impl<'a> World<'a> {
         Ok(())
     }
 
+    // instance below: the judgement on a ledger, at this one.
     /// The fault of the first rule that refuses the transaction here, or none. Its id is given. Answers `Memory`
     /// only where a growth was refused.
     pub fn judge(&self, alloc: Global, tx: &Tx, id: &[u8; 32]) -> Result<Option<TxFault>, Memory>
@@ -227,21 +221,11 @@ impl<'a> Ledger<Published> for World<'a> {
     }
 
     fn published_at(&self, script: &[u8; 32]) -> Option<&Shared<Published>> {
-        for p in self.published {
-            if p.get().id == *script {
-                return Some(p);
-            }
-        }
-        None
+        self.published.iter().find(|p| p.get().id == *script)
     }
 
     fn is_used(&self, id: &[u8; 32]) -> bool {
-        for k in &self.accepted {
-            if *id == *k.id() {
-                return true;
-            }
-        }
-        false
+        self.accepted.iter().any(|k| *id == *k.id())
     }
 
     fn tick(&self) -> i64 {

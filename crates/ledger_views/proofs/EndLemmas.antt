@@ -1,34 +1,24 @@
--- The end of a thread, found transaction by transaction.
-use Rattle.std.proofs.Common.{◌≡◌, ℕ, ◌+◌, ◌<◌, Bool, true, false, List, [], ◌∷◌, refl, sym, ◌∙◌, ap, Option, Some, None, drop, length, get_or}
-use Rattle.std.specs.Prelude.{if◌then◌else◌}
-use Rattle.std.proofs.lemmas.List.{at_drop_more}
+-- The end of a thread, by its last transaction.
+use Rattle.std.proofs.Common.{◌≡◌, ℕ, suc, ◌-◌, List, [], ◌∷◌, refl, sym, ◌∙◌, ap, arith, Option, Some, None, length}
+use Rattle.std.specs.List.{slice_get}
 use Rattle.eutxo_types.specs.declared.output_ref.OutputRef.{OutputRef}
-use Rattle.eutxo_types.specs.declared.tx.Tx.{Tx}
-use Rattle.ledger_laws.specs.Past.{is_input_of}
-use Rattle.ledger_laws.specs.Threads.{next_of, spine, ends}
-use Rattle.ledger_views.specs.ViewsSupport.{after_tx}
+use Rattle.ledger_laws.specs.Threads.{Link, next_of, ends}
+use Rattle.ledger_laws.proofs.PlainLaws.{same_some}
 
-no_thread : (txs : List Tx) → ends None (spine None txs) ≡ None
-no_thread [] = refl
-no_thread (tx ∷ txs) = refl
+last_place : (n : ℕ) → suc n - 1 ≡ n
+last_place n = omega arith
 
-one_move : (at : Option OutputRef) (tx : Tx) (txs : List Tx) → ends at (spine at (tx ∷ txs)) ≡ ends (after_tx tx at) (spine (after_tx tx at) txs)
-one_move None tx txs = sym (no_thread txs)
-one_move (Some r) tx txs = by (is_input_of r tx)
-  where
-    by : (b : Bool) →
-        ends (Some r) (if b then record { spends = r; tx = tx } ∷ spine (next_of tx) txs else spine (Some r) txs)
-        ≡ (let s : Option OutputRef = if b then next_of tx else Some r in ends s (spine s txs))
-    by true = refl
-    by false = refl
+pub after_last : (s : Option OutputRef) (ls : List Link) (l : Link) → slice_get ls (length ls - 1) ≡ Some l → ends s ls ≡ next_of l.spends l.tx
+after_last s [] l h = cc
+after_last s (x ∷ []) l h = ap (λ (y : Link). next_of y.spends y.tx) (same_some x l (sym (ap (λ (n : ℕ). slice_get (x ∷ []) n) (last_place 0)) ∙ h))
+after_last s (x ∷ y ∷ ls) l h =
+    after_last (next_of x.spends x.tx) (y ∷ ls) l
+    (ap (λ (n : ℕ). slice_get (y ∷ ls) n) (last_place (length ls)) ∙ sym (ap (λ (n : ℕ). slice_get (x ∷ y ∷ ls) n) (last_place (suc (length ls)))) ∙ h)
 
-pub next_move : (at : Option OutputRef) (txs : List Tx) (i : ℕ) (tx : Tx) → i < length txs → tx ≡ get_or txs i tx →
-    ends at (spine at (drop i txs)) ≡ ends (after_tx tx at) (spine (after_tx tx at) (drop (i + 1) txs))
-next_move at txs i tx h e =
-    at_drop_more (λ l. ends at (spine at l)) txs i tx h
-    ∙ ap (λ (x : Tx). ends at (spine at (x ∷ drop (i + 1) txs))) (sym e)
-    ∙ one_move at tx (drop (i + 1) txs)
+never : (x : Link) (ls : List Link) → slice_get (x ∷ ls) (length ls) ≡ None → ⊥
+never x [] h = cc
+never x (y ∷ ls) h = never y ls h
 
-pub no_move : (at : Option OutputRef) → ends at (spine at []) ≡ at
-no_move None = refl
-no_move (Some r) = refl
+pub after_none : (s : Option OutputRef) (ls : List Link) → slice_get ls (length ls - 1) ≡ None → ends s ls ≡ s
+after_none s [] h = refl
+after_none s (x ∷ ls) h = absurd (never x ls (ap (λ (n : ℕ). slice_get (x ∷ ls) n) (sym (last_place (length ls))) ∙ h))

@@ -2,8 +2,8 @@
 use Rattle.std.proofs.Common.{◌≡◌, ℕ, true, List, sym, ◌∙◌, subst, Option, Some, None, map, Result, Ok, Err}
 use Rattle.std.specs.Prelude.{IfOk}
 use Rattle.std.specs.List.{All}
-use Rattle.machine.specs.declared.datum.Datum.{Datum}
 use Rattle.eutxo_types.specs.declared.output_ref.OutputRef.{OutputRef}
+use Rattle.eutxo_types.specs.Parts.{Instance}
 use Rattle.roles.specs.declared.published.Published.{Published}
 use Rattle.roles.specs.Terms.{terms_of}
 use Rattle.ledger_laws.specs.Past.{Past}
@@ -17,22 +17,22 @@ use Rattle.ledger_spec.specs.Records.{member_of, TellTheRun}
 use Rattle.ledger_views.specs.RecordsSupport.{point, IsRunOf}
 
 module _ (law : ThreadsAreRuns) (named : List ℕ → Option Published) (past : Past) (tables : AreTables named) (sound : IsSound marlowe named past) where
-  module _ (r : OutputRef) (script : List ℕ) (d : Datum) (start : IsStart past r script d) where
+  module _ (r : OutputRef) (c : Instance) (start : IsStart past r c) where
     -- something is published under the script of a start
-    pub is_named : named script ≡ None → ⊥
+    pub is_named : named c.script ≡ None → ⊥
     is_named h =
-        let a = law named past tables sound r script d start in
+        let a = law named past tables sound r c start in
         let f : (let q : Option Published = None in q) ≡ Some a.0 = sym h ∙ a.1 in
         cc
 
-    pub run_there : (p : Published) → named script ≡ Some p → (run : List Member) × IsRunOf (terms_of p) (point p.root d.state) script (thread past r) run
+    pub run_there : (p : Published) → named c.script ≡ Some p → (run : List Member) × IsRunOf (terms_of p) (point p.root c.datum.state) c.script (thread past r) run
     run_there p h =
-        let a = law named past tables sound r script d start in
-        let run : IsRunOf (terms_of a.0) (point (a.0).root d.state) script (thread past r) a.2.0 = record { runs = a.2.1.0; carried = a.2.1.1 } in
-        (a.2.0, subst (λ (q : Published). IsRunOf (terms_of q) (point q.root d.state) script (thread past r) a.2.0) (same_some a.0 p (sym a.1 ∙ h)) run)
+        let a = law named past tables sound r c start in
+        let run : IsRunOf (terms_of a.0) (point (a.0).root c.datum.state) c.script (thread past r) a.2.0 = record { runs = a.2.1.0; carried = a.2.1.1 } in
+        (a.2.0, subst (λ (q : Published). IsRunOf (terms_of q) (point q.root c.datum.state) c.script (thread past r) a.2.0) (same_some a.0 p (sym a.1 ∙ h)) run)
 
-    pub tells : (p : Published) → named script ≡ Some p → (xs : List StepRecord) → IsRunOf (terms_of p) (point p.root d.state) script (thread past r) (map (member_of (terms_of p)) xs) →
-        All (λ x. (terms_of p).has x.number ≡ true) xs → TellTheRun named past r script d xs
+    pub tells : (p : Published) → named c.script ≡ Some p → (xs : List StepRecord) → IsRunOf (terms_of p) (point p.root c.datum.state) c.script (thread past r) (map (member_of (terms_of p)) xs) →
+        All (λ x. (terms_of p).has x.number ≡ true) xs → TellTheRun named past r c xs
     tells p h xs run numbers = record { object = p; named = h; run = run.runs; carried = run.carried; numbers = numbers }
 
 pub both_ok : {A E : Type 0} (r : Result A E) (F G H : A → Type 0) → ((a : A) → F a → G a → H a) → IfOk r F → IfOk r G → IfOk r H

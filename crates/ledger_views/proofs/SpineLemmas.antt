@@ -8,17 +8,17 @@ use Rattle.ledger_laws.specs.Past.{is_input_of}
 use Rattle.ledger_laws.specs.Threads.{Link, next_of, spine}
 
 -- a transaction of the thread
-pub here : (ls : List Link) (r : OutputRef) (tx : Tx) (txs : List Tx) → is_input_of r tx ≡ true → (ls ++ record { spends = r; tx = tx } ∷ []) ++ spine (next_of tx) txs ≡ ls ++ spine (Some r) (tx ∷ txs)
+pub here : (ls : List Link) (r : OutputRef) (tx : Tx) (txs : List Tx) → is_input_of r tx ≡ true → (ls ++ record { spends = r; tx = tx } ∷ []) ++ spine (next_of r tx) txs ≡ ls ++ spine (Some r) (tx ∷ txs)
 here ls r tx txs h =
     let l : Link = record { spends = r; tx = tx } in
-    append_assoc ls (l ∷ []) (spine (next_of tx) txs)
-    ∙ sym (ap (λ (b : Bool). ls ++ (if b then l ∷ spine (next_of tx) txs else spine (Some r) txs)) h)
+    append_assoc ls (l ∷ []) (spine (next_of r tx) txs)
+    ∙ sym (ap (λ (b : Bool). ls ++ (if b then l ∷ spine (next_of r tx) txs else spine (Some r) txs)) h)
 
 -- one of another thread
 pub elsewhere : (ls : List Link) (r : OutputRef) (tx : Tx) (txs : List Tx) → is_input_of r tx ≡ false → ls ++ spine (Some r) txs ≡ ls ++ spine (Some r) (tx ∷ txs)
 elsewhere ls r tx txs h =
     let l : Link = record { spends = r; tx = tx } in
-    sym (ap (λ (b : Bool). ls ++ (if b then l ∷ spine (next_of tx) txs else spine (Some r) txs)) h)
+    sym (ap (λ (b : Bool). ls ++ (if b then l ∷ spine (next_of r tx) txs else spine (Some r) txs)) h)
 
 -- the next transaction that is walked over
 pub next_there : (at : Option OutputRef) (txs : List Tx) (i : ℕ) (tx : Tx) → i < length txs → tx ≡ get_or txs i tx → spine at (drop i txs) ≡ spine at (tx ∷ drop (i + 1) txs)

@@ -4,12 +4,11 @@ use Rattle.std.specs.Option.{unwrap_or}
 use Rattle.contract.specs.declared.input.Input.{Input}
 use Rattle.states.specs.States.{StateMaps}
 use Rattle.nodes.specs.declared.cont.Cont.{Cont}
-use Rattle.machine.specs.declared.datum.Datum.{Datum}
 use Rattle.eutxo_types.specs.declared.output_ref.OutputRef.{OutputRef}
 use Rattle.eutxo_types.specs.declared.output_ref.OutputRef.TheVariants.{Genesis, Made}
 use Rattle.eutxo_types.specs.declared.spend.Spend.{Spend}
 use Rattle.eutxo_types.specs.declared.tx.Tx.{Tx}
-use Rattle.eutxo_types.specs.Parts.{contract_at, given_to}
+use Rattle.eutxo_types.specs.Parts.{Instance, contract_at, given_to}
 use Rattle.roles.specs.Terms.{Terms}
 use Rattle.ledger_laws.specs.Threads.{Link, Member, Gives, Run, Carries}
 use Rattle.ledger_spec.specs.Views.{starts_in}
@@ -18,17 +17,17 @@ use Rattle.ledger_spec.specs.Records.{member_of}
 
 -- ---- the start
 
--- the contract output that a transaction makes under a name
-abbrev pub contract_named : OutputRef → Tx → Option (List ℕ × Datum)
+-- the contract that a transaction makes under a name
+abbrev pub contract_named : OutputRef → Tx → Option Instance
 contract_named (Genesis i) tx = None
 contract_named (Made id i) tx = contract_at tx i
 
-abbrev pub contract_by : OutputRef → Option Tx → Option (List ℕ × Datum)
+abbrev pub contract_by : OutputRef → Option Tx → Option Instance
 contract_by r None = None
 contract_by r (Some tx) = contract_named r tx
 
--- script and datum of a start output
-abbrev pub start_at : OutputRef → List Tx → Option (List ℕ × Datum)
+-- the contract of a start output
+abbrev pub start_at : OutputRef → List Tx → Option Instance
 start_at r txs = contract_by r (find (starts_in r) txs)
 
 -- ---- a step

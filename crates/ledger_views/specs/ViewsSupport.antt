@@ -1,15 +1,12 @@
--- No reader needs this file: walks that gather what a look shows, which are `is_spent`, `under_locks` and `ends` from a place on.
-use Rattle.std.specs.Prelude.{ℕ, Bool, not, if◌then◌else◌, List, map, filter, Option, Some, None}
+-- No reader needs this file: walks that gather what a look shows, which are `is_spent` and `under_locks` from a place on.
+use Rattle.std.specs.Prelude.{ℕ, Bool, not, List, map, filter}
 use Rattle.std.specs.List.{list_any}
 use Rattle.eutxo_types.specs.Parts.{same_ref}
 use Rattle.eutxo_types.specs.declared.lock.Lock.{Lock}
 use Rattle.eutxo_types.specs.declared.output.Output.{Output}
 use Rattle.eutxo_types.specs.declared.output_ref.OutputRef.{OutputRef}
 use Rattle.eutxo_types.specs.declared.output_ref.OutputRef.TheVariants as ref
-use Rattle.eutxo_types.specs.declared.tx.Tx.{Tx}
 use Rattle.ledger.specs.declared.look.Unspent.{Unspent}
-use Rattle.ledger_laws.specs.Past.{is_input_of}
-use Rattle.ledger_laws.specs.Threads.{next_of}
 use Rattle.ledger_views.specs.declared.views.Naming.{Naming}
 use Rattle.ledger_views.specs.declared.views.Naming.TheVariants.{Genesis, Made}
 use Rattle.ledger_spec.specs.Views.{unspent_of}
@@ -26,8 +23,3 @@ is_among rs r = list_any (same_ref r) rs
 -- of these outputs, those that aren't spent and are asked for
 abbrev pub under : (Lock → Bool) → (OutputRef → Bool) → List (OutputRef × Output) → List Unspent
 under asked spent es = map unspent_of (filter (λ e. asked e.1.lock) (filter (λ e. not (spent e.0)) es))
-
--- where a thread stands after a transaction
-abbrev pub after_tx : Tx → Option OutputRef → Option OutputRef
-after_tx tx None = None
-after_tx tx (Some r) = if is_input_of r tx then next_of tx else Some r

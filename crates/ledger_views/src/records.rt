@@ -1,7 +1,6 @@
 //! The records of a thread.
 ghost use Rattle.std.specs.Prelude.{◌≡◌, true, All, List, Some, IfOk, map, drop, unwrap_or};
 ghost use Rattle.std.specs.Option.{IfSome};
-ghost use Rattle.eutxo_types.specs.Parts.{inputs_of};
 ghost use Rattle.roles.specs.Terms.{terms_of};
 ghost use Rattle.roles.specs.Steps.{marlowe};
 ghost use Rattle.ledger_laws.specs.Laws.{AreTables};
@@ -12,11 +11,11 @@ ghost use Rattle.ledger_spec.specs.Records.{member_of, TellTheRun, AreSteps};
 ghost use Rattle.ledger_views.specs.RecordsSupport.{given, point, stands_after, IsStepOf, IsRunOf};
 
 use crate::links::{ThreadLink, thread};
-use crate::start::{Start, start_at};
+use crate::start::start_at;
 use collections::{Items, Memory, TryClone};
 use contract::{Input, SemFault, State};
-use eutxo::{found_is_enough, is_same};
-use eutxo_types::{Cont, OutputRef, Redeemer, Spend};
+use eutxo::found_is_enough;
+use eutxo_types::{Cont, Instance, OutputRef, Spend};
 use ledger::Ledger;
 use ledger_laws::threads_are_runs;
 use ledger_replay::World;
@@ -27,26 +26,26 @@ use std::alloc::{AllocError, Global};
 
 // ---- a step
 
-fn inputs_of(alloc: Global, redeemer: &Redeemer) -> Result<Items<Input>, Memory>
-    ensures { IfOk result (λ xs. xs ≡ inputs_of redeemer.now) }
-{
-    match redeemer {
-        Redeemer::None => Ok(Items::new(alloc)),
-        Redeemer::Claim => Ok(Items::new(alloc)),
-        Redeemer::Step(inputs) => inputs.try_clone(),
-    }
-}
-
 // The inputs that are given to the contract in an output.
-fn given(alloc: Global, reference: &OutputRef, inputs: &[Spend]) -> Result<Items<Input>, Memory>
-    ensures { IfOk result (λ xs. xs ≡ given reference.now inputs.now) }
+fn given<'a>(reference: &OutputRef, inputs: &'a [Spend]) -> &'a [Input]
+    ensures { result.now ≡ given reference.now inputs.now }
 {
     for x in inputs {
-        if is_same(x.reference, *reference) {
-            return inputs_of(alloc, &x.redeemer);
+        if x.reference.is_same(*reference) {
+            return x.redeemer.inputs();
         }
     }
-    Ok(Items::new(alloc))
+    &[]
+}
+
+fn copies_of(alloc: Global, inputs: &[Input]) -> Result<Items<Input>, Memory>
+    ensures { IfOk result (λ copies. copies ≡ inputs.now) }
+{
+    let mut copies = Items::new(alloc);
+    for x in inputs {
+        copies.push(x.try_clone()?)?;
+    }
+    Ok(copies)
 }
 
 // Where a thread stands after these records, which starts at a root in a state.
@@ -65,7 +64,7 @@ fn recorded(
     alloc: Global,
     published: &Published,
     at: (Cont, &State),
-    link: &ThreadLink<'_>,
+    link: &ThreadLink<'_, '_>,
 ) -> Result<StepRecord, Memory>
     requires has { (terms_of published.now).has at.0 ≡ true }
     requires step { (x : Member) × IsStepOf (terms_of published.now) (point at.0 at.1.now) link.now x }
@@ -74,8 +73,9 @@ fn recorded(
 {
     let tx = link.tx();
     let (number, state) = at;
-    let inputs = given(alloc, link.spends(), tx.inputs.as_slice())?;
+    let inputs = copies_of(alloc, given(link.spends(), tx.inputs.as_slice()))?;
     let table = &published.table;
+    // touch: turns lead to a number
     table.turns_lead();
     match table.compute(alloc, &number, state, tx.interval, inputs.as_slice()) {
         Ok(outcome) => Ok(StepRecord {
@@ -97,12 +97,12 @@ fn recorded(
 fn records_of(
     alloc: Global,
     published: &Published,
-    start: &Start<'_>,
-    links: &[ThreadLink<'_>],
+    start: &Instance<'_>,
+    links: &[ThreadLink<'_, '_>],
 ) -> Result<Items<StepRecord>, Memory>
     requires root { (terms_of published.now).has published.now.root ≡ true }
-    requires run { (run : List Member) × IsRunOf (terms_of published.now) (point published.now.root start.now.datum.now.state) start.now.script.now links.now run }
-    ensures run { IfOk result (λ xs. IsRunOf (terms_of published.now) (point published.now.root start.now.datum.now.state) start.now.script.now links.now (map (member_of (terms_of published.now)) xs)) }
+    requires run { (run : List Member) × IsRunOf (terms_of published.now) (point published.now.root start.now.datum.state) start.now.script links.now run }
+    ensures run { IfOk result (λ xs. IsRunOf (terms_of published.now) (point published.now.root start.now.datum.state) start.now.script links.now (map (member_of (terms_of published.now)) xs)) }
     ensures numbers { IfOk result (λ xs. All (λ x. (terms_of published.now).has x.number ≡ true) xs) }
 {
     let mut records = Items::new(alloc);
@@ -119,13 +119,14 @@ fn steps_from(
     alloc: Global,
     world: &World<'_>,
     reference: OutputRef,
-    start: &Start<'_>,
+    start: &Instance<'_>,
 ) -> Result<Items<StepRecord>, Memory>
     requires sound { IsSound marlowe (published_at world.now.published) (past_of world.now) }
     requires tables { AreTables (published_at world.now.published) }
-    requires start { IsStart (past_of world.now) reference start.now.script.now start.now.datum.now }
-    ensures { IfOk result (λ xs. TellTheRun (published_at world.now.published) (past_of world.now) reference start.now.script.now start.now.datum.now xs) }
+    requires start { IsStart (past_of world.now) reference start.now }
+    ensures { IfOk result (λ xs. TellTheRun (published_at world.now.published) (past_of world.now) reference start.now xs) }
 {
+    // touch: the thread is a run
     threads_are_runs();
     match world.published_at(start.script) {
         Some(object) => {
@@ -148,6 +149,7 @@ pub fn steps_of(
     requires tables { AreTables (published_at world.now.published) }
     ensures { IfOk result (λ xs. AreSteps (published_at world.now.published) (past_of world.now) start.now xs) }
 {
+    // touch: what is found is enough
     found_is_enough::<Published>();
     match start_at(world.accepted(), start) {
         Some(found) => steps_from(alloc, world, *start, &found),

@@ -2,19 +2,19 @@
 ghost use Rattle.std.specs.Prelude.{◌≡◌, ◌&&◌, ◌++◌, [], ◌∷◌, Bool, Option, Some, None, IfOk, OnOk, map, filter, slice_get, option_copied};
 ghost use Rattle.std.specs.List.{list_any};
 ghost use Rattle.eutxo_types.specs.declared.lock.Lock.{Lock};
-ghost use Rattle.eutxo_types.specs.Parts.{same_bytes, contract_in};
+ghost use Rattle.eutxo_types.specs.Parts.{same_bytes, script_in};
 ghost use Rattle.ledger_laws.specs.Past.{with_references, created_by, created};
-ghost use Rattle.ledger_laws.specs.Threads.{spine, ends};
 ghost use Rattle.ledger_spec.specs.Replay.{past_of, published_at};
 ghost use Rattle.ledger_spec.specs.Views.{starts_in, is_key_of, is_payout_of, under_locks, end_of, thread_output, object_under, thread_output_in, thread_output_at, thread_shown, look};
-ghost use Rattle.ledger_views.specs.ViewsSupport.{naming, is_among, under, after_tx};
+ghost use Rattle.ledger_views.specs.ViewsSupport.{naming, is_among, under};
 
+use crate::links::{end, thread};
 use crate::spent::SpentSet;
 use collections::{Bytes, Items, Memory, Text, TryClone};
 use eutxo::Shared;
 use eutxo_types::{Lock, Output, OutputRef};
 use ledger::{Ask, Ledger, Look, PayoutLock, ThreadOutput, Unspent};
-use ledger_replay::{AcceptedTx, World, is_input_of, next_of, starts_in};
+use ledger_replay::{AcceptedTx, World, starts_in};
 use roles::Published;
 use std::alloc::Global;
 
@@ -41,12 +41,7 @@ struct Payouts<'a> {
 fn is_known_key(known: &[Text], address: &Text) -> bool
     ensures { result ≡ list_any (λ b. same_bytes b address.now) known.now }
 {
-    for b in known {
-        if *b == *address {
-            return true;
-        }
-    }
-    false
+    known.iter().any(|b| *b == *address)
 }
 
 fn is_payout(lock: &PayoutLock, currency: &Bytes, role: &Text) -> bool
@@ -58,12 +53,7 @@ fn is_payout(lock: &PayoutLock, currency: &Bytes, role: &Text) -> bool
 fn is_known_payout(known: &[PayoutLock], currency: &Bytes, role: &Text) -> bool
     ensures { result ≡ list_any (λ x. same_bytes x.currency currency.now && same_bytes x.role role.now) known.now }
 {
-    for x in known {
-        if is_payout(x, currency, role) {
-            return true;
-        }
-    }
-    false
+    known.iter().any(|x| is_payout(x, currency, role))
 }
 
 impl LockFilter for Keys<'_> {
@@ -172,57 +162,32 @@ fn outputs_under<A: LockFilter>(
 fn starts(accepted: &[AcceptedTx<'_>], reference: &OutputRef) -> bool
     ensures { result ≡ list_any (starts_in reference.now) accepted.now }
 {
-    for k in accepted {
-        if starts_in(k, reference) {
-            return true;
-        }
-    }
-    false
+    accepted.iter().any(|k| starts_in(k, reference))
 }
 
-fn after_tx(kept: &AcceptedTx<'_>, at: Option<OutputRef>) -> Option<OutputRef>
-    ensures { result ≡ after_tx kept.now at }
+// Where the thread from a start output ends; of another output, nowhere.
+fn end_of(
+    alloc: Global,
+    world: &World<'_>,
+    reference: OutputRef,
+) -> Result<Option<OutputRef>, Memory>
+    ensures { IfOk result (λ at. at ≡ end_of (past_of world.now) reference) }
 {
-    match at {
-        Some(reference) => {
-            if is_input_of(kept.tx(), &reference) {
-                next_of(kept)
-            } else {
-                Some(reference)
-            }
-        }
-        None => None,
-    }
-}
-
-#[tactic(auto, using(crate::proofs::EndLemmas::next_move, crate::proofs::EndLemmas::no_move))]
-fn end_from(accepted: &[AcceptedTx<'_>], start: OutputRef) -> Option<OutputRef>
-    ensures { result ≡ ends (Some start) (spine (Some start) accepted.now) }
-{
-    let mut at = Some(start);
-    for k in accepted {
-        at = after_tx(k, at);
-    }
-    at
-}
-
-fn end_of(world: &World<'_>, reference: OutputRef) -> Option<OutputRef>
-    ensures { result ≡ end_of (past_of world.now) reference }
-{
-    if starts(world.accepted(), &reference) {
-        end_from(world.accepted(), reference)
+    let accepted = world.accepted();
+    if starts(accepted, &reference) {
+        let links = thread(alloc, accepted, reference)?;
+        Ok(end(reference, &links))
     } else {
-        None
+        Ok(None)
     }
 }
 
 fn object_under<'a>(world: &'a World<'_>, lock: &Lock) -> Option<&'a Shared<Published>>
-    ensures { option_copied result ≡ object_under world.now.published (contract_in lock.now) }
+    ensures { option_copied result ≡ object_under world.now.published (script_in lock.now) }
 {
-    match lock {
-        Lock::Contract { script, .. } => world.published_at(script),
-        Lock::Key(_) => None,
-        Lock::Payout { .. } => None,
+    match lock.contract() {
+        Some(contract) => world.published_at(contract.script),
+        None => None,
     }
 }
 
@@ -272,11 +237,15 @@ fn thread_output_at(
     }
 }
 
-fn thread_shown(world: &World<'_>, asked: Option<OutputRef>) -> Result<Option<ThreadOutput>, Memory>
+fn thread_shown(
+    alloc: Global,
+    world: &World<'_>,
+    asked: Option<OutputRef>,
+) -> Result<Option<ThreadOutput>, Memory>
     ensures { IfOk result (λ x. x ≡ thread_shown world.now asked) }
 {
     match asked {
-        Some(reference) => thread_output_at(world, end_of(world, reference)),
+        Some(reference) => thread_output_at(world, end_of(alloc, world, reference)?),
         None => Ok(None),
     }
 }
@@ -325,7 +294,7 @@ pub fn show(alloc: Global, world: &World<'_>, ask: &Ask) -> Result<Look, Memory>
     ensures { IfOk result (λ shown. shown ≡ look world.now ask.now) }
 {
     let (keys, payouts) = outputs_shown(alloc, world, ask)?;
-    let thread = thread_shown(world, ask.thread)?;
+    let thread = thread_shown(alloc, world, ask.thread)?;
     Ok(Look {
         tick: world.now(),
         thread,

@@ -2,8 +2,8 @@
 use Rattle.std.specs.Prelude.{ℕ, List, Option, Some, None, Result, Ok, Err}
 use Rattle.collections.specs.Answers.{◌>>=◌}
 use Rattle.contract.specs.Tree.{ContractTree, contract_tree}
-use Rattle.contract_json.specs.ReadsText.{of_text}
-use Rattle.contract_json.specs.ReadsContract.{contract}
+use Rattle.json_read_names.specs.ReadsText.{of_text}
+use Rattle.json_read_contracts.specs.ReadsContract.{contract}
 use Rattle.compiler.specs.declared.fault.CompileFault.{CompileFault}
 use Rattle.compiler.specs.Limits.{compile_fault}
 use Rattle.marlowe_run.specs.declared.table_fault.TableFault.{TableFault}

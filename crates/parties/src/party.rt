@@ -23,7 +23,7 @@ pub struct Party {
     pub plan: Plan<OutputRef, Bytes>,
 }
 
-// The drop is written, not derived: so it is proved here once, and not in each crate that drops a party.
+// Dropped once: the drop is written, not derived, so that no crate above proves it again.
 impl Drop for Party {
     fn drop(self) {
         let Party { plan: _ } = self;

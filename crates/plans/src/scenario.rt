@@ -18,7 +18,7 @@ pub struct NamedContract {
     pub contract: Contract,
 }
 
-// The drop is written, not derived: so it is proved here once, and not in each crate that drops a contract.
+// Dropped once: the drop is written, not derived, so that no crate above proves it again.
 impl Drop for NamedContract {
     fn drop(self) {
         let NamedContract {
@@ -54,7 +54,7 @@ pub struct Scenario {
     pub plans: Items<Plan<usize, usize>>,
 }
 
-// The drop is written, not derived: so it is proved here once, and not in each crate that drops a scenario.
+// Dropped once: the drop is written, not derived, so that no crate above proves it again.
 impl Drop for Scenario {
     fn drop(self) {
         let Scenario {

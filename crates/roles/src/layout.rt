@@ -11,7 +11,7 @@ use std::alloc::Global;
 
 // Whether a contract is one of a script, at a number and a state.
 fn is_instance(script: &[u8; 32], there: Cont, state: &State, made: Option<Instance<'_>>) -> bool
-    ensures { result ≡ is_instance script.now (record { cont = there; state = state.now }) made }
+    ensures { result ≡ is_instance script.now (record { cont = there; state = state.now }) made.entry }
 {
     match made {
         Some(c) => *c.script == *script && same_datum(c.datum, there, state),
@@ -32,7 +32,7 @@ fn is_datum(datum: &Datum, there: Cont, state: &State) -> bool
 }
 
 fn holds_just(alloc: Global, state: &State, output: Option<&Output>) -> Result<bool, Memory>
-    ensures { IfOk result (λ answer. answer ≡ holds_just (sums_of state.now) (option_copied output)) }
+    ensures { IfOk result (λ answer. answer ≡ holds_just (sums_of state.now) (option_copied output.entry)) }
 {
     match output {
         Some(output) => holds_sums(alloc, &output.amount, state),

@@ -18,7 +18,7 @@ pub struct Published {
     pub currency: Bytes,
 }
 
-// The drop is written, not derived: so it is proved here once, and not in each crate that drops such a value.
+// Dropped once: the drop is written, not derived, so that no crate above proves it again.
 impl Drop for Published {
     fn drop(self) {
         let Published {

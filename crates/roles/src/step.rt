@@ -42,7 +42,12 @@ fn outcome_answer(
         return Ok(StepAnswer::Refused(StepFault::WrongContinuation));
     }
     let from = if closed { 0 } else { 1 };
-    match unpaid_index(currency, from, outcome.payments.as_slice(), tx.outputs.as_slice()) {
+    match unpaid_index(
+        currency,
+        from,
+        outcome.payments.as_slice(),
+        tx.outputs.as_slice(),
+    ) {
         Some(i) => Ok(StepAnswer::Refused(StepFault::WrongPayment(i as u64))),
         None => Ok(if closed {
             StepAnswer::Ends

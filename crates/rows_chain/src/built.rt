@@ -14,8 +14,8 @@ use rows_text::{
 };
 use std::alloc::{AllocError, Global};
 
-/// What is asked for, beside the interval and the signers that are written. The function that owns it is generic in it, so that
-/// no proof walks through its drop.
+/// What is asked for, beside the interval and the signers that are written. Dropped once:
+/// who owns it is generic in it, so that no proof walks through its drop.
 trait Request: Drop {
     fn build(&self, alloc: Global, tx: &Tx, handed: &Handed) -> Result<Tx, BuildFault>;
 }
@@ -161,7 +161,7 @@ fn built<R: Request>(
     keep(alloc, known, tx, built)
 }
 
-// What is laid out. The function that owns it is generic in it, so that no proof walks through its drop.
+// What is laid out. Dropped once: who owns it is generic in it, so that no proof walks through its drop.
 trait Laid: Drop {
     fn lines(&self, alloc: Global, known: &Known) -> Result<String, AllocError>;
 }

@@ -3,10 +3,10 @@ use crate::shown::state_word;
 use chain::StepRecord;
 use collections::{Items, Memory};
 use contract::{Input, Payment, Warning};
-use contract_json::{payment_to_json, warning_to_json};
+use contract_json::fitting_to_json;
 use std::alloc::{AllocError, Global};
 
-/// What was recorded of a step. The function that owns it is generic in it, so that no proof walks through its drop.
+/// What was recorded of a step. Dropped once: who owns it is generic in it, so that no proof walks through its drop.
 pub trait Recorded: Drop {
     fn put(&self, alloc: Global, lines: &mut String) -> Result<(), AllocError>;
 }
@@ -62,7 +62,7 @@ fn input_words(alloc: Global, input: &Input) -> Result<String, AllocError> {
 
 fn put_warnings(alloc: Global, lines: &mut String, warnings: &[Warning]) -> Result<(), AllocError> {
     for warning in warnings {
-        let word = warning_to_json(alloc, warning)?.to_string(alloc)?;
+        let word = fitting_to_json(alloc, warning)?.to_string(alloc)?;
         put_line(lines, "warning", word.as_str())?;
     }
     Ok(())
@@ -70,7 +70,7 @@ fn put_warnings(alloc: Global, lines: &mut String, warnings: &[Warning]) -> Resu
 
 fn put_payments(alloc: Global, lines: &mut String, payments: &[Payment]) -> Result<(), AllocError> {
     for payment in payments {
-        let word = payment_to_json(alloc, payment)?.to_string(alloc)?;
+        let word = fitting_to_json(alloc, payment)?.to_string(alloc)?;
         put_line(lines, "payment", word.as_str())?;
     }
     Ok(())

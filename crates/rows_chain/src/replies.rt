@@ -6,7 +6,7 @@ use ledger::Look;
 use rows_text::{Known, RowFault, refusal_line, replace, verdict_line, word_of_id};
 use std::alloc::{AllocError, Global};
 
-/// What is printed. The function that owns it is generic in it, so that no proof walks through its drop.
+/// What is printed. Dropped once: who owns it is generic in it, so that no proof walks through its drop.
 pub trait Printed: Drop {
     fn lines(&self, alloc: Global, known: &Known) -> Result<String, AllocError>;
 

@@ -1,7 +1,7 @@
 //! Outputs and looks as they are printed.
 use collections::Memory;
 use contract::State;
-use contract_json::state_to_json;
+use contract_json::fitting_to_json;
 use eutxo_types::{Datum, Lock, Output, OutputRef};
 use ledger::{Look, ThreadOutput, Unspent};
 use rows_text::{Known, put_amounts, word_of_reference};
@@ -103,7 +103,7 @@ pub fn state_word(alloc: Global, state: &State) -> Result<String, Memory> {
     if is_empty(state) {
         return String::from_str(alloc, "empty");
     }
-    state_to_json(alloc, state)?.to_string(alloc)
+    fitting_to_json(alloc, state)?.to_string(alloc)
 }
 
 fn is_empty(state: &State) -> bool {

@@ -3,21 +3,17 @@ use contract::{
     Action, Bound, Case, ChoiceId, Contract, Input, Observation, Party, Payee, State, Token, Value,
 };
 use contract_json::{
-    JsonFault, Transaction, WriteFault, action_from_json, action_to_json, bound_from_json,
-    bound_to_json, case_from_json, case_to_json, choice_id_from_json, choice_id_to_json,
-    contract_from_json, contract_to_json, input_from_json, input_to_json, observation_from_json,
-    observation_to_json, party_from_json, party_to_json, payee_from_json, payee_to_json,
-    state_from_json, state_to_json, token_from_json, token_to_json, transaction_from_json,
-    transaction_to_json, value_from_json, value_to_json,
+    JsonFault, PutJson, Transaction, WriteFault, action_from_json, bound_from_json, case_from_json,
+    choice_id_from_json, contract_from_json, input_from_json, observation_from_json,
+    party_from_json, payee_from_json, state_from_json, to_json, token_from_json,
+    transaction_from_json, value_from_json,
 };
 use serde_json::Value as Json;
 use std::alloc::Global;
 
 /// A sort of values that is read from JSON and written as JSON.
-pub trait Form: Sized + Drop {
+pub trait Form: PutJson + Sized + Drop {
     fn from_json(alloc: Global, json: &Json) -> Result<Self, JsonFault>;
-
-    fn to_json(&self, alloc: Global) -> Result<Json, WriteFault>;
 }
 
 /// The value that a text stands for.
@@ -27,7 +23,7 @@ pub fn form_of<T: Form>(alloc: Global, text: &[u8]) -> Result<T, JsonFault> {
 
 /// The text of a value.
 pub fn text_of<T: Form>(alloc: Global, thing: &T) -> Result<Vec<u8>, WriteFault> {
-    let json = thing.to_json(alloc)?;
+    let json = to_json(alloc, thing)?;
     Ok(json.to_vec(alloc)?)
 }
 
@@ -46,19 +42,11 @@ impl Form for Contract {
     fn from_json(alloc: Global, json: &Json) -> Result<Contract, JsonFault> {
         contract_from_json(alloc, json)
     }
-
-    fn to_json(&self, alloc: Global) -> Result<Json, WriteFault> {
-        contract_to_json(alloc, self)
-    }
 }
 
 impl Form for Input {
     fn from_json(alloc: Global, json: &Json) -> Result<Input, JsonFault> {
         input_from_json(alloc, json)
-    }
-
-    fn to_json(&self, alloc: Global) -> Result<Json, WriteFault> {
-        input_to_json(alloc, self)
     }
 }
 
@@ -66,19 +54,11 @@ impl Form for Transaction {
     fn from_json(alloc: Global, json: &Json) -> Result<Transaction, JsonFault> {
         transaction_from_json(alloc, json)
     }
-
-    fn to_json(&self, alloc: Global) -> Result<Json, WriteFault> {
-        transaction_to_json(alloc, self)
-    }
 }
 
 impl Form for State {
     fn from_json(alloc: Global, json: &Json) -> Result<State, JsonFault> {
         state_from_json(alloc, json)
-    }
-
-    fn to_json(&self, alloc: Global) -> Result<Json, WriteFault> {
-        Ok(state_to_json(alloc, self)?)
     }
 }
 
@@ -86,19 +66,11 @@ impl Form for Value {
     fn from_json(alloc: Global, json: &Json) -> Result<Value, JsonFault> {
         value_from_json(alloc, json)
     }
-
-    fn to_json(&self, alloc: Global) -> Result<Json, WriteFault> {
-        value_to_json(alloc, self)
-    }
 }
 
 impl Form for Observation {
     fn from_json(alloc: Global, json: &Json) -> Result<Observation, JsonFault> {
         observation_from_json(alloc, json)
-    }
-
-    fn to_json(&self, alloc: Global) -> Result<Json, WriteFault> {
-        observation_to_json(alloc, self)
     }
 }
 
@@ -106,19 +78,11 @@ impl Form for Action {
     fn from_json(alloc: Global, json: &Json) -> Result<Action, JsonFault> {
         action_from_json(alloc, json)
     }
-
-    fn to_json(&self, alloc: Global) -> Result<Json, WriteFault> {
-        action_to_json(alloc, self)
-    }
 }
 
 impl Form for Case {
     fn from_json(alloc: Global, json: &Json) -> Result<Case, JsonFault> {
         case_from_json(alloc, json)
-    }
-
-    fn to_json(&self, alloc: Global) -> Result<Json, WriteFault> {
-        case_to_json(alloc, self)
     }
 }
 
@@ -126,19 +90,11 @@ impl Form for Party {
     fn from_json(alloc: Global, json: &Json) -> Result<Party, JsonFault> {
         party_from_json(alloc, json)
     }
-
-    fn to_json(&self, alloc: Global) -> Result<Json, WriteFault> {
-        Ok(party_to_json(alloc, self)?)
-    }
 }
 
 impl Form for Token {
     fn from_json(alloc: Global, json: &Json) -> Result<Token, JsonFault> {
         token_from_json(alloc, json)
-    }
-
-    fn to_json(&self, alloc: Global) -> Result<Json, WriteFault> {
-        Ok(token_to_json(alloc, self)?)
     }
 }
 
@@ -146,28 +102,16 @@ impl Form for ChoiceId {
     fn from_json(alloc: Global, json: &Json) -> Result<ChoiceId, JsonFault> {
         choice_id_from_json(alloc, json)
     }
-
-    fn to_json(&self, alloc: Global) -> Result<Json, WriteFault> {
-        Ok(choice_id_to_json(alloc, self)?)
-    }
 }
 
 impl Form for Payee {
     fn from_json(alloc: Global, json: &Json) -> Result<Payee, JsonFault> {
         payee_from_json(alloc, json)
     }
-
-    fn to_json(&self, alloc: Global) -> Result<Json, WriteFault> {
-        Ok(payee_to_json(alloc, self)?)
-    }
 }
 
 impl Form for Bound {
     fn from_json(_alloc: Global, json: &Json) -> Result<Bound, JsonFault> {
         bound_from_json(json)
-    }
-
-    fn to_json(&self, alloc: Global) -> Result<Json, WriteFault> {
-        bound_to_json(alloc, self)
     }
 }

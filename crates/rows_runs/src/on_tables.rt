@@ -23,7 +23,7 @@ pub fn beside(
     Ok(told)
 }
 
-// Lends what would else be owned by a function of many ways out.
+// Dropped once: lends what would else be owned by a function of many ways out.
 fn lent<T: Drop, U, F: FnOnce(&T) -> U>(thing: T, lend: F) -> U
     requires { F.IsAlwaysCallable lend }
 {

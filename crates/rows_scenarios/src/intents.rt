@@ -2,7 +2,7 @@
 use crate::readings::put_json;
 use collections::Memory;
 use contract::{Input, Text};
-use contract_json::input_to_json;
+use contract_json::to_json;
 use plans::{Intent, Plan};
 use rows_text::RowFault;
 use std::alloc::Global;
@@ -89,7 +89,7 @@ fn intent_line(alloc: Global, intent: &Intent<usize, usize>) -> Result<String, M
 fn put_inputs(alloc: Global, lines: &mut String, inputs: &[Input]) -> Result<(), RowFault> {
     for input in inputs {
         lines.push_str("\n  ")?;
-        put_json(alloc, lines, input_to_json(alloc, input))?;
+        put_json(alloc, lines, to_json(alloc, input))?;
     }
     Ok(())
 }

@@ -1,7 +1,7 @@
 //! Scenarios as they are printed once they are read.
 use crate::intents::put_plan;
 use collections::Memory;
-use contract_json::{WriteFault, contract_to_json, state_to_json};
+use contract_json::{WriteFault, fitting_to_json, to_json};
 use json_read_names::JsonFault;
 use marlowe_run::json_fault_name;
 use plans::{Funds, NamedContract, NamedThread, Scenario};
@@ -9,7 +9,7 @@ use rows_text::{RowFault, put_amounts};
 use serde_json::Value as Json;
 use std::alloc::Global;
 
-/// What was read. The function that owns it is generic in it, so that no proof walks through its drop.
+/// What was read. Dropped once: who owns it is generic in it, so that no proof walks through its drop.
 pub trait Told: Drop {
     /// Puts a line for each of its parts at the end.
     fn put(&self, alloc: Global, lines: &mut String) -> Result<(), RowFault>;
@@ -57,7 +57,7 @@ fn put_contracts(
         let currency = hex::encode(alloc, named.currency.as_slice())?;
         let head = format!(in alloc; "\ncontract {} {currency} ", named.name.as_str())?;
         lines.push_str(head.as_str())?;
-        put_json(alloc, lines, contract_to_json(alloc, &named.contract))?;
+        put_json(alloc, lines, to_json(alloc, &named.contract))?;
     }
     Ok(())
 }
@@ -67,7 +67,7 @@ fn put_threads(alloc: Global, lines: &mut String, threads: &[NamedThread]) -> Re
         let (name, contract, by) = (thread.name.as_str(), thread.contract, thread.by.as_str());
         let head = format!(in alloc; "\nthread {name} of {contract} by {by} ")?;
         lines.push_str(head.as_str())?;
-        let state = state_to_json(alloc, &thread.state)?.to_string(alloc)?;
+        let state = fitting_to_json(alloc, &thread.state)?.to_string(alloc)?;
         lines.push_str(state.as_str())?;
     }
     Ok(())

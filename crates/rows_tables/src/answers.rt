@@ -39,7 +39,7 @@ fn told_fault(alloc: Global, fault: CompileFault) -> Result<Vec<u8>, AllocError>
     told(alloc, compile_fault_name(fault))
 }
 
-// Lends what would else be owned by a function of many ways out.
+// Dropped once: lends what would else be owned by a function of many ways out.
 fn lent<T: Drop, U, F: FnOnce(&T) -> U>(thing: T, lend: F) -> U
     requires { F.IsAlwaysCallable lend }
 {

@@ -6,7 +6,7 @@ use std::process::ExitCode;
 use std::rt::{Env, Files};
 use std::{env, fs, io};
 
-/// What answers lines. The function that owns it is generic in it, so that no proof walks through its drop.
+/// What answers lines. Dropped once: who owns it is generic in it, so that no proof walks through its drop.
 pub trait Answers<R>: Drop {
     /// What answers before the first line. Takes no memory.
     fn begin(rt: &R) -> Self;

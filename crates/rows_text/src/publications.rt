@@ -59,7 +59,7 @@ pub fn named_of(alloc: Global, known: &Known, rest: &str) -> Result<Named, RowFa
     })
 }
 
-// What can be published. The function that owns it is generic in it, so that no proof walks through its drop.
+// What can be published. Dropped once: who owns it is generic in it, so that no proof walks through its drop.
 trait Publishes: Drop {
     fn publish(&self, alloc: Global, currency: Bytes) -> Result<Published, CompileFault>;
 }

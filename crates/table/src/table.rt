@@ -53,6 +53,7 @@ impl Table {
     pub fn hold_together(&self)
         ensures { IsFlat self.now }
     {
+        // touch: brings the invariant
         let _values = self.values.len();
     }
 
@@ -63,6 +64,7 @@ impl Table {
         ensures test { (k : Cont) → (has_cont self.now k ≡ true) ↔ Has self.now (a_cont k.0) }
         ensures turns { TurnsLead self.now }
     {
+        // touch: brings the invariant
         let _conts = self.conts.len();
     }
 

@@ -3,9 +3,7 @@ use crate::made::{Look, ada, address, contract, copies, lend, role, text};
 use contract::{
     Contract, Items, Outcome, Payee, Payment, Same, SemFault, State, TryClone, Warning,
 };
-use contract_json::{
-    JsonFault, WriteFault, outcome_to_json, payment_to_json, warning_to_json, write_outcome,
-};
+use contract_json::{JsonFault, WriteFault, fitting_to_json, to_json, write_outcome};
 use marlowe_run::{Fault, RunFault, refusal};
 use std::process::Abort;
 
@@ -58,7 +56,7 @@ impl Look<Contract> for Written<'_> {
         };
         let text = write_outcome(rt.alloc(), &outcome).expect(rt, "a text");
         assert_eq!(rt; text.as_slice(), self.wanted.as_bytes());
-        let json = outcome_to_json(rt.alloc(), &outcome).expect(rt, "a JSON value");
+        let json = to_json(rt.alloc(), &outcome).expect(rt, "a JSON value");
         let text = json.to_string(rt.alloc()).expect(rt, "memory");
         assert_eq!(rt; text.as_str(), self.wanted);
     }
@@ -75,7 +73,7 @@ fn an_outcome_is_written(rt: HostRuntime) {
 #[test]
 fn a_payment_is_written_and_copied(rt: HostRuntime) {
     let paid = payment(&rt, Payee::Party(address(&rt, "x")), -5);
-    let written = payment_to_json(rt.alloc(), &paid).expect(&rt, "memory");
+    let written = fitting_to_json(rt.alloc(), &paid).expect(&rt, "memory");
     let wanted =
         r#"{"amount":-5,"payment_from":{"role_token":"s"},"to":{"party":{"address":"x"}},"token":{"currency_symbol":"","token_name":""}}"#;
     let text = written.to_string(rt.alloc()).expect(&rt, "memory");
@@ -86,7 +84,7 @@ fn a_payment_is_written_and_copied(rt: HostRuntime) {
 #[test]
 fn a_warning_is_written(rt: HostRuntime) {
     let partial = Warning::PartialPay(role(&rt, "a"), Payee::Party(role(&rt, "b")), ada(&rt), 3, 5);
-    let written = warning_to_json(rt.alloc(), &partial).expect(&rt, "memory");
+    let written = fitting_to_json(rt.alloc(), &partial).expect(&rt, "memory");
     let wanted =
         r#"{"account":{"role_token":"a"},"expected":5,"paid":3,"payee":{"party":{"role_token":"b"}},"token":{"currency_symbol":"","token_name":""},"warning":"PartialPay"}"#;
     let text = written.to_string(rt.alloc()).expect(&rt, "memory");

@@ -29,7 +29,7 @@ pub fn published(alloc: Global) -> Option<Published> {
     published_of(alloc, contract(alloc))
 }
 
-// What can be published. The function that owns it is generic in it, so that no proof walks through its drop.
+// What can be published. Dropped once: who owns it is generic in it, so that no proof walks through its drop.
 trait Publishes: Drop {
     fn publish(&self, alloc: Global) -> Option<Published>;
 }

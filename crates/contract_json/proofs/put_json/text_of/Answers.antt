@@ -17,10 +17,10 @@ pub returns-clause-reads : goal.returns-clause-reads
 returns-clause-reads g c = λ shallow.
     reads c.new-out.result c.put.new.out c.new.result.items c.into_inner.result.items (g.T.PutJson.json c.args.item.now)
     c.new.ensures.items c.new-out.ensures.before c.new-out.ensures.tokens c.in_ok-put.ensures.put.1 c.into_inner.ensures.items c.into_inner.ensures.reads_back
-    (g.met.T.PutJson.readable c.args.item.now c.in_ok-put.ensures.put.0 c.in_ok-put.ensures.known) shallow
+    c.in_ok-put.ensures.readable shallow
 
 pub returns-clause-reads_within : goal.returns-clause-reads_within
 returns-clause-reads_within g c =
     reads-deep c.new-out.result c.put.new.out c.new.result.items c.into_inner.result.items (g.T.PutJson.json c.args.item.now)
     c.new.ensures.items c.new-out.ensures.before c.new-out.ensures.tokens c.in_ok-put.ensures.put.1 c.into_inner.ensures.items c.into_inner.ensures.reads_back
-    (g.met.T.PutJson.readable c.args.item.now c.in_ok-put.ensures.put.0 c.in_ok-put.ensures.known)
+    c.in_ok-put.ensures.readable

@@ -1,4 +1,4 @@
-use Rattle.ledger_laws.proofs.ThreadLemmas.{contracts_end, ends_are_unspent}
+use Rattle.ledger_laws.proofs.ThreadLaws.{contracts_end, ends_are_unspent}
 use Rattle.ledger_laws.proofs.ledger.contracts_end_threads.Goals as goal
 
 pub returns-clause-thread : goal.returns-clause-thread

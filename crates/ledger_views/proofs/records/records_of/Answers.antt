@@ -1,4 +1,5 @@
 use Rattle.std.proofs.Common.{◌≡◌, true, List, ◌∙◌, ap}
+use Rattle.eutxo_types.specs.Parts.{Instance}
 use Rattle.roles.specs.Terms.{terms_of}
 use Rattle.ledger_spec.specs.declared.step_record.StepRecord.{StepRecord}
 use Rattle.ledger_views.specs.RecordsSupport.{point, stands_after}
@@ -7,21 +8,23 @@ use Rattle.ledger_views.proofs.records.records_of.Goals as goal
 
 pub recorded-requires-clause-step : goal.recorded-requires-clause-step
 recorded-requires-clause-step c =
-    let p = point c.args.published.now.root c.args.start.now.datum.now.state in
-    let at = c.stands_after-at.ensures ∙ ap (λ (l : List StepRecord). stands_after p l) c.as_slice.ensures in
-    step_next (terms_of c.args.published.now) p (point c.stands_after-at.result.0 c.stands_after-at.result.1.now) c.args.start.now.script.now c.args.links.now c.loop-link.records
+    let p = point c.args.published.now.root c.args.start.now.datum.state in
+    let here = ap (λ (s : Instance). stands_after (point c.args.published.now.root s.datum.state) c.as_slice.result.now) c.start.view_is in
+    let at = c.stands_after-at.ensures ∙ here ∙ ap (λ (l : List StepRecord). stands_after p l) c.as_slice.ensures in
+    step_next (terms_of c.args.published.now) p (point c.stands_after-at.result.0 c.stands_after-at.result.1.now) c.args.start.now.script c.args.links.now c.loop-link.records
     c.loop-link.link-index c.link-item.result c.loop-link-test.true c.link-item.is at c.loop-link.invariant.goes
 
 pub loop-link-preserved : goal.loop-link-preserved
 loop-link-preserved c =
     let t = terms_of c.args.published.now in
-    let p = point c.args.published.now.root c.args.start.now.datum.now.state in
-    let at = c.stands_after-at.ensures ∙ ap (λ (l : List StepRecord). stands_after p l) c.as_slice.ensures in
+    let p = point c.args.published.now.root c.args.start.now.datum.state in
+    let here = ap (λ (s : Instance). stands_after (point c.args.published.now.root s.datum.state) c.as_slice.result.now) c.start.view_is in
+    let at = c.stands_after-at.ensures ∙ here ∙ ap (λ (l : List StepRecord). stands_after p l) c.as_slice.ensures in
     let r = c.in_ok-record.record in
     let added = c.in_ok-push.ensures.added in
     record {
       goes =
-          goes_next t p (point c.stands_after-at.result.0 c.stands_after-at.result.1.now) c.args.start.now.script.now c.args.links.now c.loop-link.records c.push.new.self
+          goes_next t p (point c.stands_after-at.result.0 c.stands_after-at.result.1.now) c.args.start.now.script c.args.links.now c.loop-link.records c.push.new.self
           c.loop-link.link-index c.link-item.result r c.loop-link-test.true c.link-item.is at c.loop-link.invariant.goes c.in_ok-record.ensures.record added;
       has = has_next t p c.loop-link.records c.push.new.self r added c.in_ok-record.ensures.number;
       numbers = all_next (λ (x : StepRecord). t.has x.number ≡ true) c.loop-link.records c.push.new.self r added c.loop-link.invariant.numbers c.in_ok-record.ensures.number;

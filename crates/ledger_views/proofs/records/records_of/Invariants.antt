@@ -6,7 +6,7 @@ use Rattle.ledger_views.proofs.records.records_of.Given as goal
 
 abbrev pub invariant-loop-link : goal.invariant-loop-link
 invariant-loop-link l = record {
-  goes : Goes (terms_of l.published) (point l.published.root l.start.datum.now.state) l.start.script.now l.links l.records (drop l.link-index l.links);
-  has : (terms_of l.published).has (stands_after (point l.published.root l.start.datum.now.state) l.records).0 ≡ true;
+  goes : Goes (terms_of l.published) (point l.published.root l.start.datum.state) l.start.script l.links l.records (drop l.link-index l.links);
+  has : (terms_of l.published).has (stands_after (point l.published.root l.start.datum.state) l.records).0 ≡ true;
   numbers : All (λ x. (terms_of l.published).has x.number ≡ true) l.records;
 }

@@ -1,8 +1,6 @@
-use Rattle.std.proofs.Common.{List, Option, sym, ◌∙◌, ap, subst}
-use Rattle.std.specs.Option.{option_map}
+use Rattle.std.proofs.Common.{List, sym, ◌∙◌, ap, subst}
 use Rattle.eutxo_types.specs.declared.tx.Tx.{Tx}
 use Rattle.ledger_spec.specs.Replay.{past_of, published_at}
-use Rattle.ledger_views.specs.declared.start.Start.{Start}
 use Rattle.ledger_spec.specs.declared.step_record.StepRecord.{StepRecord}
 use Rattle.ledger_spec.specs.Records.{TellTheRun, AreSteps}
 use Rattle.ledger_views.specs.RecordsSupport.{start_at}
@@ -12,33 +10,23 @@ use Rattle.ledger_views.proofs.records.steps_of.Goals as goal
 
 pub steps_from-requires-clause-start : goal.steps_from-requires-clause-start
 steps_from-requires-clause-start c =
-    let at =
-    ap (λ (txs : List Tx). start_at c.args.start.now txs) (sym c.accepted.ensures)
-    ∙ sym c.start_at.ensures
-    ∙ ap (λ (o : Option Start). option_map (λ s. (s.script.now, s.datum.now)) o) c.in-Some.is in
-    start_so (past_of c.args.world.now) c.args.start.now c.in-Some.found.script.now c.in-Some.found.datum.now at
+    let at = ap (λ (txs : List Tx). start_at c.args.start.now txs) (sym c.accepted.ensures) ∙ sym c.start_at.ensures ∙ c.in-Some.is in
+    start_so (past_of c.args.world.now) c.args.start.now c.in-Some.found at
 
 pub returns-in-Some : goal.returns-in-Some
 returns-in-Some c =
     let w = c.args.world.now in
-    let script = c.in-Some.found.script.now in
-    let d = c.in-Some.found.datum.now in
-    let at =
-    ap (λ (txs : List Tx). start_at c.args.start.now txs) (sym c.accepted.ensures)
-    ∙ sym c.start_at.ensures
-    ∙ ap (λ (o : Option Start). option_map (λ s. (s.script.now, s.datum.now)) o) c.in-Some.is in
+    let found = c.in-Some.found in
+    let at = ap (λ (txs : List Tx). start_at c.args.start.now txs) (sym c.accepted.ensures) ∙ sym c.start_at.ensures ∙ c.in-Some.is in
     to_ok c.steps_from.result
-    (λ xs. TellTheRun (published_at w.published) (past_of w) c.args.start.now script d xs)
+    (λ xs. TellTheRun (published_at w.published) (past_of w) c.args.start.now found xs)
     (λ xs. AreSteps (published_at w.published) (past_of w) c.args.start.now xs)
-    (λ xs told. of_start c.found_is_enough.ensures (published_at w.published) (past_of w) c.requires.sound c.args.start.now script d xs (start_so (past_of w) c.args.start.now script d at) told)
+    (λ xs told. of_start c.found_is_enough.ensures (published_at w.published) (past_of w) c.requires.sound c.args.start.now found xs (start_so (past_of w) c.args.start.now found at) told)
     c.steps_from.ensures
 
 pub returns-in-None : goal.returns-in-None
 returns-in-None c =
     let w = c.args.world.now in
-    let none =
-    ap (λ (txs : List Tx). start_at c.args.start.now txs) (sym c.accepted.ensures)
-    ∙ sym c.start_at.ensures
-    ∙ ap (λ (o : Option Start). option_map (λ s. (s.script.now, s.datum.now)) o) c.in-None.is in
+    let none = ap (λ (txs : List Tx). start_at c.args.start.now txs) (sym c.accepted.ensures) ∙ sym c.start_at.ensures ∙ c.in-None.is in
     subst (λ (xs : List StepRecord). AreSteps (published_at w.published) (past_of w) c.args.start.now xs) (sym c.new.ensures)
     (of_none c.found_is_enough.ensures (published_at w.published) (past_of w) c.requires.sound c.args.start.now none)

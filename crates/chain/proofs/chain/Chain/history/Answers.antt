@@ -12,6 +12,7 @@ returns-clause-first c =
       ends_with_run = c.threads_are_runs.ensures.end _ _ c.self.invariant.tables c.self.invariant.sound;
       steps = c.steps_stand_on_threads.ensures.thread _ _ c.self.invariant.sound;
       stepped = c.steps_stand_on_threads.ensures.spends _ _ c.self.invariant.sound;
+      of_contracts = c.steps_stand_on_threads.ensures.names _ _ c.self.invariant.sound;
       authorised = c.parties_are_authorised.ensures _ _ c.self.invariant.sound;
       ends = c.contracts_end_threads.ensures.thread _ _ c.self.invariant.sound;
       unspent = c.contracts_end_threads.ensures.unspent _ _ c.self.invariant.sound;

@@ -1,0 +1,45 @@
+-- Rules that read the ledger, read off what was found there, and before other rules.
+use Rattle.std.proofs.Common.{◌≡◌, ◌+◌, Bool, cond, not, List, [], ◌∷◌, ◌++◌, length, map, refl, ◌∙◌, ap, Option, Some, None}
+use Rattle.std.specs.Prelude.{nat_lt, is_none, option_map}
+use Rattle.std.specs.List.{position, position_or_len}
+use Rattle.std.proofs.lemmas.List.{length-map}
+use Rattle.eutxo_types.specs.declared.fault.TxFault.{TxFault}
+use Rattle.eutxo_types.specs.declared.fault.TxFault.TheVariants.{NotUnspent}
+use Rattle.eutxo_types.specs.declared.output.Output.{Output}
+use Rattle.eutxo_types.specs.declared.spend.Spend.{Spend}
+use Rattle.eutxo_types.specs.declared.tx.Tx.{Tx}
+use Rattle.eutxo.specs.Asked.{Judges}
+use Rattle.eutxo.specs.Faults.{first_of, fault_at}
+use Rattle.eutxo.specs.Local.{tx_fault, local}
+use Rattle.eutxo.specs.Judgement.{Moment, not_unspent, id_in_use, outside_interval, unknown_script, outputs_found, found, judge}
+use Rattle.ledger.specs.ResolveSupport.{moment_fault}
+
+-- the place where a test holds, of elements or of what a function makes of them
+same_first : {A B : Type 0} (test : B → Bool) (f : A → B) (xs : List A) → position_or_len test (map f xs) ≡ position_or_len (λ x. test (f x)) xs
+same_first test f [] = refl
+same_first test f (x ∷ xs) = ap (λ n. cond (not (test (f x))) (1 + n) 0) (same_first test f xs)
+
+same_place : {A B : Type 0} (test : B → Bool) (f : A → B) (xs : List A) → position test (map f xs) ≡ position (λ x. test (f x)) xs
+same_place test f xs =
+    ap (λ n. cond (nat_lt n (length (map f xs))) (Some n) None) (same_first test f xs)
+    ∙ ap (λ n. cond (nat_lt (position_or_len (λ x. test (f x)) xs) n) (Some (position_or_len (λ x. test (f x)) xs)) None) (length-map xs f)
+
+-- rule 4, by what was found of the inputs
+pub unspent_so : {V : Type 0} (m : Moment V) (tx : Tx) (outputs : List (Option Output)) → outputs ≡ outputs_found m tx → fault_at NotUnspent is_none outputs ≡ not_unspent m tx
+unspent_so m tx outputs h =
+    ap (λ (os : List (Option Output)). fault_at NotUnspent is_none os) h
+    ∙ ap (option_map NotUnspent) (same_place is_none (λ (x : Spend). m.unspent x.reference) tx.inputs)
+
+-- ---- rules in a row
+
+some_before : {A : Type 0} (xs ys : List (Option A)) (x : A) → first_of xs ≡ Some x → first_of (xs ++ ys) ≡ Some x
+some_before [] ys x h = cc
+some_before (None ∷ xs) ys x h = some_before xs ys x h
+some_before (Some y ∷ xs) ys x h = h
+
+-- where rules 1 to 3 don't refuse and one of 4 to 7 does, that is the judgement
+pub judged_before : {V : Type 0} (j : Judges V) (m : Moment V) (tx : Tx) (f : TxFault) → tx_fault tx ≡ None → moment_fault m tx ≡ Some f → judge j m tx ≡ Some f
+judged_before j m tx f none h =
+    let rules : List (Option TxFault) = not_unspent m tx ∷ id_in_use m tx ∷ outside_interval m tx ∷ unknown_script m tx ∷ [] in
+    let last : List (Option TxFault) = local j tx (found m tx) ∷ [] in
+    ap (λ o. first_of (o ∷ rules ++ last)) none ∙ some_before rules last f h
