@@ -46,10 +46,9 @@ pub(crate) fn check_payouts(payouts: &[Unspent]) -> Result<(), BuildFault>
 fn awaited(lock: &Lock) -> Option<RoleToken<'_>>
     ensures { result ≡ awaited_token lock.now }
 {
-    match lock {
-        Lock::Key(_) => None,
-        Lock::Payout { currency, role } => Some(RoleToken::new(currency, role)),
-        Lock::Contract { .. } => None,
+    match lock.payout() {
+        None => None,
+        Some(payout) => Some(RoleToken::new(payout.currency, payout.role)),
     }
 }
 

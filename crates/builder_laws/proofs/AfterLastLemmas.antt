@@ -20,7 +20,8 @@ use Rattle.builder_spec.specs.Causes.{is_much}
 use Rattle.builder_spec.specs.Steps.{Thread, thread_terms, step_walk, own_output, hinders_thread, hinders_on}
 use Rattle.builder_spec.proofs.HoldingLaws.{entries-empty, most, much_of}
 use Rattle.builder_spec.proofs.FundsLaws.{amount_of-sums_in}
-use Rattle.builder_laws.specs.AfterLast.{closing, Closes, AnyoneCloses, NoThreadHinders}
+use Rattle.builder_spec.specs.Closings.{closing, Closes}
+use Rattle.builder_laws.specs.AfterLast.{AnyoneCloses, NoThreadHinders}
 use Rattle.builder_laws.proofs.LookThreadLemmas.{IsThread, thread_so}
 
 -- what hinders it: the answer of the transaction function, or that too much is spent

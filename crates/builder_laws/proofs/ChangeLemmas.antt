@@ -21,7 +21,7 @@ use Rattle.builder_spec.specs.Steps.{Thread, step_walk, step_outputs_of, step_fr
 use Rattle.builder_spec.specs.Starts.{accounts_of, fresh_state, start_front, start_output}
 use Rattle.builder_spec.proofs.FundsLaws.{funded, all_covered, wanted-accounts, amount_of-sums_in}
 use Rattle.builder_spec.proofs.HoldingLaws.{amount_of-sums}
-use Rattle.builder_laws.specs.Change.{StepChangeIsTheRest, StartChangeIsTheRest}
+use Rattle.builder_spec.specs.Change.{StepChangeIsTheRest, StartChangeIsTheRest}
 use Rattle.builder_laws.proofs.LookThreadLemmas.{IsThread, thread_so}
 use Rattle.builder_laws.proofs.StepLemmas as stepping
 use Rattle.builder_laws.proofs.StartLemmas as starting

@@ -1,8 +1,7 @@
 -- When a layout is accepted after what a ledger accepted, however it came by it.
-use Rattle.std.specs.Prelude.{◌≡◌, ℕ, ℤ, List, ◌++◌, slice_get, Option, Some, None}
+use Rattle.std.specs.Prelude.{◌≡◌, ℕ, ℤ, List, ◌++◌, slice_get, All, Option, Some, None}
 use Rattle.eutxo_types.specs.declared.tx.Tx.{Tx}
 use Rattle.eutxo_types.specs.Fitting.{TxFits}
-use Rattle.eutxo_types.specs.Ids.{id_of}
 use Rattle.eutxo_types.specs.Spelling.{tx_bytes}
 use Rattle.eutxo.specs.Judgement.{judge}
 use Rattle.roles.specs.declared.published.Published.{Published}
@@ -14,26 +13,28 @@ use Rattle.builder_spec.specs.Claims.{claim_front, hinders_claim, layout_claim}
 use Rattle.ledger_laws.specs.Past.{Past}
 use Rattle.ledger_laws.specs.Sound.{moment}
 use Rattle.roles.specs.Steps.{marlowe}
-use Rattle.ledger_spec.specs.Open.{IsAlone, IsOpen}
+use Rattle.ledger_spec.specs.Open.{IsOpen}
 
--- no accepted transaction of other bytes has its id, a SHA-256 of them. That none other has it is the same where all fit their spelling, as each does that was spelled
-abbrev pub IsAloneByBytes : Past → Tx → Type 0
-IsAloneByBytes past tx = (n : ℕ) (other : Tx) → slice_get past.accepted n ≡ Some other → id_of other ≡ id_of tx → tx_bytes other ≡ tx_bytes tx
+-- the transaction and all that were accepted fit their spelling, as each does that was hashed
+pub record Fit (past : Past) (tx : Tx) : Type 0 where
+  pub fits : TxFits tx
+  pub accepted : All TxFits past.accepted
 
+-- so bytes tell it apart: an accepted transaction of its bytes is the same one
 abbrev pub BytesTellApart : Type 0
-BytesTellApart = (past : Past) (tx : Tx) → TxFits tx → ((n : ℕ) (other : Tx) → slice_get past.accepted n ≡ Some other → TxFits other) → IsAloneByBytes past tx → IsAlone past tx
+BytesTellApart = (past : Past) (tx other : Tx) (n : ℕ) → Fit past tx → slice_get past.accepted n ≡ Some other → tx_bytes other ≡ tx_bytes tx → other ≡ tx
 
 -- a step that nothing hinders is accepted then, where the thread's script is published as the look shows it
 abbrev pub StepsAreAcceptedAfter : Type 0
 StepsAreAcceptedAfter = (look : Look) (r : StepRequest) (e : Thread) (published : List ℕ → Option Published) (past : Past) (tick : ℤ) → look_thread look ≡ Some e → hinders_step look r ≡ None →
-    published e.shown.published.id ≡ Some e.shown.published → IsOpen past tick (step_spent r e) (layout_step look r) → judge marlowe (moment published past tick) (layout_step look r) ≡ None
+    published e.shown.published.id ≡ Some e.shown.published → Fit past (layout_step look r) → IsOpen past tick (step_spent r e) (layout_step look r) → judge marlowe (moment published past tick) (layout_step look r) ≡ None
 
 -- so is a start, where what is started is published under its id
 abbrev pub StartsAreAcceptedAfter : Type 0
 StartsAreAcceptedAfter = (r : StartRequest) (published : List ℕ → Option Published) (past : Past) (tick : ℤ) → hinders_start r ≡ None →
-    published r.published.id ≡ Some r.published → IsOpen past tick (start_front r) (layout_start r) → judge marlowe (moment published past tick) (layout_start r) ≡ None
+    published r.published.id ≡ Some r.published → Fit past (layout_start r) → IsOpen past tick (start_front r) (layout_start r) → judge marlowe (moment published past tick) (layout_start r) ≡ None
 
 -- and a claim
 abbrev pub ClaimsAreAcceptedAfter : Type 0
 ClaimsAreAcceptedAfter = (r : ClaimRequest) (published : List ℕ → Option Published) (past : Past) (tick : ℤ) → hinders_claim r ≡ None →
-    IsOpen past tick (r.payouts ++ claim_front r) (layout_claim r) → judge marlowe (moment published past tick) (layout_claim r) ≡ None
+    Fit past (layout_claim r) → IsOpen past tick (r.payouts ++ claim_front r) (layout_claim r) → judge marlowe (moment published past tick) (layout_claim r) ≡ None

@@ -1,5 +1,4 @@
 pub mod Accepting
 pub mod AfterPasts
 pub mod ShownThreads
-pub mod Change
 pub mod AfterLast

@@ -1,5 +1,5 @@
 //! What is left for the change.
-ghost use Rattle.builder_laws.specs.Change.{StepChangeIsTheRest, StartChangeIsTheRest};
+ghost use Rattle.builder_spec.specs.Change.{StepChangeIsTheRest, StartChangeIsTheRest};
 
 use semantics::{money_is_kept, payments_are_natural, transactions_end_quiet};
 

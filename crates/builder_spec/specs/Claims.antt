@@ -4,9 +4,8 @@ use Rattle.std.specs.List.{list_any, filter_map}
 use Rattle.names.specs.declared.party.Party.TheVariants.{Role}
 use Rattle.names.specs.declared.token.Token.{Token}
 use Rattle.eutxo_types.specs.declared.lock.Lock.{Lock}
-use Rattle.eutxo_types.specs.declared.lock.Lock.TheVariants.{Key, Payout, Contract}
 use Rattle.eutxo_types.specs.declared.tx.Tx.{Tx}
-use Rattle.eutxo_types.specs.Parts.{is_payout}
+use Rattle.eutxo_types.specs.Parts.{is_payout, payout_in}
 use Rattle.eutxo.specs.Faults.{first_of, is_empty}
 use Rattle.roles.specs.Steps.{role_token}
 use Rattle.ledger.specs.declared.look.Unspent.{Unspent}
@@ -20,9 +19,7 @@ use Rattle.builder_spec.specs.Laying.{by_key, by_claim, paid_to}
 
 -- the token for which a payout waits, of its currency and named as its role; another lock has none
 abbrev pub awaited_token : Lock → Option Token
-awaited_token (Key a) = None
-awaited_token (Payout currency role) = Some (role_token currency role)
-awaited_token (Contract script d) = None
+awaited_token lock = option_map (λ p. role_token p.currency p.role) (payout_in lock)
 
 abbrev pub tokens_awaited : List Unspent → List Token
 tokens_awaited payouts = filter_map (λ u. awaited_token u.output.lock) payouts

@@ -4,7 +4,9 @@ pub mod Fronts
 pub mod Causes
 pub mod Laying
 pub mod Steps
+pub mod Closings
 pub mod Starts
+pub mod Change
 pub mod Claims
 pub mod Built
 pub mod FrontsSupport

@@ -18,7 +18,7 @@ use Rattle.eutxo_types.specs.declared.tx.Tx.{Tx}
 use Rattle.eutxo.specs.declared.validator.StepAnswer.{StepAnswer}
 use Rattle.eutxo.specs.declared.validator.StepAnswer.TheVariants as answers
 use Rattle.eutxo.specs.Faults.{fault_if, fault_at, first_index, is_empty}
-use Rattle.eutxo_types.specs.Parts.{same_ref, inputs_of, is_contract, ContractLock, contract_in, Instance, contract_at, outputs_from}
+use Rattle.eutxo_types.specs.Parts.{same_ref, inputs_of, is_contract, ContractLock, contract_in, PayoutRole, payout_in, Instance, contract_at, outputs_from}
 use Rattle.eutxo.specs.Differing.{first_differing}
 use Rattle.eutxo.specs.Asked.{Stepping, Judges, refusal_of}
 
@@ -73,10 +73,12 @@ opens _ _ = false
 abbrev pub wrong_redeemer : List (Spend × Output) → Option TxFault
 wrong_redeemer spent = fault_at WrongRedeemer (λ x. not (opens x.0.redeemer x.1.lock)) spent
 
+abbrev pub lacks_payout : (List ℕ → List ℕ → Bool) → Option PayoutRole → Bool
+lacks_payout claims None = false
+lacks_payout claims (Some p) = not (claims p.currency p.role)
+
 abbrev pub lacks_role : (List ℕ → List ℕ → Bool) → Lock → Bool
-lacks_role claims (Key a) = false
-lacks_role claims (Payout currency role) = not (claims currency role)
-lacks_role claims (Contract script d) = false
+lacks_role claims lock = lacks_payout claims (payout_in lock)
 
 -- 11: the output of the input at this place is a payout, and what is spent beside it doesn't grant it
 abbrev pub role_missing : {V : Type 0} → Judges V → List (Spend × Output) → Option TxFault

@@ -81,10 +81,9 @@ pub fn wrong_redeemer(spent: &[Spent<'_>]) -> Option<TxFault>
 fn lacks_role<V: Validator>(spent: &[Spent<'_>], lock: &Lock) -> bool
     ensures { result ≡ lacks_role (V.judges.claims spent.now) lock.now }
 {
-    match lock {
-        Lock::Key(_) => false,
-        Lock::Payout { currency, role } => !V::claim(spent, currency, role),
-        Lock::Contract { .. } => false,
+    match lock.payout() {
+        None => false,
+        Some(payout) => !V::claim(spent, payout.currency, payout.role),
     }
 }
 

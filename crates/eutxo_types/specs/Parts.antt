@@ -59,6 +59,16 @@ contract_in (Key a) = None
 contract_in (Payout currency role) = None
 contract_in (Contract script d) = Some (record { script = script; datum = d })
 
+-- what a payout lock waits for: the role token of a currency
+pub record PayoutRole : Type 0 where
+  pub currency : List ℕ
+  pub role : List ℕ
+
+abbrev pub payout_in : Lock → Option PayoutRole
+payout_in (Key a) = None
+payout_in (Payout currency role) = Some (record { currency = currency; role = role })
+payout_in (Contract script d) = None
+
 -- ---- redeemers
 
 -- whether a redeemer steps a contract

@@ -22,7 +22,7 @@ pub use encode::encode_tx;
 pub use fault::TxFault;
 pub use id::tx_id;
 pub use laws::{no_transaction_begins_another, worked_transactions};
-pub use lock::{ContractLock, Lock};
+pub use lock::{ContractLock, Lock, PayoutRole};
 pub use machine::Datum;
 pub use output::Output;
 pub use output_ref::OutputRef;

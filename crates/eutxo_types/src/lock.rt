@@ -1,6 +1,6 @@
 //! Locks.
 ghost use Rattle.std.specs.Prelude.{◌≡◌, option_map};
-ghost use Rattle.eutxo_types.specs.Parts.{is_key, is_payout, is_contract, contract_in};
+ghost use Rattle.eutxo_types.specs.Parts.{is_key, is_payout, is_contract, contract_in, payout_in};
 
 use collections::{Bytes, Memory, Same, Text, TryClone};
 use machine::Datum;
@@ -35,6 +35,21 @@ impl<'a> Model for ContractLock<'a> {
     ghost coded = { Prim.hlevel (codes, datums.the_row.coded) };
 
     ghost view = { λ a. record { script = a.script.now; datum = a.datum.now } };
+}
+
+/// What a payout lock waits for, lent: the token of a currency symbol that is named as a role.
+#[derive(Drop)]
+pub struct PayoutRole<'a> {
+    pub currency: &'a Bytes,
+    pub role: &'a Text,
+}
+
+impl<'a> Model for PayoutRole<'a> {
+    ghost use Rattle.eutxo_types.specs.Parts as parts;
+
+    ghost Value = { parts.PayoutRole };
+
+    ghost view = { λ a. record { currency = a.currency.now; role = a.role.now } };
 }
 
 impl Lock {
@@ -79,6 +94,17 @@ impl Lock {
             Lock::Key(_) => None,
             Lock::Payout { .. } => None,
             Lock::Contract { script, datum } => Some(ContractLock { script, datum }),
+        }
+    }
+
+    /// The role that a payout waits for; of another lock, none.
+    pub fn payout(&self) -> Option<PayoutRole<'_>>
+        ensures { result ≡ payout_in self.now }
+    {
+        match self {
+            Lock::Key(_) => None,
+            Lock::Payout { currency, role } => Some(PayoutRole { currency, role }),
+            Lock::Contract { .. } => None,
         }
     }
 }

@@ -10,12 +10,13 @@ use Rattle.eutxo_types.specs.declared.tx.Tx.{Tx}
 use Rattle.eutxo.specs.Asked.{Judges}
 use Rattle.eutxo.specs.Found.{with_outputs}
 use Rattle.eutxo.specs.Judgement.{judge}
+use Rattle.eutxo_types.specs.Ids.{id_of}
 use Rattle.eutxo_types.specs.Parts.{is_contract, ContractLock, contract_in, is_step, inputs_of, Instance, lock_of}
 use Rattle.roles.specs.declared.published.Published.{Published}
 use Rattle.roles.specs.Terms.{IsTable, terms_of}
 use Rattle.roles.specs.Steps.{actor, authorised, marlowe}
 use Rattle.roles.specs.Sums.{sums_of}
-use Rattle.ledger_laws.specs.Past.{Past, before, after, unspent, unspent_at}
+use Rattle.ledger_laws.specs.Past.{Past, before, after, created, unspent, unspent_at}
 use Rattle.ledger_laws.specs.Threads.{thread, ends, IsMade, IsStart, StartsThread, Member, Run, contract_after, state_after, Carries}
 use Rattle.ledger_laws.specs.Sound.{moment, AreKeys, IsSound, IsMore}
 
@@ -85,6 +86,18 @@ IsPreserved past = (t : Token) → total_of (λ e. e.1.amount) t (unspent past) 
 
 abbrev pub TokensArePreserved : {V : Type 0} → Judges V → Type 0
 TokensArePreserved {V} j = (published : List ℕ → Option V) (past : Past) → IsSound j published past → IsPreserved past
+
+-- no two outputs that there ever were have one reference
+abbrev pub ReferencesAreSingle : Past → Type 0
+ReferencesAreSingle past =
+    (n m : ℕ) (a b : OutputRef × Output) → slice_get (created past) n ≡ Some a → slice_get (created past) m ≡ Some b → a.0 ≡ b.0 → n ≡ m
+
+-- and no two accepted transactions have one id
+abbrev pub IdsAreSingle : Past → Type 0
+IdsAreSingle past = (n m : ℕ) (s t : Tx) → slice_get past.accepted n ≡ Some s → slice_get past.accepted m ≡ Some t → id_of s ≡ id_of t → n ≡ m
+
+abbrev pub NamesAreSingle : {V : Type 0} → Judges V → Type 0
+NamesAreSingle {V} j = (published : List ℕ → Option V) (past : Past) → IsSound j published past → ReferencesAreSingle past × IdsAreSingle past
 
 -- no two inputs, of one accepted transaction or of two, name one output
 abbrev pub IsSpentOnce : Past → Type 0

@@ -1,34 +1,59 @@
 -- THE HEADLINE: whatever a ledger accepts, each contract's transactions are one run of that contract; and what is built of a request
 -- that nothing hinders is accepted.
-use Rattle.std.specs.Prelude.{◌≡◌, ℕ, List, ◌++◌, Option, Some, None}
+use Rattle.std.specs.Prelude.{◌≡◌, ℕ, ◌≤ℤ◌, List, ◌++◌, Option, Some, None, ◌⊎◌}
+use Rattle.contract.specs.declared.interval.Interval.{Interval}
+use Rattle.contract.specs.Tree.{contract_tree}
+use Rattle.evaluation.specs.Timeouts.{last}
+use Rattle.semantics.specs.Closing.{HasReached}
 use Rattle.machine.specs.declared.datum.Datum.{Datum}
 use Rattle.eutxo_types.specs.declared.tx.Tx.{Tx}
+use Rattle.eutxo_types.specs.declared.output_ref.OutputRef.{OutputRef}
+use Rattle.eutxo_types.specs.Fitting.{TxFits}
 use Rattle.eutxo_types.specs.Ids.{id_of}
+use Rattle.eutxo_types.specs.Parts.{Instance}
 use Rattle.roles.specs.declared.published.Published.{Published}
+use Rattle.roles.specs.Terms.{terms_of}
 use Rattle.ledger_laws.specs.Past.{Past}
-use Rattle.ledger_laws.specs.Laws.{EachIsARun, EndsWithItsRun, EachStepHasItsThread, ContractsAreStepped, EachIsAuthorised, EachContractEndsAThread, EachEndIsUnspent, AreFunded, AreOfTables, IsSpentOnce, IsPreserved, StepsAreOfContracts}
+use Rattle.ledger_laws.specs.Threads.{thread, ends, IsStart, StartsThread, Member, Run, Carries, contract_after, state_after}
+use Rattle.ledger_laws.specs.Laws.{ExactlyOne, EndsWithItsRun, EachStepHasItsThread, ContractsAreStepped, EachIsAuthorised, EachContractEndsAThread, EachEndIsUnspent, AreFunded, AreOfTables, ReferencesAreSingle, IdsAreSingle, IsSpentOnce, IsPreserved, StepsAreOfContracts}
 use Rattle.ledger.specs.declared.ask.Ask.{Ask}
 use Rattle.ledger.specs.declared.call.Call.TheVariants as on
+use Rattle.ledger.specs.declared.call.Entry.{Entry}
 use Rattle.ledger.specs.declared.call.Reply.TheVariants as answer
 use Rattle.ledger.specs.declared.look.Look.{Look}
 use Rattle.ledger.specs.declared.look.ThreadOutput.{ThreadOutput}
 use Rattle.ledger.specs.declared.look.Unspent.{Unspent}
 use Rattle.builder_spec.specs.Requests.{StepRequest, StartRequest, ClaimRequest}
-use Rattle.builder_spec.specs.Steps.{Thread, look_thread, step_spent, hinders_step, layout_step}
+use Rattle.builder_spec.specs.Steps.{Thread, thread_terms, look_thread, step_spent, hinders_step, layout_step}
+use Rattle.builder_spec.specs.Closings.{closing, Closes}
+use Rattle.builder_spec.specs.Change.{StepChangeIsTheRest, StartChangeIsTheRest}
 use Rattle.builder_spec.specs.Starts.{start_front, hinders_start, layout_start}
 use Rattle.builder_spec.specs.Claims.{claim_front, hinders_claim, layout_claim}
 use Rattle.ledger_spec.specs.Open.{IsOpen}
+use Rattle.ledger_spec.specs.Publishing.{IsPublication, IdsTellContracts}
 use Rattle.ledger_spec.specs.Replay.{Course, published, published_at, world, past_of}
 use Rattle.ledger_spec.specs.Views.{thread_shown, look}
 use Rattle.ledger_spec.specs.Calls.{reply_to}
 
 -- ---- THE FIRST HALF
 
--- what holds of all that was accepted, where this is published under ids
-pub record IsSoundLedger (named : List ℕ → Option Published) (past : Past) : Type 0 where
+-- the thread of each start output is exactly one run of the contract that a Publish call published under its script, from the state
+-- in the start's datum
+abbrev pub EachIsARunOfItsContract : List Entry → (List ℕ → Option Published) → Past → Type 0
+EachIsARunOfItsContract es named past =
+    (r : OutputRef) (i : Instance) → IsStart past r i →
+    (p : Published) × (named i.script ≡ Some p) × (x : IsPublication es i.script p)
+    × ExactlyOne (λ run. Run (contract_tree x.contract) i.datum.state run × Carries (terms_of p) i.script (thread past r) run)
+
+-- what holds after these entries of all that was accepted, where this is published under ids
+pub record IsSoundLedger (es : List Entry) (named : List ℕ → Option Published) (past : Past) : Type 0 where
+  -- what is published under an id is what an entry published: its root stands for the entry's contract
+  pub published : (id : List ℕ) (p : Published) → named id ≡ Some p → IsPublication es id p
+  -- and it is one contract and one currency
+  pub told_apart : IdsTellContracts es
   -- the accepted transactions of each contract are one run of it, and of no other: from the state of its start, input for input,
   -- with the run's warnings, payments, states and remaining contracts
-  pub runs : EachIsARun named past
+  pub runs : EachIsARunOfItsContract es named past
   -- a thread that isn't over ends where its run stands: the same remaining contract, in the same state
   pub ends_with_run : EndsWithItsRun named past
   -- every contract input of an accepted transaction stands on exactly one thread
@@ -47,6 +72,10 @@ pub record IsSoundLedger (named : List ℕ → Option Published) (past : Past) :
   pub funded : AreFunded past
   -- and stands at a number of the table that was published under its script
   pub numbers : AreOfTables named past
+  -- no two outputs that there ever were have one reference
+  pub references : ReferencesAreSingle past
+  -- no two accepted transactions have one id
+  pub ids : IdsAreSingle past
   -- no output is spent twice
   pub once : IsSpentOnce past
   -- of each token the unspent outputs hold together what the first outputs held
@@ -54,7 +83,7 @@ pub record IsSoundLedger (named : List ℕ → Option Published) (past : Past) :
 
 -- HOWEVER CALLS INTERLEAVE: so it is after every history
 abbrev pub FirstHalf : Course → Type 0
-FirstHalf c = IsSoundLedger (published_at (published c.entries)) (past_of (world c))
+FirstHalf c = IsSoundLedger c.entries (published_at (published c.entries)) (past_of (world c))
 
 -- ---- THE SECOND HALF
 
@@ -62,10 +91,10 @@ FirstHalf c = IsSoundLedger (published_at (published c.entries)) (past_of (world
 abbrev pub Accepts : Course → Tx → Type 0
 Accepts c tx = reply_to (world c) (on.Submit tx) ≡ answer.Accepted (id_of tx)
 
--- after this history, what the transaction spends is unspent as it was handed in, no other accepted one has its id, and the tick lies
--- in its interval
+-- the transaction fits its spelling, as all do that are built; and after this history, what it spends is unspent as it was handed in,
+-- no accepted one of other bytes has its id, and the tick lies in its interval
 abbrev pub IsOpenAfter : Course → List Unspent → Tx → Type 0
-IsOpenAfter c spent tx = IsOpen (past_of (world c)) (world c).replay.tick spent tx
+IsOpenAfter c spent tx = TxFits tx × IsOpen (past_of (world c)) (world c).replay.tick spent tx
 
 -- the layout of a step that nothing hinders, of a thread that a look shows, where what the look shows under its script is published
 abbrev pub AcceptsSteps : Course → Type 0
@@ -85,6 +114,32 @@ AcceptsClaims c = (r : ClaimRequest) → hinders_claim r ≡ None → IsOpenAfte
 abbrev pub ShowsCurrentThreads : Course → Type 0
 ShowsCurrentThreads c = (ask : Ask) (t : ThreadOutput) → thread_shown (world c) ask.thread ≡ Some t → (d : Datum) × (look_thread (look (world c) ask) ≡ Some (record { shown = t; datum = d }))
 
+-- its datum stands where the thread's run stands
+abbrev pub ShowsWhereRunsStand : Course → Type 0
+ShowsWhereRunsStand c =
+    (ask : Ask) (r : OutputRef) (i : Instance) (e : Thread) → ask.thread ≡ Some r → IsStart (past_of (world c)) r i → look_thread (look (world c) ask) ≡ Some e →
+    (published_at (world c).published i.script ≡ Some e.shown.published)
+    × ((run : List Member) → Run ((thread_terms e).tree e.shown.published.root) i.datum.state run → Carries (thread_terms e) i.script (thread (past_of (world c)) r) run →
+    ((thread_terms e).tree e.datum.cont ≡ contract_after ((thread_terms e).tree e.shown.published.root) run) × (e.datum.state ≡ state_after i.datum.state run))
+
+-- and a thread that isn't over is shown
+abbrev pub ShowsWhatIsNotOver : Course → Type 0
+ShowsWhatIsNotOver c =
+    (ask : Ask) (r : OutputRef) → ask.thread ≡ Some r → StartsThread (past_of (world c)) r →
+    (ends (Some r) (thread (past_of (world c)) r) ≡ None) ⊎ ((e : Thread) × (look_thread (look (world c) ask) ≡ Some e))
+
+-- AFTER THE LAST TIMEOUT ANYONE CLOSES a thread that a look shows: without inputs and offers, in an interval that ends neither before its
+-- start nor before the minimum time. What is built so is accepted
+pub record IsClosed (c : Course) (look : Look) (e : Thread) (r : StepRequest) : Type 0 where
+  pub outcome : Closes r e (hinders_step look r)
+  pub accepted : hinders_step look r ≡ None → IsOpenAfter c (step_spent r e) (layout_step look r) → Accepts c (layout_step look r)
+
+abbrev pub AnyoneClosesShown : Course → Type 0
+AnyoneClosesShown c =
+    (ask : Ask) (e : Thread) (i : Interval) (signers : List (List ℕ)) (change : List ℕ) → look_thread (look (world c) ask) ≡ Some e →
+    HasReached (last ((thread_terms e).tree e.datum.cont)) i.from → i.from ≤ℤ i.to → e.datum.state.min_time ≤ℤ i.to →
+    IsClosed c (look (world c) ask) e (closing i signers change)
+
 -- WHAT IS BUILT IS ACCEPTED: after every history, for every look and request, whatever other entries there are
 pub record SecondHalf (c : Course) : Type 0 where
   -- where the transaction function succeeds from the state that a look shows, and the offers authorise and fund it, the step's
@@ -94,5 +149,15 @@ pub record SecondHalf (c : Course) : Type 0 where
   pub starts : AcceptsStarts c
   -- and that of a claim
   pub claims : AcceptsClaims c
-  -- and a look shows no thread but one that such a step can be built on
+  -- a look shows no thread but one that such a step can be built on
   pub shown : ShowsCurrentThreads c
+  -- at the state and the contract where the thread's run stands
+  pub current : ShowsWhereRunsStand c
+  -- and each thread that isn't over
+  pub not_over : ShowsWhatIsNotOver c
+  -- from the last timeout on anyone closes it, and the parties are paid all that its output held
+  pub closes : AnyoneClosesShown c
+  -- the change of a step is what is offered above its deposits
+  pub step_change : StepChangeIsTheRest
+  -- and that of a start what is offered above its accounts
+  pub start_change : StartChangeIsTheRest

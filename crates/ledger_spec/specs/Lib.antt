@@ -4,6 +4,8 @@ pub mod Views
 pub mod Records
 pub mod Calls
 pub mod Legal
+pub mod Publishing
+pub mod Standing
 pub mod Shown
 pub mod Open
 pub mod Headline

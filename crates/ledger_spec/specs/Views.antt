@@ -1,5 +1,5 @@
 -- What is shown of what stands: looks, and the front of the pool.
-use Rattle.std.specs.Prelude.{ℕ, Bool, false, not, ◌&&◌, if◌then◌else◌, List, map, filter, take, Option, Some, None, is_some}
+use Rattle.std.specs.Prelude.{◌≡◌, ℕ, Bool, false, not, ◌&&◌, if◌then◌else◌, List, map, filter, take, Option, Some, None, is_some}
 use Rattle.std.specs.List.{list_any}
 use Rattle.eutxo_types.specs.declared.lock.Lock.{Lock}
 use Rattle.eutxo_types.specs.declared.lock.Lock.TheVariants.{Key, Payout, Contract}
@@ -9,7 +9,7 @@ use Rattle.eutxo_types.specs.declared.output_ref.OutputRef.TheVariants.{Genesis,
 use Rattle.eutxo_types.specs.declared.tx.Tx.{Tx}
 use Rattle.eutxo.specs.declared.resolved.Resolved.{Resolved}
 use Rattle.eutxo.specs.Judgement.{found}
-use Rattle.eutxo_types.specs.Parts.{same_bytes, contract_at, steps, script_in}
+use Rattle.eutxo_types.specs.Parts.{same_bytes, contract_at, steps, script_in, PayoutRole, payout_in}
 use Rattle.roles.specs.declared.published.Published.{Published}
 use Rattle.ledger.specs.declared.ask.Ask.{Ask}
 use Rattle.ledger.specs.declared.ask.PayoutLock.{PayoutLock}
@@ -17,7 +17,7 @@ use Rattle.ledger.specs.declared.look.Look.{Look}
 use Rattle.ledger.specs.declared.look.ThreadOutput.{ThreadOutput}
 use Rattle.ledger.specs.declared.look.Unspent.{Unspent}
 use Rattle.ledger_laws.specs.Past.{Past, unspent, unspent_at, has_id}
-use Rattle.ledger_laws.specs.Threads.{thread, ends}
+use Rattle.ledger_laws.specs.Threads.{StartsThread, thread, ends}
 use Rattle.ledger_spec.specs.Replay.{World, past_of, published_at, moment_of}
 
 -- ---- the unspent outputs under a lock
@@ -29,10 +29,12 @@ is_key_of keys (Payout currency role) = false
 is_key_of keys (Contract script d) = false
 
 -- payouts under these locks
+abbrev pub is_among_payouts : List PayoutLock → Option PayoutRole → Bool
+is_among_payouts locks None = false
+is_among_payouts locks (Some p) = list_any (λ x. same_bytes x.currency p.currency && same_bytes x.role p.role) locks
+
 abbrev pub is_payout_of : List PayoutLock → Lock → Bool
-is_payout_of locks (Key a) = false
-is_payout_of locks (Payout currency role) = list_any (λ x. same_bytes x.currency currency && same_bytes x.role role) locks
-is_payout_of locks (Contract script d) = false
+is_payout_of locks lock = is_among_payouts locks (payout_in lock)
 
 abbrev pub unspent_of : OutputRef × Output → Unspent
 unspent_of e = record { reference = e.0; output = e.1 }
@@ -51,6 +53,11 @@ starts_in (Made id i) tx = has_id id tx && (not (steps tx) && is_some (contract_
 -- where the thread from a start output ends; of another output, nowhere
 abbrev pub end_of : Past → OutputRef → Option OutputRef
 end_of past r = if list_any (starts_in r) past.accepted then ends (Some r) (thread past r) else None
+
+-- so an output that starts a thread is one by its transaction alone
+abbrev pub StartsAreTold : Past → Type 0
+StartsAreTold past =
+    (r : OutputRef) → (StartsThread past r → end_of past r ≡ ends (Some r) (thread past r)) × ((StartsThread past r → ⊥) → end_of past r ≡ None)
 
 abbrev pub thread_output : OutputRef → Output → Option Published → Option ThreadOutput
 thread_output r o None = None

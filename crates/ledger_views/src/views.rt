@@ -5,14 +5,14 @@ ghost use Rattle.eutxo_types.specs.declared.lock.Lock.{Lock};
 ghost use Rattle.eutxo_types.specs.Parts.{same_bytes, script_in};
 ghost use Rattle.ledger_laws.specs.Past.{with_references, created_by, created};
 ghost use Rattle.ledger_spec.specs.Replay.{past_of, published_at};
-ghost use Rattle.ledger_spec.specs.Views.{starts_in, is_key_of, is_payout_of, under_locks, end_of, thread_output, object_under, thread_output_in, thread_output_at, thread_shown, look};
+ghost use Rattle.ledger_spec.specs.Views.{starts_in, is_key_of, is_among_payouts, is_payout_of, under_locks, end_of, thread_output, object_under, thread_output_in, thread_output_at, thread_shown, look};
 ghost use Rattle.ledger_views.specs.ViewsSupport.{naming, is_among, under};
 
 use crate::links::{end, thread};
 use crate::spent::SpentSet;
-use collections::{Bytes, Items, Memory, Text, TryClone};
+use collections::{Items, Memory, Text, TryClone};
 use eutxo::Shared;
-use eutxo_types::{Lock, Output, OutputRef};
+use eutxo_types::{Lock, Output, OutputRef, PayoutRole};
 use ledger::{Ask, Ledger, Look, PayoutLock, ThreadOutput, Unspent};
 use ledger_replay::{AcceptedTx, World, starts_in};
 use roles::Published;
@@ -44,16 +44,16 @@ fn is_known_key(known: &[Text], address: &Text) -> bool
     known.iter().any(|b| *b == *address)
 }
 
-fn is_payout(lock: &PayoutLock, currency: &Bytes, role: &Text) -> bool
-    ensures { result ≡ (same_bytes lock.now.currency currency.now && same_bytes lock.now.role role.now) }
+fn is_payout(lock: &PayoutLock, payout: &PayoutRole<'_>) -> bool
+    ensures { result ≡ (same_bytes lock.now.currency payout.now.currency && same_bytes lock.now.role payout.now.role) }
 {
-    lock.currency == *currency && lock.role == *role
+    lock.currency == *payout.currency && lock.role == *payout.role
 }
 
-fn is_known_payout(known: &[PayoutLock], currency: &Bytes, role: &Text) -> bool
-    ensures { result ≡ list_any (λ x. same_bytes x.currency currency.now && same_bytes x.role role.now) known.now }
+fn is_known_payout(known: &[PayoutLock], payout: &PayoutRole<'_>) -> bool
+    ensures { result ≡ is_among_payouts known.now (Some payout.now) }
 {
-    known.iter().any(|x| is_payout(x, currency, role))
+    known.iter().any(|x| is_payout(x, payout))
 }
 
 impl LockFilter for Keys<'_> {
@@ -72,10 +72,9 @@ impl LockFilter for Payouts<'_> {
     ghost asks = { λ a lock. is_payout_of a.known.now lock };
 
     fn asks(&self, lock: &Lock) -> bool {
-        match lock {
-            Lock::Key(_) => false,
-            Lock::Payout { currency, role } => is_known_payout(self.known, currency, role),
-            Lock::Contract { .. } => false,
+        match lock.payout() {
+            None => false,
+            Some(payout) => is_known_payout(self.known, &payout),
         }
     }
 }

@@ -4,7 +4,9 @@ ghost use Rattle.std.specs.Result.{IsOkUnless};
 ghost use Rattle.contract.specs.Tree.{contract_tree};
 ghost use Rattle.compiler.specs.Limits.{compile_fault};
 ghost use Rattle.roles.specs.Publications.{script_id, published_of};
+ghost use Rattle.roles.specs.Terms.{IsTable, terms_of};
 
+use crate::laws::published_are_tables;
 use crate::published::Published;
 use collections::{Bytes, Memory};
 use compiler::{CompileFault, compile};
@@ -28,7 +30,8 @@ fn script_id(alloc: Global, contract: &Contract, currency: &Bytes) -> Result<[u8
 /// "Participants, roles and public keys"; The Extended UTXO Model, "Extended UTXO model: EUTXO", on
 /// scripts and their addresses). Refused is a contract that isn't compiled: one that is higher than 999
 /// (`TooDeep`), else one of more than 65,535 continuations or more than 1,000,000 values, observations
-/// and cases (`TooManyNodes`). Else only a growth that was refused gives `Memory`.
+/// and cases (`TooManyNodes`). Else only a growth that was refused gives `Memory`. The root stands for the contract, and
+/// what is published is a table: who calls this need not know how a contract is compiled.
 pub fn publish(
     alloc: Global,
     contract: &Contract,
@@ -36,7 +39,10 @@ pub fn publish(
 ) -> Result<Published, CompileFault>
     ensures fault { MatchOption (compile_fault (contract_tree contract.now)) (IsOkUnless result CompileFault.Memory) (λ fault. result ≡ Err fault) }
     ensures published { IfOk result (λ published. published ≡ published_of (contract_tree contract.now) currency) }
+    ensures table { IfOk result (λ published. IsTable (terms_of published) × ((terms_of published).tree published.root ≡ contract_tree contract.now)) }
 {
+    // touch: what is published is a table
+    published_are_tables();
     let (table, root) = compile(alloc, contract)?;
     let id = script_id(alloc, contract, &currency)?;
     Ok(Published {

@@ -1,0 +1,38 @@
+-- What the Publish calls of a history published.
+use Rattle.std.specs.Prelude.{◌≡◌, ℕ, List, slice_get, Some, Ok}
+use Rattle.contract.specs.declared.tree.Contract.{Contract}
+use Rattle.contract.specs.Tree.{contract_tree}
+use Rattle.roles.specs.declared.published.Published.{Published}
+use Rattle.roles.specs.Terms.{IsTable, terms_of}
+use Rattle.ledger.specs.declared.call.Call.TheVariants as on
+use Rattle.ledger.specs.declared.call.Entry.{Entry}
+use Rattle.ledger.specs.declared.call.Reply.TheVariants as answer
+use Rattle.ledger_spec.specs.Replay.{publication}
+
+-- an entry published a contract and a currency under an id
+pub record Publishes (es : List Entry) (id : List ℕ) (contract : Contract) (currency : List ℕ) : Type 0 where
+  pub number : ℕ
+  pub entry : Entry
+  pub there : slice_get es number ≡ Some entry
+  pub call : entry.call ≡ on.Publish contract currency
+  pub reply : entry.reply ≡ answer.Published id
+
+-- an object is what an entry published under an id: it has that id and the currency, its numbers are a table's, and its root stands
+-- for the contract
+pub record IsPublication (es : List Entry) (id : List ℕ) (p : Published) : Type 0 where
+  pub contract : Contract
+  pub published : Publishes es id contract p.currency
+  pub named : p.id ≡ id
+  pub table : IsTable (terms_of p)
+  pub tree : (terms_of p).tree p.root ≡ contract_tree contract
+
+-- two entries that published under one id published one contract and one currency
+abbrev pub IdsTellContracts : List Entry → Type 0
+IdsTellContracts es =
+    (id : List ℕ) (c d : Contract) (x y : List ℕ) → Publishes es id c x → Publishes es id d y → (contract_tree c ≡ contract_tree d) × (x ≡ y)
+
+-- and an entry is answered that its id is in use only where another contract or currency is published under that
+abbrev pub InUseByAnother : List Entry → Type 0
+InUseByAnother es =
+    (n : ℕ) (e : Entry) (c : Contract) (x : List ℕ) → slice_get es n ≡ Some e → e.call ≡ on.Publish c x → e.reply ≡ answer.IdInUse →
+    (p : Published) × (publication c x ≡ Ok p) × (d : Contract) × (y : List ℕ) × Publishes es p.id d y × ((contract_tree c ≡ contract_tree d) × (x ≡ y) → ⊥)
