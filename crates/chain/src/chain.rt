@@ -1,18 +1,22 @@
 //! The ledger of one thread.
-ghost use Rattle.std.specs.Prelude.{◌≡◌, ◌++◌, ◌≤◌, [], IfOk, IfErr, OnErr, OnOk, length, drop, map, option_to_list};
-ghost use Rattle.ledger_laws.specs.Sound.{AreKeys};
+ghost use Rattle.std.specs.Prelude.{◌≡◌, ◌++◌, ◌≤◌, [], All, IfOk, IfErr, OnErr, OnOk, length, drop, map, option_to_list};
+ghost use Rattle.ledger_laws.specs.Sound.{AreKeys, IsMore};
 ghost use Rattle.eutxo.specs.Judgement.{found};
 ghost use Rattle.ledger_spec.specs.Genesis.{SumsFit, RefusesGenesis};
+ghost use Rattle.eutxo_types.specs.Fitting.{TxFits};
 ghost use Rattle.eutxo_types.specs.Ids.{id_of};
 ghost use Rattle.ledger_spec.specs.Replay.{after_call, past_of, world, replay, published, published_at, moment_of};
 ghost use Rattle.ledger_spec.specs.Headline.{FirstHalf, SecondHalf};
 ghost use Rattle.ledger_spec.specs.Calls.{reply_to, published_with};
 ghost use Rattle.ledger_spec.specs.Legal.{entry_of, with_entry, IsLegal};
 ghost use Rattle.ledger_spec.specs.Records.{AreSteps};
+ghost use Rattle.ledger_spec.specs.Publishing.{InUseByAnother};
+ghost use Rattle.ledger_spec.specs.Standing.{Stands};
 ghost use Rattle.ledger_spec.specs.Shown.{ShowsWhatWasMade};
 ghost use Rattle.ledger_spec.specs.Views.{pool_front};
 
 use builder_laws::{
+    anyone_closes_after_the_last_timeout, bytes_tell_accepted_apart, change_is_the_rest,
     claims_are_accepted, shown_threads_are_current, starts_are_accepted, steps_are_accepted,
 };
 use collections::{Items, Memory, TryClone};
@@ -21,12 +25,14 @@ use eutxo_types::{Output, OutputRef, Tx};
 use ledger::{Call, Entry, Reply};
 use ledger_dispatch::{answer, front, records, resolution};
 use ledger_laws::{
-    accepting_is_sound, contracts_are_funded, contracts_end_threads, outputs_are_spent_once,
-    parties_are_authorised, publishing_is_sound, starting_is_sound, steps_stand_on_threads,
+    accepting_is_sound, contracts_are_funded, contracts_end_threads, names_are_single,
+    outputs_are_spent_once, parties_are_authorised, publishing_is_sound, starting_is_sound, steps_stand_on_threads,
     threads_are_runs, tokens_are_preserved,
 };
 use ledger_replay::{World, check_genesis, count_of, ids_of, last_tick, world_after};
-use ledger_spec::{GenesisFault, StepRecord};
+use ledger_spec::{
+    GenesisFault, StepRecord, legal_histories_stand, publications_are_entries, starts_are_told,
+};
 use roles::{Published, published_are_tables};
 use std::alloc::Global;
 use std::marker::Model;
@@ -118,6 +124,7 @@ fn with_copies<R: TryClone + Drop, O: Drop>(
     ensures told { IfOk result (λ r. r.copies.1 ≡ reply) }
     ensures object { IfOk result (λ r. r.object ≡ object) }
     ensures ids { IfOk result (λ r. r.ids.items ≡ map id_of (drop known world.now.replay.accepted)) }
+    ensures fits { IfOk result (λ r. All TxFits (drop known world.now.replay.accepted)) }
 {
     let ids = ids_of(alloc, &world.accepted()[known..])?;
     let mine = reply.try_clone()?;
@@ -133,7 +140,8 @@ fn with_copies<R: TryClone + Drop, O: Drop>(
 impl Chain {
     // A chain without entries.
     fn starting(alloc: Global, outputs: Items<Output>, tick: i64) -> Chain
-        requires { AreKeys outputs }
+        requires keys { AreKeys outputs }
+        requires sums { SumsFit outputs }
         ensures { result ≡ record { genesis = outputs; first_tick = tick; entries = [] } }
     {
         starting_is_sound::<Published>();
@@ -177,6 +185,7 @@ impl Chain {
         ensures mine { IfOk result (λ r. r.copies.0 ≡ reply_to (world self.now) call.now) }
         ensures told { IfOk result (λ r. r.copies.1 ≡ reply_to (world self.now) call.now) }
         ensures object { IfOk result (λ r. published self.now.entries ++ option_to_list r.object ≡ published_with (published self.now.entries) call.now) }
+        ensures fits { IfOk result (λ r. All TxFits (after_call (world self.now).replay call.now (reply_to (world self.now) call.now)).accepted) }
         ensures ids { IfOk result (λ r. map id_of (world self.now).replay.accepted ++ r.ids.items ≡ map id_of (after_call (world self.now).replay call.now (reply_to (world self.now) call.now)).accepted) }
     {
         let mut world = self.world(alloc, cache)?;
@@ -193,7 +202,13 @@ impl Chain {
         steps_are_accepted();
         starts_are_accepted();
         claims_are_accepted();
+        bytes_tell_accepted_apart();
         shown_threads_are_current();
+        starts_are_told();
+        threads_are_runs();
+        contracts_end_threads::<Published>();
+        anyone_closes_after_the_last_timeout();
+        change_is_the_rest();
         // touch: brings the invariant
         let _tick = self.tick;
     }
@@ -205,9 +220,11 @@ impl Chain {
     /// entry is made, and nothing is changed.
     ///
     /// So a Submit of the layout of a request that nothing hinders (`builder`) is accepted, whatever other entries
-    /// there are: where what it spends is unspent as it was handed in, no other accepted transaction has its id, the
-    /// tick lies in its interval and its script is published as the request has it. And a Look that shows a thread
-    /// shows one that stands, as a step asks of it.
+    /// there are: where what it spends is unspent as it was handed in, no accepted transaction of other bytes has its id,
+    /// the tick lies in its interval and its script is published as the request has it. A Look shows each thread that
+    /// isn't over, and none but one that stands, where the thread's run stands. From the last timeout on anyone closes a
+    /// thread that a Look shows, without inputs and offers: what is built is accepted, and the parties are paid all that the
+    /// thread's output held, unless a number leaves 128 bits or nothing is left to do. What is published stays published.
     pub fn step(
         &mut self,
         alloc: Global,
@@ -219,6 +236,7 @@ impl Chain {
         ensures mine { IfOk result (λ r. r.0 ≡ (entry_of self.old seat call).reply) }
         ensures told { IfOk result (λ r. r.1 ≡ (entry_of self.old seat call).reply) }
         ensures err { OnErr result (self.new ≡ self.old) }
+        ensures stays { IsMore (published_at (published self.old.entries)) (published_at (published self.new.entries)) }
         ensures second { SecondHalf self.old }
     {
         // touch: the laws that keep it sound
@@ -260,21 +278,29 @@ impl Chain {
 
     /// The entries, in order. Takes no memory.
     ///
-    /// They are legal. And whatever was called, this holds of what was accepted. The thread of each start output
+    /// They are legal, and what stands after them is what they say (`Stands`): the tick, the pool and what was accepted.
+    /// What is published under an id is what a Publish call published, one contract with one currency.
+    ///
+    /// And whatever was called, this holds of what was accepted. The thread of each start output
     /// is exactly one run of the contract that was published under its script, and where the thread has an end,
     /// its datum says where that run stands. Every input that spends a contract output stands on exactly one
     /// thread; a contract output is spent by a step alone, and a step spends one. Each party that a step's inputs
     /// need is authorised: an address among the signers, or a role whose token a key input's output holds. Each
     /// unspent contract output is the end of exactly one thread, and each thread's end is an unspent contract
     /// output. Such an output holds just the sums of its accounts, and stands at a number of the table that was
-    /// published under its script. No output is spent twice. Of each token the unspent outputs hold together what
-    /// the first outputs held.
+    /// published under its script. No two outputs ever had one reference, no two accepted
+    /// transactions one id, and no output is spent twice. Of each token the unspent outputs hold together what the first
+    /// outputs held. The first outputs are keys, whose sums fit an amount; the accepted transactions fit their spelling.
     ///
     /// What is built of a request that nothing hinders would be accepted now, as `step` says. And a Look that comes after an accepted Submit shows what
     /// that made, where it asks for it and nothing that was accepted between the two spent it.
     pub fn history(&self) -> &[Entry]
         ensures all { result.now ≡ self.now.entries }
         ensures legal { IsLegal self.now }
+        ensures begins { AreKeys self.now.genesis × SumsFit self.now.genesis }
+        ensures stands { Stands self.now }
+        ensures in_use { InUseByAnother self.now.entries }
+        ensures fits { All TxFits (past_of (world self.now)).accepted }
         ensures first { FirstHalf self.now }
         ensures second { SecondHalf self.now }
         ensures shown { ShowsWhatWasMade self.now }
@@ -289,8 +315,11 @@ impl Chain {
         contracts_end_threads::<Published>();
         parties_are_authorised();
         contracts_are_funded();
+        names_are_single::<Published>();
         outputs_are_spent_once::<Published>();
         tokens_are_preserved::<Published>();
+        legal_histories_stand();
+        publications_are_entries();
         &self.entries
     }
 

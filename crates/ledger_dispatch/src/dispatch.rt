@@ -1,6 +1,7 @@
 //! What a call is answered.
 ghost use Rattle.std.specs.Prelude.{◌≡◌, ◌<◌, ◌≤◌, ◌++◌, ◌⊎◌, IfOk, IfErr, OnOk, Ok, Err, Some, None, if◌then◌else◌, length, take, slice_get, option_to_list};
 ghost use Rattle.compiler.specs.declared.fault.CompileFault.TheVariants as faults;
+ghost use Rattle.eutxo_types.specs.Fitting.{TxFits};
 ghost use Rattle.eutxo_types.specs.Ids.{id_of};
 ghost use Rattle.eutxo.specs.Local.{verdict_of};
 ghost use Rattle.ledger.specs.declared.call.Reply.TheVariants as replies;
@@ -31,7 +32,8 @@ fn accept_unless<'a, F: Drop>(
     id: [u8; 32],
     fault: Option<F>,
 ) -> Result<Option<F>, Memory>
-    requires { id ≡ id_of tx.now }
+    requires id { id ≡ id_of tx.now }
+    requires fits { TxFits tx.now }
     ensures fault { IfOk result (λ f. f ≡ fault) }
     ensures world { OnOk result (world.new ≡ with_accepted_unless world.old tx.now fault) }
 {

@@ -1,6 +1,6 @@
 //! Laws of every ledger, whatever its scripts.
 ghost use Rattle.ledger_laws.specs.Worked.{NobodyCame, TwoSteps, NoneAfterTheEnd, GivenByName, OneMoves};
-ghost use Rattle.ledger_laws.specs.Laws.{StepsStandOnThreads, StepsSpendContracts, StepsNameContracts, ContractsEndThreads, EndsAreUnspent, TokensArePreserved, OutputsAreSpentOnce, StartIsSound, AfterIsSound, LaterIsSound};
+ghost use Rattle.ledger_laws.specs.Laws.{StepsStandOnThreads, StepsSpendContracts, StepsNameContracts, ContractsEndThreads, EndsAreUnspent, TokensArePreserved, OutputsAreSpentOnce, NamesAreSingle, StartIsSound, AfterIsSound, LaterIsSound};
 
 use eutxo::{Validator, found_is_enough, sums_are_preserved};
 
@@ -30,6 +30,13 @@ pub fn tokens_are_preserved<V: Validator>()
 {
     found_is_enough::<V>();
     sums_are_preserved();
+}
+
+/// No two outputs that there ever were have one reference, and no two accepted transactions one id.
+pub fn names_are_single<V: Validator>()
+    ensures { NamesAreSingle V.judges }
+{
+    found_is_enough::<V>();
 }
 
 /// No output is spent twice: not by two transactions, nor by two inputs of one.

@@ -1,5 +1,6 @@
 //! Transactions that were accepted or are pending, lent by the entries that keep them.
-ghost use Rattle.std.specs.Prelude.{◌≡◌, IfOk, map};
+ghost use Rattle.std.specs.Prelude.{◌≡◌, All, IfOk, map};
+ghost use Rattle.eutxo_types.specs.Fitting.{TxFits};
 ghost use Rattle.eutxo_types.specs.Ids.{id_of};
 ghost use Rattle.ledger_spec.specs.Replay.{pending_entry};
 
@@ -50,6 +51,7 @@ impl<'a> Model for AcceptedTx<'a> {
     ghost use Rattle.std.specs.Prelude.{◌≡◌};
     ghost use Rattle.eutxo_types.specs.declared.tx.Tx.{Tx};
     ghost use Rattle.eutxo_types.specs.contracts.tx.Tx as txs;
+    ghost use Rattle.eutxo_types.specs.Fitting.{TxFits};
     ghost use Rattle.eutxo_types.specs.Ids.{id_of};
 
     ghost Value = { Tx };
@@ -58,12 +60,13 @@ impl<'a> Model for AcceptedTx<'a> {
 
     ghost view = { λ a. a.tx.now };
 
-    ghost invariant = { λ a. a.id ≡ id_of a.tx.now };
+    ghost invariant = { λ a. (a.id ≡ id_of a.tx.now) × TxFits a.tx.now };
 }
 
 impl<'a> AcceptedTx<'a> {
     pub(crate) fn new(tx: &'a Tx, id: [u8; 32]) -> AcceptedTx<'a>
-        requires { id ≡ id_of tx.now }
+        requires id { id ≡ id_of tx.now }
+        requires fits { TxFits tx.now }
         ensures { result ≡ tx.now }
     {
         AcceptedTx { id, tx }
@@ -76,9 +79,10 @@ impl<'a> AcceptedTx<'a> {
         self.tx
     }
 
-    /// Its id, which was hashed when it was accepted.
+    /// Its id, which was hashed when it was accepted; so it fits its spelling.
     pub fn id(&self) -> &[u8; 32]
-        ensures { result.now ≡ id_of self.now }
+        ensures id { result.now ≡ id_of self.now }
+        ensures fits { TxFits self.now }
     {
         &self.id
     }
@@ -131,7 +135,8 @@ pub(crate) fn with_ids<'a>(
     txs: &[Lent<'a>],
     ids: &[[u8; 32]],
 ) -> Result<Vec<AcceptedTx<'a>>, Memory>
-    requires { ids.now ≡ map id_of txs.now }
+    requires ids { ids.now ≡ map id_of txs.now }
+    requires fits { All TxFits txs.now }
     ensures { IfOk result (λ kept. kept.items ≡ txs.now) }
 {
     let mut kept = Vec::new(alloc);
@@ -141,10 +146,22 @@ pub(crate) fn with_ids<'a>(
     Ok(kept)
 }
 
-/// The ids of these transactions.
-pub fn ids_of(alloc: Global, kept: &[AcceptedTx<'_>]) -> Result<Vec<[u8; 32]>, Memory>
-    ensures { IfOk result (λ ids. ids.items ≡ map id_of kept.now) }
+// They fit their spelling.
+fn fit(kept: &[AcceptedTx<'_>])
+    ensures { All TxFits kept.now }
 {
+    // touch: of each
+    for k in kept {
+        let _id = k.id();
+    }
+}
+
+/// The ids of these transactions, which fit their spelling.
+pub fn ids_of(alloc: Global, kept: &[AcceptedTx<'_>]) -> Result<Vec<[u8; 32]>, Memory>
+    ensures ids { IfOk result (λ ids. ids.items ≡ map id_of kept.now) }
+    ensures fits { All TxFits kept.now }
+{
+    fit(kept);
     let mut ids = Vec::new(alloc);
     for k in kept {
         ids.push(*k.id())?;

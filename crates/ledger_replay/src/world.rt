@@ -1,7 +1,8 @@
 //! What stands after a history, found by walking over the entries.
-ghost use Rattle.std.specs.Prelude.{◌≡◌, ◌++◌, ◌∷◌, [], OnOk, IfOk, map, slice_get, option_copied};
+ghost use Rattle.std.specs.Prelude.{◌≡◌, ◌++◌, ◌∷◌, [], All, OnOk, IfOk, map, slice_get, option_copied};
 ghost use Rattle.std.specs.Map.{lookup};
 ghost use Rattle.eutxo_types.specs.declared.output_ref.OutputRef.TheVariants as OutputRef;
+ghost use Rattle.eutxo_types.specs.Fitting.{TxFits};
 ghost use Rattle.eutxo_types.specs.Ids.{id_of};
 ghost use Rattle.eutxo_types.specs.Parts.{same_ref};
 ghost use Rattle.eutxo.specs.Judgement.{judge};
@@ -47,7 +48,8 @@ impl<'a> Model for World<'a> {
     ghost view = { λ a. record { genesis = a.genesis.now; published = a.published.now; replay = record { tick = a.tick; accepted = a.accepted.items; pending = a.pending.items }; tickets = a.tickets } };
 }
 
-/// What stands after these entries, where the ids are those of the accepted transactions, in order. Hashes nothing.
+/// What stands after these entries, where the ids are those of the accepted transactions, in order, which fit their
+/// spelling. Hashes nothing.
 /// `cache` has checks that were made before, by which it judges.
 pub fn world_after<'a>(
     alloc: Global,
@@ -58,7 +60,8 @@ pub fn world_after<'a>(
     ids: &[[u8; 32]],
     cache: &'a [Checked<Published>],
 ) -> Result<World<'a>, Memory>
-    requires { ids.now ≡ map id_of (replay tick entries.now).accepted }
+    requires ids { ids.now ≡ map id_of (replay tick entries.now).accepted }
+    requires fits { All TxFits (replay tick entries.now).accepted }
     ensures { IfOk result (λ w. w ≡ record { genesis = genesis.now; published = published.now; replay = replay tick entries.now; tickets = tickets entries.now }) }
 {
     let Replay {
@@ -189,9 +192,10 @@ impl<'a> World<'a> {
         self.tickets
     }
 
-    /// Accepts a transaction, whose id is given.
+    /// Accepts a transaction, whose id is given, and which fits its spelling.
     pub fn accept(&mut self, tx: &'a Tx, id: [u8; 32]) -> Result<(), Memory>
-        requires { id ≡ id_of tx.now }
+        requires id { id ≡ id_of tx.now }
+        requires fits { TxFits tx.now }
         ensures { OnOk result (self.new ≡ record self.old { replay = record self.old.replay { accepted = self.old.replay.accepted ++ tx.now ∷ [] } }) }
     {
         self.accepted.push(AcceptedTx::new(tx, id))?;

@@ -7,7 +7,8 @@ use Rattle.roles.specs.Terms.{IsTable, terms_of}
 use Rattle.ledger.specs.declared.call.Call.TheVariants as on
 use Rattle.ledger.specs.declared.call.Entry.{Entry}
 use Rattle.ledger.specs.declared.call.Reply.TheVariants as answer
-use Rattle.ledger_spec.specs.Replay.{publication}
+use Rattle.ledger_spec.specs.Replay.{Course, publication, published, published_at}
+use Rattle.ledger_spec.specs.Legal.{IsLegal}
 
 -- an entry published a contract and a currency under an id
 pub record Publishes (es : List Entry) (id : List ℕ) (contract : Contract) (currency : List ℕ) : Type 0 where
@@ -36,3 +37,13 @@ abbrev pub InUseByAnother : List Entry → Type 0
 InUseByAnother es =
     (n : ℕ) (e : Entry) (c : Contract) (x : List ℕ) → slice_get es n ≡ Some e → e.call ≡ on.Publish c x → e.reply ≡ answer.IdInUse →
     (p : Published) × (publication c x ≡ Ok p) × (d : Contract) × (y : List ℕ) × Publishes es p.id d y × ((contract_tree c ≡ contract_tree d) × (x ≡ y) → ⊥)
+
+-- so of every legal history
+abbrev pub PublicationsAreEntries : Type 0
+PublicationsAreEntries = (c : Course) → IsLegal c → (id : List ℕ) (p : Published) → published_at (published c.entries) id ≡ Some p → IsPublication c.entries id p
+
+abbrev pub LegalIdsTellContracts : Type 0
+LegalIdsTellContracts = (c : Course) → IsLegal c → IdsTellContracts c.entries
+
+abbrev pub LegalIdsInUse : Type 0
+LegalIdsInUse = (c : Course) → IsLegal c → InUseByAnother c.entries

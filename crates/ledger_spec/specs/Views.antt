@@ -59,6 +59,9 @@ abbrev pub StartsAreTold : Past → Type 0
 StartsAreTold past =
     (r : OutputRef) → (StartsThread past r → end_of past r ≡ ends (Some r) (thread past r)) × ((StartsThread past r → ⊥) → end_of past r ≡ None)
 
+abbrev pub EachStartIsTold : Type 0
+EachStartIsTold = (past : Past) → StartsAreTold past
+
 abbrev pub thread_output : OutputRef → Output → Option Published → Option ThreadOutput
 thread_output r o None = None
 thread_output r o (Some p) = Some (record { reference = r; output = o; published = p })
