@@ -76,10 +76,10 @@ single_made (tx ∷ txs) h =
     (single_named (λ j. Made (id_of tx) j) (λ i j e. (same_made (id_of tx) (id_of tx) i j e).1) 0 tx.outputs)
     (single_made txs (λ n m s t x y e. let q : suc n ≡ suc m = h (suc n) (suc m) s t x y e in omega (arith, q)))
     (λ n m a b x y e.
-        let q = made_in txs m b y in
-        let same = same_made (id_of tx) (id_of q.1) (0 + n) q.2 (sym (referred (λ j. Made (id_of tx) j) 0 tx.outputs n a x) ∙ e ∙ q.4) in
-        let place : 0 ≡ suc q.0 = h 0 (suc q.0) tx q.1 refl q.3 same.0 in
-        absurd (omega (arith, place)))
+    let q = made_in txs m b y in
+    let same = same_made (id_of tx) (id_of q.1) (0 + n) q.2 (sym (referred (λ j. Made (id_of tx) j) 0 tx.outputs n a x) ∙ e ∙ q.4) in
+    let place : 0 ≡ suc q.0 = h 0 (suc q.0) tx q.1 refl q.3 same.0 in
+    absurd (omega (arith, place)))
 
 single_created : (past : Past) → SingleIds past.accepted → Single (created past)
 single_created past h =

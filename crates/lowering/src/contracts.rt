@@ -119,11 +119,7 @@ pub fn lower(alloc: Global, contract: &Contract) -> Result<(Table, Cont), Memory
 // Puts the nodes of a contract into a table, and answers the contract's number. On a refusal some of them stand there.
 #[cycle(add_contract)]
 #[tactic(auto, using(crate::proofs::Trees::contract_forms))]
-fn add_contract(
-    builder: &mut Builder,
-    alloc: Global,
-    contract: &Contract,
-) -> Result<Cont, Memory>
+fn add_contract(builder: &mut Builder, alloc: Global, contract: &Contract) -> Result<Cont, Memory>
     requires flat { IsFlat builder.old }
     requires low { contract_height (contract_tree contract.now) ≤ 999 }
     requires room { others_in builder.old + others (contract_tree contract.now) ≤ 1000000 }
