@@ -105,9 +105,13 @@ AllCame es ps = (id : List ℕ) (p : Published) → published_at ps id ≡ Some 
 -- so after a Publish entry that is answered by the table
 came_by_publish : (es : List Entry) (w : World) → AllCame es w.published → (n : ℕ) (e : Entry) → slice_get es n ≡ Some e → (c : Contract) (x : List ℕ) → e.call ≡ on.Publish c x →
     (r : Result Published CompileFault) → publication c x ≡ r → e.reply ≡ publish_reply w r → AllCame es (if is_published e.reply then with_object w.published r else w.published)
-came_by_publish es w all n e at c x call (Err f) made told = subst (λ (r : Reply). AllCame es (if is_published r then w.published else w.published)) (sym told) all
+came_by_publish es w all n e at c x call (Err f) made told =
+    subst (λ (r : Reply). AllCame es (if is_published r then w.published else w.published)) (sym told) all
 came_by_publish es w all n e at c x call (Ok p) made told =
-    subst (λ (r : Reply). AllCame es (if is_published r then with_object w.published (Ok p) else w.published)) (sym told) (by (published_at w.published p.id) told)
+    subst
+    (λ (r : Reply). AllCame es (if is_published r then with_object w.published (Ok p) else w.published))
+    (sym told)
+    (by (published_at w.published p.id) told)
   where
     currency : x ≡ p.currency
     currency = ap (λ (q : Published). q.currency) (publication_so c x p made).1
@@ -155,7 +159,8 @@ came_before c legal (suc n) = came_next c legal n (came_before c legal n) (slice
 
 pub are_entries : PublishedAreTables → PublicationsAreEntries
 are_entries law c legal id p h =
-    let came = subst (λ (l : List Entry). AllCame c.entries (published l)) (take_whole c.entries) (came_before c legal (length c.entries)) id p h in
+    let all = came_before c legal (length c.entries) in
+    let came = subst (λ (l : List Entry). AllCame c.entries (published l)) (take_whole c.entries) all id p h in
     let under = found_under (published c.entries) id p h in
     let so = publication_so came.0 p.currency p came.2 in
     let table = law (contract_tree came.0) p.currency so.0 in
@@ -187,24 +192,35 @@ found_after w (Ok p) id h = (p, refl, by (published_at w.published p.id) refl h)
     by (Some q) e k = known (same_publication q p) refl k
       where
         known : (b : Bool) → same_publication q p ≡ b → (let r : Reply = if b then answer.Published p.id else answer.IdInUse in r ≡ answer.Published id) → published_at w.published id ≡ Some p
-        known true same k = subst (λ (i : List ℕ). published_at w.published i ≡ Some p) (same_id p.id id k) (e ∙ ap Some ((same_by_decides publications.the_row.coded q p).0 same))
+        known true same k =
+            let is : q ≡ p = (same_by_decides publications.the_row.coded q p).0 same in
+            subst (λ (i : List ℕ). published_at w.published i ≡ Some p) (same_id p.id id k) (e ∙ ap Some is)
         known false same k = cc
 
 -- what the table answers to an entry that publishes
 told_by_table : (c : Course) → IsLegal c → (n : ℕ) (e : Entry) (d : Contract) (x : List ℕ) → slice_get c.entries n ≡ Some e → e.call ≡ on.Publish d x → e.reply ≡ publish_reply (world (before_entry c n)) (publication d x)
 told_by_table c legal n e d x at call = (legal n e at).reply ∙ ap (λ (k : Call). reply_to (world (before_entry c n)) k) call
 
--- and after the history
-found_at_last : (c : Course) → IsLegal c → (id : List ℕ) (d : Contract) (x : List ℕ) → Publishes c.entries id d x → (p : Published) × (publication d x ≡ Ok p) × (published_at (published c.entries) id ≡ Some p)
-found_at_last c legal id d x by =
-    let n = by.number in
-    let e = by.entry in
-    let w = world (before_entry c n) in
-    let found = found_after w (publication d x) id (sym (told_by_table c legal n e d x by.there by.call) ∙ by.reply) in
-    let next : published_after w.published e.call e.reply ≡ with_object w.published (publication d x) = ap (λ (k : Call). published_after w.published k e.reply) by.call ∙ ap (λ (r : Reply). published_after w.published (on.Publish d x) r) by.reply in
-    let whole : published c.entries ≡ published_from (published_after w.published e.call e.reply) (drop (suc n) c.entries) = ap (λ (l : List Entry). published l) (cut_at n c.entries e by.there) ∙ published_two [] (take n c.entries) (e ∷ drop (suc n) c.entries) in
-    let first = subst (λ (ps : List Published). published_at ps id ≡ Some found.0) (sym next) found.2 in
-    (found.0, found.1, subst (λ (ps : List Published). published_at ps id ≡ Some found.0) (sym whole) (stays (published_after w.published e.call e.reply) (drop (suc n) c.entries) id found.0 first))
+-- what is found after an entry is found after the history
+found_on : (c : Course) (n : ℕ) (e : Entry) → slice_get c.entries n ≡ Some e → (id : List ℕ) (q : Published) →
+    published_at (published_after (published (take n c.entries)) e.call e.reply) id ≡ Some q → published_at (published c.entries) id ≡ Some q
+found_on c n e at id q h =
+    let rest = drop (suc n) c.entries in
+    let whole = ap (λ (l : List Entry). published l) (cut_at n c.entries e at) ∙ published_two [] (take n c.entries) (e ∷ rest) in
+    let found = stays (published_after (published (take n c.entries)) e.call e.reply) rest id q h in
+    subst (λ (ps : List Published). published_at ps id ≡ Some q) (sym whole) found
+
+found_at_last : (c : Course) → IsLegal c → (id : List ℕ) (d : Contract) (x : List ℕ) → Publishes c.entries id d x →
+    (p : Published) × (publication d x ≡ Ok p) × (published_at (published c.entries) id ≡ Some p)
+found_at_last c legal id d x it =
+    let w = world (before_entry c it.number) in
+    let told = told_by_table c legal it.number it.entry d x it.there it.call in
+    let found = found_after w (publication d x) id (sym told ∙ it.reply) in
+    let after : published_after w.published it.entry.call it.entry.reply ≡ with_object w.published (publication d x) =
+    ap (λ (k : Call). published_after w.published k it.entry.reply) it.call
+    ∙ ap (λ (r : Reply). published_after w.published (on.Publish d x) r) it.reply in
+    let first = subst (λ (ps : List Published). published_at ps id ≡ Some found.0) (sym after) found.2 in
+    (found.0, found.1, found_on c it.number it.entry it.there id found.0 first)
 
 pub tell_contracts : PublishedTellApart → LegalIdsTellContracts
 tell_contracts law c legal id d f x y first second =
