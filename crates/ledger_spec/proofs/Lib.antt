@@ -1,2 +1,4 @@
 pub mod ReplayLaws
 pub mod CallsLaws
+pub mod StartsLaws
+mod StandingLemmas
