@@ -74,11 +74,15 @@ among_right (z ∷ xs) ys x h = let p = among_right xs ys x h in (suc p.0, p.1)
 
 none_kept : {A : Type 0} (test : A → Bool) (xs : List A) → ((i : ℕ) (x : A) → slice_get xs i ≡ Some x → test x ≡ false) → filter test xs ≡ []
 none_kept test [] h = refl
-none_kept test (x ∷ xs) h = ap (λ (b : Bool). if b then x ∷ filter test xs else filter test xs) (h 0 x refl) ∙ none_kept test xs (λ i y at. h (suc i) y at)
+none_kept test (x ∷ xs) h =
+    ap (λ (b : Bool). if b then x ∷ filter test xs else filter test xs) (h 0 x refl)
+    ∙ none_kept test xs (λ i y at. h (suc i) y at)
 
 all_kept : {A : Type 0} (test : A → Bool) (xs : List A) → ((i : ℕ) (x : A) → slice_get xs i ≡ Some x → test x ≡ true) → filter test xs ≡ xs
 all_kept test [] h = refl
-all_kept test (x ∷ xs) h = ap (λ (b : Bool). if b then x ∷ filter test xs else filter test xs) (h 0 x refl) ∙ ap (λ (l : List _). x ∷ l) (all_kept test xs (λ i y at. h (suc i) y at))
+all_kept test (x ∷ xs) h =
+    ap (λ (b : Bool). if b then x ∷ filter test xs else filter test xs) (h 0 x refl)
+    ∙ ap (λ (l : List _). x ∷ l) (all_kept test xs (λ i y at. h (suc i) y at))
 
 or_none : (b : Bool) → (b || false) ≡ b
 or_none true = refl
@@ -118,7 +122,9 @@ numbered_more n (p ∷ ps) qs h k = (h.0, numbered_more (suc n) ps qs h.1 (subst
 
 numbered_parts : (n : ℕ) (ps qs : List Pending) → Numbered n (ps ++ qs) → Numbered n ps × Numbered (n + length ps) qs
 numbered_parts n [] qs h = (tt, subst (λ (m : ℕ). Numbered m qs) (plus_none n) h)
-numbered_parts n (p ∷ ps) qs h = let k = numbered_parts (suc n) ps qs h.1 in ((h.0, k.0), subst (λ (m : ℕ). Numbered m qs) (sym (plus_next n (length ps))) k.1)
+numbered_parts n (p ∷ ps) qs h =
+    let k = numbered_parts (suc n) ps qs h.1 in
+    ((h.0, k.0), subst (λ (m : ℕ). Numbered m qs) (sym (plus_next n (length ps))) k.1)
 
 -- of these, the transactions that have a ticket
 abbrev with_ticket : ℕ → List Pending → List Tx
@@ -128,20 +134,26 @@ none_later : (t n : ℕ) (ps : List Pending) → t < n → Numbered n ps → wit
 none_later t n [] l h = refl
 none_later t n (p ∷ ps) l h =
     let k : p.0 ≡ n = h.0 in
-    ap (λ (b : Bool). cons_option (if b then Some p.1 else None) (with_ticket t ps)) (differ p.0 t (λ e. omega (arith, e, k, l))) ∙ none_later t (suc n) ps (omega (arith, l)) h.1
+    ap (λ (b : Bool). cons_option (if b then Some p.1 else None) (with_ticket t ps)) (differ p.0 t (λ e. omega (arith, e, k, l)))
+    ∙ none_later t (suc n) ps (omega (arith, l)) h.1
 
 -- a ticket is of one transaction
 one_ticket : (n : ℕ) (ps : List Pending) (p : Pending) (i : ℕ) → Numbered n ps → slice_get ps i ≡ Some p → with_ticket p.0 ps ≡ p.1 ∷ []
 one_ticket n [] p i h at = cc
-one_ticket n (q ∷ ps) p zero h at =
-    let k : q.0 ≡ n = h.0 in
-    let first : with_ticket q.0 (q ∷ ps) ≡ q.1 ∷ [] =
-    ap (λ (b : Bool). cons_option (if b then Some q.1 else None) (with_ticket q.0 ps)) (eq-eqb q.0 q.0 refl) ∙ ap (λ (l : List Tx). q.1 ∷ l) (none_later q.0 (suc n) ps (omega (arith, k)) h.1) in
-    subst (λ (x : Pending). with_ticket x.0 (q ∷ ps) ≡ x.1 ∷ []) (same_some q p at) first
+one_ticket n (q ∷ ps) p zero h at = subst (λ (x : Pending). with_ticket x.0 (q ∷ ps) ≡ x.1 ∷ []) (same_some q p at) first
+  where
+    later : q.0 < suc n
+    later = let k : q.0 ≡ n = h.0 in omega (arith, k)
+
+    first : with_ticket q.0 (q ∷ ps) ≡ q.1 ∷ []
+    first =
+        ap (λ (b : Bool). cons_option (if b then Some q.1 else None) (with_ticket q.0 ps)) (eq-eqb q.0 q.0 refl)
+        ∙ ap (λ (l : List Tx). q.1 ∷ l) (none_later q.0 (suc n) ps later h.1)
 one_ticket n (q ∷ ps) p (suc i) h at =
     let k : q.0 ≡ n = h.0 in
     let l : p.0 ≡ suc n + i = number_at (suc n) ps i p h.1 at in
-    ap (λ (b : Bool). cons_option (if b then Some q.1 else None) (with_ticket p.0 ps)) (differ q.0 p.0 (λ e. omega (arith, e, k, l))) ∙ one_ticket (suc n) ps p i h.1 at
+    ap (λ (b : Bool). cons_option (if b then Some q.1 else None) (with_ticket p.0 ps)) (differ q.0 p.0 (λ e. omega (arith, e, k, l)))
+    ∙ one_ticket (suc n) ps p i h.1 at
 
 -- whether one of these has a ticket
 abbrev has_ticket : List Pending → ℕ → Bool
@@ -149,7 +161,10 @@ has_ticket ps t = list_any (λ p. p.0 == t) ps
 
 -- without those whose tickets are taken, the others are left
 left_over : (gone left : List Pending) → Numbered 0 (gone ++ left) → filter (λ p. not (has_ticket gone p.0)) (gone ++ left) ≡ left
-left_over gone left h = filter-append stays gone left ∙ ap (λ (l : List Pending). l ++ filter stays left) (none_kept stays gone taken) ∙ all_kept stays left free
+left_over gone left h =
+    filter-append stays gone left
+    ∙ ap (λ (l : List Pending). l ++ filter stays left) (none_kept stays gone taken)
+    ∙ all_kept stays left free
   where
     stays : Pending → Bool
     stays p = not (has_ticket gone p.0)
@@ -245,8 +260,8 @@ moves w (on.Round k) =
 
 -- ---- the pool
 
--- what was enqueued is what is gone and then what is pending; the tickets taken are those of what is gone; and the tickets given count
--- from 0 in the order of the pool
+-- what was enqueued is what is gone and then what is pending; the tickets taken are those of what is gone; and the
+-- tickets given count from 0, in the order of the pool
 record Pool (c : Course) : Type 0 where
   pub gone : List Pending
   pub split : enqueued c.entries ≡ gone ++ (world c).replay.pending
@@ -259,7 +274,9 @@ begun c = record { tick = c.first_tick; accepted = []; pending = [] }
 
 tickets_more : (es : List Entry) (e : Entry) → tickets (es ++ e ∷ []) ≡ tickets es + cond (is_some (ticket_in e.reply)) 1 0
 unfolding gives_ticket
-tickets_more es e = sum_by-append (λ (x : Entry). cond (gives_ticket x) 1 0) es (e ∷ []) ∙ ap (λ (n : ℕ). tickets es + n) (sym (none_plus (cond (is_some (ticket_in e.reply)) 1 0)))
+tickets_more es e =
+    sum_by-append (λ (x : Entry). cond (gives_ticket x) 1 0) es (e ∷ [])
+    ∙ ap (λ (n : ℕ). tickets es + n) (sym (none_plus (cond (is_some (ticket_in e.reply)) 1 0)))
 
 pool_more : (c : Course) (e : Entry) → Moves (world c) e.call e.reply → Pool c → Pool (with_entry c e)
 pool_more c e m p =
@@ -267,12 +284,17 @@ pool_more c e m p =
       gone = p.gone ++ m.took;
       split = split_now;
       taken = taken_now;
-      numbered = subst (λ (l : List Pending). Numbered 0 l) (sym grown) (numbered_more 0 (enqueued c.entries) m.new p.numbered (subst (λ (n : ℕ). Numbered n m.new) (p.count ∙ none_plus (length (enqueued c.entries))) m.numbers));
+      numbered = subst (λ (l : List Pending). Numbered 0 l) (sym grown) (numbered_more 0 (enqueued c.entries) m.new p.numbered next);
       count = count_now;
     }
   where
     grown : enqueued (c.entries ++ e ∷ []) ≡ enqueued c.entries ++ m.new
-    grown = filter_map-append (λ (x : Entry). enqueued_by x.call x.reply) c.entries (e ∷ []) ∙ ap (λ (l : List Pending). enqueued c.entries ++ l) m.adds
+    grown =
+        filter_map-append (λ (x : Entry). enqueued_by x.call x.reply) c.entries (e ∷ [])
+        ∙ ap (λ (l : List Pending). enqueued c.entries ++ l) m.adds
+
+    next : Numbered (0 + length (enqueued c.entries)) m.new
+    next = subst (λ (n : ℕ). Numbered n m.new) (p.count ∙ none_plus (length (enqueued c.entries))) m.numbers
 
     left : List Pending
     left = (after_call (world c).replay e.call e.reply).pending
@@ -350,7 +372,8 @@ accepts_more w es (on.Submit tx) h = by (fault_on w tx)
     by (Some fault) = sym (no_more w.replay.accepted)
 accepts_more w es (on.Enqueue tx) h = sym (after_enqueue w tx) ∙ sym (no_more w.replay.accepted)
 accepts_more w es (on.Round k) h =
-    ap (λ (l : List Tx). w.replay.accepted ++ l) (only_first w k w.replay.pending ∙ round_accepts w es (take k w.replay.pending) (λ i p at. h i p (taken_at k i w.replay.pending p at).0))
+    let first : AreTicketed es (take k w.replay.pending) = λ i p at. h i p (taken_at k i w.replay.pending p at).0 in
+    ap (λ (l : List Tx). w.replay.accepted ++ l) (only_first w k w.replay.pending ∙ round_accepts w es (take k w.replay.pending) first)
 
 -- after the first entries, what was accepted is told by them, with the tickets of all
 abbrev AcceptsSo : Course → List Entry → Type 0
@@ -358,15 +381,27 @@ AcceptsSo c es = (world (record c { entries = es })).replay.accepted ≡ flat_ma
 
 -- what is pending at an entry has its tickets in the whole history
 pending_ticketed : (c : Course) → IsLegal c → (n : ℕ) → AreTicketed c.entries (world (before_entry c n)).replay.pending
-pending_ticketed c legal n i p at =
-    let pool = pool_at c legal n in
-    let earlier = take n c.entries in
-    let later = drop n c.entries in
-    let here : Among (enqueued earlier) p = subst (λ (l : List Pending). Among l p) (sym pool.split) (among_right pool.gone (world (before_entry c n)).replay.pending p (i, at)) in
-    let all : enqueued earlier ++ enqueued later ≡ enqueued c.entries =
-    sym (filter_map-append (λ (x : Entry). enqueued_by x.call x.reply) earlier later) ∙ ap (λ (l : List Entry). enqueued l) (take-append-drop n c.entries) in
-    let there : Among (enqueued c.entries) p = subst (λ (l : List Pending). Among l p) all (among_left (enqueued earlier) (enqueued later) p here) in
-    one_ticket 0 (enqueued c.entries) p there.0 (pool_of c legal).numbered there.1
+pending_ticketed c legal n i p at = one_ticket 0 (enqueued c.entries) p there.0 (pool_of c legal).numbered there.1
+  where
+    earlier : List Entry
+    earlier = take n c.entries
+
+    later : List Entry
+    later = drop n c.entries
+
+    here : Among (enqueued earlier) p
+    here =
+        let pool = pool_at c legal n in
+        let left = (world (before_entry c n)).replay.pending in
+        subst (λ (l : List Pending). Among l p) (sym pool.split) (among_right pool.gone left p (i, at))
+
+    all : enqueued earlier ++ enqueued later ≡ enqueued c.entries
+    all =
+        sym (filter_map-append (λ (x : Entry). enqueued_by x.call x.reply) earlier later)
+        ∙ ap (λ (l : List Entry). enqueued l) (take-append-drop n c.entries)
+
+    there : Among (enqueued c.entries) p
+    there = subst (λ (l : List Pending). Among l p) all (among_left (enqueued earlier) (enqueued later) p here)
 
 accepted_next : (c : Course) → IsLegal c → (n : ℕ) → AcceptsSo c (take n c.entries) → (o : Option Entry) → slice_get c.entries n ≡ o → AcceptsSo c (take (suc n) c.entries)
 accepted_next c legal n before None at = subst (λ (l : List Entry). AcceptsSo c l) (sym (take_none n c.entries at)) before
@@ -389,7 +424,9 @@ accepted_next c legal n before (Some e) at =
     adds x = accepted_by c.entries x.call x.reply
 
     step : (after_call w.replay e.call e.reply).accepted ≡ w.replay.accepted ++ adds e
-    step = subst (λ (r : Reply). (after_call w.replay e.call r).accepted ≡ w.replay.accepted ++ accepted_by c.entries e.call r) (sym (legal n e at).reply) (accepts_more w c.entries e.call (pending_ticketed c legal n))
+    step =
+        let told = accepts_more w c.entries e.call (pending_ticketed c legal n) in
+        subst (λ (r : Reply). (after_call w.replay e.call r).accepted ≡ w.replay.accepted ++ accepted_by c.entries e.call r) (sym (legal n e at).reply) told
 
 accepted_at : (c : Course) → IsLegal c → (n : ℕ) → AcceptsSo c (take n c.entries)
 accepted_at c legal zero = refl

@@ -9,7 +9,7 @@ use Rattle.eutxo_types.specs.declared.tx.Tx.{Tx}
 use Rattle.eutxo_types.specs.Ids.{id_of}
 use Rattle.eutxo_types.specs.Parts.{contract_at, steps}
 use Rattle.ledger_laws.specs.Past.{Past, has_id}
-use Rattle.ledger_laws.specs.Threads.{StartsThread, thread, ends}
+use Rattle.ledger_laws.specs.Threads.{IsMade, StartsThread, thread, ends}
 use Rattle.ledger_laws.proofs.PlainLaws.{and_true, both, is_there, any_there, any_at}
 use Rattle.ledger_laws.proofs.ReferenceLaws.{itself}
 use Rattle.ledger_spec.specs.Views.{starts_in, StartsAreTold}
@@ -24,21 +24,27 @@ starts_so past (Genesis i) n tx g k = cc
 starts_so past (Made id i) n tx g k =
     let a = and_true (has_id id tx) (not (steps tx) && is_some (contract_at tx i)) k in
     let b = and_true (not (steps tx)) (is_some (contract_at tx i)) a.1 in
-    let c = is_there (contract_at tx i) b.1 in (
+    let c = is_there (contract_at tx i) b.1 in
+    let name : Made id i ≡ Made (id_of tx) i = ap (λ (x : List ℕ). Made x i) ((bytes_decides id (id_of tx)).0 a.0) in (
       c.0,
       record {
-        made = record { number = n; tx = tx; accepted = g; index = i; name = ap (λ (x : List ℕ). Made x i) ((bytes_decides id (id_of tx)).0 a.0); contract = c.1 };
+        made = record { number = n; tx = tx; accepted = g; index = i; name = name; contract = c.1 };
         bare = not_true (steps tx) b.0;
       },
     )
 
 -- and a start output is one that some transaction starts
 pub told_start : (past : Past) (r : OutputRef) → StartsThread past r → list_any (starts_in r) past.accepted ≡ true
-told_start past r s =
-    let m = s.1.made in
-    let inner = both (not (steps m.tx)) (is_some (contract_at m.tx m.index)) (ap not s.1.bare) (ap is_some m.contract) in
-    let here : starts_in (Made (id_of m.tx) m.index) m.tx ≡ true = both (has_id (id_of m.tx) m.tx) (not (steps m.tx) && is_some (contract_at m.tx m.index)) (itself (id_of m.tx)) inner in
-    any_at (starts_in r) past.accepted m.number m.tx m.accepted (ap (λ (q : OutputRef). starts_in q m.tx) m.name ∙ here)
+told_start past r s = any_at (starts_in r) past.accepted m.number m.tx m.accepted (ap (λ (q : OutputRef). starts_in q m.tx) m.name ∙ here)
+  where
+    m : IsMade past r s.0
+    m = s.1.made
+
+    bare : (not (steps m.tx) && is_some (contract_at m.tx m.index)) ≡ true
+    bare = both (not (steps m.tx)) (is_some (contract_at m.tx m.index)) (ap not s.1.bare) (ap is_some m.contract)
+
+    here : starts_in (Made (id_of m.tx) m.index) m.tx ≡ true
+    here = both (has_id (id_of m.tx) m.tx) (not (steps m.tx) && is_some (contract_at m.tx m.index)) (itself (id_of m.tx)) bare
 
 -- where some transaction starts it, it is a start output
 pub start_told : (past : Past) (r : OutputRef) → list_any (starts_in r) past.accepted ≡ true → StartsThread past r
