@@ -14,7 +14,7 @@ use Rattle.ledger_laws.specs.Threads.{IsStart, Member, thread}
 use Rattle.ledger_laws.proofs.PlainLaws.{same_some}
 use Rattle.ledger_spec.specs.declared.step_record.StepRecord.{StepRecord}
 use Rattle.ledger_spec.specs.Records.{member_of, TellTheRun}
-use Rattle.ledger_views.specs.RecordsSupport.{point, IsRunOf}
+use Rattle.ledger_views.specs.RecordsSupport.{point, IsRunOf, HoldNumbers}
 
 module _ (law : ThreadsAreRuns) (named : List ℕ → Option Published) (past : Past) (tables : AreTables named) (sound : IsSound marlowe named past) where
   module _ (r : OutputRef) (c : Instance) (start : IsStart past r c) where
@@ -32,12 +32,12 @@ module _ (law : ThreadsAreRuns) (named : List ℕ → Option Published) (past : 
         (a.2.0, subst (λ (q : Published). IsRunOf (terms_of q) (point q.root c.datum.state) c.script (thread past r) a.2.0) (same_some a.0 p (sym a.1 ∙ h)) run)
 
     pub tells : (p : Published) → named c.script ≡ Some p → (xs : List StepRecord) → IsRunOf (terms_of p) (point p.root c.datum.state) c.script (thread past r) (map (member_of (terms_of p)) xs) →
-        All (λ x. (terms_of p).has x.number ≡ true) xs → TellTheRun named past r c xs
-    tells p h xs run numbers = record { object = p; named = h; run = run.runs; carried = run.carried; numbers = numbers }
+        All (λ x. (terms_of p).has x.number ≡ true) xs → HoldNumbers (thread past r) xs → TellTheRun named past r c xs
+    tells p h xs run numbers held = record { object = p; named = h; run = run.runs; carried = run.carried; numbers = numbers; held = held }
 
-pub both_ok : {A E : Type 0} (r : Result A E) (F G H : A → Type 0) → ((a : A) → F a → G a → H a) → IfOk r F → IfOk r G → IfOk r H
-both_ok (Ok a) F G H f h k = f a h k
-both_ok (Err e) F G H f h k = tt
+pub all_ok : {A E : Type 0} (r : Result A E) (F G H K : A → Type 0) → ((a : A) → F a → G a → H a → K a) → IfOk r F → IfOk r G → IfOk r H → IfOk r K
+all_ok (Ok a) F G H K f x y z = f a x y z
+all_ok (Err e) F G H K f x y z = tt
 
 pub to_ok : {A E : Type 0} (r : Result A E) (F G : A → Type 0) → ((a : A) → F a → G a) → IfOk r F → IfOk r G
 to_ok (Ok a) F G f h = f a h

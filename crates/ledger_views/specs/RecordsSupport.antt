@@ -10,10 +10,11 @@ use Rattle.eutxo_types.specs.declared.spend.Spend.{Spend}
 use Rattle.eutxo_types.specs.declared.tx.Tx.{Tx}
 use Rattle.eutxo_types.specs.Parts.{Instance, contract_at, given_to}
 use Rattle.roles.specs.Terms.{Terms}
-use Rattle.ledger_laws.specs.Threads.{Link, Member, Gives, Run, Carries}
+use Rattle.contract.specs.Tree.{close}
+use Rattle.ledger_laws.specs.Threads.{Link, Member, next_of, Gives, Run, LaidOut, Carries}
 use Rattle.ledger_spec.specs.Views.{starts_in}
 use Rattle.ledger_spec.specs.declared.step_record.StepRecord.{StepRecord}
-use Rattle.ledger_spec.specs.Records.{member_of}
+use Rattle.ledger_spec.specs.Records.{member_of, HoldsNumber}
 
 -- ---- the start
 
@@ -51,11 +52,20 @@ left_by p (Some x) = (x.number, x.state)
 abbrev pub stands_after : Point → List StepRecord → Point
 stands_after p xs = left_by p (slice_get xs (length xs - 1))
 
--- what a transaction of a thread gives from here
+-- the number at which it goes on: the one that the next output holds; where no output goes on, this place
+abbrev pub number_after : Option Instance → Cont → Cont
+number_after None place = place
+number_after (Some i) place = i.datum.cont
+
+-- what a transaction of a thread gives from here, and how its outputs are laid out
 pub record IsStepOf (t : Terms) (p : Point) (l : Link) (x : Member) : Type 0 where
+  pub script : List ℕ
   pub interval : l.tx.interval ≡ x.interval
   pub inputs : given_to l.spends l.tx.inputs ≡ Some x.inputs
   pub gives : Gives (t.tree p.0) p.1 x
+  pub outputs : LaidOut t script x.outcome 0 l.tx
+  -- where the contract is Close, no output goes on
+  pub gone : x.outcome.contract ≡ close → next_of l.spends l.tx ≡ None
 
 -- ---- a thread
 
@@ -63,6 +73,10 @@ pub record IsStepOf (t : Terms) (p : Point) (l : Link) (x : Member) : Type 0 whe
 pub record IsRunOf (t : Terms) (p : Point) (script : List ℕ) (ls : List Link) (run : List Member) : Type 0 where
   pub runs : Run (t.tree p.0) p.1 run
   pub carried : Carries t script ls run
+
+-- each record's number is the one that the next output of its link holds
+abbrev pub HoldNumbers : List Link → List StepRecord → Type 0
+HoldNumbers ls xs = (n : ℕ) (l : Link) (x : StepRecord) → slice_get ls n ≡ Some l → slice_get xs n ≡ Some x → HoldsNumber l x
 
 -- of the links these are left, after these records
 pub record Goes (t : Terms) (p : Point) (script : List ℕ) (ls : List Link) (xs : List StepRecord) (left : List Link) : Type 0 where

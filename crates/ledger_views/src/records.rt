@@ -6,16 +6,17 @@ ghost use Rattle.roles.specs.Steps.{marlowe};
 ghost use Rattle.ledger_laws.specs.Laws.{AreTables};
 ghost use Rattle.ledger_laws.specs.Sound.{IsSound};
 ghost use Rattle.ledger_laws.specs.Threads.{IsStart, Member, spine};
+ghost use Rattle.eutxo_types.specs.Parts.{contract_at};
 ghost use Rattle.ledger_spec.specs.Replay.{past_of, published_at};
-ghost use Rattle.ledger_spec.specs.Records.{member_of, TellTheRun, AreSteps};
-ghost use Rattle.ledger_views.specs.RecordsSupport.{given, point, stands_after, IsStepOf, IsRunOf};
+ghost use Rattle.ledger_spec.specs.Records.{member_of, HoldsNumber, TellTheRun, AreSteps};
+ghost use Rattle.ledger_views.specs.RecordsSupport.{given, point, stands_after, number_after, IsStepOf, IsRunOf, HoldNumbers};
 
 use crate::links::{ThreadLink, thread};
 use crate::start::start_at;
 use collections::{Items, Memory, TryClone};
 use contract::{Input, SemFault, State};
 use eutxo::found_is_enough;
-use eutxo_types::{Cont, Instance, OutputRef, Spend};
+use eutxo_types::{Cont, Instance, OutputRef, Spend, Tx};
 use ledger::Resolves;
 use ledger_laws::threads_are_runs;
 use ledger_replay::World;
@@ -58,6 +59,17 @@ fn stands_after<'a>(root: Cont, first: &'a State, records: &'a [StepRecord]) -> 
     }
 }
 
+// Where a thread goes on after a transaction: at the number that the next output holds; where no output goes on, at
+// this place.
+fn number_after(tx: &Tx, place: Cont) -> Cont
+    ensures { result ≡ number_after (contract_at tx.now 0) place }
+{
+    match tx.contract_at(0) {
+        Some(next) => next.datum.cont,
+        None => place,
+    }
+}
+
 // The record of one transaction of a thread, which stands at this number, in this state. Since the step was
 // accepted, only memory can be wanting.
 fn recorded(
@@ -70,6 +82,7 @@ fn recorded(
     requires step { (x : Member) × IsStepOf (terms_of published.now) (point at.0 at.1.now) link.now x }
     ensures record { IfOk result (λ r. (x : Member) → IsStepOf (terms_of published.now) (point at.entry.0 at.entry.1.now) link.now x → member_of (terms_of published.now) r ≡ x) }
     ensures number { IfOk result (λ r. (terms_of published.now).has r.number ≡ true) }
+    ensures held { IfOk result (λ r. HoldsNumber link.now r) }
 {
     let tx = link.tx();
     let (number, state) = at;
@@ -84,7 +97,7 @@ fn recorded(
             warnings: outcome.warnings,
             payments: outcome.payments,
             state: outcome.state,
-            number: outcome.place,
+            number: number_after(tx, outcome.place),
         }),
         Err(SemFault::Memory) => Err(AllocError),
         Err(_) => unreachable!(),
@@ -104,6 +117,7 @@ fn records_of(
     requires run { (run : List Member) × IsRunOf (terms_of published.now) (point published.now.root start.now.datum.state) start.now.script links.now run }
     ensures run { IfOk result (λ xs. IsRunOf (terms_of published.now) (point published.now.root start.now.datum.state) start.now.script links.now (map (member_of (terms_of published.now)) xs)) }
     ensures numbers { IfOk result (λ xs. All (λ x. (terms_of published.now).has x.number ≡ true) xs) }
+    ensures held { IfOk result (λ xs. HoldNumbers links.now xs) }
 {
     let mut records = Items::new(alloc);
     for link in links {

@@ -3,7 +3,7 @@ use Rattle.eutxo_types.specs.Parts.{Instance}
 use Rattle.roles.specs.Terms.{terms_of}
 use Rattle.ledger_spec.specs.declared.step_record.StepRecord.{StepRecord}
 use Rattle.ledger_views.specs.RecordsSupport.{point, stands_after}
-use Rattle.ledger_views.proofs.NextRecordLemmas.{step_next, goes_next, has_next, all_next}
+use Rattle.ledger_views.proofs.NextRecordLemmas.{step_next, goes_next, has_next, all_next, count_next, hold_next}
 use Rattle.ledger_views.proofs.records.records_of.Goals as goal
 
 pub recorded-requires-clause-step : goal.recorded-requires-clause-step
@@ -28,4 +28,8 @@ loop-link-preserved c =
           c.loop-link.link-index c.link-item.result r c.loop-link-test.true c.link-item.is at c.loop-link.invariant.goes c.in_ok-record.ensures.record added;
       has = has_next t p c.loop-link.records c.push.new.self r added c.in_ok-record.ensures.number;
       numbers = all_next (λ (x : StepRecord). t.has x.number ≡ true) c.loop-link.records c.push.new.self r added c.loop-link.invariant.numbers c.in_ok-record.ensures.number;
+      count = count_next c.loop-link.records c.push.new.self c.loop-link.link-index r c.loop-link.invariant.count added;
+      held =
+          hold_next c.args.links.now c.loop-link.records c.push.new.self c.loop-link.link-index c.link-item.result r c.loop-link-test.true c.link-item.is c.loop-link.invariant.count added
+          c.loop-link.invariant.held c.in_ok-record.ensures.held;
     }

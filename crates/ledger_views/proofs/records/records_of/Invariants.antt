@@ -1,7 +1,7 @@
-use Rattle.std.proofs.Common.{◌≡◌, true, drop}
+use Rattle.std.proofs.Common.{◌≡◌, true, drop, length}
 use Rattle.std.specs.List.{All}
 use Rattle.roles.specs.Terms.{terms_of}
-use Rattle.ledger_views.specs.RecordsSupport.{point, stands_after, Goes}
+use Rattle.ledger_views.specs.RecordsSupport.{point, stands_after, HoldNumbers, Goes}
 use Rattle.ledger_views.proofs.records.records_of.Given as goal
 
 abbrev pub invariant-loop-link : goal.invariant-loop-link
@@ -9,4 +9,6 @@ invariant-loop-link l = record {
   goes : Goes (terms_of l.published) (point l.published.root l.start.datum.state) l.start.script l.links l.records (drop l.link-index l.links);
   has : (terms_of l.published).has (stands_after (point l.published.root l.start.datum.state) l.records).0 ≡ true;
   numbers : All (λ x. (terms_of l.published).has x.number ≡ true) l.records;
+  count : length l.records ≡ l.link-index;
+  held : HoldNumbers l.links l.records;
 }

@@ -7,8 +7,8 @@ use Rattle.roles.specs.Terms.{terms_of}
 use Rattle.ledger_laws.specs.Threads.{Link, Member, spine}
 use Rattle.ledger_spec.specs.Replay.{past_of, published_at}
 use Rattle.ledger_spec.specs.Records.{member_of, TellTheRun}
-use Rattle.ledger_views.specs.RecordsSupport.{point, IsRunOf}
-use Rattle.ledger_views.proofs.RecordsLemmas.{is_named, run_there, tells, both_ok}
+use Rattle.ledger_views.specs.RecordsSupport.{point, IsRunOf, HoldNumbers}
+use Rattle.ledger_views.proofs.RecordsLemmas.{is_named, run_there, tells, all_ok}
 use Rattle.ledger_views.proofs.records.steps_from.Goals as goal
 
 pub unreachable-requires : goal.unreachable-requires
@@ -35,11 +35,14 @@ returns c =
     let p = c.get.result.now in
     let known = ap (λ (s : Instance). published_at w.published s.script) (sym c.start.view_is) ∙ sym c.published_at.ensures ∙ ap option_copied c.in-Some.is ∙ ap Some (sym c.get.ensures) in
     let links = c.deref.ensures.value ∙ c.in_ok-links-in-Some.ensures ∙ ap (λ (txs : List Tx). spine (Some c.args.reference) txs) c.accepted.ensures in
-    both_ok c.records_of.result
+    all_ok c.records_of.result
     (λ xs. IsRunOf (terms_of p) (point p.root start.datum.state) start.script c.deref.result.now (map (member_of (terms_of p)) xs))
     (λ xs. All (λ x. (terms_of p).has x.number ≡ true) xs)
+    (λ xs. HoldNumbers c.deref.result.now xs)
     (λ xs. TellTheRun (published_at w.published) (past_of w) c.args.reference start xs)
-    (λ xs run numbers. tells c.threads_are_runs.ensures.run (published_at w.published) (past_of w) c.requires.tables c.requires.sound c.args.reference start c.requires.start p known xs
-    (subst (λ (ls : List Link). IsRunOf (terms_of p) (point p.root start.datum.state) start.script ls (map (member_of (terms_of p)) xs)) links run) numbers)
+    (λ xs run numbers held. tells c.threads_are_runs.ensures.run (published_at w.published) (past_of w) c.requires.tables c.requires.sound c.args.reference start c.requires.start p known xs
+    (subst (λ (ls : List Link). IsRunOf (terms_of p) (point p.root start.datum.state) start.script ls (map (member_of (terms_of p)) xs)) links run) numbers
+    (subst (λ (ls : List Link). HoldNumbers ls xs) links held))
     c.records_of.ensures.run
     c.records_of.ensures.numbers
+    c.records_of.ensures.held
