@@ -1,9 +1,10 @@
 -- Closing after the last timeout.
-use Rattle.std.proofs.Common.{◌≡◌, ℕ, ℤ, ◌+ℤ◌, ◌<ℤ◌, ◌≤ℤ◌, Bool, true, false, List, [], ◌∷◌, refl, sym, ap, ◌∙◌, subst, Option, Some, None, Result, Ok, Err, inl, inr, arith}
-use Rattle.std.proofs.lemmas.Int.{ints}
+use Rattle.std.proofs.Common.{◌≡◌, ℕ, ◌<◌, ◌^◌, ℤ, pos, negsuc, ◌+ℤ◌, int_lt, Bool, true, false, List, [], ◌∷◌, refl, sym, ap, ◌∙◌, subst, Option, Some, None, Result, Ok, Err, inl, inr, arith}
+use Rattle.std.proofs.lemmas.Bool.Decides.{nat_tests}
 use Rattle.std.specs.Prelude.{if◌then◌else◌}
 use Rattle.std.specs.FinMap.{empty, entries}
-use Rattle.names.specs.declared.token.Token.{Token}
+use Rattle.contract_bytes.specs.Numbers.{NumberFits}
+use Rattle.contract_bytes.specs.Names.{HoldingFits}
 use Rattle.contract.specs.declared.fault.SemFault.{SemFault}
 use Rattle.contract.specs.declared.interval.Interval.{Interval}
 use Rattle.semantics.specs.Walk.{Standing, answer_of}
@@ -11,6 +12,7 @@ use Rattle.semantics.specs.Computed.{computed}
 use Rattle.semantics.specs.Money.{paid_out}
 use Rattle.semantics.specs.Closing.{ClosesSo, ClosesAfterLast}
 use Rattle.bundle.specs.Bundles.{Amounts, amount_of, each, plus}
+use Rattle.eutxo_types.specs.Fitting.{AmountFits}
 use Rattle.eutxo.specs.Faults.{first_of}
 use Rattle.builder_spec.specs.declared.fault.BuildFault.{BuildFault}
 use Rattle.builder_spec.specs.declared.fault.BuildFault.TheVariants.{Semantics, TooMany}
@@ -18,10 +20,11 @@ use Rattle.builder_spec.specs.Requests.{StepRequest}
 use Rattle.builder_spec.specs.Holding.{sums, amount_in}
 use Rattle.builder_spec.specs.Causes.{is_much}
 use Rattle.builder_spec.specs.Steps.{Thread, thread_terms, step_walk, own_output, hinders_thread, hinders_on}
-use Rattle.builder_spec.proofs.HoldingLaws.{entries-empty, most, much_of}
+use Rattle.builder_spec.proofs.HoldingLaws.{entries-empty, most}
 use Rattle.builder_spec.proofs.FundsLaws.{amount_of-sums_in}
 use Rattle.builder_spec.specs.Closings.{closing, Closes}
 use Rattle.builder_laws.specs.AfterLast.{AnyoneCloses, NoThreadHinders}
+use Rattle.builder_laws.proofs.TestLemmas.{each_so, by_recursion, not_any}
 use Rattle.builder_laws.proofs.LookThreadLemmas.{IsThread, thread_so}
 
 -- what hinders it: the answer of the transaction function, or that too much is spent
@@ -54,18 +57,20 @@ after_is : (i : Interval) (signers : List (List ℕ)) (change : List ℕ) (e : T
 after_is i signers change e (Err f) q = rw q refl
 after_is i signers change e (Ok a) q = rw q (last_clause (is_much (sums amount_in (own_output e ∷ []))) ∙ ap (λ m. if is_much m then Some TooMany else None) (alone e.shown.output.amount))
 
-past : (a : ℤ) → a ≤ℤ most → most <ℤ a → ⊥
-past a h k = omega (arith, ints, h, k)
+-- what fits 16 bytes isn't above 2^127 - 1
+not_above : (n : ℤ) → NumberFits n → int_lt most n ≡ false
+not_above (pos n) h = let k : n < 2 ^ 127 = h.sfits in grind (arith, nat_tests)
+not_above (negsuc n) h = refl
 
-not_much : (m : Amounts) (b : Bool) → is_much m ≡ b → ((t : Token) → amount_of m t ≤ℤ most) → b ≡ false
-not_much m false e h = refl
-not_much m true e h = let k = much_of m e in absurd (past (amount_of m k.0) (h k.0) k.1)
+-- so amounts that fit their spelling aren't too much
+not_much : (m : Amounts) → AmountFits m → is_much m ≡ false
+not_much m h = not_any (λ e. int_lt most e.1) (entries m) (each_so HoldingFits (λ e. int_lt most e.1 ≡ false) (λ e fits. not_above e.1 fits.1) (entries m) (by_recursion HoldingFits (entries m) h.1))
 
 pub anyone_closes : ClosesAfterLast → AnyoneCloses
-anyone_closes law look e i signers change shown small h g m =
+anyone_closes law look e i signers change shown fits h g m =
     let r = closing i signers change in
     subst (Closes r e) (sym (ap (hinders_on r) shown ∙ after_is i signers change e (answer_of (step_walk r e)) refl))
-    (closes_by r e (answer_of (step_walk r e)) (is_much e.shown.output.amount) refl (not_much e.shown.output.amount (is_much e.shown.output.amount) refl small) (thread_so look e shown) refl (law i e.datum.state ((thread_terms e).tree e.datum.cont) h g m))
+    (closes_by r e (answer_of (step_walk r e)) (is_much e.shown.output.amount) refl (not_much e.shown.output.amount fits.1) (thread_so look e shown) refl (law i e.datum.state ((thread_terms e).tree e.datum.cont) h g m))
 
 pub no_thread_hinders : NoThreadHinders
 no_thread_hinders look i signers change none = ap (hinders_on (closing i signers change)) none

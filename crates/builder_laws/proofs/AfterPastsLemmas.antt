@@ -23,8 +23,8 @@ use Rattle.ledger_laws.specs.Sound.{moment}
 use Rattle.roles.specs.Steps.{marlowe}
 use Rattle.ledger_laws.proofs.ReferenceLaws.{same_ref-refl, unspent_so}
 use Rattle.ledger_spec.specs.Open.{IsAlone, IsOpen}
-use Rattle.builder_laws.specs.AfterPasts.{BytesTellApart}
-use Rattle.builder_laws.proofs.TestLemmas.{by_recursion, unless}
+use Rattle.builder_laws.specs.AfterPasts.{Fit, BytesTellApart}
+use Rattle.builder_laws.proofs.TestLemmas.{by_recursion, each_at, unless}
 use Rattle.builder_laws.proofs.NamedLemmas.{refs}
 use Rattle.builder_laws.proofs.PairLemmas.{names}
 use Rattle.builder_laws.proofs.CausesLemmas.{first_clear}
@@ -51,34 +51,42 @@ any_at test (y ∷ ys) (suc n) x e h = either (test y) (list_any test ys) (any_a
 names_first : (tx : Tx) (x : Spend) (xs : List Spend) → tx.inputs ≡ x ∷ xs → past.is_input_of x.reference tx ≡ true
 names_first tx x xs e = ap (list_any (λ (y : Spend). same_ref y.reference x.reference)) e ∙ ap (λ b. b || list_any (λ (y : Spend). same_ref y.reference x.reference) xs) (same_ref-refl x.reference)
 
+-- bytes tell transactions apart
+pub bytes_tell_apart : BeginsNoOther TxFits tx_bytes → BytesTellApart
+bytes_tell_apart law p tx other n fit at e =
+    law other tx (each_at TxFits p.accepted (by_recursion TxFits p.accepted fit.accepted) n other at) fit.fits [] (append-nil (tx_bytes other) ∙ e)
+
+-- an accepted transaction with its id is the same one
+abbrev IsOnly : Past → Tx → Type 0
+IsOnly p tx = (n : ℕ) (other : Tx) → slice_get p.accepted n ≡ Some other → id_of other ≡ id_of tx → other ≡ tx
+
+is_only : BytesTellApart → (p : Past) (tx : Tx) → Fit p tx → IsAlone p tx → IsOnly p tx
+is_only apart p tx fit alone n other at e = apart p tx other n fit at (alone n other at e)
+
 -- a transaction that names an unspent output was not accepted
-new : (p : Past) (tx : Tx) (x : Spend) (xs : List Spend) (o : Output) → tx.inputs ≡ x ∷ xs → unspent_at p x.reference ≡ Some o → IsAlone p tx → (b : Bool) → is_used p.accepted (id_of tx) ≡ b → b ≡ false
-new p tx x xs o e h alone false q = refl
-new p tx x xs o e h alone true q =
+new : (p : Past) (tx : Tx) (x : Spend) (xs : List Spend) (o : Output) → tx.inputs ≡ x ∷ xs → unspent_at p x.reference ≡ Some o → IsOnly p tx → (b : Bool) → is_used p.accepted (id_of tx) ≡ b → b ≡ false
+new p tx x xs o e h only false q = refl
+new p tx x xs o e h only true q =
     let at = passing_at (has_id (id_of tx)) p.accepted q in
-    let same : at.1 ≡ tx = alone at.0 at.1 at.2 (sym ((bytes_decides (id_of tx) (id_of at.1)).0 at.3)) in
+    let same : at.1 ≡ tx = only at.0 at.1 at.2 (sym ((bytes_decides (id_of tx) (id_of at.1)).0 at.3)) in
     let spent : is_spent p.accepted x.reference ≡ true =
     any_at (past.is_input_of x.reference) p.accepted at.0 at.1 at.2 (ap (past.is_input_of x.reference) same ∙ names_first tx x xs e) in
     sym spent ∙ (unspent_so p x.reference o h).0
 
-from_first : (p : Past) (tx : Tx) (xs : List Spend) (spent : List Unspent) → tx.inputs ≡ xs → is_empty xs ≡ false → refs xs ≡ names spent → AllByRecursion (λ (u : Unspent). unspent_at p u.reference ≡ Some u.output) spent → IsAlone p tx →
+from_first : (p : Past) (tx : Tx) (xs : List Spend) (spent : List Unspent) → tx.inputs ≡ xs → is_empty xs ≡ false → refs xs ≡ names spent → AllByRecursion (λ (u : Unspent). unspent_at p u.reference ≡ Some u.output) spent → IsOnly p tx →
     is_used p.accepted (id_of tx) ≡ false
-from_first p tx [] spent e s n h alone = cc
-from_first p tx (x ∷ xs) [] e s n h alone = cc
-from_first p tx (x ∷ xs) (u ∷ us) e s n h alone =
+from_first p tx [] spent e s n h only = cc
+from_first p tx (x ∷ xs) [] e s n h only = cc
+from_first p tx (x ∷ xs) (u ∷ us) e s n h only =
     let same : x.reference ≡ u.reference = cc in
-    new p tx x xs u.output e (ap (unspent_at p) same ∙ h.0) alone (is_used p.accepted (id_of tx)) refl
-
--- bytes tell transactions apart
-pub bytes_tell_apart : BeginsNoOther TxFits tx_bytes → BytesTellApart
-bytes_tell_apart law p tx fits all h n other at e = law other tx (all n other at) fits [] (append-nil (tx_bytes other) ∙ h n other at e)
+    new p tx x xs u.output e (ap (unspent_at p) same ∙ h.0) only (is_used p.accepted (id_of tx)) refl
 
 -- so what is clean is accepted after a past
-pub judged_after : FoundIsEnough marlowe → (published : List ℕ → Option Published) (p : Past) (tick : ℤ) (tx : Tx) (spent : List Unspent) (ys : List (Spend × Output)) → IsClean published tx spent ys → IsOpen p tick spent tx → judge marlowe (moment published p tick) tx ≡ None
-judged_after enough published p tick tx spent ys h open_ =
+pub judged_after : FoundIsEnough marlowe → BytesTellApart → (published : List ℕ → Option Published) (p : Past) (tick : ℤ) (tx : Tx) (spent : List Unspent) (ys : List (Spend × Output)) → IsClean published tx spent ys → Fit p tx → IsOpen p tick spent tx → judge marlowe (moment published p tick) tx ≡ None
+judged_after enough apart published p tick tx spent ys h fit open_ =
     judged enough (moment published p tick) tx spent ys h (record {
       unspent = open_.unspent;
-      unused = from_first p tx tx.inputs spent refl (unless (is_empty tx.inputs) NoInputs (first_clear (no_inputs tx) (too_many tx ∷ repeated_input tx ∷ []) h.first)) h.names (by_recursion (λ (u : Unspent). unspent_at p u.reference ≡ Some u.output) spent open_.unspent) open_.alone;
+      unused = from_first p tx tx.inputs spent refl (unless (is_empty tx.inputs) NoInputs (first_clear (no_inputs tx) (too_many tx ∷ repeated_input tx ∷ []) h.first)) h.names (by_recursion (λ (u : Unspent). unspent_at p u.reference ≡ Some u.output) spent open_.unspent) (is_only apart p tx fit open_.alone);
       from = open_.from;
       to = open_.to;
     })

@@ -30,7 +30,7 @@ use Rattle.builder_spec.specs.Claims.{awaited_token, tokens_awaited, payout_caus
 use Rattle.builder_spec.proofs.HoldingLaws.{amount_of-sums, total_of-append}
 use Rattle.builder_spec.proofs.FrontsLaws.{shortest_passes}
 use Rattle.builder_laws.specs.Accepting.{ClaimsPass, ClaimsAreAccepted}
-use Rattle.builder_laws.specs.AfterPasts.{ClaimsAreAcceptedAfter}
+use Rattle.builder_laws.specs.AfterPasts.{BytesTellApart, ClaimsAreAcceptedAfter}
 use Rattle.builder_laws.proofs.TestLemmas.{Everywhere, both, together, neither, not_not, each-append, each_so, any_nowhere, all_everywhere, everywhere_all, none_counted, found_nowhere, each_none, unless, unmapped}
 use Rattle.builder_laws.proofs.PairLemmas.{laid, pairs, paired, all_paired, all_named, AreKeyed, nowhere_keys, nowhere_paired, front_holds, no_step}
 use Rattle.builder_laws.proofs.SumsLemmas.{total-given}
@@ -177,5 +177,5 @@ claims_pass r found clear outputs = passes (layout_claim r) found (r.payouts ++ 
 pub claims_are_accepted : FoundIsEnough marlowe → ClaimsAreAccepted
 claims_are_accepted enough r m clear admits = judged enough m (layout_claim r) (r.payouts ++ claim_front r) (pairs with.Claim r.payouts (claim_front r)) (clean r clear m.published) admits
 
-pub claims_are_accepted_after : FoundIsEnough marlowe → ClaimsAreAcceptedAfter
-claims_are_accepted_after enough r published past tick clear is = judged_after enough published past tick (layout_claim r) (r.payouts ++ claim_front r) (pairs with.Claim r.payouts (claim_front r)) (clean r clear published) is
+pub claims_are_accepted_after : FoundIsEnough marlowe → BytesTellApart → ClaimsAreAcceptedAfter
+claims_are_accepted_after enough apart r published past tick clear fit is = judged_after enough apart published past tick (layout_claim r) (r.payouts ++ claim_front r) (pairs with.Claim r.payouts (claim_front r)) (clean r clear published) fit is

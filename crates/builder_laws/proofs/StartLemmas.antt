@@ -30,7 +30,7 @@ use Rattle.builder_spec.specs.Laying.{by_key, paid_to, rest}
 use Rattle.builder_spec.specs.Starts.{fresh_state, accounts_of, covers_accounts, start_front, start_funds_cause, hinders_start, start_datum, start_output, layout_start}
 use Rattle.builder_spec.proofs.FrontsLaws.{shortest_passes}
 use Rattle.builder_laws.specs.Accepting.{StartsPass, StartsAreAccepted}
-use Rattle.builder_laws.specs.AfterPasts.{StartsAreAcceptedAfter}
+use Rattle.builder_laws.specs.AfterPasts.{BytesTellApart, StartsAreAcceptedAfter}
 use Rattle.builder_laws.proofs.TestLemmas.{both, together, not_so, none_counted, each_none, unmapped, everywhere_all}
 use Rattle.builder_laws.proofs.PairLemmas.{laid, pairs, all_paired, all_named, AreKeyed, nowhere_keys, no_step}
 use Rattle.builder_laws.proofs.SumsLemmas.{total-changed}
@@ -128,5 +128,5 @@ starts_pass r found clear outputs script = passes (layout_start r) found (start_
 pub starts_are_accepted : FoundIsEnough marlowe → StartsAreAccepted
 starts_are_accepted enough r m clear script admits = judged enough m (layout_start r) (start_front r) (pairs with.None [] (start_front r)) (clean r clear m.published script) admits
 
-pub starts_are_accepted_after : FoundIsEnough marlowe → StartsAreAcceptedAfter
-starts_are_accepted_after enough r published past tick clear script is = judged_after enough published past tick (layout_start r) (start_front r) (pairs with.None [] (start_front r)) (clean r clear published script) is
+pub starts_are_accepted_after : FoundIsEnough marlowe → BytesTellApart → StartsAreAcceptedAfter
+starts_are_accepted_after enough apart r published past tick clear script fit is = judged_after enough apart published past tick (layout_start r) (start_front r) (pairs with.None [] (start_front r)) (clean r clear published script) fit is

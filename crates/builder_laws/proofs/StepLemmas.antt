@@ -37,7 +37,7 @@ use Rattle.builder_spec.specs.Causes.{signature_cause, funds_cause, limit_cause,
 use Rattle.builder_spec.specs.Laying.{spend_with, paid_to, rest}
 use Rattle.builder_spec.specs.Steps.{Thread, thread_terms, look_thread, step_walk, semantics_cause, token_of, roles_of, deposits, may_act, authority_cause, step_front, own_output, step_spent, step_limit_cause, hinders_thread, hinders_on, continuing_outputs, step_outputs_of, layout_thread, layout_on}
 use Rattle.builder_laws.specs.Accepting.{StepsPass, StepsAreAccepted}
-use Rattle.builder_laws.specs.AfterPasts.{StepsAreAcceptedAfter}
+use Rattle.builder_laws.specs.AfterPasts.{BytesTellApart, StepsAreAcceptedAfter}
 use Rattle.builder_laws.proofs.TestLemmas.{Nowhere, Everywhere, both, together, not_not, each-append, all_everywhere, everywhere_all, one_counted, no_fault, not_found, found_nowhere, each_none, none_of, if_not, mapped, unmapped}
 use Rattle.builder_laws.proofs.PairLemmas.{laid, paired, pairs, all_paired, all_named, AreKeyed, nowhere_keys, front_holds}
 use Rattle.builder_laws.proofs.SumsLemmas.{total-changed}
@@ -227,6 +227,6 @@ pub steps_are_accepted : FoundIsEnough marlowe → StepsAreAccepted
 steps_are_accepted enough look r e m shown clear script admits =
     judged enough m (layout_on r (look_thread look)) (step_spent r e) (its_pairs r e) (clean_step look r e shown clear m.published script) admits
 
-pub steps_are_accepted_after : FoundIsEnough marlowe → StepsAreAcceptedAfter
-steps_are_accepted_after enough look r e published past tick shown clear script is =
-    judged_after enough published past tick (layout_on r (look_thread look)) (step_spent r e) (its_pairs r e) (clean_step look r e shown clear published script) is
+pub steps_are_accepted_after : FoundIsEnough marlowe → BytesTellApart → StepsAreAcceptedAfter
+steps_are_accepted_after enough apart look r e published past tick shown clear script fit is =
+    judged_after enough apart published past tick (layout_on r (look_thread look)) (step_spent r e) (its_pairs r e) (clean_step look r e shown clear published script) fit is

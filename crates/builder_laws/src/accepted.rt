@@ -7,8 +7,9 @@ use eutxo_types::no_transaction_begins_another;
 use roles::Published;
 
 /// The layout of a step that nothing hinders is accepted by every ledger at every moment at which what it spends is
-/// unspent with the contents that were handed in, the thread's script is published as the look shows it, no accepted
-/// transaction has its id and the tick lies in its interval. And no rule refuses it on any resolution that has what was
+/// unspent with the contents that were handed in, the thread's script is published as the look shows it, its id is
+/// unused and the tick lies in its interval. Its id is unused where no accepted transaction of other bytes has it, and
+/// the layout and all that were accepted fit their spelling. And no rule refuses it on any resolution that has what was
 /// handed in.
 pub fn steps_are_accepted()
     ensures passes { StepsPass }
@@ -16,6 +17,7 @@ pub fn steps_are_accepted()
     ensures after { StepsAreAcceptedAfter }
 {
     found_is_enough::<Published>();
+    no_transaction_begins_another();
 }
 
 /// So is the layout of a start that nothing hinders, where what is started is published under its id.
@@ -25,6 +27,7 @@ pub fn starts_are_accepted()
     ensures after { StartsAreAcceptedAfter }
 {
     found_is_enough::<Published>();
+    no_transaction_begins_another();
 }
 
 /// And the layout of a claim that nothing hinders.
@@ -34,10 +37,11 @@ pub fn claims_are_accepted()
     ensures after { ClaimsAreAcceptedAfter }
 {
     found_is_enough::<Published>();
+    no_transaction_begins_another();
 }
 
-/// Where all fit their spelling, and no accepted transaction of other bytes has the SHA-256 of a transaction, no other
-/// accepted transaction has its id.
+/// Where a transaction and all that were accepted fit their spelling, an accepted transaction of its bytes is that
+/// transaction.
 pub fn bytes_tell_accepted_apart()
     ensures { BytesTellApart }
 {

@@ -1,4 +1,5 @@
 use Rattle.builder_laws.proofs.ClaimLemmas.{claims_pass, claims_are_accepted, claims_are_accepted_after}
+use Rattle.builder_laws.proofs.AfterPastsLemmas.{bytes_tell_apart}
 use Rattle.builder_laws.proofs.accepted.claims_are_accepted.Goals as goal
 
 pub returns-clause-passes : goal.returns-clause-passes
@@ -8,4 +9,4 @@ pub returns-clause-accepted : goal.returns-clause-accepted
 returns-clause-accepted c = claims_are_accepted c.found_is_enough.ensures
 
 pub returns-clause-after : goal.returns-clause-after
-returns-clause-after c = claims_are_accepted_after c.found_is_enough.ensures
+returns-clause-after c = claims_are_accepted_after c.found_is_enough.ensures (bytes_tell_apart c.no_transaction_begins_another.ensures.no_other)
