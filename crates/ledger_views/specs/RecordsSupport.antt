@@ -2,6 +2,7 @@
 use Rattle.std.specs.Prelude.{◌≡◌, ℕ, ◌-◌, List, [], ◌++◌, map, length, find, slice_get, Option, Some, None}
 use Rattle.std.specs.Option.{unwrap_or}
 use Rattle.contract.specs.declared.input.Input.{Input}
+use Rattle.contract.specs.Tree.{close}
 use Rattle.states.specs.States.{StateMaps}
 use Rattle.nodes.specs.declared.cont.Cont.{Cont}
 use Rattle.eutxo_types.specs.declared.output_ref.OutputRef.{OutputRef}
@@ -10,7 +11,6 @@ use Rattle.eutxo_types.specs.declared.spend.Spend.{Spend}
 use Rattle.eutxo_types.specs.declared.tx.Tx.{Tx}
 use Rattle.eutxo_types.specs.Parts.{Instance, contract_at, given_to}
 use Rattle.roles.specs.Terms.{Terms}
-use Rattle.contract.specs.Tree.{close}
 use Rattle.ledger_laws.specs.Threads.{Link, Member, next_of, Gives, Run, LaidOut, Carries}
 use Rattle.ledger_spec.specs.Views.{starts_in}
 use Rattle.ledger_spec.specs.declared.step_record.StepRecord.{StepRecord}

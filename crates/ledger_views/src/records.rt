@@ -1,12 +1,12 @@
 //! The records of a thread.
 ghost use Rattle.std.specs.Prelude.{◌≡◌, true, All, List, Some, IfOk, map, drop, unwrap_or};
 ghost use Rattle.std.specs.Option.{IfSome};
+ghost use Rattle.eutxo_types.specs.Parts.{contract_at};
 ghost use Rattle.roles.specs.Terms.{terms_of};
 ghost use Rattle.roles.specs.Steps.{marlowe};
 ghost use Rattle.ledger_laws.specs.Laws.{AreTables};
 ghost use Rattle.ledger_laws.specs.Sound.{IsSound};
 ghost use Rattle.ledger_laws.specs.Threads.{IsStart, Member, spine};
-ghost use Rattle.eutxo_types.specs.Parts.{contract_at};
 ghost use Rattle.ledger_spec.specs.Replay.{past_of, published_at};
 ghost use Rattle.ledger_spec.specs.Records.{member_of, HoldsNumber, TellTheRun, AreSteps};
 ghost use Rattle.ledger_views.specs.RecordsSupport.{given, point, stands_after, number_after, IsStepOf, IsRunOf, HoldNumbers};
