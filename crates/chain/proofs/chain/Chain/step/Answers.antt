@@ -1,5 +1,6 @@
-use Rattle.std.proofs.Common.{rules, ◌≡◌, ◌++◌, ◌∷◌, [], refl, sym, ◌∙◌, ap, subst, List, ℕ, map}
+use Rattle.std.proofs.Common.{rules, ◌≡◌, ◌++◌, ◌∷◌, [], refl, sym, ◌∙◌, ap, subst, List, ℕ, map, All}
 use Rattle.std.specs.Option.{option_to_list}
+use Rattle.eutxo_types.specs.Fitting.{TxFits}
 use Rattle.eutxo_types.specs.Ids.{id_of}
 use Rattle.ledger.specs.declared.call.Entry.{Entry}
 use Rattle.ledger_spec.specs.Replay.{Course, after_call, count_of, published, world}
@@ -18,12 +19,14 @@ invariant_of-self-2 c =
     let object = subst (λ (v : Course). published v.entries ++ option_to_list found.field-0.object ≡ published_with (published v.entries) c.args.call) (sym c.self.view_is) found.ensures.object in
     let ids =
     subst (λ (v : Course). map id_of (world v).replay.accepted ++ found.field-0.ids.items ≡ map id_of (after_call (world v).replay c.args.call (reply_to (world v) c.args.call)).accepted) (sym c.self.view_is) found.ensures.ids in
+    let fits =
+    subst (λ (v : Course). All TxFits (after_call (world v).replay c.args.call (reply_to (world v) c.args.call)).accepted) (sym c.self.view_is) found.ensures.fits in
     let number : c.count_of-number.result ≡ count_of c.args.seat s.entries.items = search rules in
     let made : Entry = record { seat = c.args.seat; number = c.count_of-number.result; call = c.args.call; reply = found.field-0.reply } in
     let e : made ≡ entry_of course c.args.seat c.args.call = same_entry made (entry_of course c.args.seat c.args.call) refl number refl reply in
     let later = c.in_ok-add_found.ensures.object ∙ ap (λ (l : List _). l ++ option_to_list found.field-0.object) c.self.invariant.objects ∙ object in
     let kept =
-    kept_more c.accepting_is_sound.ensures c.publishing_is_sound.ensures c.published_are_tables.ensures s.published.items c.add_found.new.published.items s.ids.items found.field-0.ids.items course c.args.seat c.args.call c.self.invariant later ids in
+    kept_more c.accepting_is_sound.ensures c.publishing_is_sound.ensures c.published_are_tables.ensures s.published.items c.add_found.new.published.items s.ids.items found.field-0.ids.items course c.args.seat c.args.call c.self.invariant later ids fits in
     let entries = sym (c.push_reserved.ensures.items ∙ ap (λ (l : List Entry). l ++ made ∷ []) c.in_ok-reserve.ensures.items ∙ ap (λ (x : Entry). s.entries.items ++ x ∷ []) e) in
     subst (λ (l : List (List ℕ)). IsKept c.add_found.new.published.items l (let v : Course = record { genesis = s.genesis; first_tick = s.tick; entries = c.push_reserved.new.self.items } in v)) (sym c.in_ok-add_found.ensures.ids)
     (subst (λ (l : List Entry). IsKept c.add_found.new.published.items (s.ids.items ++ found.field-0.ids.items) (let v : Course = record { genesis = s.genesis; first_tick = s.tick; entries = l } in v)) entries kept)
