@@ -26,8 +26,8 @@ use ledger::{Call, Entry, Reply};
 use ledger_dispatch::{answer, front, records, resolution};
 use ledger_laws::{
     accepting_is_sound, contracts_are_funded, contracts_end_threads, names_are_single,
-    outputs_are_spent_once, parties_are_authorised, publishing_is_sound, starting_is_sound, steps_stand_on_threads,
-    threads_are_runs, tokens_are_preserved,
+    outputs_are_spent_once, parties_are_authorised, publishing_is_sound, starting_is_sound,
+    steps_stand_on_threads, threads_are_runs, tokens_are_preserved,
 };
 use ledger_replay::{World, check_genesis, count_of, ids_of, last_tick, world_after};
 use ledger_spec::{

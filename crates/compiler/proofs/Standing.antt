@@ -1,12 +1,12 @@
 -- What is made of a contract without a fault stands for it.
-use Rattle.std.proofs.Common.{◌≡◌, sym, ap, ◌∙◌, subst, ◌≤◌, true, false, Bool}
+use Rattle.std.proofs.Common.{◌≡◌, sym, subst, ◌≤◌, true, false, Bool}
 use Rattle.std.specs.Prelude.{nat_le, ◌&&◌, Option, Some, None, if◌then◌else◌}
 use Rattle.std.proofs.lemmas.Bool.{leb-true}
 use Rattle.contract.specs.Tree.{ContractTree}
 use Rattle.nodes.specs.declared.cont.Cont.{Cont}
 use Rattle.table.specs.Heights.{contract_height}
-use Rattle.table.specs.Flat.{Flat, nothing, Has, a_cont, cont_tree}
-use Rattle.lowering.specs.Code.{code_contract, code}
+use Rattle.table.specs.Flat.{Flat, Has, a_cont, cont_tree}
+use Rattle.lowering.specs.Code.{code}
 use Rattle.lowering.specs.Laws.{CodesStand}
 use Rattle.compiler.specs.declared.fault.CompileFault.{CompileFault}
 use Rattle.compiler.specs.declared.fault.CompileFault.TheVariants.{TooDeep}
@@ -20,9 +20,5 @@ pub low : (c : ContractTree) → compile_fault c ≡ None → contract_height c 
 unfolding compile_fault
 low c e = leb-true (contract_height c) 999 (not-deep _ _ e)
 
-pub standing : (f g n : Flat) (k : Cont) (c : ContractTree) → CodesStand → compile_fault c ≡ None → n ≡ nothing → f ≡ g → g ≡ (code_contract c n).0 → k ≡ (code_contract c n).1 → Has f (a_cont k.0) × (cont_tree f k.0 ≡ c)
-unfolding code
-standing f g n k c law e en ef eg ek =
-    let h = law c (low c e) in
-    subst (λ (x : Flat × Cont). Has x.0 (a_cont x.1.0) × (cont_tree x.0 x.1.0 ≡ c))
-    (λ i. (sym (ef ∙ (eg ∙ ap (λ (m : Flat). (code_contract c m).0) en)) i, sym (ek ∙ ap (λ (m : Flat). (code_contract c m).1) en) i)) h
+pub standing : (f : Flat) (k : Cont) (c : ContractTree) → CodesStand → compile_fault c ≡ None → (let made : Flat × Cont = (f, k) in made ≡ code c) → Has f (a_cont k.0) × (cont_tree f k.0 ≡ c)
+standing f k c law e h = subst (λ (x : Flat × Cont). Has x.0 (a_cont x.1.0) × (cont_tree x.0 x.1.0 ≡ c)) (sym h) (law c (low c e))

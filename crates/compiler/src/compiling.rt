@@ -9,16 +9,15 @@ ghost use Rattle.compiler.specs.Limits.{compile_fault};
 use crate::fault::CompileFault;
 use crate::limits::limit_fault;
 use contract::Contract;
-use lowering::{add_contract, codes_stand};
+use lowering::{codes_stand, lower};
 use std::alloc::Global;
 use table::{Cont, Table};
-use table_builder::Builder;
 
 /// The table of a contract, and the number of its root, which stands for the contract. Refused is a tree that is higher
 /// than 999 (`TooDeep`), else one of more than 65,535 continuations or more than 1,000,000 values, observations and
 /// cases (`TooManyNodes`): that is judged first, takes no memory, and goes at most 1,000 deep into any tree. Else only
 /// a growth that was refused gives `Memory`. Equal contracts give equal tables.
-#[tactic(auto, unfolding(crate::specs::Limits::compile_fault, lowering::specs::Code::code))]
+#[tactic(auto, unfolding(crate::specs::Limits::compile_fault))]
 pub fn compile(alloc: Global, contract: &Contract) -> Result<(Table, Cont), CompileFault>
     ensures fault { MatchOption (compile_fault (contract_tree contract.now)) (IsOkUnless result CompileFault.Memory) (λ fault. result ≡ Err fault) }
     ensures code { IfOk result (λ made. made ≡ code (contract_tree contract.now)) }
@@ -28,8 +27,8 @@ pub fn compile(alloc: Global, contract: &Contract) -> Result<(Table, Cont), Comp
     if let Some(fault) = limit_fault(contract) {
         return Err(fault);
     }
-    let mut builder = Builder::new(alloc);
-    let root = add_contract(&mut builder, alloc, contract)?;
+    let (table, root) = lower(alloc, contract)?;
+    // touch: what is made stands for the contract
     codes_stand();
-    Ok((builder.into_table(), root))
+    Ok((table, root))
 }

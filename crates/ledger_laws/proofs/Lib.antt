@@ -15,6 +15,7 @@ pub mod FreshLemmas
 pub mod ConservedLemmas
 pub mod PreservedLemmas
 pub mod SpentOnceLemmas
+mod SingleLemmas
 pub mod LaidOutLemmas
 pub mod FundedLemmas
 pub mod RunLemmas

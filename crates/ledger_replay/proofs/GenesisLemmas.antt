@@ -3,7 +3,7 @@ use Rattle.std.proofs.Common.{◌≡◌, ℕ, zero, suc, ◌+◌, ◌<◌, ℤ, 
 use Rattle.std.proofs.Math.Dec.{T}
 use Rattle.std.proofs.lemmas.Int.{ints}
 use Rattle.std.proofs.lemmas.List.{at_drop_more, take_more}
-use Rattle.std.proofs.lemmas.List.Elements.{All-append, All-cons, All-drop}
+use Rattle.std.proofs.lemmas.List.Elements.{All-drop}
 use Rattle.std.specs.Option.{unwrap_or}
 use Rattle.std.specs.Ordering.{is_eq}
 use Rattle.std.specs.Cmp.{tied_itself}
@@ -153,9 +153,3 @@ sum_is_large os m i o h e natural sums large =
     let r = large_sum m o.amount large in
     let t = r.0 in
     (t, larger (sum t os) (amount_of m t) (amount_of o.amount t) (sum t (drop (i + 1) os)) most (here os m i o h e sums t) (sum_natural (drop (i + 1) os) (All-drop IsNatural (i + 1) os natural) t) r.1)
-
--- ---- outputs one by one
-
-pub natural_next : (os : List Output) (i : ℕ) (o : Output) → i < length os → o ≡ get_or os i o → All IsNatural (take i os) → IsNatural o → All IsNatural (take (i + 1) os)
-natural_next os i o h e all one =
-    subst (λ (l : List Output). All IsNatural l) (sym (take_more os i o h ∙ ap (λ (x : Output). take i os ++ x ∷ []) (sym e))) (All-append IsNatural (take i os) (o ∷ []) all (All-cons IsNatural o [] one (λ k d l. absurd (omega (arith, l)))))

@@ -146,13 +146,20 @@ pub(crate) fn with_ids<'a>(
     Ok(kept)
 }
 
+fn fits(kept: &AcceptedTx<'_>)
+    ensures { TxFits kept.now }
+{
+    // touch: it was hashed
+    let _id = kept.id();
+}
+
 // They fit their spelling.
 fn fit(kept: &[AcceptedTx<'_>])
     ensures { All TxFits kept.now }
 {
     // touch: of each
     for k in kept {
-        let _id = k.id();
+        fits(k);
     }
 }
 

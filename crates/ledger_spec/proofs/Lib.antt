@@ -1,2 +1,3 @@
 pub mod ReplayLaws
 pub mod CallsLaws
+mod PublishingLemmas

@@ -9,8 +9,7 @@ use roles::{published_are_tables, published_tell_contracts_apart};
 /// round took, in order, and accepted are the Submits answered Accepted and the accepted places of rounds.
 pub fn legal_histories_stand()
     ensures { LegalHistoriesStand }
-{
-}
+{}
 
 /// What is published under an id after a legal history is what an entry published: a table whose root stands for the
 /// entry's contract, with its currency. One id is of one contract and currency, and an entry is answered that its id
@@ -27,5 +26,4 @@ pub fn publications_are_entries()
 /// Of a start output a look follows its thread to where it ends; of another it follows none.
 pub fn starts_are_told()
     ensures { EachStartIsTold }
-{
-}
+{}

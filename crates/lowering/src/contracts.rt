@@ -5,7 +5,7 @@ ghost use Rattle.table.specs.Heights.{case_over, contract_height};
 ghost use Rattle.table.specs.Flat.{trees, IsFlat};
 ghost use Rattle.table_builder.specs.Putting.{put_case, others_in};
 ghost use Rattle.lowering.specs.Sizes.{action_size, conts, conts_of, others, others_of};
-ghost use Rattle.lowering.specs.Code.{case_node, code_action, code_case, code_contract, code_cases};
+ghost use Rattle.lowering.specs.Code.{case_node, code, code_action, code_case, code_contract, code_cases};
 ghost use Rattle.lowering.specs.Building.{cases_height, ActionStands};
 
 use crate::values::{add_observation, add_value};
@@ -13,7 +13,7 @@ use collections::{Items, Memory, Text, TryClone};
 use contract::{Action, Case, Contract};
 use names::{Party, Payee, Token};
 use std::alloc::Global;
-use table::{CaseNode, Cont, ContNode};
+use table::{CaseNode, Cont, ContNode, Table};
 use table_builder::Builder;
 
 // The value or observation of an action, if it has one.
@@ -101,16 +101,25 @@ fn put_case_of(
     }
 }
 
-/// Puts the nodes of a contract into a table, its parts first and from the left, and answers the contract's number.
-/// The contract is at most 999 high, and with it the table has at most 65,535 continuations and at most 1,000,000
-/// values, observations and cases. Answers `Memory` only where a growth is refused.
+/// The table of a contract, which has its nodes, its parts first and from the left, and the contract's number. The
+/// contract is at most 999 high, and has at most 65,535 continuations and at most 1,000,000 values, observations and
+/// cases. Answers `Memory` only where a growth is refused.
+#[tactic(auto, unfolding(crate::specs::Code::code))]
+pub fn lower(alloc: Global, contract: &Contract) -> Result<(Table, Cont), Memory>
+    requires low { contract_height (contract_tree contract.now) ≤ 999 }
+    requires room { others (contract_tree contract.now) ≤ 1000000 }
+    requires conts { conts (contract_tree contract.now) ≤ 65535 }
+    ensures { IfOk result (λ made. made ≡ code (contract_tree contract.now)) }
+{
+    let mut builder = Builder::new(alloc);
+    let root = add_contract(&mut builder, alloc, contract)?;
+    Ok((builder.into_table(), root))
+}
+
+// Puts the nodes of a contract into a table, and answers the contract's number. On a refusal some of them stand there.
 #[cycle(add_contract)]
 #[tactic(auto, using(crate::proofs::Trees::contract_forms))]
-pub fn add_contract(
-    builder: &mut Builder,
-    alloc: Global,
-    contract: &Contract,
-) -> Result<Cont, Memory>
+fn add_contract(builder: &mut Builder, alloc: Global, contract: &Contract) -> Result<Cont, Memory>
     requires flat { IsFlat builder.old }
     requires low { contract_height (contract_tree contract.now) ≤ 999 }
     requires room { others_in builder.old + others (contract_tree contract.now) ≤ 1000000 }

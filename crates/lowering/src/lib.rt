@@ -6,6 +6,6 @@ mod laws;
 mod sizes;
 mod values;
 
-pub use contracts::add_contract;
+pub use contracts::lower;
 pub use laws::{codes_stand, worked_tables};
 pub use sizes::{conts_left, is_low_contract, others_left};

@@ -1,0 +1,11 @@
+use Rattle.ledger_spec.proofs.PublishingLemmas.{are_entries, tell_contracts, in_use}
+use Rattle.ledger_spec.proofs.laws.publications_are_entries.Goals as goal
+
+pub returns-clause-published : goal.returns-clause-published
+returns-clause-published c = are_entries c.published_are_tables.ensures
+
+pub returns-clause-told_apart : goal.returns-clause-told_apart
+returns-clause-told_apart c = tell_contracts c.published_tell_contracts_apart.ensures
+
+pub returns-clause-in_use : goal.returns-clause-in_use
+returns-clause-in_use c = in_use
