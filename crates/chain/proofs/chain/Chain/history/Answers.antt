@@ -1,3 +1,4 @@
+use Rattle.ledger_spec.specs.Replay.{Course}
 use Rattle.chain.proofs.ShownLemmas.{shows}
 use Rattle.chain.proofs.RunsLemmas.{runs_of_contracts}
 use Rattle.chain.proofs.chain.Chain.history.Goals as goal
@@ -9,23 +10,31 @@ pub returns-clause-begins : goal.returns-clause-begins
 returns-clause-begins c = rw (← c.self.view_is) (c.self.invariant.sound.keys, c.self.invariant.sums)
 
 pub returns-clause-stands : goal.returns-clause-stands
-returns-clause-stands c = rw (← c.self.view_is) (c.legal_histories_stand.ensures _ c.self.invariant.legal)
+returns-clause-stands c =
+    let s = c.self.inside in
+    let course : Course = record { genesis = s.genesis; first_tick = s.tick; entries = s.entries.items } in
+    rw (← c.self.view_is) (c.legal_histories_stand.ensures course c.self.invariant.legal)
 
 pub returns-clause-in_use : goal.returns-clause-in_use
-returns-clause-in_use c = rw (← c.self.view_is) (c.publications_are_entries.ensures.in_use _ c.self.invariant.legal)
+returns-clause-in_use c =
+    let s = c.self.inside in
+    let course : Course = record { genesis = s.genesis; first_tick = s.tick; entries = s.entries.items } in
+    rw (← c.self.view_is) (c.publications_are_entries.ensures.in_use course c.self.invariant.legal)
 
 pub returns-clause-fits : goal.returns-clause-fits
 returns-clause-fits c = rw (← c.self.view_is) c.self.invariant.fits
 
 pub returns-clause-first : goal.returns-clause-first
 returns-clause-first c =
+    let s = c.self.inside in
+    let course : Course = record { genesis = s.genesis; first_tick = s.tick; entries = s.entries.items } in
     let kept = c.self.invariant in
-    let published = c.publications_are_entries.ensures.published _ kept.legal in
+    let published = c.publications_are_entries.ensures.published course kept.legal in
     let names = c.names_are_single.ensures _ _ kept.sound in
     rw (← c.self.view_is)
     (record {
       published = published;
-      told_apart = c.publications_are_entries.ensures.told_apart _ kept.legal;
+      told_apart = c.publications_are_entries.ensures.told_apart course kept.legal;
       runs = runs_of_contracts _ _ _ published (c.threads_are_runs.ensures.run _ _ kept.tables kept.sound);
       ends_with_run = c.threads_are_runs.ensures.end _ _ kept.tables kept.sound;
       steps = c.steps_stand_on_threads.ensures.thread _ _ kept.sound;
