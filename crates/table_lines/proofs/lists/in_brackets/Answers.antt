@@ -18,4 +18,4 @@ returns g c =
     (c.in_ok-push_str.ensures.bytes ∙ ap (λ w. string_bytes c.in_ok-text.text ++ w) (c.as_str.ensures.value ∙ c.in_ok-text-2.ensures))
     c.in-Some.ensures.cases.0
     (items-over g.T.Item.word c.in-Some.rest.now c.loop-item.item-index (string_bytes c.loop-item.text) (string_bytes c.push_str-2.new.self)
-      (string_bytes c.push_str.new.self ++ listed_on (map g.T.Item.word c.in-Some.rest.now)) c.loop-item-test.false c.in_ok-push_str-4.ensures.bytes c.loop-item.invariant)
+    (string_bytes c.push_str.new.self ++ listed_on (map g.T.Item.word c.in-Some.rest.now)) c.loop-item-test.false c.in_ok-push_str-4.ensures.bytes c.loop-item.invariant)

@@ -19,6 +19,6 @@ returns-in_ok-to-in-Pay c =
     let printed : OnOk c.write.result (string_bytes c.write.new.self ≡ string_bytes c.args.out.now ++ paid value token from to then) = search rules in
     printed-as c.write.result (string_bytes c.args.out.now) (string_bytes c.write.new.self) (paid value token from to then) (line_end (cont_words c.args.self.now))
     (ap (λ t. paid value t from to then) c.in_ok-token-in-Pay.ensures
-      ∙ ap₂ (λ f t. paid value (words.token c.in-Pay.token) f t then) c.in_ok-from-in-Pay.ensures c.in_ok-to-in-Pay.ensures
-      ∙ ap (λ n. line_end (cont_words n)) (sym c.in-Pay.is))
+    ∙ ap₂ (λ f t. paid value (words.token c.in-Pay.token) f t then) c.in_ok-from-in-Pay.ensures c.in_ok-to-in-Pay.ensures
+    ∙ ap (λ n. line_end (cont_words n)) (sym c.in-Pay.is))
     printed

@@ -11,7 +11,7 @@ returns-in_ok-party-in-AvailableMoney c =
     printed-as c.write.result (string_bytes c.args.out.now) (string_bytes c.write.new.self)
     (codes " amount_of_token " ++ (token ++ (codes " " ++ (party ++ codes "\n")))) (line_end (value_words c.args.self.now))
     (ap₂ (λ t p. codes " amount_of_token " ++ (t ++ (codes " " ++ (p ++ codes "\n")))) c.in_ok-token-in-AvailableMoney.ensures c.in_ok-party-in-AvailableMoney.ensures
-      ∙ ap (λ n. line_end (value_words n)) (sym c.in-AvailableMoney.is))
+    ∙ ap (λ n. line_end (value_words n)) (sym c.in-AvailableMoney.is))
     printed
 
 pub returns-in-TimeIntervalStart : goal.returns-in-TimeIntervalStart
