@@ -1,5 +1,5 @@
 -- A bound as it is printed is its compact JSON, whatever the size of its numbers.
-use Rattle.std.proofs.Common.{◌≡◌, ℤ, pos, negsuc, List, ℕ, ◌++◌, refl, ap₂, codes}
+use Rattle.std.proofs.Common.{◌≡◌, ℤ, pos, negsuc, ◌++◌, refl, ap₂, codes}
 use Rattle.std.specs.Fmt.{signed_decimal}
 use Rattle.json.proofs.OnLiterals.{json_on_literals}
 use Rattle.serde_json.specs.Find.{of_integer}

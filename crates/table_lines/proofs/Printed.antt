@@ -1,5 +1,5 @@
 -- What is printed: a list item by item, where what was printed and what is left to print are one text; and what is printed at once.
-use Rattle.std.proofs.Common.{◌≡◌, ℕ, ◌+◌, ◌<◌, ◌≤◌, List, [], ◌∷◌, ◌++◌, length, get_or, drop, map, sym, ap, ◌∙◌, append_assoc, codes, subst, Result, Ok, Err, is_ok, OnOk, if◌then◌else◌}
+use Rattle.std.proofs.Common.{◌≡◌, ℕ, ◌+◌, ◌<◌, ◌≤◌, List, ◌∷◌, ◌++◌, length, get_or, drop, map, sym, ap, ◌∙◌, append_assoc, codes, subst, Result, Ok, Err, is_ok, OnOk, if◌then◌else◌}
 use Rattle.std.proofs.lemmas.List.{at_drop_more, at_drop_all}
 use Rattle.table_lines.specs.TableLines.{listed_on, in_brackets}
 

@@ -1,5 +1,5 @@
 -- Worked lines: of the table of Close, and of tables with nodes of each list.
-use Rattle.std.specs.Prelude.{◌≡◌, ℕ, pos, List, [], ◌∷◌, codes}
+use Rattle.std.specs.Prelude.{◌≡◌, ℕ, pos, [], ◌∷◌, codes}
 use Rattle.names.specs.declared.party.Party.{Party}
 use Rattle.names.specs.declared.party.Party.TheVariants as parties
 use Rattle.names.specs.declared.payee.Payee.TheVariants as payees

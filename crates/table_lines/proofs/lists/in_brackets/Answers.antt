@@ -1,5 +1,5 @@
 use Rattle.std.proofs.Common.{◌∙◌, ap, ◌++◌, map, string_bytes}
-use Rattle.table_lines.specs.TableLines.{listed_on, in_brackets}
+use Rattle.table_lines.specs.TableLines.{listed_on}
 use Rattle.table_lines.proofs.Printed.{item-more, items-over, items-whole}
 use Rattle.table_lines.proofs.lists.in_brackets.Goals as goal
 
