@@ -1,6 +1,7 @@
 //! Sums and differences of bundles.
 use bundle::{Bundle, BundleFault};
-use rows_text::{RowFault, bundle_of, put_amounts, word_of};
+use roles::holds_sums;
+use rows_text::{Known, RowFault, bundle_of, first, put_amounts, same_or_other, state_of, word_of};
 use std::alloc::{AllocError, Global};
 
 /// Adds, from `AMOUNTS / AMOUNTS`: the line for the answer, and what is in the first bundle afterwards.
@@ -15,6 +16,15 @@ pub fn subtracted(alloc: Global, rest: &str) -> Result<String, RowFault> {
     let (mut held, less) = both(alloc, rest)?;
     let answer = held.subtract(&less);
     Ok(line_of(alloc, answer, &held)?)
+}
+
+/// Whether amounts are the sums of the accounts of a state, from `STATE TOKEN AMOUNT ..`.
+pub fn are_sums(alloc: Global, known: &Known, rest: &str) -> Result<String, RowFault> {
+    let (state, amounts) = first(rest);
+    let state = state_of(alloc, known, state)?;
+    let amount = bundle_of(alloc, amounts)?;
+    let same = holds_sums(alloc, &amount, &state)?;
+    Ok(String::from_str(alloc, same_or_other(same))?)
 }
 
 fn both(alloc: Global, rest: &str) -> Result<(Bundle, Bundle), RowFault> {
