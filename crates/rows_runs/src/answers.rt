@@ -1,5 +1,5 @@
 //! Rows and what is printed for them.
-use crate::fault_texts::texts_row;
+use crate::fault_texts::{apart_row, texts_row};
 use crate::forms::{Form, form_of, text_of};
 use crate::given::{Given, Row};
 use crate::on_tables::beside;
@@ -28,6 +28,7 @@ pub fn answer(alloc: Global, given: &Given, row: Row<'_>) -> Result<Vec<u8>, Row
         "put" => put_row(alloc, sort, text)?,
         "copy" => copy_row(alloc, sort, given.text(text))?,
         "texts" => texts_row(alloc, row.rest)?,
+        "apart" => apart_row(alloc, row.rest)?,
         "compare" => compare_row(alloc, sort, given.built.as_slice(), text.as_bytes())?,
         _ => return Err(RowFault::NoSuchRow),
     };

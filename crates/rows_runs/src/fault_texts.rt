@@ -2,8 +2,10 @@
 use compiler::CompileFault;
 use contract::{SemFault, StateFault};
 use contract_json::{JsonFault, WriteFault};
-use marlowe_run::{RunFault, TableFault};
-use rows_text::{RowFault, texts_of};
+use marlowe_cli::{Task, WordsFault};
+use marlowe_io::LoadFault;
+use marlowe_run::{Fault, RunFault, TableFault};
+use rows_text::{RowFault, apart_of, texts_of};
 use std::alloc::Global;
 
 /// A line of the text of each fault of that name.
@@ -53,6 +55,69 @@ pub fn texts_row(alloc: Global, name: &str) -> Result<Vec<u8>, RowFault> {
         _ => return Err(RowFault::NoSuchRow),
     };
     Ok(lines.into_bytes())
+}
+
+/// Whether the values of that name are told apart.
+pub fn apart_row(alloc: Global, name: &str) -> Result<Vec<u8>, RowFault> {
+    let line = match name {
+        "LoadFault" => apart_of(
+            alloc,
+            LoadFault::Unreadable,
+            &|fault: &LoadFault| after_load(*fault),
+        )?,
+        "WordsFault" => apart_of(
+            alloc,
+            WordsFault::NoText,
+            &|fault: &WordsFault| after_words(*fault),
+        )?,
+        "Fault" => apart_of(
+            alloc,
+            Fault::Run(RunFault::Memory),
+            &|fault: &Fault| after_fault(*fault),
+        )?,
+        "Task" => {
+            let first = Task::Table { contract: "a" };
+            apart_of(alloc, first, &|task: &Task<'static>| after_task(*task))?
+        }
+        _ => return Err(RowFault::NoSuchRow),
+    };
+    Ok(line.into_bytes())
+}
+
+fn after_load(fault: LoadFault) -> Option<LoadFault> {
+    match fault {
+        LoadFault::Unreadable => Some(LoadFault::Memory),
+        LoadFault::Memory => None,
+    }
+}
+
+fn after_words(fault: WordsFault) -> Option<WordsFault> {
+    match fault {
+        WordsFault::NoText => Some(WordsFault::Memory),
+        WordsFault::Memory => None,
+    }
+}
+
+fn after_fault(fault: Fault) -> Option<Fault> {
+    match fault {
+        Fault::Run(_) => Some(Fault::Table(TableFault::Memory)),
+        Fault::Table(_) => None,
+    }
+}
+
+fn after_task(task: Task<'static>) -> Option<Task<'static>> {
+    match task {
+        Task::Table { .. } => Some(Task::Run {
+            contract: "a",
+            state: "b",
+            transaction: "c",
+        }),
+        Task::Run { .. } => Some(Task::Play {
+            scenario: "a",
+            one: true,
+        }),
+        Task::Play { .. } => None,
+    }
 }
 
 fn after_sem(fault: SemFault) -> Option<SemFault> {

@@ -20,6 +20,8 @@
 //! - `copy SORT` prints whether a copy of the value is the `same`;
 //! - `compare SORT` prints whether the text and the longer text stand for the `same` value or for an `other`;
 //! - `texts ENUM` prints the text of each fault of that name, a line for each, in their order;
+//! - `apart ENUM` prints for each value of that name that it is the `same` as itself, and before it that it is an `other` than the one
+//!   before it;
 //! - `line` prints what a command line asks for, or where the text of `clap` goes;
 //! - `save PATH` writes the longer text to a file, `remove PATH` removes it, and `load PATH` prints how many bytes are
 //!   read of it, which are the longer text from then on, or `unreadable`;

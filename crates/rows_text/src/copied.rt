@@ -116,3 +116,27 @@ pub fn fault_copies<F: TryClone + PartialEq + Drop, N: Fn(&F) -> Option<F>>(
     }
     Ok(line)
 }
+
+/// For each fault ` same` where it equals itself, and before it, but at the first, whether it equals the one before it.
+pub fn apart_of<F: PartialEq + Drop, N: Fn(&F) -> Option<F>>(
+    alloc: Global,
+    first: F,
+    next: &N,
+) -> Result<String, Memory>
+    requires { N.IsAlwaysCallable next.now }
+{
+    let mut line = String::from_str(alloc, "apart")?;
+    put_same(&mut line, first == first)?;
+    let mut last = first;
+    for _ in 0..64 {
+        match next(&last) {
+            Some(fault) => {
+                put_same(&mut line, fault == last)?;
+                put_same(&mut line, fault == fault)?;
+                last = fault;
+            }
+            None => return Ok(line),
+        }
+    }
+    Ok(line)
+}

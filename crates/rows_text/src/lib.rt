@@ -45,12 +45,12 @@ mod spends;
 mod verdicts;
 mod words;
 
-pub use amounts::{bundle_of, put_amounts, word_of};
+pub use amounts::{bundle_of, put_amounts, token_of, word_of};
 pub use answers::{Answers, in_bytes, print_rows, put_answer};
 pub use checks::{check_copies, keep_check, recheck_line};
 pub use copied::{
-    fault_copies, put_beside, put_copies, put_copy, put_same, put_same_copy, same_or_other,
-    texts_of,
+    apart_of, fault_copies, put_beside, put_copies, put_copy, put_same, put_same_copy,
+    same_or_other, texts_of,
 };
 pub use drafts::{nothing, write};
 pub use fault::RowFault;

@@ -1,10 +1,10 @@
 //! What is written for the next row, and what is printed for lines.
 use crate::checks::{check_line, rules_line};
 use crate::copies::{found_copies, published_copies, rooms, tx_copies};
-use crate::faults::{copies_row, texts_row};
+use crate::faults::{apart_row, copies_row, texts_row};
 use crate::finds::{found_of, put_found};
 use crate::found::found;
-use crate::sums::{added, are_sums, subtracted};
+use crate::sums::{added, are_sums, subtracted, totals};
 use collections::Items;
 use eutxo::Checked;
 use eutxo_types::{Output, Tx, encode_tx, tx_id};
@@ -53,6 +53,8 @@ fn answered(alloc: Global, desk: &mut Desk, line: &str) -> Result<Option<String>
         "keep" | "recheck" => Ok(Some(at_hand(alloc, desk, word)?)),
         "copies" => Ok(Some(copies(alloc, desk, rest)?)),
         "local" | "spent" => Ok(Some(rules(alloc, desk, word)?)),
+        "apart" => Ok(Some(apart_row(alloc, rest)?)),
+        "totals" => Ok(Some(totals(alloc, rest)?)),
         "sums" => Ok(Some(are_sums(alloc, &desk.known, rest)?)),
         "texts" => Ok(Some(texts_row(alloc, rest)?)),
         "add" => Ok(Some(added(alloc, rest)?)),

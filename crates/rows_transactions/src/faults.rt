@@ -2,8 +2,9 @@
 use bundle::BundleFault;
 use collections::{Bytes, Text};
 use contract::{Party, SemFault, Token};
+use eutxo::{StepAnswer, StepFault};
 use eutxo_types::TxFault;
-use rows_text::{RowFault, fault_copies, texts_of};
+use rows_text::{RowFault, apart_of, fault_copies, texts_of};
 use std::alloc::Global;
 
 /// A line of the text of each fault of that name.
@@ -22,6 +23,38 @@ pub fn texts_row(alloc: Global, name: &str) -> Result<String, RowFault> {
             )?)
         }
         _ => Err(RowFault::NoSuchRow),
+    }
+}
+
+/// Whether the values of that name are told apart.
+pub fn apart_row(alloc: Global, name: &str) -> Result<String, RowFault> {
+    match name {
+        "StepFault" => {
+            let first = StepFault::Semantics(SemFault::NoMatch);
+            Ok(apart_of(alloc, first, &|fault: &StepFault| after_step(alloc, fault))?)
+        }
+        "StepAnswer" => {
+            let first = StepAnswer::Refused(StepFault::WrongContinuation);
+            Ok(apart_of(alloc, first, &|answer: &StepAnswer| after_answer(answer))?)
+        }
+        _ => Err(RowFault::NoSuchRow),
+    }
+}
+
+fn after_step(alloc: Global, fault: &StepFault) -> Option<StepFault> {
+    match fault {
+        StepFault::Semantics(_) => Some(StepFault::NotAuthorised(Party::Role(no_text(alloc)))),
+        StepFault::NotAuthorised(_) => Some(StepFault::WrongContinuation),
+        StepFault::WrongContinuation => Some(StepFault::WrongPayment(7)),
+        StepFault::WrongPayment(_) => None,
+    }
+}
+
+fn after_answer(answer: &StepAnswer) -> Option<StepAnswer> {
+    match answer {
+        StepAnswer::Refused(_) => Some(StepAnswer::GoesOn),
+        StepAnswer::GoesOn => Some(StepAnswer::Ends),
+        StepAnswer::Ends => None,
     }
 }
 
