@@ -77,7 +77,7 @@ pub fn apart_row(alloc: Global, name: &str) -> Result<Vec<u8>, RowFault> {
         )?,
         "Task" => {
             let first = Task::Table { contract: "a" };
-            apart_of(alloc, first, &|task: &Task<'static>| after_task(*task))?
+            apart_of(alloc, first, &|task| after_task(*task))?
         }
         _ => return Err(RowFault::NoSuchRow),
     };

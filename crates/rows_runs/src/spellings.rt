@@ -10,18 +10,18 @@ use std::alloc::{AllocError, Global};
 
 /// A sort of values whose bytes are put behind others.
 trait Part: Form {
-    fn put(&self, out: &mut Vec<u8>) -> Result<(), AllocError>;
+    fn put_part(&self, out: &mut Vec<u8>) -> Result<(), AllocError>;
 }
 
 /// The bytes of a part, which is given in JSON, as a number, a text, or bytes in hexadecimal.
 pub fn put_row(alloc: Global, sort: &str, rest: &str) -> Result<Vec<u8>, RowFault> {
     let mut out = Vec::new(alloc);
-    put_part(alloc, &mut out, sort, rest)?;
+    put_sort(alloc, &mut out, sort, rest)?;
     let digits = hex::encode(alloc, out.as_slice())?;
     Ok(digits.into_bytes())
 }
 
-fn put_part(alloc: Global, out: &mut Vec<u8>, sort: &str, rest: &str) -> Result<(), RowFault> {
+fn put_sort(alloc: Global, out: &mut Vec<u8>, sort: &str, rest: &str) -> Result<(), RowFault> {
     match sort {
         "party" => put_read::<Party>(alloc, out, rest),
         "token" => put_read::<Token>(alloc, out, rest),
@@ -36,7 +36,7 @@ fn put_part(alloc: Global, out: &mut Vec<u8>, sort: &str, rest: &str) -> Result<
 
 fn put_read<T: Part>(alloc: Global, out: &mut Vec<u8>, rest: &str) -> Result<(), RowFault> {
     let part = form_of::<T>(alloc, rest.as_bytes())?;
-    part.put(out)?;
+    part.put_part(out)?;
     Ok(())
 }
 
@@ -63,43 +63,43 @@ fn texts(alloc: Global, rest: &str) -> Result<Items<Text>, RowFault> {
 }
 
 impl Part for Party {
-    fn put(&self, out: &mut Vec<u8>) -> Result<(), AllocError> {
+    fn put_part(&self, out: &mut Vec<u8>) -> Result<(), AllocError> {
         put_party(out, self)
     }
 }
 
 impl Part for Token {
-    fn put(&self, out: &mut Vec<u8>) -> Result<(), AllocError> {
+    fn put_part(&self, out: &mut Vec<u8>) -> Result<(), AllocError> {
         put_token(out, self)
     }
 }
 
 impl Part for ChoiceId {
-    fn put(&self, out: &mut Vec<u8>) -> Result<(), AllocError> {
+    fn put_part(&self, out: &mut Vec<u8>) -> Result<(), AllocError> {
         put_choice_id(out, self)
     }
 }
 
 impl Part for Payee {
-    fn put(&self, out: &mut Vec<u8>) -> Result<(), AllocError> {
+    fn put_part(&self, out: &mut Vec<u8>) -> Result<(), AllocError> {
         put_payee(out, self)
     }
 }
 
 impl Part for Bound {
-    fn put(&self, out: &mut Vec<u8>) -> Result<(), AllocError> {
+    fn put_part(&self, out: &mut Vec<u8>) -> Result<(), AllocError> {
         put_bound(out, self)
     }
 }
 
 impl Part for Input {
-    fn put(&self, out: &mut Vec<u8>) -> Result<(), AllocError> {
+    fn put_part(&self, out: &mut Vec<u8>) -> Result<(), AllocError> {
         put_input(out, self)
     }
 }
 
 impl Part for State {
-    fn put(&self, out: &mut Vec<u8>) -> Result<(), AllocError> {
+    fn put_part(&self, out: &mut Vec<u8>) -> Result<(), AllocError> {
         put_state(out, self)
     }
 }
