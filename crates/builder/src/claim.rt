@@ -1,6 +1,7 @@
 //! Claims of payouts.
 ghost use Rattle.std.specs.Prelude.{◌≡◌, ◌++◌, map, IfOk, IfErr};
 ghost use Rattle.collections.specs.Answers.{Aside};
+ghost use Rattle.eutxo_types.specs.Fitting.{TxFits};
 ghost use Rattle.builder_spec.specs.Holding.{sums, amount_in};
 ghost use Rattle.builder_spec.specs.Built.{build_answer};
 ghost use Rattle.builder_spec.specs.Laying.{by_key, by_claim, paid_to};
@@ -8,6 +9,7 @@ ghost use Rattle.builder_spec.specs.Claims.{claim_front, hinders_claim, layout_c
 ghost use Rattle.builder_spec.specs.Requests.{claim_request};
 ghost use Rattle.coin_selection.specs.Answers.{AnswersCause};
 
+use crate::fitting::fitting;
 use crate::inputs::{copies_of, put_keys};
 use crate::outputs::put_paid;
 use crate::payouts::{check_held, check_payouts, put_claims, tokens_awaited};
@@ -89,6 +91,7 @@ fn lay_out_claim(
       interval = asked.now.interval;
       signers = asked.now.signers;
     }) }
+    ensures fits { IfOk result TxFits }
     ensures err { IfErr result (λ fault. fault ≡ BuildFault.Memory) }
 {
     let ClaimFunds { shares, front } = funds;
@@ -100,18 +103,19 @@ fn lay_out_claim(
     put_paid(&mut outputs, asked.to, first)?;
     put_paid(&mut outputs, asked.change, others)?;
     let signers = copies_of(alloc, asked.signers)?;
-    Ok(Tx {
+    let tx = Tx {
         inputs,
         outputs,
         interval: asked.interval,
         signers,
-    })
+    };
+    Ok(fitting(alloc, tx)?)
 }
 
 /// Builds the transaction that claims payouts, in an interval in POSIX milliseconds, signed by these addresses. It
 /// spends all the payouts, and then the shortest front of the offered outputs that holds the tokens of their roles.
 /// What the payouts hold goes to the key of the address `to`, and what the front holds to that of `change`, each in
-/// an output of its own where there is anything.
+/// an output of its own where there is anything. The transaction fits its spelling.
 ///
 /// Refused is a request without payouts or with an output among them that isn't one (`NoThread`), of which an offered
 /// output isn't under the key of a signer (`NotSigned`), of which the token of a payout's role isn't offered
@@ -126,8 +130,9 @@ pub fn build_claim(
     to: &Text,
     change: &Text,
 ) -> Result<Tx, BuildFault>
-    ensures { let r = claim_request payouts.now interval signers.now offered.now to.now change.now in
+    ensures answer { let r = claim_request payouts.now interval signers.now offered.now to.now change.now in
         Aside BuildFault.Memory result (build_answer (hinders_claim r) (layout_claim r)) }
+    ensures fits { IfOk result TxFits }
 {
     let asked = ClaimAsked {
         payouts,

@@ -7,6 +7,7 @@
 #![tactic(auto)]
 
 mod claim;
+mod fitting;
 mod fresh;
 mod funds;
 mod inputs;

@@ -2,6 +2,7 @@
 ghost use Rattle.std.specs.Prelude.{◌≡◌, false, Some, if◌then◌else◌, IfOk, IfErr};
 ghost use Rattle.collections.specs.Answers.{Aside};
 ghost use Rattle.names.specs.Equal.{ada};
+ghost use Rattle.eutxo_types.specs.Fitting.{TxFits};
 ghost use Rattle.roles.specs.Sums.{sums_of};
 ghost use Rattle.eutxo.specs.Faults.{is_empty};
 ghost use Rattle.builder_spec.specs.declared.fault.BuildFault.TheVariants.{NoFunds};
@@ -13,6 +14,7 @@ ghost use Rattle.builder_spec.specs.Requests.{start_request};
 ghost use Rattle.coin_selection.specs.Answers.{AnswersCause};
 ghost use Rattle.builder.specs.FundsSupport.{AreStartFunds};
 
+use crate::fitting::fitting;
 use crate::fresh::fresh;
 use crate::funds::Funds;
 use crate::inputs::{copies_of, put_keys};
@@ -127,6 +129,7 @@ fn start_output(alloc: Global, asked: &StartAsked<'_>) -> Result<Output, BuildFa
 fn lay_out_start(alloc: Global, asked: &StartAsked<'_>, funds: Funds<'_>) -> Result<Tx, BuildFault>
     requires { AreStartFunds asked.now funds }
     ensures ok { IfOk result (λ tx. tx ≡ layout_start asked.now) }
+    ensures fits { IfOk result TxFits }
     ensures err { IfErr result (λ fault. fault ≡ BuildFault.Memory) }
 {
     let Funds { all, front } = funds;
@@ -138,18 +141,19 @@ fn lay_out_start(alloc: Global, asked: &StartAsked<'_>, funds: Funds<'_>) -> Res
     let mut inputs = Items::new(alloc);
     put_keys(&mut inputs, front)?;
     let signers = copies_of(alloc, asked.signers)?;
-    Ok(Tx {
+    let tx = Tx {
         inputs,
         outputs,
         interval: asked.interval,
         signers,
-    })
+    };
+    Ok(fitting(alloc, tx)?)
 }
 
 /// Builds the transaction that starts a published contract with the accounts and the minimum time of a state, in an
 /// interval in POSIX milliseconds, signed by these addresses. It spends the shortest front of the offered outputs that
 /// covers the accounts and has one output at least. The contract's output comes first, with what the accounts hold;
-/// what is left goes to the key of the address `change`.
+/// what is left goes to the key of the address `change`. The transaction fits its spelling.
 ///
 /// Refused is a request of which an offered output isn't under the key of a signer (`NotSigned`), which isn't funded
 /// (`NoFunds`: of ada where nothing is offered), which leaves the limits (`TooMany`), or which names an output twice
@@ -163,8 +167,9 @@ pub fn build_start(
     offered: &[Unspent],
     change: &Text,
 ) -> Result<Tx, BuildFault>
-    ensures { let r = start_request published.now state.now interval signers.now offered.now change.now in
+    ensures answer { let r = start_request published.now state.now interval signers.now offered.now change.now in
         Aside BuildFault.Memory result (build_answer (hinders_start r) (layout_start r)) }
+    ensures fits { IfOk result TxFits }
 {
     let asked = StartAsked {
         published,

@@ -2,6 +2,7 @@
 ghost use Rattle.std.specs.Prelude.{◌≡◌, ◌∷◌, ◌++◌, true, Some, map, IfOk, IfErr};
 ghost use Rattle.collections.specs.Answers.{Aside};
 ghost use Rattle.bundle.specs.Bundles.{covers, minus};
+ghost use Rattle.eutxo_types.specs.Fitting.{TxFits};
 ghost use Rattle.builder_spec.specs.Holding.{sums};
 ghost use Rattle.builder_spec.specs.Built.{build_answer};
 ghost use Rattle.builder_spec.specs.Laying.{by_key, by_step, paid_to};
@@ -12,6 +13,7 @@ ghost use Rattle.coin_selection.specs.Answers.{AnswersCause};
 ghost use Rattle.builder.specs.CausesSupport.{causes_after_contract};
 ghost use Rattle.builder.specs.FundsSupport.{AreStepFunds, IsFinished};
 
+use crate::fitting::fitting;
 use crate::funds::Funds;
 use crate::inputs::{by_step, copies_of, put_keys};
 use crate::outputs::{put_paid, rest, step_outputs};
@@ -98,6 +100,7 @@ fn lay_out_step(
       interval = asked.now.interval;
       signers = asked.now.signers;
     }) }
+    ensures fits { IfOk result TxFits }
     ensures err { IfErr result (λ fault. fault ≡ BuildFault.Memory) }
 {
     let Funds { all, front } = funds;
@@ -108,12 +111,13 @@ fn lay_out_step(
     inputs.push(by_step(alloc, &own, asked.inputs)?)?;
     put_keys(&mut inputs, front)?;
     let signers = copies_of(alloc, asked.signers)?;
-    Ok(Tx {
+    let tx = Tx {
         inputs,
         outputs,
         interval: asked.interval,
         signers,
-    })
+    };
+    Ok(fitting(alloc, tx)?)
 }
 
 // The transaction of a step that nothing hinders.
@@ -126,6 +130,7 @@ fn finish(
 ) -> Result<Tx, BuildFault>
     requires { IsFinished asked.now thread.now funds outcome }
     ensures ok { IfOk result (λ tx. tx ≡ layout_thread asked.now thread.now) }
+    ensures fits { IfOk result TxFits }
     ensures err { IfErr result (λ fault. fault ≡ BuildFault.Memory) }
 {
     money_is_kept();
@@ -148,8 +153,9 @@ fn finish(
 // Builds on a thread that stands.
 fn build_at(alloc: Global, asked: &StepAsked<'_>, thread: &ThreadAt<'_>) -> Result<Tx, BuildFault>
     requires { thread_of (Some thread.now.shown) ≡ Some thread.now }
-    ensures { let r = asked.now in
+    ensures answer { let r = asked.now in
         Aside BuildFault.Memory result (build_answer (hinders_thread r thread.now) (layout_thread r thread.now)) }
+    ensures fits { IfOk result TxFits }
 {
     let shown = thread.shown;
     let table = &shown.published.get().table;
@@ -166,8 +172,9 @@ fn build_at(alloc: Global, asked: &StepAsked<'_>, thread: &ThreadAt<'_>) -> Resu
 
 // Builds on the output of a thread.
 fn build_on(alloc: Global, asked: &StepAsked<'_>, shown: &ThreadOutput) -> Result<Tx, BuildFault>
-    ensures { let e = thread_of (Some shown.now) in
+    ensures answer { let e = thread_of (Some shown.now) in
         Aside BuildFault.Memory result (build_answer (hinders_on asked.now e) (layout_on asked.now e)) }
+    ensures fits { IfOk result TxFits }
 {
     match thread_of(alloc, shown) {
         Ok(None) => Err(BuildFault::NoThread),
@@ -180,7 +187,7 @@ fn build_on(alloc: Global, asked: &StepAsked<'_>, shown: &ThreadOutput) -> Resul
 /// interval in POSIX milliseconds, signed by these addresses. It spends the thread's output and the shortest front
 /// of the offered outputs that holds the tokens of the roles which the inputs need and covers the deposits. The
 /// contract goes on in output 0, unless it is Close; the payments follow that are due to parties; and what is left
-/// goes to the key of the address `change`.
+/// goes to the key of the address `change`. The transaction fits its spelling.
 ///
 /// Refused is a request for which there is no thread (`NoThread`), which the contract refuses (`Semantics`), of which
 /// an offered output isn't under the key of a signer (`NotSigned`), of which a party doesn't sign and has no role
@@ -196,8 +203,9 @@ pub fn build_step(
     offered: &[Unspent],
     change: &Text,
 ) -> Result<Tx, BuildFault>
-    ensures { let r = request interval inputs.now signers.now offered.now change.now in
+    ensures answer { let r = request interval inputs.now signers.now offered.now change.now in
         Aside BuildFault.Memory result (build_answer (hinders_step look.now r) (layout_step look.now r)) }
+    ensures fits { IfOk result TxFits }
 {
     let asked = StepAsked {
         interval,

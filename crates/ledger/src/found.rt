@@ -4,14 +4,14 @@ ghost use Rattle.eutxo.specs.Judgement.{with_script, made_names, found_names, sc
 ghost use Rattle.eutxo_types.specs.Parts.{script_in};
 ghost use Rattle.ledger.specs.ResolveSupport.{script_of, with_named};
 
-use crate::ledger::Ledger;
+use crate::ledger::Resolves;
 use collections::{Items, Memory, TryClone};
 use eutxo::{Resolved, Scripts, copy_option};
 use eutxo_types::{Output, Spend, Tx};
 use std::alloc::Global;
 
 // For each input the unspent output that it names, or `None`.
-pub(crate) fn outputs_found<V, L: Ledger<V>>(
+pub(crate) fn outputs_found<V, L: Resolves<V>>(
     alloc: Global,
     ledger: &L,
     inputs: &[Spend],
@@ -25,7 +25,7 @@ pub(crate) fn outputs_found<V, L: Ledger<V>>(
     Ok(outputs)
 }
 
-fn put_script<V: Drop, L: Ledger<V>>(
+fn put_script<V: Drop, L: Resolves<V>>(
     ledger: &L,
     script: &[u8; 32],
     scripts: &mut Scripts<V>,
@@ -39,7 +39,7 @@ fn put_script<V: Drop, L: Ledger<V>>(
 }
 
 // Puts the script that an output names, where it is published.
-fn put_named<V: Drop, L: Ledger<V>>(
+fn put_named<V: Drop, L: Resolves<V>>(
     ledger: &L,
     output: &Output,
     scripts: &mut Scripts<V>,
@@ -52,7 +52,7 @@ fn put_named<V: Drop, L: Ledger<V>>(
     }
 }
 
-fn put_found<V: Drop, L: Ledger<V>>(
+fn put_found<V: Drop, L: Resolves<V>>(
     ledger: &L,
     output: &Option<Output>,
     scripts: &mut Scripts<V>,
@@ -66,7 +66,7 @@ fn put_found<V: Drop, L: Ledger<V>>(
 }
 
 // The scripts that these outputs name, as far as they are published.
-fn scripts_found<V: Drop, L: Ledger<V>>(
+fn scripts_found<V: Drop, L: Resolves<V>>(
     alloc: Global,
     ledger: &L,
     outputs: &[Option<Output>],
@@ -81,7 +81,7 @@ fn scripts_found<V: Drop, L: Ledger<V>>(
 }
 
 // .. and those that made outputs name.
-fn put_made<V: Drop, L: Ledger<V>>(
+fn put_made<V: Drop, L: Resolves<V>>(
     ledger: &L,
     outputs: &[Output],
     found: &[Option<Output>],
@@ -97,7 +97,7 @@ fn put_made<V: Drop, L: Ledger<V>>(
 }
 
 // What is found of what a transaction names, where these outputs were found of its inputs.
-pub(crate) fn with_scripts<V: Drop, L: Ledger<V>>(
+pub(crate) fn with_scripts<V: Drop, L: Resolves<V>>(
     alloc: Global,
     ledger: &L,
     tx: &Tx,
@@ -119,7 +119,7 @@ pub(crate) fn with_scripts<V: Drop, L: Ledger<V>>(
 /// What is found of what a transaction names: for each input the unspent output, where there is one, and of
 /// the scripts that the transaction's outputs and those unspent outputs name the ones that are published.
 /// Answers `Memory` only where a growth was refused.
-pub fn resolve<V: Drop, L: Ledger<V>>(
+pub fn resolve<V: Drop, L: Resolves<V>>(
     alloc: Global,
     ledger: &L,
     tx: &Tx,

@@ -5,9 +5,9 @@ ghost use Rattle.eutxo.specs.Judgement.{Moment};
 use eutxo::Shared;
 use eutxo_types::{Output, OutputRef};
 
-/// A ledger (The Extended UTXO Model, "Basic UTXO Ledger"), as the rules read it at a moment. Whether it walks
-/// over all that was accepted or keeps indexes, the rules can't tell. No look-up takes memory.
-pub trait Ledger<V> {
+/// What tells of unspent outputs and of published scripts: a ledger, or a look at one. What a transaction names is found
+/// there. No look-up takes memory.
+pub trait Resolves<V> {
     /// What the rules read of it.
     ghost moment: { Self → Moment V };
 
@@ -18,12 +18,16 @@ pub trait Ledger<V> {
     /// The script that is published under an id, or `None`.
     fn published_at(&self, script: &[u8; 32]) -> Option<&Shared<V>>
         ensures { option_copied result ≡ (moment self.now).published script.now };
+}
 
+/// A ledger (The Extended UTXO Model, "Basic UTXO Ledger"), as the rules read it at a moment. Whether it walks
+/// over all that was accepted or keeps indexes, the rules can't tell. No look-up takes memory.
+pub trait Ledger<V>: Resolves<V> {
     /// Whether an accepted transaction has this id.
     fn is_used(&self, id: &[u8; 32]) -> bool
-        ensures { result ≡ (moment self.now).is_used id.now };
+        ensures { result ≡ (Self.moment self.now).is_used id.now };
 
     /// The tick, in POSIX milliseconds.
     fn tick(&self) -> i64
-        ensures { result ≡ (moment self.now).tick };
+        ensures { result ≡ (Self.moment self.now).tick };
 }

@@ -1,8 +1,8 @@
 //! What a ledger is asked, by the rules and by its callers, and what it replies.
 //!
-//! A ledger is a `Ledger`: what the rules read of it at a moment (`Moment` of `eutxo`), however it is kept.
-//! `resolve` answers what is found there of what a transaction names, and `judge` the fault of the first of all
-//! rules that refuses, or none.
+//! A ledger is a `Ledger`: what the rules read of it at a moment (`Moment` of `eutxo`), however it is kept. `judge`
+//! answers the fault of the first of all rules that refuses, or none. What a transaction names is found by `resolve` in
+//! a `Resolves`: in a ledger, or in a look at one.
 //!
 //! Calls, the replies to them, the entries that keep both, and looks are plain data with copies; calls, replies and
 //! entries have exact `==`. What a reply says (whether it advanced the tick, accepted a transaction, gave a ticket,
@@ -27,7 +27,7 @@ mod shown;
 pub use ask::{Ask, PayoutLock};
 pub use call::{Call, Entry, Reply, Ticketed};
 pub use found::resolve;
-pub use ledger::Ledger;
+pub use ledger::{Ledger, Resolves};
 pub use look::{Look, ThreadOutput, Unspent};
 pub use reading::{accepts, is_accepted, is_advanced, ticket_in, verdicts_in};
 pub use rules::judge;

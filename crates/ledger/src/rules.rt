@@ -10,7 +10,7 @@ ghost use Rattle.eutxo.specs.Judgement.{outside_interval, is_unknown, unknown_sc
 ghost use Rattle.ledger.specs.ResolveSupport.{moment_fault};
 
 use crate::found::{outputs_found, with_scripts};
-use crate::ledger::Ledger;
+use crate::ledger::{Ledger, Resolves};
 use collections::Memory;
 use eutxo::{Checked, Resolved, Validator, recheck, spent_fault, tx_fault};
 use eutxo_types::{Lock, Output, Tx, TxFault, Verdict};

@@ -6,7 +6,7 @@ ghost use Rattle.roles.specs.declared.published.Published.{Published};
 ghost use Rattle.ledger.specs.Shown.{output_among, output_of_thread, output_shown, script_shown, look_moment};
 
 use crate::found::resolve;
-use crate::ledger::Ledger;
+use crate::ledger::Resolves;
 use crate::look::{Look, ThreadOutput, Unspent};
 use collections::Memory;
 use eutxo::{Resolved, Shared};
@@ -79,7 +79,7 @@ fn script_shown<'a>(
     }
 }
 
-impl Ledger<Published> for Look {
+impl Resolves<Published> for Look {
     ghost moment = { λ look. look_moment look };
 
     fn unspent_at(&self, reference: &OutputRef) -> Option<&Output> {
@@ -88,15 +88,6 @@ impl Ledger<Published> for Look {
 
     fn published_at(&self, script: &[u8; 32]) -> Option<&Shared<Published>> {
         script_shown(&self.thread, script)
-    }
-
-    fn is_used(&self, id: &[u8; 32]) -> bool {
-        let _ = id;
-        false
-    }
-
-    fn tick(&self) -> i64 {
-        self.tick
     }
 }
 

@@ -13,7 +13,7 @@ use collections::{Bytes, Items, Memory, TryClone};
 use contract::Contract;
 use eutxo::{Shared, verdict_of};
 use eutxo_types::{Tx, TxFault, tx_id};
-use ledger::{Ask, Call, Ledger, Reply, Ticketed};
+use ledger::{Ask, Call, Reply, Resolves, Ticketed};
 use ledger_replay::{PendingTx, World};
 use ledger_views::show;
 use roles::{CompileFault, Published, publish};

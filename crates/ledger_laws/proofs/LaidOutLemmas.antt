@@ -170,14 +170,15 @@ continues t s z i c h = by (is_close (z.at).contract) refl z.rules z.stray
 
 -- ---- how it is laid out
 
-laid_out : (t : Terms) (s : Stepping) (state : StateMaps) (c : ContractTree) → first_of (rules_after t s state (is_close c)) ≡ None → t.tree (datum_after t s state).cont ≡ c →
+laid_out : (t : Terms) (s : Stepping) (state : StateMaps) (c : ContractTree) → first_of (rules_after t s state (is_close c)) ≡ None →
+    (t.has (datum_after t s state).cont ≡ true) × (t.tree (datum_after t s state).cont ≡ c) →
     LaidOut t s.script (effect_of (walk_of t s) state c) 0 s.tx
-laid_out t s state close h tree =
+laid_out t s state close h led =
     pays 0 (due_outputs t.currency (walk_of t s).payments) s.tx.outputs (mapped_none WrongPayment _ (each_none (rules_after t s state true) h).1.1.0)
-laid_out t s state c h tree =
+laid_out t s state c h led =
     let g = goes_first t s state h in
     let paid = mapped_none WrongPayment _ (each_none (rules_after t s state false) h).1.1.0 in
-    ((datum_after t s state).cont, tree, g.0, g.1, pays 1 (due_outputs t.currency (walk_of t s).payments) (drop 1 s.tx.outputs) paid)
+    ((datum_after t s state).cont, led.0, led.1, g.0, g.1, pays 1 (due_outputs t.currency (walk_of t s).payments) (drop 1 s.tx.outputs) paid)
 
 ended_so : (b : Bool) (r : Result Standing SemFault) (f : SemFault) (a : Standing) → (if b then r else Err f) ≡ Ok a → r ≡ Ok a
 ended_so true r f a h = h
@@ -192,4 +193,4 @@ led_so turns t table s z =
     table.led s.datum.cont w.turns (z.at).contract z.has (turns s.tx.interval s.datum.state (t.tree s.datum.cont) s.inputs z.at end)
 
 pub laid_so : TurnsLead → (t : Terms) → IsTable t → (s : Stepping) → (z : Stepped t s) → LaidOut t s.script (effect_of (walk_of t s) (z.at).state (z.at).contract) 0 s.tx
-laid_so turns t table s z = laid_out t s (z.at).state (z.at).contract z.rules (led_so turns t table s z).1
+laid_so turns t table s z = laid_out t s (z.at).state (z.at).contract z.rules (led_so turns t table s z)

@@ -1,5 +1,5 @@
 -- Threads of contracts in a list of accepted transactions, runs of a contract, and what it means that a thread carries a run.
-use Rattle.std.specs.Prelude.{◌≡◌, ℕ, ◌+◌, false, if◌then◌else◌, List, [], ◌∷◌, ◌++◌, slice_get, Option, Some, None, option_map, Ok}
+use Rattle.std.specs.Prelude.{◌≡◌, ℕ, ◌+◌, true, false, if◌then◌else◌, List, [], ◌∷◌, ◌++◌, slice_get, Option, Some, None, option_map, Ok}
 use Rattle.contract.specs.declared.interval.Interval.{Interval}
 use Rattle.contract.specs.declared.input.Input.{Input}
 use Rattle.contract.specs.declared.payment.Payment.{Payment}
@@ -118,11 +118,11 @@ PaysFirst t e os = (rest : List Output) × (os ≡ due_outputs t.currency e.paym
 abbrev pub datum_at : Cont → StateMaps → Datum
 datum_at k s = record { cont = k; state = s }
 
--- from a place on: the output at the place goes on from a number that stands for the remaining contract, in the state that is left,
--- with exactly the sums of its accounts, unless the contract is Close; then the payments
+-- from a place on: the output at the place goes on from a number of the table that stands for the remaining contract, in the state that
+-- is left, with exactly the sums of its accounts, unless the contract is Close; then the payments
 abbrev pub LaidOutAfter : Terms → List ℕ → Effect → ContractTree → ℕ → Tx → Type 0
 LaidOutAfter t script e close i tx = PaysFirst t e (outputs_from i tx.outputs)
-LaidOutAfter t script e c i tx = (there : Cont) × (t.tree there ≡ c) × (contract_at tx i ≡ Some (record { script = script; datum = datum_at there e.state }))
+LaidOutAfter t script e c i tx = (there : Cont) × (t.has there ≡ true) × (t.tree there ≡ c) × (contract_at tx i ≡ Some (record { script = script; datum = datum_at there e.state }))
     × (slice_get tx.outputs i ≡ Some (continuation script (datum_at there e.state))) × PaysFirst t e (outputs_from (i + 1) tx.outputs)
 
 abbrev pub LaidOut : Terms → List ℕ → Effect → ℕ → Tx → Type 0

@@ -16,7 +16,7 @@ use crate::transactions::{AcceptedTx, PendingTx, with_ids};
 use collections::Memory;
 use eutxo::{Checked, Shared};
 use eutxo_types::{Output, OutputRef, Tx, TxFault};
-use ledger::{Entry, Ledger, judge};
+use ledger::{Entry, Ledger, Resolves, judge};
 use roles::Published;
 use std::alloc::Global;
 use std::marker::Model;
@@ -213,7 +213,7 @@ impl<'a> World<'a> {
     }
 }
 
-impl<'a> Ledger<Published> for World<'a> {
+impl<'a> Resolves<Published> for World<'a> {
     ghost moment = { λ w. moment_of w };
 
     fn unspent_at(&self, reference: &OutputRef) -> Option<&Output> {
@@ -227,7 +227,9 @@ impl<'a> Ledger<Published> for World<'a> {
     fn published_at(&self, script: &[u8; 32]) -> Option<&Shared<Published>> {
         self.published.iter().find(|p| p.get().id == *script)
     }
+}
 
+impl<'a> Ledger<Published> for World<'a> {
     fn is_used(&self, id: &[u8; 32]) -> bool {
         self.accepted.iter().any(|k| *id == *k.id())
     }

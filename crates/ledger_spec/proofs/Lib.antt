@@ -1,3 +1,5 @@
 pub mod ReplayLaws
 pub mod CallsLaws
+pub mod StartsLaws
+mod StandingLemmas
 mod PublishingLemmas

@@ -1,12 +1,12 @@
 -- What the records of a thread say.
-use Rattle.std.specs.Prelude.{◌≡◌, true, List, [], ℕ, map, All, Option, Some}
+use Rattle.std.specs.Prelude.{◌≡◌, true, List, [], ℕ, map, slice_get, All, Option, Some}
 use Rattle.eutxo_types.specs.declared.output_ref.OutputRef.{OutputRef}
 use Rattle.roles.specs.declared.published.Published.{Published}
 use Rattle.roles.specs.Terms.{Terms, terms_of}
 use Rattle.ledger_laws.specs.Past.{Past}
-use Rattle.ledger_laws.specs.Threads.{IsStart, StartsThread, thread, Member, Run, Carries}
+use Rattle.ledger_laws.specs.Threads.{IsStart, StartsThread, Link, thread, Member, Run, Carries}
 use Rattle.ledger_spec.specs.declared.step_record.StepRecord.{StepRecord}
-use Rattle.eutxo_types.specs.Parts.{Instance}
+use Rattle.eutxo_types.specs.Parts.{Instance, contract_at}
 
 -- the member of a run that a record tells of: its number stands for the remaining contract
 abbrev pub member_of : Terms → StepRecord → Member
@@ -17,14 +17,19 @@ member_of t x =
       outcome = record { warnings = x.warnings; payments = x.payments; state = x.state; contract = t.tree x.number };
     }
 
+-- where the thread goes on after a transaction, its next output holds the record's number
+abbrev pub HoldsNumber : Link → StepRecord → Type 0
+HoldsNumber l x = (i : Instance) → contract_at l.tx 0 ≡ Some i → i.datum.cont ≡ x.number
+
 -- the run of what is published under the script, from the state in the start's datum; the thread carries it, transaction by
--- transaction; and each number is one of the table's
+-- transaction; each number is one of the table's, and the one that the thread's next output holds
 pub record TellTheRun (published : List ℕ → Option Published) (past : Past) (r : OutputRef) (c : Instance) (xs : List StepRecord) : Type 0 where
   pub object : Published
   pub named : published c.script ≡ Some object
   pub run : Run ((terms_of object).tree object.root) c.datum.state (map (member_of (terms_of object)) xs)
   pub carried : Carries (terms_of object) c.script (thread past r) (map (member_of (terms_of object)) xs)
   pub numbers : All (λ x. (terms_of object).has x.number ≡ true) xs
+  pub held : (n : ℕ) (l : Link) (x : StepRecord) → slice_get (thread past r) n ≡ Some l → slice_get xs n ≡ Some x → HoldsNumber l x
 
 -- of a start output the records tell its run; where no thread starts, there are none
 pub record AreSteps (published : List ℕ → Option Published) (past : Past) (r : OutputRef) (xs : List StepRecord) : Type 0 where

@@ -1,6 +1,6 @@
 -- What stands after a legal history, in the words of its calls and replies.
-use Rattle.std.specs.Prelude.{◌≡◌, ℕ, ◌==◌, ℤ, Bool, not, if◌then◌else◌, List, [], ◌∷◌, filter, Option, Some, None, option_to_list}
-use Rattle.std.specs.List.{list_any, filter_map, find, flat_map}
+use Rattle.std.specs.Prelude.{◌≡◌, ℕ, ◌==◌, ℤ, Bool, not, if◌then◌else◌, List, [], ◌∷◌, filter, Option, Some, None}
+use Rattle.std.specs.List.{list_any, filter_map, flat_map}
 use Rattle.eutxo_types.specs.declared.tx.Tx.{Tx}
 use Rattle.ledger.specs.declared.call.Call.{Call}
 use Rattle.ledger.specs.declared.call.Call.TheVariants as on

@@ -16,7 +16,7 @@ use collections::{Items, Memory, TryClone};
 use contract::{Input, SemFault, State};
 use eutxo::found_is_enough;
 use eutxo_types::{Cont, Instance, OutputRef, Spend};
-use ledger::Ledger;
+use ledger::Resolves;
 use ledger_laws::threads_are_runs;
 use ledger_replay::World;
 use ledger_spec::StepRecord;

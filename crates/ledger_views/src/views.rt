@@ -13,7 +13,7 @@ use crate::spent::SpentSet;
 use collections::{Items, Memory, Text, TryClone};
 use eutxo::Shared;
 use eutxo_types::{Lock, Output, OutputRef, PayoutRole};
-use ledger::{Ask, Ledger, Look, PayoutLock, ThreadOutput, Unspent};
+use ledger::{Ask, Look, PayoutLock, Resolves, ThreadOutput, Unspent};
 use ledger_replay::{AcceptedTx, World, starts_in};
 use roles::Published;
 use std::alloc::Global;

@@ -2,3 +2,4 @@ pub mod LeftLemmas
 pub mod SumsLemmas
 pub mod OutputLemmas
 pub mod PublicationsLemmas
+mod WorkedLemmas

@@ -15,7 +15,6 @@ use Rattle.contract.specs.declared.input.Input.{Input}
 use Rattle.contract.specs.declared.input.Input.TheVariants.{Deposit, Choice, Notify}
 use Rattle.contract.specs.declared.payment.Payment.{Payment}
 use Rattle.states.specs.States.{StateMaps}
-use Rattle.contract.specs.Tree.{ContractTree, close}
 use Rattle.semantics.specs.Walk.{Standing, Walk, answer_of}
 use Rattle.semantics.specs.Computed.{computed}
 use Rattle.bundle.specs.Bundles.{Amounts, amount_of}

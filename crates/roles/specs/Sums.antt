@@ -1,8 +1,9 @@
 -- What the accounts of a state hold together, token by token.
-use Rattle.std.specs.Prelude.{ℤ, ◌+ℤ◌, List, [], ◌∷◌}
+use Rattle.std.specs.Prelude.{◌≡◌, ℤ, ◌+ℤ◌, List, [], ◌∷◌}
 use Rattle.std.specs.FinMap as map
 use Rattle.names.specs.declared.account.Account.{Account}
-use Rattle.states.specs.States.{StateMaps}
+use Rattle.names.specs.declared.token.Token.{Token}
+use Rattle.states.specs.States.{StateMaps, total_of}
 use Rattle.bundle.specs.Bundles.{Amounts, amount_of, with_amount}
 
 abbrev pub sums_in : List (Account × ℤ) → Amounts
@@ -11,3 +12,7 @@ sums_in (e ∷ es) = with_amount (sums_in es) e.0.token (amount_of (sums_in es) 
 
 abbrev pub sums_of : StateMaps → Amounts
 sums_of s = sums_in (map.entries s.accounts)
+
+-- these are the totals by which money is kept
+abbrev pub SumsAreTotals : Type 0
+SumsAreTotals = (s : StateMaps) (t : Token) → amount_of (sums_of s) t ≡ total_of t s

@@ -1,5 +1,7 @@
 //! What holds of every published contract: laws, each the contract of a function that does nothing.
 ghost use Rattle.roles.specs.Publications.{PublishedAreTables, PublishedTellApart};
+ghost use Rattle.roles.specs.Sums.{SumsAreTotals};
+ghost use Rattle.roles.specs.Worked.{EqualPaymentsAreTwo, NothingIsDue, PaidUnderLocks, TokensGrantInKeys, EmptyStartsHoldNothing};
 
 use crate::published::Published;
 use compiler::codes_stand;
@@ -22,6 +24,22 @@ pub fn published_tell_contracts_apart()
 {
     codes_stand();
 }
+
+/// The sums that a contract's output has to hold (rules 14 and 17) are, token by token, the totals of the accounts by
+/// which the transaction function keeps money.
+pub fn sums_are_of_each_token()
+    ensures { SumsAreTotals }
+{}
+
+/// The definitions on small steps: two equal payments, payments that are due in no output, under which lock a party is
+/// paid, where a role's token grants the role, and a start without accounts.
+pub fn worked_steps()
+    ensures equal { EqualPaymentsAreTwo }
+    ensures due { NothingIsDue }
+    ensures locks { PaidUnderLocks }
+    ensures grant { TokensGrantInKeys }
+    ensures empty { EmptyStartsHoldNothing }
+{}
 
 /// Published contracts, and checks by them, can be handed to other threads, and lent to several. It does nothing.
 pub fn published_cross_threads() {

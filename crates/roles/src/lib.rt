@@ -14,7 +14,10 @@ mod step;
 pub use amounts::holds_sums;
 pub use authorise::actor;
 pub use compiler::CompileFault;
-pub use laws::{published_are_tables, published_cross_threads, published_tell_contracts_apart};
+pub use laws::{
+    published_are_tables, published_cross_threads, published_tell_contracts_apart,
+    sums_are_of_each_token, worked_steps,
+};
 pub use layout::due_to;
 pub use published::Published;
 pub use publishing::publish;

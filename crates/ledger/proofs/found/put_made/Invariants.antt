@@ -3,4 +3,4 @@ use Rattle.eutxo.specs.Judgement.{made_names, found_names, scripts_found}
 use Rattle.ledger.proofs.found.put_made.Given as goal
 
 abbrev pub invariant-loop-i : goal.invariant-loop-i
-invariant-loop-i g l = l.scripts ≡ scripts_found (g.L.Ledger.moment l.ledger).published (made_names (drop l.i l.outputs) ++ found_names l.found)
+invariant-loop-i g l = l.scripts ≡ scripts_found (g.L.Resolves.moment l.ledger).published (made_names (drop l.i l.outputs) ++ found_names l.found)

@@ -3,7 +3,7 @@ use Rattle.eutxo_types.specs.declared.tx.Tx.{Tx}
 use Rattle.ledger_laws.specs.Past.{is_spent}
 use Rattle.ledger_spec.specs.Replay.{World, past_of}
 use Rattle.ledger_replay.proofs.CreatedLemmas.{unspent_none, unspent_some}
-use Rattle.ledger_replay.proofs.world.WorldLedgerPublished.unspent_at.Goals as goal
+use Rattle.ledger_replay.proofs.world.WorldResolvesPublished.unspent_at.Goals as goal
 
 pub returns-then-is_spent : goal.returns-then-is_spent
 returns-then-is_spent c =

@@ -1,0 +1,61 @@
+-- What a look follows of an output: its thread, where it starts one.
+use Rattle.std.proofs.Common.{◌≡◌, ℕ, Bool, true, false, not, ◌&&◌, List, refl, ◌∙◌, ap, Some, None}
+use Rattle.std.specs.Prelude.{if◌then◌else◌, is_some}
+use Rattle.std.specs.List.{slice_get, list_any}
+use Rattle.std.specs.Cmp.Lexicographic.{bytes_decides}
+use Rattle.eutxo_types.specs.declared.output_ref.OutputRef.{OutputRef}
+use Rattle.eutxo_types.specs.declared.output_ref.OutputRef.TheVariants.{Genesis, Made}
+use Rattle.eutxo_types.specs.declared.tx.Tx.{Tx}
+use Rattle.eutxo_types.specs.Ids.{id_of}
+use Rattle.eutxo_types.specs.Parts.{contract_at, steps}
+use Rattle.ledger_laws.specs.Past.{Past, has_id}
+use Rattle.ledger_laws.specs.Threads.{IsMade, StartsThread, thread, ends}
+use Rattle.ledger_laws.proofs.PlainLaws.{and_true, both, is_there, any_there, any_at}
+use Rattle.ledger_laws.proofs.ReferenceLaws.{itself}
+use Rattle.ledger_spec.specs.Views.{starts_in, StartsAreTold}
+
+not_true : (b : Bool) → not b ≡ true → b ≡ false
+not_true true h = cc
+not_true false h = refl
+
+-- an output that a transaction starts is a start output
+starts_so : (past : Past) (r : OutputRef) (n : ℕ) (tx : Tx) → slice_get past.accepted n ≡ Some tx → starts_in r tx ≡ true → StartsThread past r
+starts_so past (Genesis i) n tx g k = cc
+starts_so past (Made id i) n tx g k =
+    let a = and_true (has_id id tx) (not (steps tx) && is_some (contract_at tx i)) k in
+    let b = and_true (not (steps tx)) (is_some (contract_at tx i)) a.1 in
+    let c = is_there (contract_at tx i) b.1 in
+    let name : Made id i ≡ Made (id_of tx) i = ap (λ (x : List ℕ). Made x i) ((bytes_decides id (id_of tx)).0 a.0) in (
+      c.0,
+      record {
+        made = record { number = n; tx = tx; accepted = g; index = i; name = name; contract = c.1 };
+        bare = not_true (steps tx) b.0;
+      },
+    )
+
+-- and a start output is one that some transaction starts
+pub told_start : (past : Past) (r : OutputRef) → StartsThread past r → list_any (starts_in r) past.accepted ≡ true
+told_start past r s = any_at (starts_in r) past.accepted m.number m.tx m.accepted (ap (λ (q : OutputRef). starts_in q m.tx) m.name ∙ here)
+  where
+    m : IsMade past r s.0
+    m = s.1.made
+
+    bare : (not (steps m.tx) && is_some (contract_at m.tx m.index)) ≡ true
+    bare = both (not (steps m.tx)) (is_some (contract_at m.tx m.index)) (ap not s.1.bare) (ap is_some m.contract)
+
+    here : starts_in (Made (id_of m.tx) m.index) m.tx ≡ true
+    here = both (has_id (id_of m.tx) m.tx) (not (steps m.tx) && is_some (contract_at m.tx m.index)) (itself (id_of m.tx)) bare
+
+-- where some transaction starts it, it is a start output
+pub start_told : (past : Past) (r : OutputRef) → list_any (starts_in r) past.accepted ≡ true → StartsThread past r
+start_told past r h = let f = any_there (starts_in r) past.accepted h in starts_so past r f.0 f.1 f.2 f.3
+
+pub starts_told : (past : Past) → StartsAreTold past
+starts_told past r = (
+  λ s. let h = told_start past r s in rw h refl,
+  λ never. by (list_any (starts_in r) past.accepted) refl never,
+)
+  where
+    by : (b : Bool) → list_any (starts_in r) past.accepted ≡ b → (StartsThread past r → ⊥) → (if b then ends (Some r) (thread past r) else None) ≡ None
+    by true h never = absurd (never (start_told past r h))
+    by false h never = refl

@@ -1,0 +1,48 @@
+-- The definitions on small steps.
+use Rattle.std.specs.Prelude.{◌≡◌, ℕ, ℤ, pos, true, false, List, [], ◌∷◌, Some, None}
+use Rattle.std.specs.FinMap as map
+use Rattle.names.specs.declared.party.Party.{Party}
+use Rattle.names.specs.declared.party.Party.TheVariants.{Address, Role}
+use Rattle.names.specs.declared.payee.Payee.TheVariants as to
+use Rattle.contract.specs.declared.input.Input.TheVariants.{Notify}
+use Rattle.contract.specs.declared.payment.Payment.{Payment}
+use Rattle.states.specs.States.{StateMaps}
+use Rattle.bundle.specs.Bundles.{Amounts, amount_of}
+use Rattle.nodes.specs.declared.cont.Cont.{Cont}
+use Rattle.machine.specs.declared.datum.Datum.{Datum}
+use Rattle.eutxo_types.specs.declared.lock.Lock.TheVariants.{Key, Payout}
+use Rattle.eutxo_types.specs.declared.output.Output.{Output}
+use Rattle.eutxo_types.specs.declared.spend.Spend.{Spend}
+use Rattle.roles.specs.Sums.{sums_of}
+use Rattle.roles.specs.Steps.{role_token, authorised, unauthorised, lock_for, owed_output, due_above, due_to, due_outputs, first_unpaid, starts_from}
+
+-- two equal payments are due in two outputs: one output at place 1 leaves the second, at place 2, unpaid
+abbrev pub EqualPaymentsAreTwo : Type 0
+EqualPaymentsAreTwo =
+    (currency : List ℕ) (p : Payment) (party : Party) → due_to p ≡ Some party → let o = owed_output currency party p in
+    (due_outputs currency (p ∷ p ∷ []) ≡ o ∷ o ∷ []) × (first_unpaid 1 (o ∷ o ∷ []) (o ∷ []) ≡ Some 2) × (first_unpaid 1 (o ∷ o ∷ []) (o ∷ o ∷ []) ≡ None)
+
+-- a payment of 0, or to an account, is due in no output; one of 1 to a party is due to it
+abbrev pub NothingIsDue : Type 0
+NothingIsDue = (a b : Party) → (due_above (to.Party a) (pos 0) ≡ None) × (due_above (to.Account b) (pos 1) ≡ None) × (due_above (to.Party a) (pos 1) ≡ Some a)
+
+-- an address is paid under its key, a role under its payout
+abbrev pub PaidUnderLocks : Type 0
+PaidUnderLocks = (currency name : List ℕ) → (lock_for currency (Address name) ≡ Key name) × (lock_for currency (Role name) ≡ Payout currency name)
+
+-- a role's token in a key output grants the role; in a payout it doesn't; a notify needs nobody
+abbrev pub TokensGrantInKeys : Type 0
+TokensGrantInKeys =
+    (currency role address : List ℕ) (x : Spend) (m : Amounts) → amount_of m (role_token currency role) ≡ pos 1 →
+    let key : Output = record { lock = Key address; amount = m } in
+    let payout : Output = record { lock = Payout currency role; amount = m } in
+    (authorised currency [] ((x, key) ∷ []) (Role role) ≡ true) × (authorised currency [] ((x, payout) ∷ []) (Role role) ≡ false)
+    × (unauthorised currency [] [] (Notify ∷ []) ≡ None)
+
+-- a contract without accounts holds nothing, and starts at the root with nothing
+abbrev pub EmptyStartsHoldNothing : Type 0
+EmptyStartsHoldNothing =
+    (root : Cont) (t : ℤ) →
+    let s : StateMaps = record { accounts = map.empty; choices = map.empty; bound_values = map.empty; min_time = t } in
+    let d : Datum = record { cont = root; state = s } in
+    (sums_of s ≡ map.empty) × (starts_from root d map.empty ≡ true)
