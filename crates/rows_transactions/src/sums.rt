@@ -2,7 +2,10 @@
 use bundle::{Bundle, BundleFault, total_of};
 use collections::TryClone;
 use roles::holds_sums;
-use rows_text::{Known, RowFault, bundle_of, first, put_amounts, same_or_other, state_of, word_of};
+use rows_text::{
+    Known, RowFault, bundle_of, first, parts, put_amounts, same_or_other, state_of, token_of,
+    word_of,
+};
 use std::alloc::{AllocError, Global};
 
 /// Adds, from `AMOUNTS / AMOUNTS`: the line for the answer, and what is in the first bundle afterwards.
