@@ -45,7 +45,7 @@ mod spends;
 mod verdicts;
 mod words;
 
-pub use amounts::{bundle_of, put_amounts, token_of, word_of};
+pub use amounts::{amounts_of, bundle_of, put_amounts, token_of, word_of};
 pub use answers::{Answers, in_bytes, print_rows, put_answer};
 pub use checks::{check_copies, keep_check, recheck_line};
 pub use copied::{

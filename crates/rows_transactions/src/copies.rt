@@ -2,7 +2,9 @@
 use collections::{Items, Memory, Same, Text, TryClone};
 use eutxo::Resolved;
 use eutxo_types::{Lock, Output, Spend, Tx};
-use rows_text::{Named, RowFault, put_beside, put_copies, put_copy, put_same, put_same_copy};
+use rows_text::{
+    Named, RowFault, amounts_of, put_beside, put_copies, put_copy, put_same, put_same_copy,
+};
 use std::alloc::{AllocError, Global};
 
 /// Of the transaction, its inputs and its outputs, and of their parts, whether a copy is the same.
@@ -91,7 +93,29 @@ pub fn rooms(alloc: Global, tx: &Tx) -> Result<String, AllocError> {
     for signer in tx.signers.as_slice() {
         put_text_room(alloc, &mut line, signer)?;
     }
+    line.push_str(" bytes")?;
+    for output in tx.outputs.as_slice() {
+        put_currency_room(alloc, &mut line, &output.lock)?;
+    }
     Ok(line)
+}
+
+/// How many entries a copy of these amounts has, and for how many it asked for room.
+pub fn amounts_room(alloc: Global, rest: &str) -> Result<String, RowFault> {
+    let copy = amounts_of(alloc, rest)?.try_clone()?.into_vec();
+    let mut line = String::from_str(alloc, "room")?;
+    put_numbers(alloc, &mut line, copy.len(), copy.capacity())?;
+    Ok(line)
+}
+
+fn put_currency_room(alloc: Global, line: &mut String, lock: &Lock) -> Result<(), Memory> {
+    match lock {
+        Lock::Payout { currency, .. } => {
+            let copy = currency.try_clone()?.into_vec();
+            put_numbers(alloc, line, copy.len(), copy.capacity())
+        }
+        _ => Ok(()),
+    }
 }
 
 fn put_room<T: TryClone + Drop>(

@@ -1,6 +1,6 @@
 //! What is written for the next row, and what is printed for lines.
 use crate::checks::{check_line, rules_line};
-use crate::copies::{found_copies, published_copies, rooms, tx_copies};
+use crate::copies::{amounts_room, found_copies, published_copies, rooms, tx_copies};
 use crate::faults::{apart_row, copies_row, texts_row};
 use crate::finds::{found_of, put_found};
 use crate::found::found;
@@ -55,6 +55,7 @@ fn answered(alloc: Global, desk: &mut Desk, line: &str) -> Result<Option<String>
         "local" | "spent" => Ok(Some(rules(alloc, desk, word)?)),
         "apart" => Ok(Some(apart_row(alloc, rest)?)),
         "totals" => Ok(Some(totals(alloc, rest)?)),
+        "room" => Ok(Some(amounts_room(alloc, rest)?)),
         "sums" => Ok(Some(are_sums(alloc, &desk.known, rest)?)),
         "texts" => Ok(Some(texts_row(alloc, rest)?)),
         "add" => Ok(Some(added(alloc, rest)?)),
