@@ -4,7 +4,7 @@ use collections::Memory;
 use rows_text::{put_copy, put_same};
 use std::alloc::{AllocError, Global};
 
-/// Of the call of each of the last so many entries, and of its reply, whether a copy is the same; and whether each call, reply and
+/// Of each of the last so many entries, whether a copy of its call is the same, and of its reply; and whether each call, reply and
 /// entry is the same as the one before it.
 pub fn history_copies(
     alloc: Global,

@@ -24,13 +24,13 @@
 //! - `add AMOUNTS / AMOUNTS` and `subtract AMOUNTS / AMOUNTS` print `done` or the fault with its token, and then what is in the
 //!   first bundle afterwards, in the order of the tokens;
 //! - `copies transaction` prints of the transaction, its inputs and outputs and their parts whether a copy is the `same`, and behind
-//!   `beside` of each in a list but the first whether it is the `same` as the one before it. `copies found` does so of what is found,
-//!   `copies published` of what is published, and `copies checks` of the checks at hand, with the verdict of each copy. `copies rooms`
-//!   prints of the copies of the inputs, outputs and signers, of each signer's text and each payout's
-//!   currency, how much it has of how much room, and `room AMOUNTS` so of the entries of amounts;
+//!   `beside` of each in a list but the first whether it is the `same` as the one before it. So does `copies published` of what is
+//!   published, `copies found` of what is found, and `copies checks` of the checks at hand, with the verdict of each copy;
+//! - `copies rooms` prints of the copies of the inputs, outputs and signers, of each signer's text and each payout's currency, how
+//!   much it has of how much room, and `room AMOUNTS` so of the entries of amounts;
 //! - `texts ENUM` prints the text of each fault of that name, a line for each, in their order, and `copies faults` whether a copy
-//!   of each fault of a transaction is the `same`. `apart ENUM` prints for each value of that name that it is the `same` as itself, and
-//!   before it that it is an `other` than the one before it.
+//!   of each fault of a transaction is the `same`. `apart ENUM` prints for each value of that name that it is the `same` as itself,
+//!   and before it that it is an `other` than the one before it.
 //!
 //! `#` begins a comment, and an empty line is nothing. Any other line prints `no such row`.
 #![tactic(auto)]
