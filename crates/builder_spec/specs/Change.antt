@@ -15,7 +15,7 @@ use Rattle.builder_spec.specs.Steps.{Thread, look_thread, step_front, step_spent
 use Rattle.builder_spec.specs.Starts.{start_front, start_output, hinders_start}
 
 -- THE CHANGE OF A STEP that nothing hinders is, token by token, what its front holds above the deposits, and that is never below 0. (The
--- accounts are above 0, as those of all states are.)
+-- accounts, and what the offers hold, are above 0, as in all states and bundles.)
 abbrev pub StepChangeIsTheRest : Type 0
 StepChangeIsTheRest = (look : Look) (r : StepRequest) (e : Thread) (t : Token) → look_thread look ≡ Some e → hinders_step look r ≡ None → AllPositive (entries e.datum.state.accounts) → AreBundles amount_in r.offered →
     (amount_of (rest (step_spent r e) (step_outputs r e)) t ≡ total_of amount_in t (step_front r e) -ℤ deposited t r.inputs) × (deposited t r.inputs ≤ℤ total_of amount_in t (step_front r e))

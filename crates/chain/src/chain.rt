@@ -221,12 +221,14 @@ impl Chain {
     /// Submit and in each place of a Round. No clause names them, so the reply is the same for every cache. Answers `Memory` only where a growth was refused: then no
     /// entry is made, and nothing is changed.
     ///
-    /// So a Submit of the layout of a request that nothing hinders (`builder`) is accepted, whatever other entries
+    /// So a Submit of what a builder answers to a request that nothing hinders (`builder`) is accepted, whatever other entries
     /// there are: where what it spends is unspent as it was handed in, no accepted transaction of other bytes has its id,
     /// the tick lies in its interval and its script is published as the request has it. A Look shows each thread that
     /// isn't over, and none but one that stands, where the thread's run stands. From the last timeout on anyone closes a
-    /// thread that a Look shows, without inputs and offers: what is built is accepted, and the parties are paid all that the
-    /// thread's output held, unless a number leaves 128 bits or nothing is left to do. What is published stays published.
+    /// thread that a Look shows, without inputs and offers, in an interval that ends neither before its start nor before the
+    /// minimum time: the parties are paid all that the thread's output held, and what is built is accepted like any step,
+    /// unless a number leaves 128 bits or nothing is left to do. The change of a step is what its front holds above the
+    /// deposits. What is published stays published.
     pub fn step(
         &mut self,
         alloc: Global,
@@ -281,7 +283,8 @@ impl Chain {
     /// The entries, in order. Takes no memory.
     ///
     /// They are legal, and what stands after them is what they say (`Stands`): the tick, the pool and what was accepted.
-    /// What is published under an id is what a Publish call published, one contract with one currency.
+    /// What is published under an id is what a Publish call published, one contract with one currency; an id
+    /// is answered to be in use only where another contract or currency has it.
     ///
     /// And whatever was called, this holds of what was accepted. The thread of each start output
     /// is exactly one run of the contract that was published under its script, and where the thread has an end,
@@ -294,7 +297,7 @@ impl Chain {
     /// transactions one id, and no output is spent twice. Of each token the unspent outputs hold together what the first
     /// outputs held. The first outputs are keys, whose sums fit an amount; the accepted transactions fit their spelling.
     ///
-    /// What is built of a request that nothing hinders would be accepted now, as `step` says. And a Look that comes after an accepted Submit shows what
+    /// What is built of a request that nothing hinders is accepted now where it is open, as `step` says. And a Look that comes after an accepted Submit shows what
     /// that made, where it asks for it and nothing that was accepted between the two spent it.
     pub fn history(&self) -> &[Entry]
         ensures all { result.now ≡ self.now.entries }

@@ -25,7 +25,7 @@ use Rattle.ledger.specs.Replies.{is_published}
 use Rattle.ledger_spec.specs.Replay.{Course, World, world, published_at, if_compiled, publication, with_object, published_after, published_from, published}
 use Rattle.ledger_spec.specs.Calls.{same_publication, publish_reply_beside, publish_reply, reply_to}
 use Rattle.ledger_spec.specs.Legal.{IsLegal, before_entry}
-use Rattle.ledger_spec.specs.Publishing.{Publishes, PublicationsAreEntries, LegalIdsTellContracts, LegalIdsInUse}
+use Rattle.ledger_spec.specs.Publishing.{Publishes, PublicationsAreEntries, EntriesArePublished, LegalIdsTellContracts, LegalIdsInUse}
 
 -- ---- what is found under an id
 
@@ -210,8 +210,7 @@ found_on c n e at id q h =
     let found = stays (published_after (published (take n c.entries)) e.call e.reply) rest id q h in
     subst (λ (ps : List Published). published_at ps id ≡ Some q) (sym whole) found
 
-found_at_last : (c : Course) → IsLegal c → (id : List ℕ) (d : Contract) (x : List ℕ) → Publishes c.entries id d x →
-    (p : Published) × (publication d x ≡ Ok p) × (published_at (published c.entries) id ≡ Some p)
+pub found_at_last : EntriesArePublished
 found_at_last c legal id d x it =
     let w = world (before_entry c it.number) in
     let told = told_by_table c legal it.number it.entry d x it.there it.call in

@@ -30,7 +30,7 @@ use Rattle.builder_spec.specs.Change.{StepChangeIsTheRest, StartChangeIsTheRest}
 use Rattle.builder_spec.specs.Starts.{start_front, hinders_start, layout_start}
 use Rattle.builder_spec.specs.Claims.{claim_front, hinders_claim, layout_claim}
 use Rattle.ledger_spec.specs.Open.{IsOpen}
-use Rattle.ledger_spec.specs.Publishing.{IsPublication, IdsTellContracts}
+use Rattle.ledger_spec.specs.Publishing.{IsPublication, StandsUnderItsId, IdsTellContracts}
 use Rattle.ledger_spec.specs.Replay.{Course, published, published_at, world, past_of}
 use Rattle.ledger_spec.specs.Views.{thread_shown, look}
 use Rattle.ledger_spec.specs.Calls.{reply_to}
@@ -49,7 +49,9 @@ EachIsARunOfItsContract es named past =
 pub record IsSoundLedger (es : List Entry) (named : List ℕ → Option Published) (past : Past) : Type 0 where
   -- what is published under an id is what an entry published: its root stands for the entry's contract
   pub published : (id : List ℕ) (p : Published) → named id ≡ Some p → IsPublication es id p
-  -- and it is one contract and one currency
+  -- and what an entry published stands under its id
+  pub stands : StandsUnderItsId es named
+  -- one contract and one currency
   pub told_apart : IdsTellContracts es
   -- the accepted transactions of each contract are one run of it, and of no other: from the state of its start, input for input,
   -- with the run's warnings, payments, states and remaining contracts
@@ -81,7 +83,7 @@ pub record IsSoundLedger (es : List Entry) (named : List ℕ → Option Publishe
   -- of each token the unspent outputs hold together what the first outputs held
   pub preserved : IsPreserved past
 
--- HOWEVER CALLS INTERLEAVE: so it is after every history
+-- HOWEVER CALLS INTERLEAVE: so it is after this history
 abbrev pub FirstHalf : Course → Type 0
 FirstHalf c = IsSoundLedger c.entries (published_at (published c.entries)) (past_of (world c))
 
@@ -110,7 +112,7 @@ AcceptsStarts c = (r : StartRequest) → hinders_start r ≡ None →
 abbrev pub AcceptsClaims : Course → Type 0
 AcceptsClaims c = (r : ClaimRequest) → hinders_claim r ≡ None → IsOpenAfter c (r.payouts ++ claim_front r) (layout_claim r) → Accepts c (layout_claim r)
 
--- a look that shows a thread shows one that a step can be built on, with its datum
+-- a look that shows a thread shows one that meets the first clause of what hinders a step, with its datum
 abbrev pub ShowsCurrentThreads : Course → Type 0
 ShowsCurrentThreads c = (ask : Ask) (t : ThreadOutput) → thread_shown (world c) ask.thread ≡ Some t → (d : Datum) × (look_thread (look (world c) ask) ≡ Some (record { shown = t; datum = d }))
 
@@ -129,7 +131,8 @@ ShowsWhatIsNotOver c =
     (ends (Some r) (thread (past_of (world c)) r) ≡ None) ⊎ ((e : Thread) × (look_thread (look (world c) ask) ≡ Some e))
 
 -- AFTER THE LAST TIMEOUT ANYONE CLOSES a thread that a look shows: without inputs and offers, in an interval that ends neither before its
--- start nor before the minimum time. What is built so is accepted
+-- start nor before the minimum time, nothing hinders it but that a number leaves 128 bits or that Close without accounts stands. Where
+-- nothing does, the parties are paid all that the output held, and the layout is accepted while it is open
 pub record IsClosed (c : Course) (look : Look) (e : Thread) (r : StepRequest) : Type 0 where
   pub outcome : Closes r e (hinders_step look r)
   pub accepted : hinders_step look r ≡ None → IsOpenAfter c (step_spent r e) (layout_step look r) → Accepts c (layout_step look r)
@@ -140,24 +143,26 @@ AnyoneClosesShown c =
     HasReached (last ((thread_terms e).tree e.datum.cont)) i.from → i.from ≤ℤ i.to → e.datum.state.min_time ≤ℤ i.to →
     IsClosed c (look (world c) ask) e (closing i signers change)
 
--- WHAT IS BUILT IS ACCEPTED: after every history, for every look and request, whatever other entries there are
+-- WHAT IS BUILT IS ACCEPTED after this history, for every look and request, whatever other entries there are; and what the looks of its
+-- end show
 pub record SecondHalf (c : Course) : Type 0 where
-  -- where the transaction function succeeds from the state that a look shows, and the offers authorise and fund it, the step's
-  -- layout is accepted while its inputs are unspent and the tick lies in its interval
+  -- where nothing hinders a step (the transaction function succeeds from the state that a look shows; the offers are signed, authorise and
+  -- fund it within the limits, none twice), its layout is accepted while what it spends is unspent as it was handed in, its script is
+  -- published as shown, no accepted transaction of other bytes has its id, and the tick lies in its interval
   pub steps : AcceptsSteps c
   -- so is the layout of a start
   pub starts : AcceptsStarts c
   -- and that of a claim
   pub claims : AcceptsClaims c
-  -- a look shows no thread but one that such a step can be built on
+  -- a look shows no thread but one that meets the first clause of what hinders a step
   pub shown : ShowsCurrentThreads c
   -- at the state and the contract where the thread's run stands
   pub current : ShowsWhereRunsStand c
   -- and each thread that isn't over
   pub not_over : ShowsWhatIsNotOver c
-  -- from the last timeout on anyone closes it, and the parties are paid all that its output held
+  -- from the last timeout on anyone closes it
   pub closes : AnyoneClosesShown c
-  -- the change of a step is what is offered above its deposits
+  -- the change of a step is what its front holds above the deposits
   pub step_change : StepChangeIsTheRest
-  -- and that of a start what is offered above its accounts
+  -- and that of a start what its front holds above the accounts
   pub start_change : StartChangeIsTheRest

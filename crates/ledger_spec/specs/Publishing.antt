@@ -1,5 +1,5 @@
 -- What the Publish calls of a history published.
-use Rattle.std.specs.Prelude.{◌≡◌, ℕ, List, slice_get, Some, Ok}
+use Rattle.std.specs.Prelude.{◌≡◌, ℕ, List, slice_get, Option, Some, Ok}
 use Rattle.contract.specs.declared.tree.Contract.{Contract}
 use Rattle.contract.specs.Tree.{contract_tree}
 use Rattle.roles.specs.declared.published.Published.{Published}
@@ -27,6 +27,11 @@ pub record IsPublication (es : List Entry) (id : List ℕ) (p : Published) : Typ
   pub table : IsTable (terms_of p)
   pub tree : (terms_of p).tree p.root ≡ contract_tree contract
 
+-- what an entry published stands under its id
+abbrev pub StandsUnderItsId : List Entry → (List ℕ → Option Published) → Type 0
+StandsUnderItsId es named =
+    (id : List ℕ) (contract : Contract) (currency : List ℕ) → Publishes es id contract currency → (p : Published) × (publication contract currency ≡ Ok p) × (named id ≡ Some p)
+
 -- two entries that published under one id published one contract and one currency
 abbrev pub IdsTellContracts : List Entry → Type 0
 IdsTellContracts es =
@@ -41,6 +46,9 @@ InUseByAnother es =
 -- so of every legal history
 abbrev pub PublicationsAreEntries : Type 0
 PublicationsAreEntries = (c : Course) → IsLegal c → (id : List ℕ) (p : Published) → published_at (published c.entries) id ≡ Some p → IsPublication c.entries id p
+
+abbrev pub EntriesArePublished : Type 0
+EntriesArePublished = (c : Course) → IsLegal c → StandsUnderItsId c.entries (published_at (published c.entries))
 
 abbrev pub LegalIdsTellContracts : Type 0
 LegalIdsTellContracts = (c : Course) → IsLegal c → IdsTellContracts c.entries

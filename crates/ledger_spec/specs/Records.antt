@@ -22,7 +22,7 @@ abbrev pub HoldsNumber : Link → StepRecord → Type 0
 HoldsNumber l x = (i : Instance) → contract_at l.tx 0 ≡ Some i → i.datum.cont ≡ x.number
 
 -- the run of what is published under the script, from the state in the start's datum; the thread carries it, transaction by
--- transaction; each number is one of the table's, and the one that the thread's next output holds
+-- transaction; each number is one of the table's and, where the thread goes on, the one that its next output holds
 pub record TellTheRun (published : List ℕ → Option Published) (past : Past) (r : OutputRef) (c : Instance) (xs : List StepRecord) : Type 0 where
   pub object : Published
   pub named : published c.script ≡ Some object

@@ -91,7 +91,7 @@ if_compiled c currency (Some fault) = Err fault
 abbrev pub publication : Contract → List ℕ → Result Published CompileFault
 publication c currency = if_compiled (contract_tree c) currency (compile_fault (contract_tree c))
 
--- one more, unless it is there already
+-- one more, unless something is published under its id
 abbrev pub with_object : List Published → Result Published CompileFault → List Published
 with_object ps (Err fault) = ps
 with_object ps (Ok p) = if is_some (published_at ps p.id) then ps else ps ++ p ∷ []

@@ -42,7 +42,7 @@ is_taken es n = list_any (λ e. list_any (λ v. v.ticket == n) (verdicts_in e.re
 
 -- ---- what was accepted
 
--- the transaction that has a ticket
+-- the transactions that were given a ticket: one at most in a legal history
 abbrev pub of_ticket : List Entry → ℕ → List Tx
 of_ticket es n = filter_map (λ p. if p.0 == n then Some p.1 else None) (enqueued es)
 

@@ -54,7 +54,7 @@ starts_in (Made id i) tx = has_id id tx && (not (steps tx) && is_some (contract_
 abbrev pub end_of : Past → OutputRef → Option OutputRef
 end_of past r = if list_any (starts_in r) past.accepted then ends (Some r) (thread past r) else None
 
--- so an output that starts a thread is one by its transaction alone
+-- so of an output that starts a thread it is where the thread ends, and of every other it is none
 abbrev pub StartsAreTold : Past → Type 0
 StartsAreTold past =
     (r : OutputRef) → (StartsThread past r → end_of past r ≡ ends (Some r) (thread past r)) × ((StartsThread past r → ⊥) → end_of past r ≡ None)

@@ -1,5 +1,5 @@
 //! Laws of legal histories, each the contract of a function that does nothing.
-ghost use Rattle.ledger_spec.specs.Publishing.{PublicationsAreEntries, LegalIdsTellContracts, LegalIdsInUse};
+ghost use Rattle.ledger_spec.specs.Publishing.{PublicationsAreEntries, EntriesArePublished, LegalIdsTellContracts, LegalIdsInUse};
 ghost use Rattle.ledger_spec.specs.Standing.{LegalHistoriesStand};
 ghost use Rattle.ledger_spec.specs.Views.{EachStartIsTold};
 
@@ -12,10 +12,11 @@ pub fn legal_histories_stand()
 {}
 
 /// What is published under an id after a legal history is what an entry published: a table whose root stands for the
-/// entry's contract, with its currency. One id is of one contract and currency, and an entry is answered that its id
+/// entry's contract, with its currency; and what an entry published stands under its id. One id is of one contract and currency, and an entry is answered that its id
 /// is in use only where another has it.
 pub fn publications_are_entries()
     ensures published { PublicationsAreEntries }
+    ensures stands { EntriesArePublished }
     ensures told_apart { LegalIdsTellContracts }
     ensures in_use { LegalIdsInUse }
 {

@@ -34,6 +34,7 @@ returns-clause-first c =
     rw (← c.self.view_is)
     (record {
       published = published;
+      stands = c.publications_are_entries.ensures.stands course kept.legal;
       told_apart = c.publications_are_entries.ensures.told_apart course kept.legal;
       runs = runs_of_contracts _ _ _ published (c.threads_are_runs.ensures.run _ _ kept.tables kept.sound);
       ends_with_run = c.threads_are_runs.ensures.end _ _ kept.tables kept.sound;
