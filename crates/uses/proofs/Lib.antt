@@ -1,0 +1,3 @@
+mod SteppedLemmas
+mod CallerLemmas
+mod LockLemmas

@@ -1,0 +1,3 @@
+pub mod Uses
+pub mod Resolutions
+pub mod TimeLocks
