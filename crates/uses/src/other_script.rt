@@ -24,10 +24,11 @@ pub struct TimeLock {
 impl Validator for TimeLock {
     ghost use Rattle.std.specs.Prelude.{refl};
     ghost use Rattle.uses.specs.TimeLocks.{time_locks};
+    ghost use Rattle.uses.specs.TimeLocksSupport.{answers_alike};
 
     ghost judges = { time_locks };
 
-    ghost alike = { ? };
+    ghost alike = { λ x y e. (answers_alike x y e, λ d held. refl) };
 
     fn step(
         &self,
@@ -57,6 +58,7 @@ impl Validator for TimeLock {
 /// Judges one transaction on the outputs that its inputs spend, in order, and on a time lock under an id. The verdict is that of the
 /// rules which these decide, with the lock's own answer among them. So what is accepted and spends an output under the lock, and
 /// nothing of it is missing, is signed by the owner and starts no earlier than the lock opens.
+#[tactic(auto, using(crate::proofs::LockLemmas::keeps))]
 pub fn check_lock(
     alloc: Global,
     tx: &Tx,
@@ -71,5 +73,6 @@ pub fn check_lock(
     let mut scripts = Scripts::new(alloc);
     scripts.insert(id, shared)?;
     let checked = check(alloc, tx, Resolved { outputs, scripts })?;
-    checked.verdict().try_clone()
+    let verdict = checked.verdict().try_clone()?;
+    Ok(verdict)
 }
