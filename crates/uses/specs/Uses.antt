@@ -2,11 +2,16 @@
 use Rattle.std.specs.Prelude.{◌≡◌, ℕ, ◌≤ℤ◌, List, [], ◌++◌, All, Option, Some, None}
 use Rattle.contract.specs.declared.input.Input.{Input}
 use Rattle.contract.specs.declared.interval.Interval.{Interval}
+use Rattle.contract.specs.declared.tree.Contract.{Contract}
+use Rattle.contract.specs.Tree.{contract_tree}
+use Rattle.states.specs.States.{StateMaps}
 use Rattle.evaluation.specs.Timeouts.{last}
 use Rattle.semantics.specs.Closing.{HasReached}
 use Rattle.eutxo_types.specs.declared.output_ref.OutputRef.{OutputRef}
+use Rattle.eutxo_types.specs.declared.output_ref.OutputRef.TheVariants.{Made}
 use Rattle.eutxo_types.specs.declared.tx.Tx.{Tx}
 use Rattle.eutxo_types.specs.Ids.{id_of}
+use Rattle.roles.specs.Publications.{published_of}
 use Rattle.ledger_laws.specs.Past.{unspent_at}
 use Rattle.ledger.specs.declared.ask.Ask.{Ask}
 use Rattle.ledger.specs.declared.call.Call.{Call}
@@ -19,10 +24,12 @@ use Rattle.ledger_spec.specs.Open.{IsAlone}
 use Rattle.ledger_spec.specs.Replay.{Course, world, past_of}
 use Rattle.ledger_spec.specs.Legal.{entry_of, with_entry}
 use Rattle.ledger_spec.specs.Views.{look}
+use Rattle.ledger_spec.specs.Calls.{reply_to}
 use Rattle.builder_spec.specs.declared.fault.BuildFault.{BuildFault}
-use Rattle.builder_spec.specs.Requests.{StepRequest, ClaimRequest, request, claim_request}
+use Rattle.builder_spec.specs.Requests.{StepRequest, StartRequest, ClaimRequest, request, start_request, claim_request}
 use Rattle.builder_spec.specs.Steps.{Thread, thread_terms, look_thread, hinders_step, layout_step}
 use Rattle.builder_spec.specs.Closings.{closing, Closes}
+use Rattle.builder_spec.specs.Starts.{hinders_start, layout_start}
 use Rattle.builder_spec.specs.Claims.{claim_front, hinders_claim, layout_claim}
 
 -- ---- calls
@@ -87,12 +94,40 @@ NeedNotClose c start change fault =
 
 -- ---- the escrow
 
--- the last two entries are a look at a thread and a Submit of a step of it, which is accepted
-pub record EndsStepped (c : Course) (seat : ℕ) (inputs : List Input) (signers : List (List ℕ)) (change : List ℕ) (reply : Reply) : Type 0 where
-  pub before : Course
+-- a contract with the currency of its roles' tokens, and the state that it starts from
+pub record Deal : Type 0 where
+  pub contract : Contract
+  pub currency : List ℕ
+  pub state : StateMaps
+
+abbrev pub agreed : Contract → List ℕ → StateMaps → Deal
+agreed contract currency state = record { contract = contract; currency = currency; state = state }
+
+-- after it is published
+abbrev pub after_publish : Course → ℕ → Deal → Course
+after_publish c seat d = called c seat (on.Publish d.contract d.currency)
+
+-- its start then, at the present tick
+abbrev pub start_asked : Course → ℕ → Deal → List (List ℕ) → List Unspent → List ℕ → StartRequest
+start_asked c seat d signers offered change = start_request (published_of (contract_tree d.contract) d.currency) d.state (at_tick (after_publish c seat d)) signers offered change
+
+-- and after that is submitted
+abbrev pub after_start : Course → ℕ → Deal → List (List ℕ) → List Unspent → List ℕ → Course
+after_start c seat d signers offered change = called (after_publish c seat d) seat (on.Submit (layout_start (start_asked c seat d signers offered change)))
+
+-- nothing hinders the start, it is accepted, and this is its output of the contract
+pub record IsBegun (c : Course) (seat : ℕ) (d : Deal) (signers : List (List ℕ)) (offered : List Unspent) (change : List ℕ) (start : OutputRef) : Type 0 where
+  pub clear : hinders_start (start_asked c seat d signers offered change) ≡ None
+  pub accepted : reply_to (world (after_publish c seat d)) (on.Submit (layout_start (start_asked c seat d signers offered change))) ≡ answer.Accepted (id_of (layout_start (start_asked c seat d signers offered change)))
+  pub output : start ≡ Made (id_of (layout_start (start_asked c seat d signers offered change))) 0
+
+-- the contract was published and started; its thread was looked at and stepped with these inputs, which is accepted; and nothing else
+-- was called
+pub record IsEnded (c new : Course) (seat : ℕ) (d : Deal) (inputs : List Input) (signers : List (List ℕ)) (offered : List Unspent) (change : List ℕ) (reply : Reply) : Type 0 where
   pub start : OutputRef
-  pub stepped : IsStepped before start (step_asked before inputs signers change) reply
-  pub after : c ≡ after_step before seat start (step_asked before inputs signers change)
+  pub begun : IsBegun c seat d signers offered change start
+  pub stepped : IsStepped (after_start c seat d signers offered change) start (step_asked (after_start c seat d signers offered change) inputs signers change) reply
+  pub after : new ≡ after_step (after_start c seat d signers offered change) seat start (step_asked (after_start c seat d signers offered change) inputs signers change)
 
 -- ---- claims
 
