@@ -15,7 +15,8 @@ use std::alloc::Global;
 /// Submit, or why there is no such claim; then nothing is submitted.
 ///
 /// The reply is that the claim is accepted, where the payouts and what is taken of the offers are unspent with the contents
-/// that were handed in, unless another accepted transaction has the claim's id.
+/// that were handed in, unless an accepted transaction of other bytes has the claim's id.
+#[tactic(auto, using(crate::proofs::CallerLemmas::claim_hindered_by))]
 pub fn claim_now(
     alloc: Global,
     chain: &mut Chain,

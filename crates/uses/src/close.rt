@@ -13,10 +13,11 @@ use std::alloc::Global;
 /// Closes the thread from a start output at the present tick, as anybody can once its last timeout is reached: no party brings
 /// an input, nobody signs and nothing is offered. Answers the reply to the Submit.
 ///
-/// The reply is that the step is accepted, unless another accepted transaction has its id. And where the tick has reached the
+/// The reply is that the step is accepted, unless one of other bytes has its id. And where the tick has reached the
 /// last timeout and the thread's minimum time, the step leaves Close without accounts, and pays parties all that the
 /// thread's output held, of every token. Then the only other faults are, memory aside, that a number leaves 128 bits, and that
 /// Close without accounts stands already.
+#[tactic(auto, using(crate::proofs::SteppedLemmas::need_not))]
 pub fn close_thread(
     alloc: Global,
     chain: &mut Chain,

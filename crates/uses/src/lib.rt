@@ -4,7 +4,7 @@
 //! `close_thread` closes a contract after its last timeout, `check_one` judges one transaction without a ledger, `escrow` takes a
 //! contract from its publishing to its end, `claim_now` collects payouts, and `check_lock` judges by a script that isn't
 //! Marlowe's. `step_now` is the step by which the first and the third end. What their clauses say is defined in
-//! `specs/Uses.antt`.
+//! `specs/Uses.antt`, and for the last in `specs/TimeLocks.antt`.
 #![tactic(auto)]
 
 mod claim;
@@ -15,6 +15,8 @@ mod one_check;
 mod other_script;
 mod plain_calls;
 mod step;
+#[cfg(test)]
+mod tested;
 
 pub use claim::claim_now;
 pub use close::close_thread;

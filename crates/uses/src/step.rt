@@ -16,8 +16,9 @@ use std::alloc::Global;
 /// looks at the thread, builds the step with nothing offered, and submits that. Answers the reply to the Submit, or why there is
 /// no such step; then nothing is submitted.
 ///
-/// The reply is that the step is accepted, whatever the chain has seen before, unless another accepted transaction has the
-/// step's id: the SHA-256 of its bytes.
+/// The reply is that the step is accepted, whatever the chain has seen before, unless an accepted transaction of other bytes
+/// has the step's id: the SHA-256 of its bytes.
+#[tactic(auto, using(crate::proofs::CallerLemmas::hindered_by))]
 pub fn step_now(
     alloc: Global,
     chain: &mut Chain,
