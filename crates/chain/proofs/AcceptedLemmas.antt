@@ -1,8 +1,10 @@
 -- What was accepted stays, and what is found for a call.
-use Rattle.std.proofs.Common.{◌≡◌, ℕ, ℤ, ◌≤◌, Bool, true, false, List, [], ◌∷◌, ◌++◌, refl, sym, ◌∙◌, ap, subst, arith, Option, Some, None, map, drop, length}
+use Rattle.std.proofs.Common.{◌≡◌, ℕ, ℤ, ◌≤◌, Bool, true, false, List, [], ◌∷◌, ◌++◌, refl, sym, ◌∙◌, ap, subst, arith, Option, Some, None, map, drop, length, All}
 use Rattle.std.specs.Prelude.{if◌then◌else◌}
 use Rattle.std.proofs.lemmas.List.{map-append, length-append}
+use Rattle.std.proofs.lemmas.List.Elements.{All-append}
 use Rattle.eutxo_types.specs.declared.tx.Tx.{Tx}
+use Rattle.eutxo_types.specs.Fitting.{TxFits}
 use Rattle.eutxo_types.specs.Ids.{id_of}
 use Rattle.ledger.specs.declared.call.Call.{Call}
 use Rattle.ledger.specs.declared.call.Call.TheVariants as on
@@ -65,3 +67,14 @@ ids_found w v next call known ids same k n h =
     subst (λ (x : World). map id_of x.replay.accepted ++ ids ≡ map id_of (after_call x.replay call (reply_to x call)).accepted) same
     (ap (λ (l : List (List ℕ)). map id_of w.replay.accepted ++ l) (h ∙ ap (map id_of) (ap (λ (l : List Tx). drop (length l) next.replay.accepted) k ∙ ap (drop (length w.replay.accepted)) n))
     ∙ ids_more w.replay call (reply_to w call))
+
+-- what was accepted fits its spelling, where what a call accepts does
+fits_more : (s : Replay) (call : Call) (r : Reply) → All TxFits s.accepted → All TxFits (drop (length s.accepted) (after_call s call r).accepted) → All TxFits (after_call s call r).accepted
+fits_more s call r h k = subst (λ (l : List Tx). All TxFits l) (keeps s call r) (All-append TxFits s.accepted (drop (length s.accepted) (after_call s call r).accepted) h k)
+
+pub fits_found : (w v next : World) (call : Call) (known : List Tx) → w ≡ v → known ≡ w.replay.accepted → next.replay.accepted ≡ (after_call w.replay call (reply_to w call)).accepted →
+    All TxFits v.replay.accepted → All TxFits (drop (length known) next.replay.accepted) → All TxFits (after_call v.replay call (reply_to v call)).accepted
+fits_found w v next call known same k n h new =
+    subst (λ (x : World). All TxFits (after_call x.replay call (reply_to x call)).accepted) same
+    (fits_more w.replay call (reply_to w call) (subst (λ (x : World). All TxFits x.replay.accepted) (sym same) h)
+    (subst (λ (l : List Tx). All TxFits l) (ap (λ (l : List Tx). drop (length l) next.replay.accepted) k ∙ ap (drop (length w.replay.accepted)) n) new))

@@ -21,14 +21,14 @@ use Rattle.ledger_spec.specs.Calls.{submit_reply}
 use Rattle.chain.specs.ChainSupport.{IsKept}
 use Rattle.ledger_spec.specs.Headline.{AcceptsSteps, AcceptsStarts, AcceptsClaims, ShowsCurrentThreads}
 
-pub accepts_steps : StepsAreAcceptedAfter → (c : Course) → AcceptsSteps c
-accepts_steps law c look r e shown clear script is = ap (submit_reply (layout_step look r)) (law look r e (published_at (world c).published) (past_of (world c)) (world c).replay.tick shown clear script is)
+pub accepts_steps : StepsAreAcceptedAfter → (ps : List Published) (ids : List (List ℕ)) (c : Course) → IsKept ps ids c → AcceptsSteps c
+accepts_steps law ps ids c kept look r e shown clear script is = ap (submit_reply (layout_step look r)) (law look r e (published_at (world c).published) (past_of (world c)) (world c).replay.tick shown clear script (record { fits = is.0; accepted = kept.fits }) is.1)
 
-pub accepts_starts : StartsAreAcceptedAfter → (c : Course) → AcceptsStarts c
-accepts_starts law c r clear script is = ap (submit_reply (layout_start r)) (law r (published_at (world c).published) (past_of (world c)) (world c).replay.tick clear script is)
+pub accepts_starts : StartsAreAcceptedAfter → (ps : List Published) (ids : List (List ℕ)) (c : Course) → IsKept ps ids c → AcceptsStarts c
+accepts_starts law ps ids c kept r clear script is = ap (submit_reply (layout_start r)) (law r (published_at (world c).published) (past_of (world c)) (world c).replay.tick clear script (record { fits = is.0; accepted = kept.fits }) is.1)
 
-pub accepts_claims : ClaimsAreAcceptedAfter → (c : Course) → AcceptsClaims c
-accepts_claims law c r clear is = ap (submit_reply (layout_claim r)) (law r (published_at (world c).published) (past_of (world c)) (world c).replay.tick clear is)
+pub accepts_claims : ClaimsAreAcceptedAfter → (ps : List Published) (ids : List (List ℕ)) (c : Course) → IsKept ps ids c → AcceptsClaims c
+accepts_claims law ps ids c kept r clear is = ap (submit_reply (layout_claim r)) (law r (published_at (world c).published) (past_of (world c)) (world c).replay.tick clear (record { fits = is.0; accepted = kept.fits }) is.1)
 
 -- ---- what is shown
 
@@ -61,7 +61,7 @@ at_so : (w : World) (q : Option OutputRef) (t : ThreadOutput) → thread_output_
 at_so w None t k = cc
 at_so w (Some q) t k = output_so w.published (past_of w) q (unspent_at (past_of w) q) refl t k
 
-shown_so : (w : World) (r : Option OutputRef) (t : ThreadOutput) → thread_shown w r ≡ Some t → (d : Datum) × IsShown (published_at w.published) (past_of w) t d
+pub shown_so : (w : World) (r : Option OutputRef) (t : ThreadOutput) → thread_shown w r ≡ Some t → (d : Datum) × IsShown (published_at w.published) (past_of w) t d
 shown_so w None t k = cc
 shown_so w (Some r) t k = at_so w (end_of (past_of w) r) t k
 

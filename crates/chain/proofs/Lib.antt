@@ -4,3 +4,6 @@ mod SoundLemmas
 mod LegalLemmas
 mod HeadlineLemmas
 mod ShownLemmas
+mod RunsLemmas
+mod EndsLemmas
+mod ClosesLemmas

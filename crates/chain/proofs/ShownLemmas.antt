@@ -280,7 +280,7 @@ look_of : (a b : Look) → answer.Look a ≡ answer.Look b → a ≡ b
 look_of a b h = same_some a b (ap look_in h)
 
 -- the unspent end of a thread is shown with what is published under its script
-shown_thread : (w : World) (asked : Option OutputRef) (s r : OutputRef) (o : Output) (p : Published) → asked ≡ Some s → end_of (past_of w) s ≡ Some r → unspent_at (past_of w) r ≡ Some o →
+pub shown_thread : (w : World) (asked : Option OutputRef) (s r : OutputRef) (o : Output) (p : Published) → asked ≡ Some s → end_of (past_of w) s ≡ Some r → unspent_at (past_of w) r ≡ Some o →
     object_under w.published (script_in o.lock) ≡ Some p → (let t : ThreadOutput = record { reference = r; output = o; published = p } in thread_shown w asked ≡ Some t)
 shown_thread w asked s r o p a e u k =
     ap (λ (z : Option OutputRef). thread_shown w z) a ∙ ap (λ (z : Option OutputRef). thread_output_at w z) e ∙ ap (λ (z : Option Output). thread_output_in w.published r z) u

@@ -188,6 +188,8 @@ impl Chain {
         ensures fits { IfOk result (λ r. All TxFits (after_call (world self.now).replay call.now (reply_to (world self.now) call.now)).accepted) }
         ensures ids { IfOk result (λ r. map id_of (world self.now).replay.accepted ++ r.ids.items ≡ map id_of (after_call (world self.now).replay call.now (reply_to (world self.now) call.now)).accepted) }
     {
+        // touch: brings the invariant
+        let _tick = self.tick;
         let mut world = self.world(alloc, cache)?;
         let known = world.accepted().len();
         let (reply, object) = answer(alloc, &mut world, call)?;

@@ -1,5 +1,9 @@
 //! Terms as compact JSON.
-ghost use Rattle.std.specs.Prelude.{◌≡◌, OnOk};
+ghost use Rattle.std.specs.Prelude.{◌≡◌, IfOk, OnOk, string_bytes};
+ghost use Rattle.serde_json.specs.Data.{Data, string};
+ghost use Rattle.serde_json.specs.Written.{compact_text};
+ghost use Rattle.json_write_contracts.specs.Tokens.{Puts};
+ghost use Rattle.json_write_contracts.specs.Written as written;
 
 use collections::{Memory, Text};
 use json::Writer;
@@ -9,13 +13,18 @@ use std::alloc::Global;
 
 /// What is written as one JSON value, in the form in which it is read.
 pub trait Term {
+    /// The value that stands for it.
+    ghost json: { Self → Data };
+
     /// Writes it behind what was written.
     fn put(&self, alloc: Global, out: &mut Writer) -> Result<(), Memory>
-        ensures { OnOk result (out.new.before ≡ out.old.before) };
+        ensures { OnOk result (Puts out.old out.new (json self.now)) };
 }
 
 /// The compact text of a term, its hexadecimal digits in lower case. Answers `Memory` only where a growth was refused.
-pub fn term_text<T: Term>(alloc: Global, term: &T) -> Result<String, Memory> {
+pub fn term_text<T: Term>(alloc: Global, term: &T) -> Result<String, Memory>
+    ensures { IfOk result (λ text. string_bytes text ≡ compact_text (T.json term.now)) }
+{
     let mut out = Writer::new(Vec::new(alloc));
     term.put(alloc, &mut out)?;
     match String::from_utf8(out.into_inner()) {
@@ -25,30 +34,40 @@ pub fn term_text<T: Term>(alloc: Global, term: &T) -> Result<String, Memory> {
 }
 
 impl Term for Party {
+    ghost json = { written.party_json };
+
     fn put(&self, _alloc: Global, out: &mut Writer) -> Result<(), Memory> {
         put_party(out, self)
     }
 }
 
 impl Term for Token {
+    ghost json = { written.token_json };
+
     fn put(&self, alloc: Global, out: &mut Writer) -> Result<(), Memory> {
         put_token(alloc, out, self)
     }
 }
 
 impl Term for ChoiceId {
+    ghost json = { written.choice_id_json };
+
     fn put(&self, _alloc: Global, out: &mut Writer) -> Result<(), Memory> {
         put_choice_id(out, self)
     }
 }
 
 impl Term for Payee {
+    ghost json = { written.payee_json };
+
     fn put(&self, _alloc: Global, out: &mut Writer) -> Result<(), Memory> {
         put_payee(out, self)
     }
 }
 
 impl Term for Text {
+    ghost json = { string };
+
     fn put(&self, _alloc: Global, out: &mut Writer) -> Result<(), Memory> {
         put_text(out, self)
     }

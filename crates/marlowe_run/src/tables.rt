@@ -1,7 +1,7 @@
 //! The table of a contract, from text to text.
 ghost use Rattle.collections.specs.Answers.{AsideBy};
 ghost use Rattle.contract.specs.Tree.{contract_tree};
-ghost use Rattle.marlowe_run.specs.TableText.{has_table, text_has_table};
+ghost use Rattle.marlowe_run.specs.TableText.{printed_table, table_text};
 
 use crate::dropped::beside_dropped;
 use crate::table_fault::TableFault;
@@ -13,9 +13,9 @@ use table_lines::table_lines;
 
 /// Compiles a contract, as a JSON text of at most 1,048,576 bytes, and gives the text of its table: a line for each node,
 /// and one for the root. Refused is a text that is no contract, and a contract that `compile` refuses.
-#[tactic(auto, unfolding(crate::specs::TableText::text_has_table))]
+#[tactic(auto, unfolding(crate::specs::TableText::table_text))]
 pub fn table_text(alloc: Global, contract: &[u8]) -> Result<Vec<u8>, TableFault>
-    ensures { AsideBy TableFault.Memory (λ text. tt) result (text_has_table contract.now) }
+    ensures { AsideBy TableFault.Memory (λ text. text.items) result (table_text contract.now) }
 {
     match read_contract(alloc, contract) {
         Ok(contract) => {
@@ -28,7 +28,7 @@ pub fn table_text(alloc: Global, contract: &[u8]) -> Result<Vec<u8>, TableFault>
 
 // The text of a contract's table.
 fn compiled_text(alloc: Global, contract: &Contract) -> Result<Vec<u8>, TableFault>
-    ensures { AsideBy TableFault.Memory (λ text. tt) result (has_table (contract_tree contract.now)) }
+    ensures { AsideBy TableFault.Memory (λ text. text.items) result (printed_table (contract_tree contract.now)) }
 {
     let (table, root) = compile(alloc, contract)?;
     let text = table_lines(alloc, &table, root)?;

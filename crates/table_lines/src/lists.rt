@@ -1,16 +1,24 @@
 //! Items in brackets, with commas between them.
+ghost use Rattle.std.specs.Prelude.{◌≡◌, ℕ, List, map, IfOk, string_bytes};
+ghost use Rattle.table_lines.specs.TableLines.{bound, c, in_brackets};
+
 use collections::Memory;
 use names::Bound;
 use std::alloc::Global;
 
 // An item of a list.
 pub(crate) trait Item {
-    // What is printed for it.
-    fn text(&self, alloc: Global) -> Result<String, Memory>;
+    // The word for it.
+    ghost word: { Self → List ℕ };
+
+    fn text(&self, alloc: Global) -> Result<String, Memory>
+        ensures { IfOk result (λ text. string_bytes text ≡ word self.now) };
 }
 
 // A bound, whose numbers may have any size.
 impl Item for Bound {
+    ghost word = { bound };
+
     fn text(&self, alloc: Global) -> Result<String, Memory> {
         let from = self.from;
         let to = self.to;
@@ -20,6 +28,8 @@ impl Item for Bound {
 
 // The number of a case.
 impl Item for u32 {
+    ghost word = { c };
+
     fn text(&self, alloc: Global) -> Result<String, Memory> {
         let number = *self;
         format!(in alloc; "c{number}")
@@ -27,7 +37,9 @@ impl Item for u32 {
 }
 
 // The items in brackets.
-pub(crate) fn in_brackets<T: Item>(alloc: Global, items: &[T]) -> Result<String, Memory> {
+pub(crate) fn in_brackets<T: Item>(alloc: Global, items: &[T]) -> Result<String, Memory>
+    ensures { IfOk result (λ text. string_bytes text ≡ in_brackets (map T.word items.now)) }
+{
     let Some((first, rest)) = items.split_first() else {
         return String::from_str(alloc, "[]");
     };

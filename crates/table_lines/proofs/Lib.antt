@@ -1,0 +1,3 @@
+mod BoundText
+mod Examples
+mod Printed

@@ -1,0 +1,2 @@
+pub mod TableLines
+pub mod Worked
