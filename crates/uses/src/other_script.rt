@@ -7,7 +7,9 @@ ghost use Rattle.uses.specs.TimeLocks.{time_locks, KeepsTheLock};
 use bundle::Bundle;
 use collections::{Bytes, Items, Memory, Same, Text, TryClone};
 use contract::{Input, Party};
-use eutxo::{Resolved, Scripts, Shared, Spent, StepAnswer, StepFault, Validator, check, has_signed};
+use eutxo::{
+    Resolved, Scripts, Shared, Spent, StepAnswer, StepFault, Validator, check, has_signed,
+};
 use eutxo_types::{Datum, Output, Tx, Verdict};
 use std::alloc::Global;
 use std::sync::Arc;

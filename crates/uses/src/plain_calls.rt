@@ -43,12 +43,7 @@ pub(crate) fn thread_ask(alloc: Global, start: OutputRef) -> Ask
 }
 
 /// Looks. Each call of a chain brings both halves of the headline along; here the second is handed on.
-pub(crate) fn look_at(
-    alloc: Global,
-    chain: &mut Chain,
-    seat: u64,
-    ask: Ask,
-) -> Result<Look, Memory>
+pub(crate) fn look_at(alloc: Global, chain: &mut Chain, seat: u64, ask: Ask) -> Result<Look, Memory>
     ensures look { IfOk result (λ shown. shown ≡ look (world chain.old) ask) }
     ensures after { OnOk result (chain.new ≡ called chain.old seat (on.Look ask)) }
     ensures second { SecondHalf chain.old }
@@ -61,12 +56,7 @@ pub(crate) fn look_at(
 }
 
 /// Submits a transaction: the reply is that of the table of calls.
-pub(crate) fn submit(
-    alloc: Global,
-    chain: &mut Chain,
-    seat: u64,
-    tx: Tx,
-) -> Result<Reply, Memory>
+pub(crate) fn submit(alloc: Global, chain: &mut Chain, seat: u64, tx: Tx) -> Result<Reply, Memory>
     ensures reply { IfOk result (λ reply. reply ≡ reply_to (world chain.old) (on.Submit tx)) }
     ensures after { OnOk result (chain.new ≡ called chain.old seat (on.Submit tx)) }
     ensures second { SecondHalf chain.old }

@@ -52,7 +52,9 @@ fn currency(rt: &HostRuntime) -> Bytes {
 
 fn output(rt: &HostRuntime, words: &str) -> Output {
     let known = Known::new(rt.alloc());
-    output_of(rt.alloc(), &known, words).ok().expect(rt, "an output")
+    output_of(rt.alloc(), &known, words)
+        .ok()
+        .expect(rt, "an output")
 }
 
 fn new_chain(rt: &HostRuntime) -> Chain {
@@ -106,7 +108,13 @@ fn deal_of(held: &Held) -> Deal<'_> {
 fn spending(rt: &HostRuntime, redeemer: Redeemer, made: &str, from: i64, signer: &str) -> Tx {
     let reference = OutputRef::Genesis { index: 0 };
     Tx {
-        inputs: one(rt, Spend { reference, redeemer }),
+        inputs: one(
+            rt,
+            Spend {
+                reference,
+                redeemer,
+            },
+        ),
         outputs: one(rt, output(rt, made)),
         interval: Interval { from, to: 100 },
         signers: one(rt, text(rt, signer)),
@@ -157,7 +165,9 @@ fn a_contract_is_closed_after_its_timeout_and_its_payout_claimed(rt: HostRuntime
     .expect(&rt, "a start");
     let early = close_thread(rt.alloc(), &mut chain, 1, start, &ann);
     assert!(rt; matches!(early, Err(BuildFault::Semantics(SemFault::Useless))));
-    let _ = chain.step(rt.alloc(), 1, Call::Advance(100), &[]).expect(&rt, "memory");
+    let _ = chain
+        .step(rt.alloc(), 1, Call::Advance(100), &[])
+        .expect(&rt, "memory");
     let reply = close_thread(rt.alloc(), &mut chain, 1, start, &ann);
     assert!(rt; is_accepted(&reply.expect(&rt, "a step")));
     let look = seen(&rt, &mut chain, "ann");
@@ -187,7 +197,11 @@ fn one_transaction_is_checked_without_a_ledger(rt: HostRuntime) {
         let outputs = one(&rt, Some(output(&rt, BANK)));
         let verdict = check_one(rt.alloc(), &tx, outputs, published).expect(&rt, "memory");
         assert_eq!(rt; verdict == Verdict::Accepted, is_signed, "{signer}");
-        assert_eq!(rt; verdict == Verdict::Refused(TxFault::NotSigned(0)), !is_signed, "{signer}");
+        assert_eq!(rt;
+            verdict == Verdict::Refused(TxFault::NotSigned(0)),
+            !is_signed,
+            "{signer}"
+        );
     }
 }
 
