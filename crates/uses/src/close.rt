@@ -17,7 +17,6 @@ use std::alloc::Global;
 /// last timeout and the thread's minimum time, the step leaves Close without accounts, and pays parties all that the
 /// thread's output held, of every token. Then the only other faults are, memory aside, that a number leaves 128 bits, and that
 /// Close without accounts stands already.
-#[tactic(auto, using(crate::proofs::SteppedLemmas::need_not))]
 pub fn close_thread(
     alloc: Global,
     chain: &mut Chain,

@@ -18,7 +18,6 @@ use std::alloc::Global;
 ///
 /// The reply is that the step is accepted, whatever the chain has seen before, unless an accepted transaction of other bytes
 /// has the step's id: the SHA-256 of its bytes.
-#[tactic(auto, using(crate::proofs::CallerLemmas::hindered_by))]
 pub fn step_now(
     alloc: Global,
     chain: &mut Chain,
