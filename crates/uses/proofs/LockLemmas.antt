@@ -1,8 +1,7 @@
 -- What is accepted keeps a time lock.
-use Rattle.std.proofs.Common.{◌≡◌, ℕ, int_le, ◌≤ℤ◌, Bool, true, false, cond, List, [], ◌∷◌, refl, sym, ap, ◌∙◌, subst, Option, Some, None, ltb}
+use Rattle.std.proofs.Common.{◌≡◌, ℕ, int_le, Bool, true, false, cond, List, ◌∷◌, refl, sym, ap, ◌∙◌, subst, Option, Some, None}
 use Rattle.std.specs.Prelude.{if◌then◌else◌, nat_lt, count_by}
 use Rattle.std.specs.Cmp.{tied_itself}
-use Rattle.std.specs.List.{slice_get}
 use Rattle.std.specs.Ordering.{is_eq}
 use Rattle.std.specs.FinMap as map
 use Rattle.std.specs.FinMap.{get-insert}

@@ -36,7 +36,7 @@ use Rattle.builder_spec.specs.Built.{build_answer}
 use Rattle.builder_spec.specs.Steps.{Thread, is_current, thread_in, thread_of, look_thread, own_output, step_spent, hinders_on, hinders_step, layout_on, layout_step}
 use Rattle.builder_spec.specs.Closings.{Closes}
 use Rattle.builder_spec.specs.Claims.{hinders_claim, layout_claim}
-use Rattle.uses.specs.Uses.{called, thread_ask, thread_look, at_tick, step_asked, IsStepped, after_step, closing_asked, IsOver, IsClosed, NeedNotClose, claim_asked, IsClaimed}
+use Rattle.uses.specs.Uses.{called, thread_ask, thread_look, at_tick, step_asked, IsStepped, after_step, closing_asked, IsClosed, NeedNotClose, claim_asked, IsClaimed}
 
 -- ---- a look changes nothing that a Submit reads
 
