@@ -35,36 +35,36 @@ const LOCKED: &str =
 
 // ---- what the tests need
 
-fn text(rt: &HostRuntime, letters: &str) -> Text {
+fn text<R: Abort + AllocGlobal>(rt: &R, letters: &str) -> Text {
     Text::from_string(String::from_str(rt.alloc(), letters).expect(rt, "memory"))
 }
 
-fn one<T: Drop>(rt: &HostRuntime, item: T) -> Items<T> {
+fn one<R: Abort + AllocGlobal, T: Drop>(rt: &R, item: T) -> Items<T> {
     let mut items = Items::new(rt.alloc());
     items.push(item).expect(rt, "memory");
     items
 }
 
-fn currency(rt: &HostRuntime) -> Bytes {
+fn currency<R: Abort + AllocGlobal>(rt: &R) -> Bytes {
     let bytes = Vec::from_slice(rt.alloc(), [0xaa_u8].as_slice());
     Bytes::from_vec(bytes.expect(rt, "memory"))
 }
 
-fn output(rt: &HostRuntime, words: &str) -> Output {
+fn output<R: Abort + AllocGlobal>(rt: &R, words: &str) -> Output {
     let known = Known::new(rt.alloc());
     output_of(rt.alloc(), &known, words)
         .ok()
         .expect(rt, "an output")
 }
 
-fn new_chain(rt: &HostRuntime) -> Chain {
+fn new_chain<R: Abort + AllocGlobal>(rt: &R) -> Chain {
     let mut outputs = one(rt, output(rt, BANK));
     outputs.push(output(rt, TOKEN)).expect(rt, "memory");
     Chain::genesis(rt.alloc(), outputs, 0).expect(rt, "a chain")
 }
 
 // What is shown of the keys of an address, and of payouts to the role b.
-fn seen(rt: &HostRuntime, chain: &mut Chain, name: &str) -> Look {
+fn seen<R: Abort + AllocGlobal>(rt: &R, chain: &mut Chain, name: &str) -> Look {
     let currency = currency(rt);
     let role = text(rt, "b");
     let ask = Ask {
@@ -86,7 +86,7 @@ struct Held {
     state: State,
 }
 
-fn held(rt: &HostRuntime, state: &str) -> Held {
+fn read_held<R: Abort + AllocGlobal>(rt: &R, state: &str) -> Held {
     let contract = read_contract(rt.alloc(), WAITS.as_bytes());
     let state = read_state(rt.alloc(), state.as_bytes());
     Held {
@@ -105,7 +105,7 @@ fn deal_of(held: &Held) -> Deal<'_> {
 }
 
 // A transaction that spends one output.
-fn spending(rt: &HostRuntime, redeemer: Redeemer, made: &str, from: i64, signer: &str) -> Tx {
+fn spending<R: Abort + AllocGlobal>(rt: &R, redeemer: Redeemer, made: &str, from: i64, signer: &str) -> Tx {
     let reference = OutputRef::Genesis { index: 0 };
     Tx {
         inputs: one(
@@ -126,7 +126,7 @@ fn spending(rt: &HostRuntime, redeemer: Redeemer, made: &str, from: i64, signer:
 #[test]
 fn an_escrow_ends_with_what_was_agreed(rt: HostRuntime) {
     let mut chain = new_chain(&rt);
-    let held = held(&rt, OF_BOB);
+    let held = read_held(&rt, OF_BOB);
     let ann = text(&rt, "ann");
     let signers = one(&rt, text(&rt, "ann"));
     let inputs = one(&rt, Input::Notify);
@@ -149,7 +149,7 @@ fn an_escrow_ends_with_what_was_agreed(rt: HostRuntime) {
 #[test]
 fn a_contract_is_closed_after_its_timeout_and_its_payout_claimed(rt: HostRuntime) {
     let mut chain = new_chain(&rt);
-    let held = held(&rt, OF_ROLE);
+    let held = read_held(&rt, OF_ROLE);
     let ann = text(&rt, "ann");
     let signers = one(&rt, text(&rt, "ann"));
     let look = seen(&rt, &mut chain, "ann");
@@ -191,7 +191,7 @@ fn a_contract_is_closed_after_its_timeout_and_its_payout_claimed(rt: HostRuntime
 #[test]
 fn one_transaction_is_checked_without_a_ledger(rt: HostRuntime) {
     for (signer, is_signed) in [("ann", true), ("bob", false)] {
-        let held = held(&rt, OF_BOB);
+        let held = read_held(&rt, OF_BOB);
         let published = publish(rt.alloc(), &held.contract, currency(&rt)).expect(&rt, "a table");
         let tx = spending(&rt, Redeemer::None, "key bob ada 60", 0, signer);
         let outputs = one(&rt, Some(output(&rt, BANK)));
