@@ -34,9 +34,9 @@ FACES = [
     ("Bytes and ids", "contract_bytes eutxo_types"),
     ("The check of a transaction, over any script, and its laws", "bundle eutxo parallel_check::check_all"),
     ("Marlowe as a script", "roles"),
-    ("The chain: each call and its reply", "ledger chain::Chain::genesis chain::Chain::step(entry,mine,told,err) chain::Chain::tick chain::Chain::entries chain::Chain::history(all,legal) "
+    ("The chain: each call and its reply", "ledger chain::Chain::genesis chain::Chain::step(entry,mine,told,err,stays) chain::Chain::tick chain::Chain::entries chain::Chain::history(all,legal,begins) "
      "chain::Chain::resolve chain::Chain::front chain::Chain::steps_of"),
-    ("The headline's first half: what holds after every history", "chain::Chain::history(first)"),
+    ("The headline's first half: what holds after every history", "chain::Chain::history(first,stands,in_use,fits,shown) ledger_spec::starts_are_told"),
     ("Its laws, over every list of accepted transactions", "ledger_laws"),
     ("The builders", "builder"),
     ("The headline's second half: what is built is accepted", "chain::Chain::step(second) builder_laws"),

@@ -62,6 +62,7 @@ fn claim_funds<'a>(alloc: Global, asked: &ClaimAsked<'a>) -> Result<ClaimFunds<'
 {
     let payouts = asked.payouts;
     let offered = asked.offered;
+    // touch: amounts are above 0
     see_all(offered);
     see_all(payouts);
     check_payouts(payouts)?;

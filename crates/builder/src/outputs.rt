@@ -151,6 +151,7 @@ pub(crate) fn rest(alloc: Global, all: Bundle, made: &[Output]) -> Result<Bundle
     ensures ok { IfOk result (λ rest. rest ≡ minus all (sums (λ o. o.amount) made.now)) }
     ensures err { IfErr result (λ fault. fault ≡ BuildFault.Memory) }
 {
+    // touch: amounts are above 0, and there is room for what is spent
     see_all(made);
     see_room(&all);
     let _ = all.entries();

@@ -92,6 +92,7 @@ fn start_funds<'a>(alloc: Global, asked: &StartAsked<'a>) -> Result<Funds<'a>, B
     ensures passes { AnswersCause result (hinders_start asked.now) }
 {
     let offered = asked.offered;
+    // touch: amounts are above 0
     see_all(offered);
     check_signed(asked.signers, offered)?;
     let amounts = accounts_of(alloc, asked.state)?;
@@ -133,6 +134,7 @@ fn lay_out_start(alloc: Global, asked: &StartAsked<'_>, funds: Funds<'_>) -> Res
     ensures err { IfErr result (λ fault. fault ≡ BuildFault.Memory) }
 {
     let Funds { all, front } = funds;
+    // touch: there is room for what is spent
     see_room(&all);
     let mut outputs = Items::new(alloc);
     outputs.push(start_output(alloc, asked)?)?;

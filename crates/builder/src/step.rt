@@ -68,6 +68,7 @@ fn step_funds<'a>(
     let signers = asked.signers;
     let inputs = asked.inputs;
     let offered = asked.offered;
+    // touch: amounts are above 0
     see_all(offered);
     check_signed(signers, offered)?;
     check_authorised(alloc, currency, signers, offered, inputs)?;

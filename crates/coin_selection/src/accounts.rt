@@ -42,6 +42,7 @@ pub fn sums_of(alloc: Global, state: &State) -> Result<Bundle, BundleFault>
 {
     match bundles_of(alloc, state.accounts()) {
         Ok(bundles) => {
+            // touch: amounts are above 0
             see_all(&bundles);
             sum(alloc, &bundles)
         }

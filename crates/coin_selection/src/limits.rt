@@ -76,6 +76,7 @@ fn spent(alloc: Global, output: &Output, front: &[Unspent]) -> Result<Bundle, Bu
     ensures ok { IfOk result (λ all. all ≡ plus output.now.amount (sums amount_in front.now)) }
     ensures err { RefusesMuch result (plus output.now.amount (sums amount_in front.now)) }
 {
+    // touch: its amounts are above 0
     see(output);
     match sum(alloc, front) {
         Ok(others) => with(output, &others),
@@ -99,6 +100,7 @@ pub fn within_limits(
     }
     match spent(alloc, own.output, front) {
         Ok(all) => {
+            // touch: there is room for each sum
             see_room(&all);
             Ok(all)
         }
@@ -114,6 +116,7 @@ fn fits(first: &Bundle, others: &Bundle) -> Result<(), BundleFault>
 {
     match with(first, others) {
         Ok(all) => {
+            // touch: there is room for each sum
             see_room(&all);
             Ok(())
         }

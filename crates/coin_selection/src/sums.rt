@@ -16,6 +16,7 @@ use std::alloc::Global;
 pub(crate) fn see<A: Holds>(item: &A)
     ensures { AllPositive (entries (A.held item.now)) }
 {
+    // touch: its amounts are above 0
     let _ = item.amounts().entries();
 }
 
@@ -23,6 +24,7 @@ pub(crate) fn see<A: Holds>(item: &A)
 pub fn see_all<A: Holds>(items: &[A])
     ensures { AreBundles A.held items.now }
 {
+    // touch: of each
     for item in items {
         see(item);
     }
@@ -31,12 +33,14 @@ pub fn see_all<A: Holds>(items: &[A])
 fn is_within(entry: &(Token, i128))
     ensures { int_lt (pos (2 ^ 127 - 1)) entry.now.1 ≡ false }
 {
+    // touch: an amount has this room
     let _amount = entry.1;
 }
 
 fn has_room(entries: &[(Token, i128)])
     ensures { list_any (λ e. int_lt (pos (2 ^ 127 - 1)) e.1) entries.now ≡ false }
 {
+    // touch: of each
     for entry in entries {
         is_within(entry);
     }
@@ -54,6 +58,7 @@ fn both(mut left: Bundle, right: &Bundle) -> Result<Bundle, BundleFault>
     ensures ok { IfOk result (λ bundle. bundle ≡ plus left right.now) }
     ensures err { RefusesMuch result (plus left right.now) }
 {
+    // touch: its amounts are above 0
     let _ = right.entries();
     match left.add(right) {
         Ok(()) => Ok(left),

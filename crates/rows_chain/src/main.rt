@@ -24,6 +24,8 @@
 //! These are calls. Each begins with its word and the number of the seat, and prints the reply:
 //!
 //! - `publish SEAT NAME CURRENCY CONTRACT`: the contract in JSON. Prints `published @NAME`, or `in use`;
+//! - `nested SEAT N` publishes an assertion of so many `not`s round `true`, and `wide SEAT N` a contract that waits for so many
+//!   notifies, each followed by close, which no text of the greatest length has: `published` and the id, or `refused FAULT`;
 //! - `advance SEAT TICK`: `advanced` or `backward`;
 //! - `look SEAT`, and in any number `thread REFERENCE`, `key ADDRESS` and `payout CURRENCY.ROLE`: prints `tick TICK`, then a
 //!   line for each output that is shown, with its reference: the thread's and what is published under its script, or
@@ -49,13 +51,21 @@
 //! - `build step CHANGE INPUT ..` builds a step of the thread that the last look shows, with inputs as `rows_text` has
 //!   them, `build start NAME STATE CHANGE` a start of what is published under the name, and `build claim TO CHANGE` a claim:
 //!   `built from` and the references of the inputs, then a line for each output; or `refused FAULT`;
-//! - `history` prints a line for each entry: its place, `SEAT.NUMBER`, the call, and the reply without what a look shows.
+//! - `history` prints a line for each entry: its place, `SEAT.NUMBER`, the call, and the reply without what a look shows;
+//! - `copies COUNT` prints for each of the last so many entries whether a copy of its call is the `same`, and of its reply; and for
+//!   each of these but the first whether its call, its reply and the entry are the `same` as those before or an `other`;
+//! - `check_copies` prints whether a copy of each check at hand is the `same`, with the copy's verdict.
+//!
+//! `texts ENUM` prints the text of each fault of that name, a line for each, in their order, and `faults` whether a copy of each
+//! fault of a builder is the `same`. They need no chain.
 //!
 //! A line that begins with `- ` says what follows, and an empty line is nothing. Any other line prints `no such row`.
 #![tactic(auto)]
 
 mod asked;
 mod built;
+mod copies;
+mod faults;
 mod front;
 mod offers;
 mod played;

@@ -2,13 +2,14 @@
 use crate::replies::reply_lines;
 use crate::session::Desk;
 use chain::{Call, Chain};
-use collections::{Items, TryClone};
+use collections::{Bytes, Items, TryClone};
+use contract::Contract;
 use contract_json::read_contract;
 use eutxo_types::Tx;
 use ledger::{Ask, PayoutLock};
 use rows_text::{
-    RowFault, Sent, bytes, first, named_of, nothing, number, parts, put, put_in, reference_of,
-    sent_of, text,
+    RowFault, Sent, bytes, first, named_of, nested, nothing, number, parts, put, put_in,
+    reference_of, sent_of, text, wide,
 };
 use std::alloc::Global;
 use std::mem;
@@ -45,6 +46,8 @@ fn called(
 fn call_of(alloc: Global, desk: &mut Desk, word: &str, rest: &str) -> Result<Call, RowFault> {
     match word {
         "publish" => publish_of(alloc, desk, rest),
+        "nested" => Ok(publish_made(alloc, nested(alloc, number(rest)?)?)),
+        "wide" => Ok(publish_made(alloc, wide(alloc, number(rest)?)?)),
         "advance" => Ok(Call::Advance(number(rest)?)),
         "look" => Ok(Call::Look(ask_of(alloc, &desk.known.sent, rest)?)),
         "submit" => Ok(Call::Submit(finished(alloc, desk, rest)?)),
@@ -64,6 +67,14 @@ fn publish_of(alloc: Global, desk: &mut Desk, rest: &str) -> Result<Call, RowFau
     let currency = bytes(alloc, currency)?;
     let contract = read_contract(alloc, contract.as_bytes())?;
     Ok(Call::Publish { contract, currency })
+}
+
+// The call that publishes a contract without a currency.
+fn publish_made(alloc: Global, contract: Contract) -> Call {
+    Call::Publish {
+        contract,
+        currency: Bytes::from_vec(Vec::new(alloc)),
+    }
 }
 
 // Names the transaction that is written, after which the next one begins.

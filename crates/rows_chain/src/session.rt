@@ -1,6 +1,8 @@
 //! A session: a chain, and what is written for it.
 use crate::asked::{history_lines, resolved_lines};
 use crate::built::build;
+use crate::copies::history_copies;
+use crate::faults::{fault_copies_line, texts_row};
 use crate::front::{front_lines, keep_checks};
 use crate::offers::{Handed, hand_in};
 use crate::played::played;
@@ -13,8 +15,8 @@ use eutxo_types::{Output, Tx};
 use ledger::Look;
 use roles::Published;
 use rows_text::{
-    Answers, Known, RowFault, first, in_bytes, keep_check, named_text_of, nothing, number,
-    output_of, parts, put, put_in, recheck_line, reference_of, replace, write,
+    Answers, Known, RowFault, check_copies, first, in_bytes, keep_check, named_text_of, nothing,
+    number, output_of, parts, put, put_in, recheck_line, reference_of, replace, write,
 };
 use std::alloc::Global;
 use std::mem;
@@ -77,6 +79,8 @@ fn taken(alloc: Global, session: &mut Session, line: &str) -> Result<Option<Stri
             begin_anew(alloc, session);
             Ok(None)
         }
+        "texts" => Ok(Some(texts_row(alloc, rest)?)),
+        "faults" => Ok(Some(fault_copies_line(alloc)?)),
         "begin" => Ok(Some(begun(alloc, &mut session.chain, &mut session.desk, rest)?)),
         "let"
         | "genesis"
@@ -162,6 +166,8 @@ fn answered(
     match word {
         "tick" => tick_line(alloc, chain),
         "history" => Ok(history_lines(alloc, &desk.known, chain.history())?),
+        "copies" => Ok(history_copies(alloc, chain.history(), number(rest)?)?),
+        "check_copies" => Ok(check_copies(alloc, &desk.checks)?),
         "steps_of" => {
             let start = reference_of(&desk.known.sent, rest)?;
             Ok(steps_lines(alloc, chain.steps_of(alloc, &start))?)

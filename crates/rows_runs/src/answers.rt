@@ -1,7 +1,9 @@
 //! Rows and what is printed for them.
+use crate::fault_texts::{apart_row, texts_row};
 use crate::forms::{Form, form_of, text_of};
 use crate::given::{Given, Row};
 use crate::on_tables::beside;
+use crate::spellings::put_row;
 use crate::texts::{Spelled, Text};
 use contract::{
     Action, Bound, Case, ChoiceId, Contract, Input, Observation, Party, Payee, State, Token,
@@ -10,7 +12,7 @@ use contract::{
 use contract_json::{JsonFault, Transaction, WriteFault};
 use marlowe_cli::{Task, line};
 use marlowe_run::{Fault, json_fault_name, refusal, run, write_fault_name};
-use rows_text::{RowFault, first};
+use rows_text::{RowFault, first, same_or_other};
 use std::alloc::{AllocError, Global};
 
 /// The answer to a row.
@@ -23,7 +25,10 @@ pub fn answer(alloc: Global, given: &Given, row: Row<'_>) -> Result<Vec<u8>, Row
         "back" => back_row(alloc, sort, given.text(text))?,
         "form" => form_row(alloc, sort, given.text(text))?,
         "spell" => spell_row(alloc, sort, given.text(text))?,
+        "put" => put_row(alloc, sort, text)?,
         "copy" => copy_row(alloc, sort, given.text(text))?,
+        "texts" => texts_row(alloc, row.rest)?,
+        "apart" => apart_row(alloc, row.rest)?,
         "compare" => compare_row(alloc, sort, given.built.as_slice(), text.as_bytes())?,
         _ => return Err(RowFault::NoSuchRow),
     };
@@ -36,10 +41,6 @@ fn bytes(alloc: Global, text: &str) -> Result<Vec<u8>, AllocError> {
 
 fn no_such_sort(alloc: Global) -> Result<Vec<u8>, AllocError> {
     bytes(alloc, "no such sort")
-}
-
-fn same_or_other(same: bool) -> &'static str {
-    if same { "same" } else { "other" }
 }
 
 // The outcome of a transaction, or the line of its refusal.
@@ -144,6 +145,12 @@ fn copy_row(alloc: Global, sort: &str, text: &[u8]) -> Result<Vec<u8>, AllocErro
         "value" => copying::<Value>(alloc, text),
         "observation" => copying::<Observation>(alloc, text),
         "action" => copying::<Action>(alloc, text),
+        "case" => copying::<Case>(alloc, text),
+        "party" => copying::<Party>(alloc, text),
+        "token" => copying::<Token>(alloc, text),
+        "choice_id" => copying::<ChoiceId>(alloc, text),
+        "payee" => copying::<Payee>(alloc, text),
+        "bound" => copying::<Bound>(alloc, text),
         "input" => copying::<Input>(alloc, text),
         "transaction" => copying::<Transaction>(alloc, text),
         "state" => copying::<State>(alloc, text),
@@ -162,6 +169,12 @@ fn compare_row(
         "value" => comparing::<Value>(alloc, text, other),
         "observation" => comparing::<Observation>(alloc, text, other),
         "action" => comparing::<Action>(alloc, text, other),
+        "case" => comparing::<Case>(alloc, text, other),
+        "party" => comparing::<Party>(alloc, text, other),
+        "token" => comparing::<Token>(alloc, text, other),
+        "choice_id" => comparing::<ChoiceId>(alloc, text, other),
+        "payee" => comparing::<Payee>(alloc, text, other),
+        "bound" => comparing::<Bound>(alloc, text, other),
         "input" => comparing::<Input>(alloc, text, other),
         "transaction" => comparing::<Transaction>(alloc, text, other),
         "state" => comparing::<State>(alloc, text, other),

@@ -1,6 +1,6 @@
 //! Runs on the table of a contract, beside those on its tree.
 use compiler::compile;
-use contract::{Contract, Outcome, SemFault};
+use contract::{Contract, Outcome, SemFault, TryClone};
 use contract_json::{Transaction, read_contract, read_state, read_transaction, write_outcome};
 use machine::{Datum, compute};
 use marlowe_run::{Fault, RunFault, refusal};
@@ -119,7 +119,17 @@ fn computed_text(
         transaction.interval,
         transaction.inputs.as_slice(),
     )?;
-    written(alloc, table, outcome)
+    written(alloc, table, copied(outcome)?)
+}
+
+// A copy of an outcome, in place of what it is of.
+fn copied(outcome: Outcome<Cont>) -> Result<Outcome<Cont>, RunFault> {
+    let copy = outcome.try_clone()?;
+    if copy == outcome {
+        Ok(copy)
+    } else {
+        Err(RunFault::Semantics(SemFault::NoMatch))
+    }
 }
 
 // The text of an outcome, whose contract is what its number stands for.

@@ -1,6 +1,6 @@
 //! What is printed for a row.
 use crate::given::Given;
-use crate::plays::{last_lines, played};
+use crate::plays::{fault_texts, last_lines, played};
 use crate::readings::reading;
 use json_read_scenarios::read_scenario;
 use marlowe_play::play;
@@ -40,6 +40,7 @@ fn row_answer<R: AllocGlobal + Threads + Wait + Sync>(
             let lines = played(rt.alloc(), play(rt, rt.alloc(), text, true))?;
             Ok(last_lines(rt.alloc(), number(count)?, lines.as_slice())?)
         }
+        "texts" => fault_texts(rt.alloc()),
         "threads" => played(rt.alloc(), play(rt, rt.alloc(), text, false)),
         _ => Err(RowFault::NoSuchRow),
     }

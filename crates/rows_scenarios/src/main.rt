@@ -13,7 +13,8 @@
 //!   name of the fault;
 //! - `play TEXT` plays the scenario, its plans in turn, and prints the lines of the play or of the refusal;
 //! - `last COUNT TEXT` does so, and prints the last so many of these lines alone;
-//! - `threads TEXT` plays it with each plan in a thread of its own: it is for scenarios with one plan, whose play is always the same.
+//! - `threads TEXT` plays it with each plan in a thread of its own: it is for scenarios with one plan, whose play is always the same;
+//! - `texts PlayFault` prints the text of each fault of a play, a line for each, in their order.
 //!
 //! `#` begins a comment, and an empty line is nothing. Any other line prints `no such row`.
 #![tactic(auto)]

@@ -1,7 +1,8 @@
 //! Plays as they are printed.
 use collections::Memory;
+use json_read_names::JsonFault;
 use marlowe_play::{PlayFault, play_refusal};
-use rows_text::RowFault;
+use rows_text::{RowFault, texts_of};
 use std::alloc::Global;
 
 /// The lines of a play, or the line of its refusal.
@@ -13,6 +14,21 @@ pub fn played(alloc: Global, play: Result<Vec<u8>, PlayFault>) -> Result<Vec<u8>
         }
         Err(PlayFault::Memory) => Err(RowFault::Memory),
         Err(fault) => Ok(play_refusal(alloc, &fault)?),
+    }
+}
+
+/// A line of the text of each fault of a play.
+pub fn fault_texts(alloc: Global) -> Result<Vec<u8>, RowFault> {
+    let first = PlayFault::Scenario(JsonFault::NoForm);
+    let lines = texts_of(alloc, first, &|fault: &PlayFault| after_play(alloc, fault))?;
+    Ok(lines.into_bytes())
+}
+
+fn after_play(alloc: Global, fault: &PlayFault) -> Option<PlayFault> {
+    match fault {
+        PlayFault::Scenario(_) => Some(PlayFault::Setup(Vec::new(alloc))),
+        PlayFault::Setup(_) => Some(PlayFault::Memory),
+        PlayFault::Memory => None,
     }
 }
 

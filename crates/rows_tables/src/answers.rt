@@ -1,12 +1,12 @@
 //! Rows and what is printed for them.
-use crate::large::{nested, wide};
+use collections::TryClone;
 use compiler::{CompileFault, compile};
 use contract::Contract;
 use contract_json::read_contract;
 use marlowe_run::{Fault, compile_fault_name, refusal, table_text};
-use rows_text::{Answers, RowFault, first};
+use rows_text::{Answers, RowFault, first, nested, put_beside, put_copies, put_copy, wide};
 use std::alloc::{AllocError, Global};
-use table::{Cont, Table};
+use table::{Cont, Entry, Table};
 
 /// Rows of tables, none of which is about what stands before it.
 #[derive(Drop)]
@@ -22,9 +22,10 @@ impl<R: AllocGlobal> Answers<R> for Rows {
         let answer = match word {
             "" | "#" => return Ok(None),
             "table" => table_row(rt.alloc(), rest)?,
-            "last" => last_row(rt.alloc(), rest)?,
+            "last" => asked_row(rt.alloc(), rest, Asked::LastTimeout)?,
             "nested" => nested_row(rt.alloc(), rest)?,
             "wide" => wide_row(rt.alloc(), rest)?,
+            "copies" => asked_row(rt.alloc(), rest, Asked::Copies)?,
             _ => return Err(RowFault::NoSuchRow),
         };
         Ok(Some(answer))
@@ -62,14 +63,12 @@ enum Asked {
     LastTimeout,
     Height,
     Root,
+    Copies,
 }
 
-fn last_row(alloc: Global, text: &str) -> Result<Vec<u8>, AllocError> {
+fn asked_row(alloc: Global, text: &str, asked: Asked) -> Result<Vec<u8>, AllocError> {
     match read_contract(alloc, text.as_bytes()) {
-        Ok(contract) => lent(
-            contract,
-            |contract| compiled(alloc, contract, Asked::LastTimeout),
-        ),
+        Ok(contract) => lent(contract, |contract| compiled(alloc, contract, asked)),
         Err(_) => told(alloc, "no such row"),
     }
 }
@@ -99,7 +98,31 @@ fn asked_of(alloc: Global, table: &Table, root: Cont, asked: Asked) -> Result<Ve
         Asked::LastTimeout => last(alloc, table, root),
         Asked::Height => height(alloc, table, root),
         Asked::Root => number(alloc, root),
+        Asked::Copies => copies(alloc, table, root),
     }
+}
+
+// Whether a copy of the table, of its root and of each node is the same, and each node the one before it.
+fn copies(alloc: Global, table: &Table, root: Cont) -> Result<Vec<u8>, AllocError> {
+    let mut lines = String::from_str(alloc, "table")?;
+    put_copy(&mut lines, table)?;
+    lines.push_str(" root")?;
+    put_copy(&mut lines, &root)?;
+    put_nodes(&mut lines, "\nv", table.values())?;
+    put_nodes(&mut lines, "\no", table.observations())?;
+    put_nodes(&mut lines, "\nc", table.cases())?;
+    put_nodes(&mut lines, "\nk", table.conts())?;
+    Ok(lines.into_bytes())
+}
+
+fn put_nodes<N: TryClone + PartialEq + Drop>(
+    lines: &mut String,
+    letter: &str,
+    nodes: &[Entry<N>],
+) -> Result<(), AllocError> {
+    lines.push_str(letter)?;
+    put_copies(lines, nodes)?;
+    put_beside(lines, nodes)
 }
 
 fn last(alloc: Global, table: &Table, root: Cont) -> Result<Vec<u8>, AllocError> {

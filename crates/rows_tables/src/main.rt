@@ -7,13 +7,15 @@
 //! - `last TEXT` prints the last timeout of a contract, or `none`;
 //! - `nested N` compiles an assertion of so many `not`s round `true`, and prints the height of its node, or the fault;
 //! - `wide N` compiles a contract that waits for so many notifies, each followed by close, and prints the number of its root,
-//!   or the fault.
+//!   or the fault;
+//! - `copies TEXT` prints of a contract's table whether a copy of it and of its root is the `same`; then a line for its values,
+//!   observations, cases and continuations: for each whether a copy is the `same`, and behind `beside` for each but the first
+//!   whether it is the `same` as the one before it or an `other`.
 //!
 //! `#` begins a comment, and an empty line is nothing. Any other line prints `no such row`.
 #![tactic(auto)]
 
 mod answers;
-mod large;
 
 use crate::answers::Rows;
 use rows_text::print_rows;

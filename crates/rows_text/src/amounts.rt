@@ -19,6 +19,14 @@ pub fn bundle_of(alloc: Global, words: &str) -> Result<Bundle, RowFault> {
     }
 }
 
+/// The entries of amounts, from `TOKEN AMOUNT ..` in any order, each token once.
+pub fn amounts_of(alloc: Global, words: &str) -> Result<Entries<Token, i128>, RowFault> {
+    match Entries::from_vec(entries_of(alloc, words)?) {
+        Some(entries) => Ok(entries),
+        None => Err(RowFault::NoSuchRow),
+    }
+}
+
 fn entries_of(alloc: Global, words: &str) -> Result<Vec<Entry>, RowFault> {
     let mut entries = Vec::new(alloc);
     let mut words = words.split_whitespace();

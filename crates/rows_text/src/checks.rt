@@ -1,9 +1,11 @@
 //! Checks at hand. What owns checks and resolutions is generic in their scripts, so that no proof walks through the drop of these.
+use crate::copied::put_same;
 use crate::fault::RowFault;
 use crate::verdicts::verdict_line;
+use collections::{Same, TryClone};
 use eutxo::{Checked, Resolved, Validator, check, recheck};
 use eutxo_types::Tx;
-use std::alloc::Global;
+use std::alloc::{AllocError, Global};
 
 /// Checks a transaction with what is found, and keeps the check at hand: the line for the verdict.
 pub fn keep_check<V: Validator + Drop, E: Drop>(
@@ -50,4 +52,20 @@ fn is_at_hand<V: Validator>(checks: &[Checked<V>], tx: &Tx, found: &Resolved<V>)
         }
     }
     false
+}
+
+/// Of each check at hand, whether a copy is the same, and the copy's verdict.
+pub fn check_copies<V: Validator + Same + Drop>(
+    alloc: Global,
+    checks: &[Checked<V>],
+) -> Result<String, AllocError> {
+    let mut lines = String::from_str(alloc, "checks")?;
+    for checked in checks {
+        let copy = checked.try_clone()?;
+        put_same(&mut lines, copy.same(checked))?;
+        let verdict = verdict_line(alloc, copy.verdict())?;
+        lines.push(' ')?;
+        lines.push_str(verdict.as_str())?;
+    }
+    Ok(lines)
 }

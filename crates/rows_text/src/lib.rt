@@ -32,9 +32,11 @@
 mod amounts;
 mod answers;
 mod checks;
+mod copied;
 mod drafts;
 mod fault;
 mod known;
+mod large;
 mod outputs;
 mod publications;
 mod references;
@@ -43,12 +45,17 @@ mod spends;
 mod verdicts;
 mod words;
 
-pub use amounts::{bundle_of, put_amounts, word_of};
+pub use amounts::{amounts_of, bundle_of, put_amounts, token_of, word_of};
 pub use answers::{Answers, in_bytes, print_rows, put_answer};
-pub use checks::{keep_check, recheck_line};
+pub use checks::{check_copies, keep_check, recheck_line};
+pub use copied::{
+    apart_of, fault_copies, put_beside, put_copies, put_copy, put_same, put_same_copy,
+    same_or_other, texts_of,
+};
 pub use drafts::{nothing, write};
 pub use fault::RowFault;
 pub use known::{Known, NamedText, named_text_of};
+pub use large::{nested, wide};
 pub use outputs::{locked, output_of, state_of};
 pub use publications::{Named, named_of};
 pub use references::{Sent, reference_of, sent_of, word_of_id, word_of_reference};

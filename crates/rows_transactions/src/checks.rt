@@ -1,7 +1,7 @@
 //! Checks of transactions.
 use crate::stubborn::Stubborn;
 use collections::{Items, Memory};
-use eutxo::{Resolved, Scripts, Shared, Validator, check};
+use eutxo::{Resolved, Scripts, Shared, Validator, check, local_fault, spent_fault, verdict_of};
 use eutxo_types::{Output, Tx};
 use roles::Published;
 use rows_text::{Named, RowFault, verdict_line};
@@ -63,4 +63,20 @@ pub fn scripts_of<V: Asked>(alloc: Global, names: &[Named]) -> Result<Scripts<V>
         scripts.insert(named.id(), V::of(alloc, named)?)?;
     }
     Ok(scripts)
+}
+
+/// The verdict by what a transaction and its resolution decide, or with the word `spent` by the rules of what it spends alone. It is
+/// generic in the scripts, so that no proof walks through their drop.
+pub fn rules_line<V: Validator + Drop>(
+    alloc: Global,
+    tx: &Tx,
+    found: Result<Resolved<V>, RowFault>,
+    word: &str,
+) -> Result<String, RowFault> {
+    let found = found?;
+    let fault = match word {
+        "spent" => spent_fault(alloc, tx, &found)?,
+        _ => local_fault(alloc, tx, &found)?,
+    };
+    Ok(verdict_line(alloc, &verdict_of(fault))?)
 }

@@ -1,15 +1,17 @@
 //! What is written for the next row, and what is printed for lines.
-use crate::checks::check_line;
+use crate::checks::{check_line, rules_line};
+use crate::copies::{amounts_room, found_copies, published_copies, rooms, tx_copies};
+use crate::faults::{apart_row, copies_row, texts_row};
 use crate::finds::{found_of, put_found};
 use crate::found::found;
-use crate::sums::{added, subtracted};
+use crate::sums::{added, are_sums, subtracted, totals};
 use collections::Items;
 use eutxo::Checked;
 use eutxo_types::{Output, Tx, encode_tx, tx_id};
 use roles::Published;
 use rows_text::{
-    Answers, Known, Named, RowFault, first, in_bytes, keep_check, named_of, nothing, number, parts,
-    put, put_in, put_keys, recheck_line, replace, write,
+    Answers, Known, Named, RowFault, check_copies, first, in_bytes, keep_check, named_of, nothing,
+    number, parts, put, put_in, put_keys, recheck_line, replace, write,
 };
 use std::alloc::{AllocError, Global};
 use std::mem;
@@ -49,6 +51,13 @@ fn answered(alloc: Global, desk: &mut Desk, line: &str) -> Result<Option<String>
         "transaction" => Ok(Some(finished(alloc, &mut desk.tx)?)),
         "check" => Ok(Some(checked(alloc, desk, rest)?)),
         "keep" | "recheck" => Ok(Some(at_hand(alloc, desk, word)?)),
+        "copies" => Ok(Some(copies(alloc, desk, rest)?)),
+        "local" | "spent" => Ok(Some(rules(alloc, desk, word)?)),
+        "apart" => Ok(Some(apart_row(alloc, rest)?)),
+        "totals" => Ok(Some(totals(alloc, rest)?)),
+        "room" => Ok(Some(amounts_room(alloc, rest)?)),
+        "sums" => Ok(Some(are_sums(alloc, &desk.known, rest)?)),
+        "texts" => Ok(Some(texts_row(alloc, rest)?)),
         "add" => Ok(Some(added(alloc, rest)?)),
         "subtract" => Ok(Some(subtracted(alloc, rest)?)),
         _ => {
@@ -79,6 +88,25 @@ fn at_hand(alloc: Global, desk: &mut Desk, word: &str) -> Result<String, RowFaul
     match word {
         "keep" => keep_check(alloc, &mut desk.checks, &desk.tx, found),
         _ => recheck_line(alloc, &desk.checks, &desk.tx, found),
+    }
+}
+
+// The verdict by some rules alone. What is written stays.
+fn rules(alloc: Global, desk: &Desk, word: &str) -> Result<String, RowFault> {
+    let found = found(alloc, &desk.finds, &desk.known, &desk.others);
+    rules_line(alloc, &desk.tx, found, word)
+}
+
+// Whether copies of what is written are the same.
+fn copies(alloc: Global, desk: &Desk, sort: &str) -> Result<String, RowFault> {
+    match sort {
+        "transaction" => Ok(tx_copies(alloc, &desk.tx)?),
+        "rooms" => Ok(rooms(alloc, &desk.tx)?),
+        "found" => found_copies(alloc, found(alloc, &desk.finds, &desk.known, &desk.others)),
+        "published" => Ok(published_copies(alloc, &desk.known.published)?),
+        "checks" => Ok(check_copies(alloc, &desk.checks)?),
+        "faults" => copies_row(alloc),
+        _ => Err(RowFault::NoSuchRow),
     }
 }
 

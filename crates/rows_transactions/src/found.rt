@@ -1,7 +1,7 @@
 //! What a transaction that is written down more than once finds.
 use crate::checks::scripts_of;
-use collections::{Items, Memory, TryClone};
-use eutxo::{Resolved, Scripts};
+use collections::{Items, Memory};
+use eutxo::{Resolved, Scripts, copy_option};
 use eutxo_types::Output;
 use roles::Published;
 use rows_text::{Known, Named, RowFault};
@@ -27,16 +27,9 @@ pub fn found(
 fn copies_of(alloc: Global, outputs: &[Option<Output>]) -> Result<Items<Option<Output>>, Memory> {
     let mut copies = Items::new(alloc);
     for output in outputs {
-        copies.push(copy_of(output)?)?;
+        copies.push(copy_option(output.as_ref())?)?;
     }
     Ok(copies)
-}
-
-fn copy_of(output: &Option<Output>) -> Result<Option<Output>, Memory> {
-    match output {
-        Some(output) => Ok(Some(output.try_clone()?)),
-        None => Ok(None),
-    }
 }
 
 fn put_other(

@@ -1,6 +1,11 @@
 //! Sums and differences of bundles.
-use bundle::{Bundle, BundleFault};
-use rows_text::{RowFault, bundle_of, put_amounts, word_of};
+use bundle::{Bundle, BundleFault, total_of};
+use collections::TryClone;
+use roles::holds_sums;
+use rows_text::{
+    Known, RowFault, bundle_of, first, parts, put_amounts, same_or_other, state_of, token_of,
+    word_of,
+};
 use std::alloc::{AllocError, Global};
 
 /// Adds, from `AMOUNTS / AMOUNTS`: the line for the answer, and what is in the first bundle afterwards.
@@ -15,6 +20,27 @@ pub fn subtracted(alloc: Global, rest: &str) -> Result<String, RowFault> {
     let (mut held, less) = both(alloc, rest)?;
     let answer = held.subtract(&less);
     Ok(line_of(alloc, answer, &held)?)
+}
+
+/// Whether amounts are the sums of the accounts of a state, from `STATE TOKEN AMOUNT ..`.
+pub fn are_sums(alloc: Global, known: &Known, rest: &str) -> Result<String, RowFault> {
+    let (state, amounts) = first(rest);
+    let state = state_of(alloc, known, state)?;
+    let amount = bundle_of(alloc, amounts)?;
+    let same = holds_sums(alloc, &amount, &state)?;
+    Ok(String::from_str(alloc, same_or_other(same))?)
+}
+
+/// Whether the sums of a token over two lists of amounts are the same, from `TOKEN AMOUNTS / AMOUNTS`: the first list has the amounts
+/// twice, the second once.
+pub fn totals(alloc: Global, rest: &str) -> Result<String, RowFault> {
+    let (token, rest) = parts(rest)?;
+    let token = token_of(alloc, token)?;
+    let (held, other) = both(alloc, rest)?;
+    let twice = [held.try_clone()?, held];
+    let once = [other];
+    let same = total_of(&twice, &token) == total_of(&once, &token);
+    Ok(String::from_str(alloc, same_or_other(same))?)
 }
 
 fn both(alloc: Global, rest: &str) -> Result<(Bundle, Bundle), RowFault> {

@@ -1,0 +1,287 @@
+#!/usr/bin/env python3
+"""Which names of the libraries no row prints, runs or copies.
+
+    checks/rows_cover.py            prints them, a line for each, and ends with status 1 where there are any
+    checks/rows_cover.py --left     prints the names that are left out, with the reason
+
+A clause "memory aside" lets a body answer Memory in place of any other answer. A row has ample memory, so it shows that this isn't
+so, and this script that there is a row for each name. It reads the sources and the rows, and needs nothing else:
+
+- faults: each variant of each enum `..Fault` stands by its name in an answer of the row programs that print it, or is named in a
+  test; and the text that it displays stands in an answer below a row `texts ENUM`;
+- replies and verdicts: the word for each variant begins an answer, or stands in one;
+- calls: each function and method of the crates PUBLIC whose result can be Memory is called in a source of a row program, of `tests` or
+  of `tests_threads`. Methods are found by their names alone;
+- copies: each type with `TryClone` has a row that copies it; `==`: each public type that has it stands in a row that compares.
+
+What no row can print, or need not, is in LEFT, with the reason. Expect no line."""
+
+import re
+import sys
+from pathlib import Path
+
+TOP = Path(__file__).resolve().parent.parent
+CRATES = [line.split(":")[0].split()[0] for line in (TOP / "crates.txt").read_text().splitlines() if ":" in line and line[0] != "#"]
+ROWS = [crate for crate in CRATES if crate.startswith("rows_")]
+TESTS = ["tests", "tests_threads"]
+LIBRARIES = [crate for crate in CRATES if crate not in ROWS + TESTS + ["marlowe"]]
+# The crates whose calls a user makes.
+PUBLIC = """marlowe_run marlowe_play marlowe_cli marlowe_io contract_json json_read_scenarios evaluation semantics states compiler table machine contract_bytes
+            bundle eutxo_types eutxo parallel_check roles ledger chain builder hub parties""".split()
+
+# Where the names of an enum's variants are printed, and for a variant that isn't printed by its own name, how.
+PRINTED = {
+    "SemFault": (["rows_runs"], {}),
+    "StateFault": (["rows_scenarios"], {}),
+    "CompileFault": (["rows_tables"], {}),
+    "JsonFault": (["rows_runs"], {}),
+    "WriteFault": (["rows_runs"], {}),
+    "RunFault": (["rows_runs"], {"Contract": "refused contract ", "State": "refused state ", "Transaction": "refused transaction ", "Semantics": "refused NoMatch$"}),
+    "TableFault": (["rows_tables"], {"Contract": "refused contract ", "Compile": "TooDeep$"}),
+    "PlayFault": (["rows_scenarios"], {"Scenario": "refused scenario ", "Setup": "refused thread "}),
+    "GenesisFault": (["rows_chain"], {}),
+    "BundleFault": (["rows_transactions"], {}),
+    "TxFault": (["rows_transactions", "rows_chain"], {}),
+    "StepFault": (["rows_transactions"], {}),
+    "BuildFault": (["rows_chain"], {}),
+    "LoadFault": (["rows_runs"], {"Unreadable": "unreadable$"}),
+    "Fault": (["rows_runs", "rows_tables"], {"Run": "refused NoMatch$", "Table": "refused contract "}),
+    "WordsFault": ([], {}),
+    "Verdict": (["rows_chain"], {"Accepted": r"\d+ accepted", "Refused": r"\d+ refused "}),
+    "Reply": (["rows_chain"], {"Published": "published ", "NotCompiled": "refused TooDeep$", "IdInUse": "in use$", "Advanced": "advanced$", "Backward": "backward$",
+                               "Look": "tick ", "Accepted": "accepted ", "Refused": "refused NoInputs$", "Ticket": "ticket ", "Full": "full$", "Round": r"\d+ accepted"}),
+}
+
+# What copies a type, and compares the copy by `==`: a row program, and how a row of it begins. ROW has what compares only.
+COPIED = {
+    "rows_runs copy contract": "Contract Boxed Items",
+    "rows_runs copy value": "Value",
+    "rows_runs copy observation": "Observation",
+    "rows_runs copy action": "Action",
+    "rows_runs copy case": "Case",
+    "rows_runs copy input": "Input",
+    "rows_runs copy party": "Party Text",
+    "rows_runs copy token": "Token Bytes",
+    "rows_runs copy choice_id": "ChoiceId",
+    "rows_runs copy payee": "Payee",
+    "rows_runs copy bound": "Bound",
+    "rows_runs copy state": "State Account Entries",
+    "rows_runs copy transaction": "Transaction",
+    "rows_runs run": "Outcome Warning Payment",
+    "rows_tables copies": "Table Entry ValueNode ObservationNode CaseNode ContNode Cont",
+    "rows_transactions copies transaction": "Tx Spend OutputRef Redeemer Output Lock Datum Bundle",
+    "rows_transactions copies found": "Resolved Scripts",
+    "rows_transactions copies published": "Published",
+    "rows_transactions recheck": "Shared",
+    "rows_transactions copies checks": "Checked Verdict",
+    "rows_transactions copies faults": "TxFault",
+    "rows_chain faults": "BuildFault",
+    "rows_chain copies": "Call Reply Ticketed",
+    "rows_chain look": "Look Ask PayoutLock Unspent ThreadOutput",
+}
+COMPARED = {
+    "rows_runs texts SemFault": "SemFault",
+    "rows_runs texts StateFault": "StateFault",
+    "rows_runs texts CompileFault": "CompileFault",
+    "rows_runs texts JsonFault": "JsonFault",
+    "rows_runs texts WriteFault": "WriteFault",
+    "rows_runs texts RunFault": "RunFault",
+    "rows_runs texts TableFault": "TableFault",
+    "rows_runs compare transaction": "Interval Transaction",
+    "rows_scenarios texts PlayFault": "PlayFault",
+    "rows_transactions texts BundleFault": "BundleFault",
+    "rows_transactions apart StepFault": "StepFault",
+    "rows_transactions apart StepAnswer": "StepAnswer",
+    "rows_transactions totals": "WideSum",
+    "rows_runs apart LoadFault": "LoadFault",
+    "rows_runs apart WordsFault": "WordsFault",
+    "rows_runs apart Fault": "Fault",
+    "rows_runs apart Task": "Task",
+    "rows_chain texts GenesisFault": "GenesisFault",
+    "rows_chain copies ": "Entry",
+}
+
+# What no row prints, runs or copies, and why.
+MEMORY = "answered only where memory was refused"
+EXACT = "its clause is an equation without \"memory aside\", and its one fault is Leaves128"
+ONE = "it has one value"
+LEFT = {
+    "fault SemFault::Memory": MEMORY,
+    "fault CompileFault::Memory": MEMORY,
+    "fault JsonFault::Memory": MEMORY,
+    "fault WriteFault::Memory": MEMORY,
+    "fault TableFault::Memory": MEMORY,
+    "fault PlayFault::Memory": MEMORY,
+    "fault GenesisFault::Memory": MEMORY,
+    "fault BundleFault::Memory": MEMORY,
+    "fault BuildFault::Memory": MEMORY,
+    "fault StateFault::Memory": MEMORY,
+    "fault LoadFault::Memory": MEMORY,
+    "fault WordsFault::Memory": MEMORY,
+    "fault TxFault::IdInUse": "needs two transactions of one SHA-256: one that comes again names what it spent (rule 4)",
+    "reply Reply::IdInUse": "needs two contracts of one SHA-256",
+    "call evaluation::known": EXACT,
+    "call evaluation::negation": EXACT,
+    "call evaluation::sum": EXACT,
+    "call evaluation::difference": EXACT,
+    "call evaluation::product": EXACT,
+    "call evaluation::quotient": EXACT,
+    "call evaluation::value": EXACT,
+    "call evaluation::holds": EXACT,
+    "call semantics::matching_case": EXACT,
+    "call table::Table::push_value": "each value of a table that a row prints was put there by it",
+    "call table::Table::push_observation": "each observation of a table that a row prints was put there by it",
+    "call table::Table::push_case": "each case of a table that a row prints was put there by it",
+    "call table::Table::push_cont": "each continuation of a table that a row prints was put there by it",
+    "call ledger::judge": "each Submit and Round of a row answers what it answers",
+    "call marlowe_play::play_watched": "each play of a row is one that nobody watches",
+    "call json_read_scenarios::scenario_from_json": "each reading of a scenario's text is its answer",
+    "== Refusal": "the reader within json_tree has two faults, which rows print as JsonFault's",
+    "== Leaves128": ONE,
+    "== Unwritable": ONE,
+    "== SinkFault": ONE,
+    "== SourceFault": ONE,
+}
+
+
+def read(path):
+    return path.read_text()
+
+
+def sources(crate):
+    return [path for path in sorted((TOP / "crates" / crate / "src").rglob("*.rt"))]
+
+
+def code(crates):
+    return "".join(read(path) for crate in crates for path in sources(crate))
+
+
+def lines(program):
+    """The lines of a row program's data."""
+    return [line for path in sorted((TOP / "crates" / program / "data").glob("*.txt")) for line in read(path).splitlines()]
+
+
+LINES = {program: lines(program) for program in ROWS if (TOP / "crates" / program / "data").is_dir()}
+ANSWERS = {program: [line[2:] for line in rows if line.startswith("= ")] for program, rows in LINES.items()}
+RUN = code(ROWS + TESTS)
+TESTED = code(TESTS)
+
+
+def passed_on(crate):
+    """The names that a library passes on."""
+    text = read(TOP / "crates" / crate / "src/lib.rt")
+    return {name for names in re.findall(r"^pub use [\w:]+(?:::\{([^}]*)\}|(?=;))", text, re.M) for name in re.findall(r"\w+", names)} | set(
+        re.findall(r"^pub use (?:\w+::)+(\w+);", text, re.M))
+
+
+def enums():
+    """Each public enum of the libraries: its variants, and the text that each displays."""
+    for crate in LIBRARIES:
+        for name, body in re.findall(r"^pub enum (\w+) \{\n(.*?)^\}", code([crate]), re.M | re.S):
+            variants = re.findall(r"^    ([A-Z]\w*)", body, re.M)
+            texts = re.findall(r'#\[error\("(.*?)"\)\]', body)
+            yield name, variants, texts
+
+
+def below(program, row):
+    """The answers below the rows that begin so."""
+    answers, inside = [], False
+    for line in LINES[program]:
+        if line.startswith("= "):
+            answers += [line[2:]] if inside else []
+        else:
+            inside = line.startswith(row)
+    return answers
+
+
+def is_printed(name, variant):
+    programs, otherwise = PRINTED[name]
+    word = "^" + otherwise[variant] if variant in otherwise else rf"\b{variant}\b"
+    return any(re.search(word, answer) for program in programs for answer in ANSWERS[program]) or f"{name}::{variant}" in TESTED
+
+
+def is_displayed(name, text):
+    pattern = ".+".join(re.escape(part) for part in re.split(r"\{\d\}", text))
+    return any(re.fullmatch(pattern, answer) for program in LINES for answer in below(program, f"texts {name}"))
+
+
+def missing_faults():
+    for name, variants, texts in enums():
+        if not name.endswith("Fault") and name not in PRINTED:
+            continue
+        kind = "fault" if name.endswith("Fault") else "reply"
+        if name not in PRINTED:
+            yield f"{kind} {name}", "no row program is said to print it"
+            continue
+        for variant in variants:
+            if not is_printed(name, variant):
+                yield f"{kind} {name}::{variant}", "no row prints it"
+        for text in texts:
+            if not is_displayed(name, text):
+                yield f"text {name}: {text}", f"no row texts {name} prints it"
+
+
+CAN_BE_MEMORY = re.compile(r"\) -> (?:io::)?Result<.*?(?:Memory|\w*Fault|AllocError|Unwritable)>", re.S)
+
+
+def calls(crate):
+    """The calls of a library whose result can be Memory: the name, and the pattern by which a source calls it."""
+    names = passed_on(crate)
+    for path in sources(crate):
+        text = read(path)
+        for name, rest in re.findall(r"^pub fn (\w+)(.*?)^\{", text, re.M | re.S):
+            if name in names and CAN_BE_MEMORY.search(rest):
+                yield name, rf"\b{name}(?:::<[^;{{}}]*?>)?\("
+        for owner, body in re.findall(r"^impl(?:<.*?>)? (\w+)(?:<[^{]*?>)?(?:\s+where[^{]*)? \{\n(.*?)^\}", text, re.M | re.S):
+            for name, rest in re.findall(r"^    pub fn (\w+)(.*?)^    \{", body, re.M | re.S):
+                if owner in names and CAN_BE_MEMORY.search(rest):
+                    has_self = re.match(r"(?:<[^(]*>)?\(\s*(?:&mut |&)?self", rest)
+                    yield f"{owner}::{name}", rf"\.{name}(?:::<[^;{{}}]*?>)?\(" if has_self else rf"\b{owner}(?:::<[^;{{}}]*?>)?::{name}\b"
+
+
+def missing_calls():
+    for crate in PUBLIC:
+        for name, pattern in calls(crate):
+            if not re.search(pattern, RUN):
+                yield f"call {crate}::{name}", "no row program and no test calls it"
+
+
+def with_rows(table):
+    """The types of a table whose rows stand in the data."""
+    found = set()
+    for row, types in table.items():
+        program, _, beginning = row.partition(" ")
+        if any(line.startswith(beginning) for line in LINES[program]):
+            found |= set(types.split())
+    return found
+
+
+def missing_copies():
+    copied, compared = with_rows(COPIED), with_rows(COPIED) | with_rows(COMPARED)
+    for crate in LIBRARIES:
+        text = code([crate])
+        for name in re.findall(r"^impl(?:<.*?>)? TryClone for ([A-Z]\w*)", text, re.M):
+            if name not in copied:
+                yield f"copy {name}", "no row copies it"
+        derived = re.findall(r"^#\[derive\([^)]*\bPartialEq\b[^)]*\)\]\npub (?:struct|enum) (\w+)", text, re.M)
+        for name in re.findall(r"^impl(?:<.*?>)? PartialEq for ([A-Z]\w*)", text, re.M) + derived:
+            if name not in compared:
+                yield f"== {name}", "no row compares it"
+
+
+def main():
+    if sys.argv[1:] == ["--left"]:
+        for name, reason in LEFT.items():
+            print(f"{name}: {reason}")
+        return 0
+    missing = [*missing_faults(), *missing_calls(), *missing_copies()]
+    for name, reason in missing:
+        if name not in LEFT:
+            print(f"{name}: {reason}")
+    for name in LEFT:
+        if name not in {name for name, _ in missing}:
+            print(f"{name}: is left out, but isn't missing")
+    return 1 if any(name not in LEFT for name, _ in missing) or len(LEFT) > len({name for name, _ in missing} & set(LEFT)) else 0
+
+
+sys.exit(main())
