@@ -1,0 +1,4 @@
+mod SteppedLemmas
+mod CallerLemmas
+mod BegunLemmas
+mod LockLemmas

@@ -1,0 +1,72 @@
+-- What is accepted keeps a time lock.
+use Rattle.std.proofs.Common.{◌≡◌, ℕ, int_le, Bool, true, false, cond, List, ◌∷◌, refl, sym, ap, ◌∙◌, subst, Option, Some, None}
+use Rattle.std.specs.Prelude.{if◌then◌else◌, nat_lt, count_by}
+use Rattle.std.specs.Cmp.{tied_itself}
+use Rattle.std.specs.Ordering.{is_eq}
+use Rattle.std.specs.FinMap as map
+use Rattle.std.specs.FinMap.{get-insert}
+use Rattle.names.specs.Orders.{bytes_cmp}
+use Rattle.names.specs.Totals.{bytes_total}
+use Rattle.names.specs.declared.party.Party.TheVariants.{Address}
+use Rattle.semantics.proofs.Integers.{true_le}
+use Rattle.eutxo_types.specs.declared.fault.TxFault.{TxFault}
+use Rattle.eutxo_types.specs.declared.fault.TxFault.TheVariants.{TwoContracts}
+use Rattle.eutxo_types.specs.declared.lock.Lock.{Lock}
+use Rattle.eutxo_types.specs.declared.lock.Lock.TheVariants.{Key, Payout, Contract}
+use Rattle.eutxo_types.specs.declared.output.Output.{Output}
+use Rattle.eutxo_types.specs.declared.spend.Spend.{Spend}
+use Rattle.eutxo_types.specs.declared.tx.Tx.{Tx}
+use Rattle.eutxo_types.specs.declared.verdict.Verdict.{Verdict}
+use Rattle.eutxo_types.specs.declared.verdict.Verdict.TheVariants.{Accepted}
+use Rattle.eutxo_types.specs.Parts.{inputs_of, script_in, ContractLock, contract_in}
+use Rattle.eutxo.specs.declared.step_fault.StepFault.TheVariants.{NotAuthorised}
+use Rattle.eutxo.specs.declared.validator.StepAnswer.{StepAnswer}
+use Rattle.eutxo.specs.declared.validator.StepAnswer.TheVariants.{Refused, Ends}
+use Rattle.eutxo.specs.Faults.{or_else}
+use Rattle.eutxo.specs.Found.{script_at, whole}
+use Rattle.eutxo.specs.Local.{tx_fault, spent_rules, whole_fault, local, verdict_of}
+use Rattle.eutxo.specs.Rules.{has_signed, Step, script_fault, step_fault, step_asked, after_answer}
+use Rattle.ledger_laws.proofs.PlainLaws.{and_true, few}
+use Rattle.ledger_laws.proofs.JudgedLemmas.{each_none, unless}
+use Rattle.ledger_laws.proofs.PairedLemmas.{holds, step_with, step_read}
+use Rattle.uses.specs.declared.other_script.TimeLock.{TimeLock}
+use Rattle.uses.specs.Resolutions.{resolution_of}
+use Rattle.uses.specs.TimeLocks.{may_open, time_locks, KeepsTheLock}
+
+later_clear : {F : Type 0} (o p : Option F) → or_else o p ≡ None → p ≡ None
+later_clear None p h = h
+later_clear (Some x) p h = cc
+
+none_refused : (o : Option TxFault) → verdict_of o ≡ Accepted → o ≡ None
+none_refused None h = refl
+none_refused (Some f) h = cc
+
+opens : (l : TimeLock) (os : List Output) (b : Bool) → (let answer : StepAnswer = if b then Ends else Refused (NotAuthorised (Address l.owner)) in after_answer os answer ≡ None) → b ≡ true
+opens l os true h = refl
+opens l os false h = cc
+
+-- the lock is what is found under its id
+found_lock : (id : List ℕ) (l : TimeLock) → map.get (map.insert (map.empty {R = bytes_cmp}) id l) id ≡ Some l
+found_lock id l = get-insert bytes_total map.empty id l id ∙ ap (λ (b : Bool). cond b (Some l) (map.get (map.empty {R = bytes_cmp}) id)) (ap is_eq (tied_itself bytes_total id))
+
+-- an output of a script is a contract's
+held_by : (k : Lock) (id : List ℕ) → script_in k ≡ Some id → (c : ContractLock) × (contract_in k ≡ Some c) × (c.script ≡ id)
+held_by (Key a) id h = cc
+held_by (Payout currency role) id h = cc
+held_by (Contract script d) id h = (record { script = script; datum = d }, refl, let same : script ≡ id = cc in same)
+
+pub keeps : (id : List ℕ) (l : TimeLock) (tx : Tx) (outputs : List (Option Output)) (v : Verdict) → v ≡ verdict_of (local time_locks tx (resolution_of outputs id l)) → KeepsTheLock id l tx outputs v
+keeps id l tx outputs v h spent n x a w at s =
+    let named = script_at (resolution_of outputs id l).scripts in
+    let clear = none_refused (local time_locks tx (resolution_of outputs id l)) (sym h ∙ a) in
+    let of_spent : whole_fault time_locks named tx (Some spent) ≡ None =
+    subst (λ (o : Option (List (Spend × Output))). whole_fault time_locks named tx o ≡ None) w (later_clear (tx_fault tx) (whole_fault time_locks named tx (whole tx (resolution_of outputs id l))) clear) in
+    let rules = each_none (spent_rules time_locks named tx spent) of_spent in
+    let c = held_by x.1.lock id s in
+    let read = step_read spent n x c.0 (few (count_by holds spent) (unless (nat_lt 1 (count_by holds spent)) TwoContracts rules.1.0)) at c.1 in
+    let own = step_with c.0 (inputs_of x.0.redeemer) in
+    let of_script : step_fault time_locks named tx spent (own ∷ read.0) ≡ None = subst (λ (ss : List Step). step_fault time_locks named tx spent ss ≡ None) read.1 rules.1.1.1.1.0 in
+    let of_lock : script_fault time_locks (Some l) (step_asked tx spent own) ≡ None =
+    subst (λ (o : Option TimeLock). script_fault time_locks o (step_asked tx spent own) ≡ None) (ap named c.2 ∙ found_lock id l) of_script in
+    let p = and_true (has_signed tx.signers l.owner) (int_le l.from tx.interval.from) (opens l tx.outputs (may_open l tx) of_lock) in
+    (p.0, true_le l.from tx.interval.from p.1)

@@ -1,0 +1,21 @@
+use Rattle.std.proofs.Common.{◌≡◌, [], refl, rules, Some, Err}
+use Rattle.builder_spec.specs.declared.fault.BuildFault.{BuildFault}
+use Rattle.builder_spec.specs.Requests.{request}
+use Rattle.builder_spec.specs.Steps.{hinders_step}
+use Rattle.uses.specs.Uses.{thread_look, step_asked}
+use Rattle.uses.proofs.CallerLemmas.{step_answer, stepped_by, after_by, hindered_by}
+use Rattle.uses.proofs.step.step_now.Goals as goal
+
+pub returns-clause-stepped : goal.returns-clause-stepped
+returns-clause-stepped c =
+    stepped_by _ _ _ _ _ _ _ _ _ _ _ _ _ c.at_tick-now.ensures refl c.thread_ask.ensures c.in_ok-look.ensures.look c.in_ok-look.ensures.after c.in_ok-look.ensures.second c.in_ok-tx.ensures.answer c.in_ok-tx.ensures.fits c.in_ok-reply.ensures.reply
+
+pub returns-clause-after : goal.returns-clause-after
+returns-clause-after c =
+    after_by _ _ _ _ _ _ _ _ _ _ _ _ _ c.at_tick-now.ensures refl c.thread_ask.ensures c.in_ok-look.ensures.look c.in_ok-look.ensures.after c.in_ok-tx.ensures.answer c.in_ok-reply.ensures.after
+
+pub returns-in_err-tx-clause-err : goal.returns-in_err-tx-clause-err
+returns-in_err-tx-clause-err c =
+    let hindered : (fault : BuildFault) → step_answer c.in_ok-look.look (request c.at_tick-now.result c.args.inputs.now c.args.signers.now [] c.args.change.now) ≡ Err fault → hinders_step (thread_look c.args.chain.now c.args.start) (step_asked c.args.chain.now c.args.inputs.now c.args.signers.now c.args.change.now) ≡ Some fault =
+    λ fault h. hindered_by c.args.chain.now c.args.start c.args.inputs.now c.args.signers.now [] c.args.change.now _ _ _ fault c.at_tick-now.ensures refl c.thread_ask.ensures c.in_ok-look.ensures.look h in
+    search (rules, hindered)

@@ -1,0 +1,4 @@
+pub mod Uses
+pub mod Resolutions
+pub mod TimeLocks
+pub mod TimeLocksSupport

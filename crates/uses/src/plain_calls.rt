@@ -1,0 +1,66 @@
+//! The calls of a chain, each with the reply that its kind has.
+ghost use Rattle.std.specs.Prelude.{◌≡◌, IfOk, OnOk};
+ghost use Rattle.ledger.specs.declared.call.Call.TheVariants as on;
+ghost use Rattle.ledger_spec.specs.Replay.{world};
+ghost use Rattle.ledger_spec.specs.Views.{look};
+ghost use Rattle.ledger_spec.specs.Calls.{reply_to};
+ghost use Rattle.ledger_spec.specs.Headline.{SecondHalf};
+ghost use Rattle.uses.specs.Uses.{thread_ask, at_tick, called};
+
+use chain::{Call, Chain, Reply};
+use collections::{Items, Memory, TryClone};
+use contract::Interval;
+use eutxo_types::{OutputRef, Tx};
+use ledger::{Ask, Look};
+use std::alloc::Global;
+
+// The interval of a tick alone.
+fn only(tick: i64) -> Interval
+    ensures { result ≡ record { from = tick; to = tick } }
+{
+    Interval {
+        from: tick,
+        to: tick,
+    }
+}
+
+/// The interval of the present tick alone.
+pub(crate) fn at_tick(chain: &Chain) -> Interval
+    ensures { result ≡ at_tick chain.now }
+{
+    only(chain.tick())
+}
+
+/// What asks for one thread, by its start output.
+pub(crate) fn thread_ask(alloc: Global, start: OutputRef) -> Ask
+    ensures { result ≡ thread_ask start }
+{
+    Ask {
+        thread: Some(start),
+        keys: Items::new(alloc),
+        payouts: Items::new(alloc),
+    }
+}
+
+/// Looks. Each call of a chain brings both halves of the headline along; here the second is handed on.
+pub(crate) fn look_at(alloc: Global, chain: &mut Chain, seat: u64, ask: Ask) -> Result<Look, Memory>
+    ensures look { IfOk result (λ shown. shown ≡ look (world chain.old) ask) }
+    ensures after { OnOk result (chain.new ≡ called chain.old seat (on.Look ask)) }
+    ensures second { SecondHalf chain.old }
+{
+    let (reply, _copy) = chain.step(alloc, seat, Call::Look(ask), &[])?;
+    match &reply {
+        Reply::Look(look) => look.try_clone(),
+        _ => unreachable!(),
+    }
+}
+
+/// Submits a transaction: the reply is that of the table of calls.
+pub(crate) fn submit(alloc: Global, chain: &mut Chain, seat: u64, tx: Tx) -> Result<Reply, Memory>
+    ensures reply { IfOk result (λ reply. reply ≡ reply_to (world chain.old) (on.Submit tx)) }
+    ensures after { OnOk result (chain.new ≡ called chain.old seat (on.Submit tx)) }
+    ensures second { SecondHalf chain.old }
+{
+    let (reply, _copy) = chain.step(alloc, seat, Call::Submit(tx), &[])?;
+    Ok(reply)
+}

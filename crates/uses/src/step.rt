@@ -1,0 +1,40 @@
+//! A step of a thread, now.
+ghost use Rattle.std.specs.Prelude.{◌≡◌, ◌≢◌, Some, IfOk, IfErr, OnOk};
+ghost use Rattle.builder_spec.specs.Steps.{hinders_step};
+ghost use Rattle.uses.specs.Uses.{thread_look, step_asked, IsStepped, after_step};
+
+use crate::plain_calls::{at_tick, look_at, submit, thread_ask};
+use builder::{BuildFault, build_step};
+use chain::{Chain, Reply};
+use collections::Text;
+use contract::Input;
+use eutxo_types::OutputRef;
+use ledger::Unspent;
+use std::alloc::Global;
+
+/// Steps the thread from a start output at the present tick, with inputs of the contract that need signatures alone: it
+/// looks at the thread, builds the step with nothing offered, and submits that. Answers the reply to the Submit, or why there is
+/// no such step; then nothing is submitted.
+///
+/// The reply is that the step is accepted, whatever the chain has seen before, unless an accepted transaction of other bytes
+/// has the step's id: the SHA-256 of its bytes.
+pub fn step_now(
+    alloc: Global,
+    chain: &mut Chain,
+    seat: u64,
+    start: OutputRef,
+    inputs: &[Input],
+    signers: &[Text],
+    change: &Text,
+) -> Result<Reply, BuildFault>
+    ensures stepped { IfOk result (λ reply. IsStepped chain.old start (step_asked chain.old inputs.now signers.now change.now) reply) }
+    ensures after { OnOk result (chain.new ≡ after_step chain.old seat start (step_asked chain.old inputs.now signers.now change.now)) }
+    ensures err { IfErr result (λ fault. fault ≢ BuildFault.Memory → hinders_step (thread_look chain.old start) (step_asked chain.old inputs.now signers.now change.now) ≡ Some fault) }
+{
+    let offered: &[Unspent] = &[];
+    let now = at_tick(chain);
+    let look = look_at(alloc, chain, seat, thread_ask(alloc, start))?;
+    let tx = build_step(alloc, &look, now, inputs, signers, offered, change)?;
+    let reply = submit(alloc, chain, seat, tx)?;
+    Ok(reply)
+}
