@@ -10,13 +10,13 @@ use contract::Input;
 use eutxo_types::OutputRef;
 use std::alloc::Global;
 
-/// Closes the thread from a start output at the present tick, as anybody can once its last timeout is reached: no party brings
-/// an input, nobody signs and nothing is offered. Answers the reply to the Submit.
+/// Closes the thread from a start output at the present tick, as anybody can once its last timeout is reached: no
+/// party brings an input, nobody signs and nothing is offered. Answers the reply to the Submit.
 ///
 /// The reply is that the step is accepted, unless one of other bytes has its id. And where the tick has reached the
 /// last timeout and the thread's minimum time, the step leaves Close without accounts, and pays parties all that the
-/// thread's output held, of every token. Then the only other faults are, memory aside, that a number leaves 128 bits, and that
-/// Close without accounts stands already.
+/// thread's output held, of every token. Then the only other faults are, memory aside, that a number leaves 128 bits,
+/// and that Close without accounts stands already.
 pub fn close_thread(
     alloc: Global,
     chain: &mut Chain,

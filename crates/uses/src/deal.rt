@@ -16,8 +16,8 @@ use ledger::Unspent;
 use roles::publish;
 use std::alloc::Global;
 
-/// What two parties agree on: the contract with the currency of its roles' tokens, and the state that it starts from, whose
-/// accounts have the money.
+/// What two parties agree on: the contract with the currency of its roles' tokens, and the state that it starts from,
+/// whose accounts have the money.
 #[derive(Clone, Copy)]
 pub struct Deal<'a> {
     pub contract: &'a Contract,
@@ -70,11 +70,12 @@ pub(crate) fn begin(
     Ok(OutputRef::Made { id, index: 0 })
 }
 
-/// Takes an escrow from its publishing to its end: the contract is published, started with what is offered, and stepped with
-/// the inputs that end it, which need signatures alone. Answers the reply to the Submit of that step.
+/// Takes an escrow from its publishing to its end: the contract is published, started with what is offered, and
+/// stepped with the inputs that end it, which need signatures alone. Answers the reply to the Submit of that step.
 ///
-/// The chain has four entries more: the publication, the start, which is accepted, a look at its thread, and the step. The reply
-/// is that the step is accepted, whatever the chain has seen before, unless an accepted transaction of other bytes has its id.
+/// The chain has four entries more: the publication, the start, which is accepted, a look at its thread, and the
+/// step. The reply is that the step is accepted, whatever the chain has seen before, unless an accepted transaction
+/// of other bytes has its id.
 pub fn escrow(
     alloc: Global,
     chain: &mut Chain,

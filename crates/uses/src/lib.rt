@@ -1,10 +1,10 @@
-//! What a caller writes, and what it is promised: five callers of the library, each short, and each with the clauses that the
-//! calls below give it.
+//! What a caller writes, and what it is promised: five callers of the library, each short, and each with the clauses
+//! that the calls below give it.
 //!
-//! `close_thread` closes a contract after its last timeout, `check_one` judges one transaction without a ledger, `escrow` takes a
-//! contract from its publishing to its end, `claim_now` collects payouts, and `check_lock` judges by a script that isn't
-//! Marlowe's. `step_now` is the step by which the first and the third end. What their clauses say is defined in
-//! `specs/Uses.antt`, and for the last in `specs/TimeLocks.antt`.
+//! `close_thread` closes a contract after its last timeout, `check_one` judges one transaction without a ledger,
+//! `escrow` takes a contract from its publishing to its end, `claim_now` collects payouts, and `check_lock` judges by
+//! a script that isn't Marlowe's. `step_now` is the step by which the first and the third end. What their clauses say
+//! is defined in `specs/Uses.antt`, and for the last in `specs/TimeLocks.antt`.
 #![tactic(auto)]
 
 mod claim;

@@ -14,8 +14,8 @@ use eutxo_types::{Datum, Output, Tx, Verdict};
 use std::alloc::Global;
 use std::sync::Arc;
 
-/// A time lock: an output under it can be spent from a time on, in POSIX milliseconds, by its owner's signature. It starts with any
-/// amount and datum, goes on with nothing, and grants no payouts.
+/// A time lock: an output under it can be spent from a time on, in POSIX milliseconds, by its owner's signature. It
+/// starts with any amount and datum, goes on with nothing, and grants no payouts.
 #[derive(PartialEq, Eq, Drop)]
 pub struct TimeLock {
     pub owner: Text,
@@ -57,9 +57,10 @@ impl Validator for TimeLock {
     }
 }
 
-/// Judges one transaction on the outputs that its inputs spend, in order, and on a time lock under an id. The verdict is that of the
-/// rules which these decide, with the lock's own answer among them. So what is accepted and spends an output under the lock, and
-/// nothing of it is missing, is signed by the owner and starts no earlier than the lock opens.
+/// Judges one transaction on the outputs that its inputs spend, in order, and on a time lock under an id. The verdict
+/// is that of the rules which these decide, with the lock's own answer among them. So what is accepted and spends an
+/// output under the lock, and nothing of it is missing, is signed by the owner and starts no earlier than the lock
+/// opens.
 pub fn check_lock(
     alloc: Global,
     tx: &Tx,

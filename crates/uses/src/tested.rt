@@ -105,7 +105,13 @@ fn deal_of(held: &Held) -> Deal<'_> {
 }
 
 // A transaction that spends one output.
-fn spending<R: Abort + AllocGlobal>(rt: &R, redeemer: Redeemer, made: &str, from: i64, signer: &str) -> Tx {
+fn spending<R: Abort + AllocGlobal>(
+    rt: &R,
+    redeemer: Redeemer,
+    made: &str,
+    from: i64,
+    signer: &str,
+) -> Tx {
     let reference = OutputRef::Genesis { index: 0 };
     Tx {
         inputs: one(
