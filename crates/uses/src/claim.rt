@@ -12,7 +12,7 @@ use std::alloc::Global;
 
 /// Claims payouts at the present tick, by the roles' tokens in what is offered: what the payouts hold goes to the key
 /// of an address, and the tokens go back there. Payouts and offers are those of a look, `payouts` and `keys`. Answers
-/// the reply to the Submit, or why there is no such claim; then nothing is submitted.
+/// the reply to the Submit, or why there is no such claim.
 ///
 /// The reply is that the claim is accepted, where the payouts and what is taken of the offers are unspent with the
 /// contents that were handed in, unless an accepted transaction of other bytes has the claim's id.

@@ -14,7 +14,7 @@ use std::alloc::Global;
 
 /// Steps the thread from a start output at the present tick, with inputs of the contract that need signatures alone:
 /// it looks at the thread, builds the step with nothing offered, and submits that. Answers the reply to the Submit,
-/// or why there is no such step; then nothing is submitted.
+/// or why there is no such step.
 ///
 /// The reply is that the step is accepted, whatever the chain has seen before, unless an accepted transaction of
 /// other bytes has the step's id: the SHA-256 of its bytes.
