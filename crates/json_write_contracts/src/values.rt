@@ -1,10 +1,11 @@
 //! Values and observations.
-ghost use Rattle.std.specs.Prelude.{◌≡◌, ◌&&◌, codes, OnOk};
+//! Where a call fails, what was written before it stays, and behind it stand some tokens or none.
+ghost use Rattle.std.specs.Prelude.{◌≡◌, ◌&&◌, codes, OnOk, OnErr};
 ghost use Rattle.serde_json.specs.Data.{string};
 ghost use Rattle.hex.specs.Hex.{IsBytes};
 ghost use Rattle.contract.specs.Tree.{value_tree, observation_tree};
 ghost use Rattle.json_write_contracts.specs.Symbols.{ValueSymbols, ObservationSymbols};
-ghost use Rattle.json_write_contracts.specs.Tokens.{Puts, PutsFitting};
+ghost use Rattle.json_write_contracts.specs.Tokens.{Keeps, Puts, PutsFitting};
 ghost use Rattle.json_write_contracts.specs.Written as written;
 ghost use Rattle.json_write_contracts.specs.Written.{value_fits, observation_fits};
 
@@ -24,6 +25,7 @@ fn put_available(
     token: &Token,
 ) -> Result<(), Memory>
     ensures put { OnOk result (Puts out.old out.new (written.two (codes "amount_of_token") (written.token_json token.now) (codes "in_account") (written.party_json party.now))) }
+    ensures err { OnErr result (Keeps out.old out.new) }
     ensures symbol { OnOk result (IsBytes token.now.symbol) }
 {
     out.begin_object()?;
@@ -37,7 +39,8 @@ fn put_available(
 
 // An object of one key, beside a choice.
 fn one_choice(out: &mut Writer, key: &str, id: &ChoiceId) -> Result<(), Memory>
-    ensures { OnOk result (Puts out.old out.new (written.one key.now (written.choice_id_json id.now))) }
+    ensures put { OnOk result (Puts out.old out.new (written.one key.now (written.choice_id_json id.now))) }
+    ensures err { OnErr result (Keeps out.old out.new) }
 {
     out.begin_object()?;
     out.key(key)?;
@@ -48,7 +51,8 @@ fn one_choice(out: &mut Writer, key: &str, id: &ChoiceId) -> Result<(), Memory>
 
 // An object of one key, beside a text.
 fn one_text(out: &mut Writer, key: &str, text: &Text) -> Result<(), Memory>
-    ensures { OnOk result (Puts out.old out.new (written.one key.now (string text.now))) }
+    ensures put { OnOk result (Puts out.old out.new (written.one key.now (string text.now))) }
+    ensures err { OnErr result (Keeps out.old out.new) }
 {
     out.begin_object()?;
     out.key(key)?;
@@ -59,7 +63,8 @@ fn one_text(out: &mut Writer, key: &str, text: &Text) -> Result<(), Memory>
 
 /// Writes a word of its own.
 pub fn word(out: &mut Writer, word: &str) -> Result<(), Memory>
-    ensures { OnOk result (Puts out.old out.new (string word.now)) }
+    ensures put { OnOk result (Puts out.old out.new (string word.now)) }
+    ensures err { OnErr result (Keeps out.old out.new) }
 {
     out.string(word)
 }
@@ -70,6 +75,7 @@ pub fn word(out: &mut Writer, word: &str) -> Result<(), Memory>
 #[tactic(auto, using(crate::proofs::ListedValues::value_writes, crate::proofs::SymbolsOf::value_symbols))]
 pub fn put_value(alloc: Global, out: &mut Writer, value: &Value) -> Result<(), WriteFault>
     ensures put { PutsFitting result out.old out.new (value_fits (value_tree value.now)) (written.value_json (value_tree value.now)) }
+    ensures err { OnErr result (Keeps out.old out.new) }
     ensures symbols { OnOk result (ValueSymbols (value_tree value.now)) }
 {
     match value {
@@ -100,6 +106,7 @@ pub fn put_observation(
     observation: &Observation,
 ) -> Result<(), WriteFault>
     ensures put { PutsFitting result out.old out.new (observation_fits (observation_tree observation.now)) (written.observation_json (observation_tree observation.now)) }
+    ensures err { OnErr result (Keeps out.old out.new) }
     ensures symbols { OnOk result (ObservationSymbols (observation_tree observation.now)) }
 {
     match observation {
@@ -125,6 +132,7 @@ fn one_value(
     value: &Boxed<Value>,
 ) -> Result<(), WriteFault>
     ensures put { PutsFitting result out.old out.new (value_fits (value_tree value.now)) (written.one key.now (written.value_json (value_tree value.now))) }
+    ensures err { OnErr result (Keeps out.old out.new) }
     ensures symbols { OnOk result (ValueSymbols (value_tree value.now)) }
 {
     out.begin_object()?;
@@ -142,6 +150,7 @@ fn one_observation(
     observation: &Boxed<Observation>,
 ) -> Result<(), WriteFault>
     ensures put { PutsFitting result out.old out.new (observation_fits (observation_tree observation.now)) (written.one key.now (written.observation_json (observation_tree observation.now))) }
+    ensures err { OnErr result (Keeps out.old out.new) }
     ensures symbols { OnOk result (ObservationSymbols (observation_tree observation.now)) }
 {
     out.begin_object()?;
@@ -162,6 +171,7 @@ fn two_values(
 ) -> Result<(), WriteFault>
     ensures put { PutsFitting result out.old out.new (value_fits (value_tree v.now) && value_fits (value_tree w.now))
         (written.two a.now (written.value_json (value_tree v.now)) b.now (written.value_json (value_tree w.now))) }
+    ensures err { OnErr result (Keeps out.old out.new) }
     ensures first_symbols { OnOk result (ValueSymbols (value_tree v.now)) }
     ensures second_symbols { OnOk result (ValueSymbols (value_tree w.now)) }
 {
@@ -185,6 +195,7 @@ fn two_observations(
 ) -> Result<(), WriteFault>
     ensures put { PutsFitting result out.old out.new (observation_fits (observation_tree o.now) && observation_fits (observation_tree p.now))
         (written.two a.now (written.observation_json (observation_tree o.now)) b.now (written.observation_json (observation_tree p.now))) }
+    ensures err { OnErr result (Keeps out.old out.new) }
     ensures first_symbols { OnOk result (ObservationSymbols (observation_tree o.now)) }
     ensures second_symbols { OnOk result (ObservationSymbols (observation_tree p.now)) }
 {
@@ -207,6 +218,7 @@ fn put_cond(
 ) -> Result<(), WriteFault>
     ensures put { PutsFitting result out.old out.new (observation_fits (observation_tree condition.now) && value_fits (value_tree then.now) && value_fits (value_tree otherwise.now))
         (written.three (codes "else") (written.value_json (value_tree otherwise.now)) (codes "if") (written.observation_json (observation_tree condition.now)) (codes "then") (written.value_json (value_tree then.now))) }
+    ensures err { OnErr result (Keeps out.old out.new) }
     ensures condition_symbols { OnOk result (ObservationSymbols (observation_tree condition.now)) }
     ensures then_symbols { OnOk result (ValueSymbols (value_tree then.now)) }
     ensures otherwise_symbols { OnOk result (ValueSymbols (value_tree otherwise.now)) }
