@@ -22,7 +22,8 @@ fn put_operand(out: &mut Vec<u8>, value: &Boxed<Value>) -> Result<(), Memory>
 fn put_condition(out: &mut Vec<u8>, observation: &Boxed<Observation>) -> Result<(), Memory>
     ensures spelling { OnOk result (out.new.items ≡ out.old.items ++ observation_bytes (observation_tree observation.now)) }
     ensures fits { OnOk result (ObservationFits (observation_tree observation.now)) }
-    ensures err { OnErr result (AppendsFront (observation_bytes (observation_tree observation.now)) out.old.items out.new.items) }
+    ensures err { OnErr result
+        (AppendsFront (observation_bytes (observation_tree observation.now)) out.old.items out.new.items) }
 {
     put_observation(out, observation.get())
 }
@@ -102,7 +103,8 @@ pub(crate) fn put_value(out: &mut Vec<u8>, value: &Value) -> Result<(), Memory>
 pub(crate) fn put_observation(out: &mut Vec<u8>, observation: &Observation) -> Result<(), Memory>
     ensures spelling { OnOk result (out.new.items ≡ out.old.items ++ observation_bytes (observation_tree observation.now)) }
     ensures fits { OnOk result (ObservationFits (observation_tree observation.now)) }
-    ensures err { OnErr result (AppendsFront (observation_bytes (observation_tree observation.now)) out.old.items out.new.items) }
+    ensures err { OnErr result
+        (AppendsFront (observation_bytes (observation_tree observation.now)) out.old.items out.new.items) }
 {
     match observation {
         Observation::AndObs(a, b) => {
