@@ -1,8 +1,8 @@
 //! Terms as compact JSON.
-ghost use Rattle.std.specs.Prelude.{◌≡◌, IfOk, OnOk, string_bytes};
+ghost use Rattle.std.specs.Prelude.{◌≡◌, IfOk, OnOk, OnErr, string_bytes};
 ghost use Rattle.serde_json.specs.Data.{Data, string};
 ghost use Rattle.serde_json.specs.Written.{compact_text};
-ghost use Rattle.json_write_contracts.specs.Tokens.{Puts};
+ghost use Rattle.json_write_contracts.specs.Tokens.{Keeps, Puts};
 ghost use Rattle.json_write_contracts.specs.Written as written;
 
 use collections::{Memory, Text};
@@ -16,9 +16,10 @@ pub trait Term {
     /// The value that stands for it.
     ghost json: { Self → Data };
 
-    /// Writes it behind what was written.
+    /// Writes it behind what was written, which stays where it fails, with some tokens behind it or none.
     fn put(&self, alloc: Global, out: &mut Writer) -> Result<(), Memory>
-        ensures { OnOk result (Puts out.old out.new (json self.now)) };
+        ensures put { OnOk result (Puts out.old out.new (json self.now)) }
+        ensures err { OnErr result (Keeps out.old out.new) };
 }
 
 /// The compact text of a term, its hexadecimal digits in lower case. Answers `Memory` only where a growth was refused.
