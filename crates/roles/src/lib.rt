@@ -5,7 +5,7 @@
 mod amounts;
 mod authorise;
 mod laws;
-mod layout;
+mod owing;
 mod published;
 mod publishing;
 mod script;
@@ -18,6 +18,6 @@ pub use laws::{
     published_are_tables, published_cross_threads, published_tell_contracts_apart,
     sums_are_of_each_token, worked_steps,
 };
-pub use layout::due_to;
+pub use owing::{continuation, put_due};
 pub use published::Published;
 pub use publishing::publish;
