@@ -21,7 +21,7 @@ use std::alloc::Global;
 
 /// The output in which a contract goes on, with the sums of its accounts, none of which is too large for an amount. It
 /// is refused only for memory.
-pub(crate) fn go_on(
+pub(crate) fn continuing_output(
     alloc: Global,
     script: &[u8; 32],
     datum: Datum,
@@ -82,7 +82,7 @@ pub(crate) fn step_outputs(
     let mut outputs = Items::new(alloc);
     if !closed {
         let datum = Datum { cont: place, state };
-        outputs.push(go_on(alloc, &published.id, datum)?)?;
+        outputs.push(continuing_output(alloc, &published.id, datum)?)?;
     }
     let currency = &published.currency;
     put_due(alloc, &mut outputs, currency, payments.as_slice())?;

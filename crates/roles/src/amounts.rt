@@ -85,7 +85,7 @@ pub fn is_sums(alloc: Global, amount: &Bundle, state: &State) -> Result<bool, Me
     Ok(are_zero(left.as_slice()))
 }
 
-/// Just this much of one token.
+/// Just this much of one token, above 0.
 pub fn only(alloc: Global, token: &Token, number: i128) -> Result<Bundle, Memory>
     requires { pos 0 <ℤ number }
     ensures { IfOk result (λ amount. amount ≡ only token.now number) }
