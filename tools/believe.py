@@ -39,7 +39,7 @@ FACES = [
     ("The headline's first half: what holds after every history", "chain::Chain::history(first,stands,in_use,fits,shown) ledger_spec::starts_are_told"),
     ("Its laws, over every list of accepted transactions", "ledger_laws"),
     ("The builders", "builder"),
-    ("The headline's second half: what is built is accepted", "chain::Chain::step(second) builder_laws"),
+    ("The headline's second half: what is built is accepted", "chain::Chain::step(second) chain::Chain::history(throughout) chain::both_halves_hold_of_legal_histories builder_laws"),
     ("Many threads: what each was told, one history, and parties", "hub parties"),
 ]
 
