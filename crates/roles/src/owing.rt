@@ -1,13 +1,27 @@
-//! The outputs that a step has to make.
-ghost use Rattle.std.specs.Prelude.{◌≡◌, ◌+◌, ◌↔◌, IsTrue, IfOk, drop, option_copied};
+//! The outputs that a step owes: the one in which the contract goes on, and those that are due for its payments. Here
+//! they are made, for who builds a step, and told from others, for who judges one, by the same definitions.
+ghost use Rattle.std.specs.Prelude.{◌≡◌, ◌+◌, ◌++◌, ◌<ℤ◌, ◌↔◌, pos, IsTrue, IfOk, OnOk, drop, option_copied};
 ghost use Rattle.roles.specs.Sums.{sums_of};
-ghost use Rattle.roles.specs.Steps.{same_output, same_datum, is_instance, holds_just, goes_on_in, lock_for, owed_output, due_to, due_outputs, first_unpaid};
+ghost use Rattle.roles.specs.Steps.{same_output, same_datum, is_instance, holds_just, continuation, goes_on_in, lock_for, owed_output, due_to, due_outputs, first_unpaid};
 
-use crate::amounts::{holds_sums, is_only};
-use collections::{Bytes, Memory, Same};
+use crate::amounts::{holds_sums, is_only, only};
+use bundle::Bundle;
+use collections::{Bytes, Items, Memory, Same, TryClone};
 use contract::{Party, Payee, Payment, State};
 use eutxo_types::{Cont, Datum, Instance, Lock, Output, Tx};
 use std::alloc::Global;
+
+/// The output in which a contract goes on from a datum, with the sums of its accounts.
+pub fn continuation(script: &[u8; 32], datum: Datum, sums: Bundle) -> Output
+    requires { sums ≡ sums_of datum.state }
+    ensures { result ≡ continuation script.now datum }
+{
+    let lock = Lock::Contract {
+        script: *script,
+        datum,
+    };
+    Output { lock, amount: sums }
+}
 
 // Whether a contract is one of a script, at a number and a state.
 fn is_instance(script: &[u8; 32], there: Cont, state: &State, made: Option<Instance<'_>>) -> bool
@@ -57,6 +71,19 @@ pub fn goes_on_in(
     }
 }
 
+// What is owed to a party is under its key, or for whoever holds its role's token.
+fn lock_for(currency: &Bytes, party: &Party) -> Result<Lock, Memory>
+    ensures { IfOk result (λ lock. lock ≡ lock_for currency.now party.now) }
+{
+    match party {
+        Party::Address(address) => Ok(Lock::Key(address.try_clone()?)),
+        Party::Role(role) => Ok(Lock::Payout {
+            currency: currency.try_clone()?,
+            role: role.try_clone()?,
+        }),
+    }
+}
+
 fn is_under(currency: &Bytes, party: &Party, lock: &Lock) -> bool
     ensures { IsTrue result ↔ (lock.now ≡ lock_for currency.now party.now) }
 {
@@ -76,6 +103,21 @@ fn is_under(currency: &Bytes, party: &Party, lock: &Lock) -> bool
     }
 }
 
+// The output for a payment to a party.
+fn owed_output(
+    alloc: Global,
+    currency: &Bytes,
+    party: &Party,
+    payment: &Payment,
+) -> Result<Output, Memory>
+    requires { pos 0 <ℤ payment.now.amount }
+    ensures { IfOk result (λ output. output ≡ owed_output currency.now party.now payment.now) }
+{
+    let lock = lock_for(currency, party)?;
+    let amount = only(alloc, &payment.token, payment.amount)?;
+    Ok(Output { lock, amount })
+}
+
 fn is_owed(currency: &Bytes, party: &Party, payment: &Payment, output: &Output) -> bool
     ensures { IsTrue result ↔ (output.now ≡ owed_output currency.now party.now payment.now) }
 {
@@ -89,8 +131,8 @@ fn pays(currency: &Bytes, party: &Party, payment: &Payment, output: &Output) -> 
     is_owed(currency, party, payment, output)
 }
 
-/// The party to which a payment is due: none where it goes to an account, or is of 0.
-pub fn due_to(payment: &Payment) -> Option<&Party>
+// The party to which a payment is due: none where it goes to an account, or is of 0.
+fn due_to(payment: &Payment) -> Option<&Party>
     ensures { option_copied result ≡ due_to payment.now }
 {
     match &payment.to {
@@ -103,6 +145,23 @@ pub fn due_to(payment: &Payment) -> Option<&Party>
             }
         }
     }
+}
+
+/// Puts the outputs that are due for payments behind others.
+pub fn put_due(
+    alloc: Global,
+    outputs: &mut Items<Output>,
+    currency: &Bytes,
+    payments: &[Payment],
+) -> Result<(), Memory>
+    ensures { OnOk result (outputs.new ≡ outputs.old ++ due_outputs currency.now payments.now) }
+{
+    for payment in payments {
+        if let Some(party) = due_to(payment) {
+            outputs.push(owed_output(alloc, currency, party, payment)?)?;
+        }
+    }
+    Ok(())
 }
 
 /// The lowest place from `from` on that isn't the payment that is due there.

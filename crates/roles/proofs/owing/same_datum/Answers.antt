@@ -1,7 +1,7 @@
 use Rattle.collections.proofs.SameLaws.{same_by_from}
 use Rattle.machine.specs.declared.datum.Datum.{Datum}
 use Rattle.machine.specs.contracts.datum.Datum as datums
-use Rattle.roles.proofs.layout.same_datum.Goals as goal
+use Rattle.roles.proofs.owing.same_datum.Goals as goal
 
 pub returns : goal.returns
 returns c =
