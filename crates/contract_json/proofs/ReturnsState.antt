@@ -20,7 +20,7 @@ use Rattle.std.specs.Fmt.{signed_decimal}
 use Rattle.serde_json.specs.Data.{Data, string, Items, no_items, item}
 use Rattle.serde_json.specs.Find.{as_array}
 use Rattle.collections.specs.Answers.{◌>>=◌}
-use Rattle.json_read_names.specs.Parts.{Reading, found, all_items, list, time}
+use Rattle.json_read_names.specs.Parts.{Reading, needed, all_items, list, time}
 use Rattle.json_read_inputs.specs.ReadsState.{account_row, choice_row, bound_row, rows_into, rows, state}
 use Rattle.json_read_inputs.specs.Rows.{and_then, until_fault}
 use Rattle.names.specs.declared.choice_id.ChoiceId.{ChoiceId}
@@ -28,7 +28,7 @@ use Rattle.serde_json.specs.Data.{array}
 use Rattle.serde_json.specs.View.{items_of}
 use Rattle.json_read_names.specs.Parts.{text, whole}
 use Rattle.json_read_names.specs.ReadsNames.{party, token, choice_id}
-use Rattle.json_write_contracts.specs.Written.{four, pair_json, number_json, wide_json, party_json, token_json, choice_id_json, number_fits, time_fits}
+use Rattle.json_write_contracts.specs.WrittenNames.{four, pair_json, number_json, wide_json, party_json, token_json, choice_id_json, number_fits, time_fits}
 use Rattle.json_write_outcomes.specs.Each.{Each, HasBytes}
 use Rattle.json_write_outcomes.specs.WrittenOutcome.{account_row_json, choice_row_json, bound_row_json, state_json, state_fits}
 use Rattle.contract_json.proofs.Hexes.{token-token_json}
@@ -90,7 +90,7 @@ module _ {K : Type 0} (R : K → K → Ordering) (o : IsTotalOrder R) (exact : I
 
   -- a list of a map's rows stands for the map
   pub rows-list : (row : Data → Reading (K × ℤ)) (d : Data) (m : FinMap R ℤ) → list row d ≡ Ok (entries m) → rows R row d ≡ Ok m
-  rows-list row d m h = either_way row (found (as_array d)) m h
+  rows-list row d m h = either_way row (needed (as_array d)) m h
 
 above : (n : ℤ) → pos 0 <ℤ n → int_lt (pos 0) n ≡ true
 above n h = elim (int_lt (pos 0) n) as (λ b. int_lt (pos 0) n ≡ b → b ≡ true) [ true ↦ λ is. refl | false ↦ λ is. absurd (omega (arith, ints, is)) ] refl

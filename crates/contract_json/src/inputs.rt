@@ -8,8 +8,8 @@ ghost use Rattle.serde_json.specs.View.{items_of};
 ghost use Rattle.json_write_outcomes.specs.Each.{Each};
 ghost use Rattle.json_write_contracts.specs.Tokens.{Keeps, Puts, PutsFitting};
 ghost use Rattle.contract_json.specs.InputSymbols.{InputSymbols};
-ghost use Rattle.json_write_contracts.specs.Written as written;
-ghost use Rattle.json_write_contracts.specs.Written.{number_fits, time_fits};
+ghost use Rattle.json_write_contracts.specs.WrittenNames as written_names;
+ghost use Rattle.json_write_contracts.specs.WrittenNames.{number_fits, time_fits};
 ghost use Rattle.contract_json.specs.WrittenInput.{input_json, input_fits, interval_json, transaction_json, transaction_fits};
 
 use collections::{Items, Memory};
@@ -22,7 +22,7 @@ use names::{ChoiceId, Party, Token};
 use std::alloc::Global;
 
 fn put_whole(out: &mut Writer, number: &i128) -> Result<(), WriteFault>
-    ensures put { PutsFitting result out.old out.new (number_fits number.now) (written.number_json number.now) }
+    ensures put { PutsFitting result out.old out.new (number_fits number.now) (written_names.number_json number.now) }
     ensures err { OnErr result (Keeps out.old out.new) }
 {
     put_number(out, *number)
@@ -36,8 +36,8 @@ fn put_deposit(
     token: &Token,
     amount: &i128,
 ) -> Result<(), WriteFault>
-    ensures put { PutsFitting result out.old out.new (number_fits amount.now) (written.four (codes "input_from_party") (written.party_json party.now)
-        (codes "into_account") (written.party_json account.now) (codes "of_token") (written.token_json token.now) (codes "that_deposits") (written.number_json amount.now)) }
+    ensures put { PutsFitting result out.old out.new (number_fits amount.now) (written_names.four (codes "input_from_party") (written_names.party_json party.now)
+        (codes "into_account") (written_names.party_json account.now) (codes "of_token") (written_names.token_json token.now) (codes "that_deposits") (written_names.number_json amount.now)) }
     ensures err { OnErr result (Keeps out.old out.new) }
     ensures symbol { OnOk result (IsBytes token.now.symbol) }
 {
@@ -55,8 +55,8 @@ fn put_deposit(
 }
 
 fn put_choice(out: &mut Writer, id: &ChoiceId, number: &i128) -> Result<(), WriteFault>
-    ensures put { PutsFitting result out.old out.new (number_fits number.now) (written.two (codes "for_choice_id") (written.choice_id_json id.now)
-        (codes "input_that_chooses_num") (written.number_json number.now)) }
+    ensures put { PutsFitting result out.old out.new (number_fits number.now) (written_names.two (codes "for_choice_id") (written_names.choice_id_json id.now)
+        (codes "input_that_chooses_num") (written_names.number_json number.now)) }
     ensures err { OnErr result (Keeps out.old out.new) }
 {
     out.begin_object()?;
@@ -99,7 +99,7 @@ fn put_inputs(alloc: Global, out: &mut Writer, inputs: &Items<Input>) -> Result<
 }
 
 fn put_moment(out: &mut Writer, time: &i64) -> Result<(), Memory>
-    ensures put { OnOk result (Puts out.old out.new (written.number_json time.now)) }
+    ensures put { OnOk result (Puts out.old out.new (written_names.number_json time.now)) }
     ensures err { OnErr result (Keeps out.old out.new) }
     ensures fits { time_fits time.now ≡ true }
 {

@@ -3,7 +3,7 @@ ghost use Rattle.std.specs.Prelude.{◌≡◌, IfOk, OnOk, OnErr, string_bytes};
 ghost use Rattle.serde_json.specs.Data.{Data, string};
 ghost use Rattle.serde_json.specs.Written.{compact_text};
 ghost use Rattle.json_write_contracts.specs.Tokens.{Keeps, Puts};
-ghost use Rattle.json_write_contracts.specs.Written as written;
+ghost use Rattle.json_write_contracts.specs.WrittenNames as written_names;
 
 use collections::{Memory, Text};
 use json::Writer;
@@ -35,7 +35,7 @@ pub fn term_text<T: Term>(alloc: Global, term: &T) -> Result<String, Memory>
 }
 
 impl Term for Party {
-    ghost json = { written.party_json };
+    ghost json = { written_names.party_json };
 
     fn put(&self, _alloc: Global, out: &mut Writer) -> Result<(), Memory> {
         put_party(out, self)
@@ -43,7 +43,7 @@ impl Term for Party {
 }
 
 impl Term for Token {
-    ghost json = { written.token_json };
+    ghost json = { written_names.token_json };
 
     fn put(&self, alloc: Global, out: &mut Writer) -> Result<(), Memory> {
         put_token(alloc, out, self)
@@ -51,7 +51,7 @@ impl Term for Token {
 }
 
 impl Term for ChoiceId {
-    ghost json = { written.choice_id_json };
+    ghost json = { written_names.choice_id_json };
 
     fn put(&self, _alloc: Global, out: &mut Writer) -> Result<(), Memory> {
         put_choice_id(out, self)
@@ -59,7 +59,7 @@ impl Term for ChoiceId {
 }
 
 impl Term for Payee {
-    ghost json = { written.payee_json };
+    ghost json = { written_names.payee_json };
 
     fn put(&self, _alloc: Global, out: &mut Writer) -> Result<(), Memory> {
         put_payee(out, self)

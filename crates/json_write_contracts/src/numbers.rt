@@ -2,7 +2,7 @@
 //! Where a call fails, what was written before it stays, and behind it stand some tokens or none.
 ghost use Rattle.std.specs.Prelude.{◌≡◌, true, OnOk, OnErr};
 ghost use Rattle.json_write_contracts.specs.Tokens.{Keeps, Puts, PutsFitting};
-ghost use Rattle.json_write_contracts.specs.Written.{number_json, wide_json, number_fits, time_fits};
+ghost use Rattle.json_write_contracts.specs.WrittenNames.{number_json, wide_json, number_fits, time_fits};
 
 use crate::fault::WriteFault;
 use collections::Memory;

@@ -5,7 +5,8 @@ ghost use Rattle.serde_json.specs.Data.{array};
 ghost use Rattle.serde_json.specs.View.{items_of};
 ghost use Rattle.contract.specs.Tree.{contract_tree};
 ghost use Rattle.json_write_contracts.specs.Tokens.{Keeps, Puts, PutsFitting};
-ghost use Rattle.json_write_contracts.specs.Written.{contract_fits, time_fits};
+ghost use Rattle.json_write_contracts.specs.WrittenNames.{time_fits};
+ghost use Rattle.json_write_contracts.specs.WrittenContract.{contract_fits};
 ghost use Rattle.json_write_outcomes.specs.WrittenOutcome.{payment_json, warning_json, outcome_json};
 
 use crate::lists::put_list;

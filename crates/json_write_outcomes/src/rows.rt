@@ -3,7 +3,7 @@
 ghost use Rattle.std.specs.Prelude.{⊤, ◌≡◌, OnOk, OnErr};
 ghost use Rattle.hex.specs.Hex.{IsBytes};
 ghost use Rattle.json_write_contracts.specs.Tokens.{Keeps, Puts};
-ghost use Rattle.json_write_contracts.specs.Written.{pair_json, party_json, token_json};
+ghost use Rattle.json_write_contracts.specs.WrittenNames.{pair_json, party_json, token_json};
 ghost use Rattle.json_write_outcomes.specs.Each.{HasBytes};
 ghost use Rattle.json_write_outcomes.specs.WrittenOutcome.{account_row_json, choice_row_json, bound_row_json};
 

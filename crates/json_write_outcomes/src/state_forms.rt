@@ -5,7 +5,7 @@ ghost use Rattle.std.specs.FinMap.{entries};
 ghost use Rattle.serde_json.specs.Data.{array};
 ghost use Rattle.serde_json.specs.View.{items_of};
 ghost use Rattle.json_write_contracts.specs.Tokens.{Keeps, Puts};
-ghost use Rattle.json_write_contracts.specs.Written.{number_json, time_fits};
+ghost use Rattle.json_write_contracts.specs.WrittenNames.{number_json, time_fits};
 ghost use Rattle.json_write_outcomes.specs.Each.{Each, HasBytes};
 ghost use Rattle.json_write_outcomes.specs.WrittenOutcome.{account_row_json, choice_row_json, bound_row_json, state_json};
 

@@ -3,7 +3,7 @@
 ghost use Rattle.std.specs.Prelude.{⊤, ◌≡◌, codes, OnOk, OnErr};
 ghost use Rattle.serde_json.specs.Data.{string};
 ghost use Rattle.json_write_contracts.specs.Tokens.{Keeps, Puts};
-ghost use Rattle.json_write_contracts.specs.Written as written;
+ghost use Rattle.json_write_contracts.specs.WrittenNames as written_names;
 ghost use Rattle.json_write_outcomes.specs.WrittenOutcome.{warning_json};
 
 use crate::lists::PutItem;
@@ -22,8 +22,8 @@ fn put_deposit_warning(
     token: &Token,
     amount: &i128,
 ) -> Result<(), Memory>
-    ensures put { OnOk result (Puts out.old out.new (written.five (codes "account") (written.party_json account.now) (codes "amount") (written.wide_json amount.now)
-        (codes "party") (written.party_json party.now) (codes "token") (written.token_json token.now) (codes "warning") (string (codes "NonPositiveDeposit")))) }
+    ensures put { OnOk result (Puts out.old out.new (written_names.five (codes "account") (written_names.party_json account.now) (codes "amount") (written_names.wide_json amount.now)
+        (codes "party") (written_names.party_json party.now) (codes "token") (written_names.token_json token.now) (codes "warning") (string (codes "NonPositiveDeposit")))) }
     ensures err { OnErr result (Keeps out.old out.new) }
 {
     out.begin_object()?;
@@ -49,8 +49,8 @@ fn put_pay_warning(
     token: &Token,
     amount: &i128,
 ) -> Result<(), Memory>
-    ensures put { OnOk result (Puts out.old out.new (written.five (codes "account") (written.party_json account.now) (codes "amount") (written.wide_json amount.now)
-        (codes "payee") (written.payee_json payee.now) (codes "token") (written.token_json token.now) (codes "warning") (string (codes "NonPositivePay")))) }
+    ensures put { OnOk result (Puts out.old out.new (written_names.five (codes "account") (written_names.party_json account.now) (codes "amount") (written_names.wide_json amount.now)
+        (codes "payee") (written_names.payee_json payee.now) (codes "token") (written_names.token_json token.now) (codes "warning") (string (codes "NonPositivePay")))) }
     ensures err { OnErr result (Keeps out.old out.new) }
 {
     out.begin_object()?;
@@ -77,8 +77,8 @@ fn put_partial_warning(
     paid: &i128,
     expected: &i128,
 ) -> Result<(), Memory>
-    ensures put { OnOk result (Puts out.old out.new (written.six (codes "account") (written.party_json account.now) (codes "expected") (written.wide_json expected.now)
-        (codes "paid") (written.wide_json paid.now) (codes "payee") (written.payee_json payee.now) (codes "token") (written.token_json token.now)
+    ensures put { OnOk result (Puts out.old out.new (written_names.six (codes "account") (written_names.party_json account.now) (codes "expected") (written_names.wide_json expected.now)
+        (codes "paid") (written_names.wide_json paid.now) (codes "payee") (written_names.payee_json payee.now) (codes "token") (written_names.token_json token.now)
         (codes "warning") (string (codes "PartialPay")))) }
     ensures err { OnErr result (Keeps out.old out.new) }
 {
@@ -106,7 +106,7 @@ fn put_shadowing(
     old: &i128,
     new: &i128,
 ) -> Result<(), Memory>
-    ensures put { OnOk result (Puts out.old out.new (written.four (codes "name") (string name.now) (codes "new") (written.wide_json new.now) (codes "old") (written.wide_json old.now)
+    ensures put { OnOk result (Puts out.old out.new (written_names.four (codes "name") (string name.now) (codes "new") (written_names.wide_json new.now) (codes "old") (written_names.wide_json old.now)
         (codes "warning") (string (codes "Shadowing")))) }
     ensures err { OnErr result (Keeps out.old out.new) }
 {
@@ -124,7 +124,7 @@ fn put_shadowing(
 }
 
 fn put_failed_assertion(out: &mut Writer) -> Result<(), Memory>
-    ensures put { OnOk result (Puts out.old out.new (written.one (codes "warning") (string (codes "AssertionFailed")))) }
+    ensures put { OnOk result (Puts out.old out.new (written_names.one (codes "warning") (string (codes "AssertionFailed")))) }
     ensures err { OnErr result (Keeps out.old out.new) }
 {
     out.begin_object()?;

@@ -1,4 +1,4 @@
-use Rattle.json_write_contracts.specs.Written.{bound_json, bound_fits}
+use Rattle.json_write_contracts.specs.WrittenContract.{bound_json, bound_fits}
 use Rattle.json_write_contracts.proofs.AddsLaws.{wrote}
 use Rattle.json_write_contracts.proofs.ListedLaws.{listed-at, closed, all-more-at, all-over}
 use Rattle.json_write_contracts.proofs.actions.put_bounds.Goals as goal

@@ -1,6 +1,6 @@
 use Rattle.std.proofs.Common.{◌&&◌}
 use Rattle.contract.specs.Tree.{case_tree}
-use Rattle.json_write_contracts.specs.Written.{case_json, case_fits}
+use Rattle.json_write_contracts.specs.WrittenContract.{case_json, case_fits}
 use Rattle.json_write_contracts.proofs.AddsLaws.{then, wrote, stopped, refused}
 use Rattle.json_write_contracts.proofs.ListedLaws.{listed, closed, all-more, all-over}
 use Rattle.json_write_contracts.proofs.SymbolsOf.{symbols-more, symbols-over}
