@@ -26,7 +26,7 @@ use Rattle.json_read_inputs.specs.Rows.{and_then, until_fault}
 use Rattle.names.specs.declared.choice_id.ChoiceId.{ChoiceId}
 use Rattle.serde_json.specs.Data.{array}
 use Rattle.serde_json.specs.View.{items_of}
-use Rattle.json_read_names.specs.Parts.{text, whole}
+use Rattle.json_read_names.specs.Parts.{text, whole_number}
 use Rattle.json_read_names.specs.ReadsNames.{party, token, choice_id}
 use Rattle.json_write_contracts.specs.WrittenNames.{four, pair_json, number_json, wide_json, party_json, token_json, choice_id_json, number_fits, time_fits}
 use Rattle.json_write_outcomes.specs.Each.{Each, HasBytes}
@@ -102,18 +102,18 @@ accounts_fit (e ∷ es) p h =
     let parts = both (number_fits e.1) (list_all (λ x. number_fits x.1) es) h in
     λ i. (parts.0 i && above e.1 p.0 i) && accounts_fit es p.1 parts.1 i
 
-wide-back : (n : ℤ) → number_fits n ≡ true → whole (wide_json n) ≡ Ok n
-wide-back n h = ap (λ b. whole (cond b (number_json n) (string (signed_decimal n)))) h ∙ whole-number_json n
+wide-back : (n : ℤ) → number_fits n ≡ true → whole_number (wide_json n) ≡ Ok n
+wide-back n h = ap (λ b. whole_number (cond b (number_json n) (string (signed_decimal n)))) h ∙ whole-number_json n
 
-account-pair : (o t n : Data) (e : Account × ℤ) → party o ≡ Ok e.0.owner → token t ≡ Ok e.0.token → whole n ≡ Ok e.1 → int_lt (pos 0) e.1 ≡ true → account_row (pair_json (pair_json o t) n) ≡ Ok e
+account-pair : (o t n : Data) (e : Account × ℤ) → party o ≡ Ok e.0.owner → token t ≡ Ok e.0.token → whole_number n ≡ Ok e.1 → int_lt (pos 0) e.1 ≡ true → account_row (pair_json (pair_json o t) n) ≡ Ok e
 unfolding account_row
 account-pair o t n e h k l m = rw (h, k, l, m) refl
 
-choice-pair : (i n : Data) (e : ChoiceId × ℤ) → choice_id i ≡ Ok e.0 → whole n ≡ Ok e.1 → choice_row (pair_json i n) ≡ Ok e
+choice-pair : (i n : Data) (e : ChoiceId × ℤ) → choice_id i ≡ Ok e.0 → whole_number n ≡ Ok e.1 → choice_row (pair_json i n) ≡ Ok e
 unfolding choice_row
 choice-pair i n e h k = rw (h, k) refl
 
-bound-pair : (t n : Data) (e : List ℕ × ℤ) → text t ≡ Ok e.0 → whole n ≡ Ok e.1 → bound_row (pair_json t n) ≡ Ok e
+bound-pair : (t n : Data) (e : List ℕ × ℤ) → text t ≡ Ok e.0 → whole_number n ≡ Ok e.1 → bound_row (pair_json t n) ≡ Ok e
 unfolding bound_row
 bound-pair t n e h k = rw (h, k) refl
 

@@ -1,5 +1,5 @@
 -- From what each call answered to what the callers promise.
-use Rattle.std.proofs.Common.{◌≡◌, inr, ℕ, List, [], sym, ap, ◌∙◌, subst, Some, Result, Ok, Err}
+use Rattle.std.proofs.Common.{◌≡◌, inr, OnErr, ℕ, List, [], sym, ap, ◌∙◌, Some, Result, Ok, Err}
 use Rattle.contract.specs.declared.input.Input.{Input}
 use Rattle.contract.specs.declared.interval.Interval.{Interval}
 use Rattle.eutxo_types.specs.declared.output_ref.OutputRef.{OutputRef}
@@ -53,12 +53,11 @@ after_by c looked new seat start inputs signers offered change now ask l tx n o 
     after_stepped c new seat start (step_asked c inputs signers change) tx (as_asked c start inputs signers offered change now ask l (Ok tx) n o a k b)
     (h ∙ ap (λ (x : Course). called x seat (on.Submit tx)) (m ∙ ap (λ (x : Ask). called c seat (on.Look x)) a))
 
--- where the look fails, and where what follows it does
-pub looked_at : (c new : Course) (seat : ℕ) (start : OutputRef) (ask : Ask) → ask ≡ thread_ask start → OnlyLooked c new seat ask → OnlyLooked c new seat (thread_ask start)
-looked_at c new seat start ask a h = subst (OnlyLooked c new seat) a h
-
-pub looked_then : (c looked new : Course) (seat : ℕ) (start : OutputRef) (ask : Ask) → ask ≡ thread_ask start → looked ≡ called c seat (on.Look ask) → new ≡ looked → OnlyLooked c new seat (thread_ask start)
-looked_then c looked new seat start ask a m h = inr (h ∙ m ∙ ap (λ (x : Ask). called c seat (on.Look x)) a)
+-- where the step isn't submitted after the look, just the look is left
+pub only_looked : {T : Type 0} (r : Result T BuildFault) (c looked new : Course) (seat : ℕ) (start : OutputRef) (ask : Ask) →
+    ask ≡ thread_ask start → looked ≡ called c seat (on.Look ask) → new ≡ looked → OnErr r (OnlyLooked c new seat (thread_ask start))
+only_looked (Ok x) c looked new seat start ask a m h = tt
+only_looked (Err f) c looked new seat start ask a m h = inr (h ∙ m ∙ ap (λ (x : Ask). called c seat (on.Look x)) a)
 
 pub hindered_by : (c : Course) (start : OutputRef) (inputs : List Input) (signers : List (List ℕ)) (offered : List Unspent) (change : List ℕ) (now : Interval) (ask : Ask) (l : Look) (fault : BuildFault) →
     now ≡ at_tick c → offered ≡ [] → ask ≡ thread_ask start → l ≡ look (world c) ask → step_answer l (request now inputs signers offered change) ≡ Err fault →
