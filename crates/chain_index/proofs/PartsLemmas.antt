@@ -1,8 +1,6 @@
 -- What one accepted transaction more, a cut and a settlement make of the lists of an index.
-use Rattle.std.proofs.Common.{◌≡◌, ℕ, ◌≤◌, ◌+◌, arith, Bool, true, false, ◌||◌, ◌&&◌, not, cond, filter, List, [], ◌∷◌, ◌++◌, refl, sym, ◌∙◌, ap, subst, take, length, Option, Some, None, Result, Ok, Err}
-use Rattle.std.specs.Prelude.{◌==◌, is_some, OnOk, OnErr}
-use Rattle.std.specs.List.{list_any}
-use Rattle.std.specs.Map.{lookup}
+use Rattle.std.proofs.Common.{◌≡◌, ℕ, ◌≤◌, ◌+◌, arith, Bool, true, false, ◌||◌, not, cond, filter, List, [], ◌∷◌, ◌++◌, refl, sym, ◌∙◌, ap, subst, take, length, Result, Ok, Err}
+use Rattle.std.specs.Prelude.{◌==◌, OnOk, OnErr}
 use Rattle.std.proofs.Math.Seq.{take-length}
 use Rattle.std.proofs.lemmas.List.{length-take-le, map-append}
 use Rattle.std.proofs.lemmas.List.Elements.{filter-append}

@@ -1,11 +1,11 @@
 -- What is indexed of a past.
-use Rattle.std.proofs.Common.{◌≡◌, ℕ, suc, ◌+◌, Bool, true, false, ◌||◌, ◌&&◌, not, filter, ℤ, List, [], ◌∷◌, ◌++◌, refl, sym, ◌∙◌, ap, subst, append_assoc, take, length, map, arith, Option, Some, None}
+use Rattle.std.proofs.Common.{◌≡◌, ℕ, suc, ◌+◌, Bool, true, false, ◌||◌, ◌&&◌, not, filter, List, [], ◌∷◌, ◌++◌, refl, sym, ◌∙◌, ap, subst, append_assoc, length, map, arith, Option, Some, None}
 use Rattle.std.specs.Prelude.{is_some, is_none, if◌then◌else◌, ◌==◌}
 use Rattle.std.proofs.lemmas.Bool.{eq-eqb}
 use Rattle.std.specs.List.{list_any, slice_get, IsDistinct, AllByRecursion}
-use Rattle.std.specs.Map.{lookup, keys_of}
+use Rattle.std.specs.Map.{keys_of}
 use Rattle.std.proofs.Math.Seq.{take-append_seam}
-use Rattle.std.proofs.lemmas.List.{map-append, length-append, length-map}
+use Rattle.std.proofs.lemmas.List.{map-append, length-map}
 use Rattle.std.proofs.lemmas.List.Elements.{filter-append}
 use Rattle.std.proofs.lemmas.List.Folds.{list_any-append}
 use Rattle.std.proofs.lemmas.Map.Keys.{IsDistinct-cons}
@@ -17,16 +17,14 @@ use Rattle.eutxo_types.specs.declared.output_ref.OutputRef.TheVariants.{Genesis,
 use Rattle.eutxo_types.specs.declared.spend.Spend.{Spend}
 use Rattle.eutxo_types.specs.declared.tx.Tx.{Tx}
 use Rattle.eutxo_types.specs.Ids.{id_of}
-use Rattle.eutxo_types.specs.Parts.{same_bytes, same_ref, is_step, steps, contract_at, Instance}
+use Rattle.eutxo_types.specs.Parts.{same_bytes, same_ref, is_step, steps, contract_at}
 use Rattle.eutxo.specs.Asked.{Judges}
-use Rattle.eutxo.specs.Judgement.{judge}
 use Rattle.eutxo.specs.Laws.{FoundIsEnough}
 use Rattle.roles.specs.declared.published.Published.{Published}
 use Rattle.ledger_laws.specs.Past.{Past, after, is_input_of, is_spent, created, created_by, unspent, unspent_at, has_id}
 use Rattle.ledger_laws.specs.Past as past_words
-use Rattle.ledger_laws.specs.Sound.{moment, IsSound}
 use Rattle.ledger_laws.specs.Threads.{next_of}
-use Rattle.ledger_laws.proofs.PlainLaws.{EachFalse, and_true, or_false, both, both_false, not_both, is_there, each_at, bool_cases, no_more}
+use Rattle.ledger_laws.proofs.PlainLaws.{EachFalse, and_true, or_false, both, both_false, not_both, is_there, each_at, no_more}
 use Rattle.ledger_laws.proofs.PartLaws.{output_so}
 use Rattle.ledger_laws.proofs.ReferenceLaws.{same_ref_so, created_grown, spent_more, unspent_so, at_place, and_never}
 use Rattle.ledger_laws.proofs.AcceptedLaws.{still_there}
@@ -37,7 +35,7 @@ use Rattle.ledger_laws.proofs.SoundLemmas.{after_is_sound}
 use Rattle.ledger_spec.specs.Replay.{published_at}
 use Rattle.ledger_spec.specs.Views.{starts_in}
 use Rattle.chain_index.specs.declared.moves.Move.{Move}
-use Rattle.chain_index.specs.Contents.{Contents, contents_of, accepting, without, moment_at, is_used, is_among, CanBeAdded}
+use Rattle.chain_index.specs.Contents.{without, is_used, is_among}
 use Rattle.chain_index.specs.Laws.{ReadsAlike, AcceptsAlike, JudgedCanBeAdded}
 use Rattle.chain_index.specs.Moves.{move_to, moves_by, moves_in, moves_from, starts_by, starts_of}
 use Rattle.chain_index.proofs.PartsLemmas.{filtered_twice, all_stay}

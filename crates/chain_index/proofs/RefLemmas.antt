@@ -6,7 +6,6 @@ use Rattle.eutxo_types.specs.contracts.output_ref.OutputRefPartialEq.TheImpl.{gh
 use Rattle.eutxo_types.specs.declared.output_ref.OutputRef.{OutputRef}
 use Rattle.eutxo_types.specs.declared.output_ref.OutputRef.TheVariants.{Genesis, Made}
 use Rattle.eutxo_types.specs.Parts.{same_ref}
-use Rattle.ledger_laws.proofs.PlainLaws.{or_false}
 use Rattle.ledger_laws.proofs.ReferenceLaws.{same_ref_so, same_ref-refl}
 use Rattle.chain_index.specs.Contents.{is_among}
 use Rattle.chain_index.specs.HolesSupport.{with_key}

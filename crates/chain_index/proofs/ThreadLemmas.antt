@@ -1,5 +1,5 @@
 -- The moves of a sound past lead along its threads.
-use Rattle.std.proofs.Common.{◌≡◌, ℕ, zero, suc, ◌+◌, ◌≤◌, arith, Bool, true, false, ◌||◌, List, [], ◌∷◌, ◌++◌, refl, sym, ◌∙◌, ap, subst, take, drop, length, map, Option, Some, None}
+use Rattle.std.proofs.Common.{◌≡◌, ℕ, zero, suc, ◌+◌, ◌≤◌, arith, Bool, true, false, List, [], ◌∷◌, ◌++◌, refl, sym, ◌∙◌, ap, subst, take, drop, length, map, Option, Some, None}
 use Rattle.std.specs.Prelude.{if◌then◌else◌}
 use Rattle.std.specs.Option.{option_map}
 use Rattle.std.specs.List.{slice_get, list_any}
@@ -7,10 +7,8 @@ use Rattle.std.specs.Map.{lookup, keys_of}
 use Rattle.std.proofs.lemmas.List.{length-append, take-append-drop}
 use Rattle.eutxo_types.specs.declared.output.Output.{Output}
 use Rattle.eutxo_types.specs.declared.output_ref.OutputRef.{OutputRef}
-use Rattle.eutxo_types.specs.declared.output_ref.OutputRef.TheVariants.{Made}
 use Rattle.eutxo_types.specs.declared.spend.Spend.{Spend}
 use Rattle.eutxo_types.specs.declared.tx.Tx.{Tx}
-use Rattle.eutxo_types.specs.Ids.{id_of}
 use Rattle.eutxo_types.specs.Parts.{same_ref, is_step, is_contract, Instance, lock_of}
 use Rattle.eutxo.specs.Asked.{Judges}
 use Rattle.eutxo.specs.Laws.{FoundIsEnough}
@@ -27,10 +25,9 @@ use Rattle.ledger_laws.proofs.SpineLaws.{reached, ends_reached, next_so}
 use Rattle.ledger_spec.specs.Views.{starts_in}
 use Rattle.ledger_spec.proofs.StartsLaws.{start_told}
 use Rattle.chain_index.specs.declared.moves.Move.{Move}
-use Rattle.chain_index.specs.declared.moves.StepPlace.{StepPlace}
 use Rattle.chain_index.specs.Contents.{is_among}
 use Rattle.chain_index.specs.Laws.{link_at, TellsThread, ThreadsAlike, EndsAlike}
-use Rattle.chain_index.specs.Moves.{move_to, moves_by, moves_in, moves_from, place_of, step_at, steps_after, steps_within, leads_after, leads_within, leads, starts_of}
+use Rattle.chain_index.specs.Moves.{move_to, moves_by, moves_in, moves_from, place_of, step_at, steps_after, steps_within, leads_after, leads_within, leads}
 use Rattle.chain_index.proofs.LiveLemmas.{absent_lookup}
 use Rattle.chain_index.proofs.MoveLemmas.{Listed}
 use Rattle.chain_index.proofs.PastLemmas.{false_if, moves_spend, moved_spent, starts_alike}

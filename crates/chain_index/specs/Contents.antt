@@ -1,7 +1,8 @@
 -- What is indexed of a ledger.
-use Rattle.std.specs.Prelude.{◌≡◌, ℕ, ℤ, Bool, true, false, not, List, [], ◌∷◌, ◌++◌, map, filter, length, Option, Some, None, is_some, if◌then◌else◌}
+use Rattle.std.specs.Prelude.{◌≡◌, ℕ, ℤ, Bool, true, false, not, List, [], ◌∷◌, ◌++◌, map, filter, length, Option, None, is_some, if◌then◌else◌}
 use Rattle.std.specs.List.{list_any, IsDistinct}
 use Rattle.std.specs.Map.{lookup, keys_of}
+use Rattle.eutxo_types.specs.declared.lock.Lock.{Lock}
 use Rattle.eutxo_types.specs.declared.output.Output.{Output}
 use Rattle.eutxo_types.specs.declared.output_ref.OutputRef.{OutputRef}
 use Rattle.eutxo_types.specs.declared.output_ref.OutputRef.TheVariants.{Genesis, Made}
@@ -10,8 +11,10 @@ use Rattle.eutxo_types.specs.Ids.{id_of}
 use Rattle.eutxo_types.specs.Parts.{same_bytes, same_ref}
 use Rattle.eutxo.specs.Judgement.{Moment}
 use Rattle.roles.specs.declared.published.Published.{Published}
+use Rattle.ledger.specs.declared.look.Unspent.{Unspent}
 use Rattle.ledger_laws.specs.Past.{Past, with_references, created_by, is_input_of, unspent}
 use Rattle.ledger_spec.specs.Replay.{published_at}
+use Rattle.ledger_spec.specs.Views.{unspent_of}
 use Rattle.chain_index.specs.declared.moves.Move.{Move}
 use Rattle.chain_index.specs.Moves.{moves_in, moves_from, leads, starts_by, starts_of}
 
@@ -65,6 +68,10 @@ is_among rs r = list_any (same_ref r) rs
 abbrev pub end_in : Contents → OutputRef → Option OutputRef
 end_in c r = if is_among c.starts r then leads r c.moves else None
 
+-- the unspent outputs under the locks that are asked for, in order of creation
+abbrev pub under_locks_in : (Lock → Bool) → Contents → List Unspent
+under_locks_in asked c = map unspent_of (filter (λ e. asked e.1.lock) c.unspent)
+
 -- what the rules read of it, at a tick
 abbrev pub moment_at : Contents → ℤ → Moment Published
 moment_at c tick = record { unspent = λ r. lookup (same_ref r) c.unspent; published = published_at c.published; is_used = is_used c.used; tick = tick }
@@ -81,3 +88,7 @@ pub record CanBeAdded (c : Contents) (tx : Tx) : Type 0 where
 pub record Indexed : Type 0 where
   pub settled : Contents
   pub present : Contents
+
+-- an index of these outputs alone
+abbrev pub beginning : List Output → Indexed
+beginning genesis = record { settled = first_contents genesis; present = first_contents genesis }

@@ -1,5 +1,5 @@
 -- No reader needs this file: entries by reference, in order, with holes where some were taken out.
-use Rattle.std.specs.Prelude.{Bool, not, if◌then◌else◌, List, [], ◌∷◌, ◌++◌, filter, Option, Some, None}
+use Rattle.std.specs.Prelude.{◌≡◌, true, not, if◌then◌else◌, List, [], ◌∷◌, ◌++◌, filter, Option, Some, None}
 use Rattle.std.specs.Map.{keys_of}
 use Rattle.eutxo_types.specs.declared.output_ref.OutputRef.{OutputRef}
 use Rattle.chain_index.specs.Contents.{is_among}
@@ -24,3 +24,7 @@ with_key rs r = if is_among rs r then rs else rs ++ r ∷ []
 -- the references, holes among them
 abbrev pub known : {V : Type 0} → List (OutputRef × Option V) → List OutputRef
 known es = keys_of es
+
+-- each of these is among those
+abbrev pub AreAmong : List OutputRef → List OutputRef → Type 0
+AreAmong rs qs = (r : OutputRef) → is_among rs r ≡ true → is_among qs r ≡ true

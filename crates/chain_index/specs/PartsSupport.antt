@@ -1,13 +1,17 @@
 -- No reader needs this file: the lists that an index keeps, which only grow until it is settled, and its invariant.
-use Rattle.std.specs.Prelude.{◌≡◌, ℕ, ◌≤◌, ◌||◌, true, Option, List, [], ◌∷◌, ◌++◌, take, map, length}
+use Rattle.std.specs.Prelude.{◌≡◌, ℕ, ◌≤◌, ◌||◌, if◌then◌else◌, true, Option, List, [], ◌∷◌, ◌++◌, take, map, length}
+use Rattle.std.specs.List.{list_any}
 use Rattle.std.specs.Map.{keys_of, values_of}
 use Rattle.eutxo_types.specs.declared.output.Output.{Output}
 use Rattle.eutxo_types.specs.declared.output_ref.OutputRef.{OutputRef}
 use Rattle.eutxo_types.specs.declared.output_ref.OutputRef.TheVariants.{Genesis, Made}
+use Rattle.eutxo_types.specs.declared.spend.Spend.{Spend}
 use Rattle.eutxo_types.specs.declared.tx.Tx.{Tx}
 use Rattle.eutxo_types.specs.Ids.{id_of}
+use Rattle.eutxo_types.specs.Parts.{same_ref}
 use Rattle.roles.specs.declared.published.Published.{Published}
-use Rattle.ledger_laws.specs.Past.{with_references, created_by, is_input_of}
+use Rattle.ledger_laws.specs.Past.{with_references, created_by}
+use Rattle.ledger_spec.specs.Views.{starts_in}
 use Rattle.chain_index.specs.declared.moves.Move.{Move}
 use Rattle.chain_index.specs.declared.parts.Sizes.{Sizes}
 use Rattle.chain_index.specs.Contents.{Contents, Indexed, is_used, is_among}
@@ -63,10 +67,18 @@ pub record IsGrown (old new : Parts) : Type 0 where
   pub moves : IsFront old.moves new.moves
   pub starts : IsFront old.starts new.starts
 
+-- what these inputs spend leaves, too
+abbrev pub LeaveWith : List Spend → List OutputRef → List OutputRef → Type 0
+LeaveWith xs old new = (r : OutputRef) → is_among new r ≡ (list_any (λ x. same_ref x.reference r) xs || is_among old r)
+
+-- the output at a place, where it starts a thread
+abbrev pub one_start : List ℕ → Tx → ℕ → List OutputRef
+one_start id tx i = if starts_in (Made id i) tx then Made id i ∷ [] else []
+
 -- what one accepted transaction adds
 pub record Takes (tx : Tx) (old new : Parts) : Type 0 where
   pub entries : new.entries ≡ old.entries ++ slots (created_by tx)
-  pub leaving : (r : OutputRef) → is_among new.leaving r ≡ (is_input_of r tx || is_among old.leaving r)
+  pub leaving : LeaveWith tx.inputs old.leaving new.leaving
   pub ids : new.ids ≡ old.ids ++ id_of tx ∷ []
   pub objects : new.objects ≡ old.objects
   pub moves : new.moves ≡ old.moves ++ moves_in (length old.ids) tx

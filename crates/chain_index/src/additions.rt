@@ -1,18 +1,18 @@
 //! What accepted transactions add to the lists of an index. Where memory is refused, what came so far is there.
-ghost use Rattle.std.specs.Prelude.{◌≡◌, ◌++◌, ◌∷◌, [], ◌||◌, ℕ, Bool, true, false, if◌then◌else◌, map, OnOk, OnErr};
-ghost use Rattle.std.specs.List.{list_any, IsDistinct};
+ghost use Rattle.std.specs.Prelude.{◌≡◌, ◌++◌, ◌∷◌, [], ℕ, true, false, map, Some, OnOk, OnErr};
+ghost use Rattle.std.specs.List.{IsDistinct};
 ghost use Rattle.std.specs.Map.{keys_of};
 ghost use Rattle.eutxo_types.specs.declared.output_ref.OutputRef.{OutputRef};
 ghost use Rattle.eutxo_types.specs.declared.output_ref.OutputRef.TheVariants.{Made};
 ghost use Rattle.eutxo_types.specs.Ids.{id_of};
 ghost use Rattle.eutxo_types.specs.Parts.{same_ref, steps};
-ghost use Rattle.ledger_laws.specs.Past.{with_references, is_input_of};
+ghost use Rattle.ledger_laws.specs.Past.{is_input_of};
 ghost use Rattle.ledger_spec.specs.Views.{starts_in};
 ghost use Rattle.chain_index.specs.Contents.{is_among};
 ghost use Rattle.chain_index.specs.HolesSupport.{known};
 ghost use Rattle.chain_index.specs.Moves.{moves_by, moves_in, starts_by};
-ghost use Rattle.chain_index.specs.NamingSupport.{naming, slots};
-ghost use Rattle.chain_index.specs.PartsSupport.{IsFront};
+ghost use Rattle.chain_index.specs.NamingSupport.{naming, slots_of};
+ghost use Rattle.chain_index.specs.PartsSupport.{IsFront, LeaveWith, one_start};
 
 use crate::holes::{Slots, note, put};
 use crate::moves::{Move, next_of, put_move};
@@ -31,7 +31,8 @@ fn put_one(
     output: &Output,
 ) -> Result<(), Memory>
     requires { is_among (known entries.old.entries) (naming whose.now index) ≡ false }
-    ensures ok { OnOk result (entries.new.entries ≡ entries.old.entries ++ slots ((naming whose.now index, output.now) ∷ [])) }
+    ensures ok { OnOk result (entries.new.entries ≡ entries.old.entries
+        ++ (naming whose.now index, Some output.now) ∷ []) }
     ensures err { OnErr result (entries.new.entries ≡ entries.old.entries) }
 {
     let copy = output.try_clone()?;
@@ -45,7 +46,7 @@ pub(crate) fn put_all(
     made: &[Output],
 ) -> Result<(), Memory>
     requires { (i : ℕ) → is_among (known entries.old.entries) (naming whose.now i) ≡ false }
-    ensures ok { OnOk result (entries.new.entries ≡ entries.old.entries ++ slots (with_references (naming whose.now) 0 made.now)) }
+    ensures ok { OnOk result (entries.new.entries ≡ entries.old.entries ++ slots_of whose.now made.now) }
     ensures grown { IsFront entries.old.entries entries.new.entries }
 {
     for (i, o) in made.iter().enumerate() {
@@ -57,11 +58,8 @@ pub(crate) fn put_all(
 // ---- what is spent
 
 /// Notes that what these inputs name leaves.
-pub(crate) fn leave_all(
-    leaving: &mut IndexSet<OutputRef>,
-    inputs: &[Spend],
-) -> Result<(), Memory>
-    ensures ok { OnOk result ((r : OutputRef) → is_among leaving.new.keys r ≡ (list_any (λ x. same_ref x.reference r) inputs.now || is_among leaving.old.keys r)) }
+pub(crate) fn leave_all(leaving: &mut IndexSet<OutputRef>, inputs: &[Spend]) -> Result<(), Memory>
+    ensures ok { OnOk result (LeaveWith inputs.now leaving.old.keys leaving.new.keys) }
     ensures grown { IsFront leaving.old.keys leaving.new.keys }
 {
     for x in inputs {
@@ -135,7 +133,7 @@ fn start_one(
     requires named { id.now ≡ id_of tx.now }
     requires stepping { stepping ≡ steps tx.now }
     requires unstarted { is_among starts.old.keys (Made id.now index) ≡ false }
-    ensures ok { OnOk result (starts.new.keys ≡ starts.old.keys ++ (if starts_in (Made id.now index) tx.now then Made id.now index ∷ [] else [])) }
+    ensures ok { OnOk result (starts.new.keys ≡ starts.old.keys ++ one_start id.now tx.now index) }
     ensures err { OnErr result (starts.new.keys ≡ starts.old.keys) }
 {
     if starts_at(tx, id, stepping, index) {

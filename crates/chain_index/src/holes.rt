@@ -1,11 +1,10 @@
-//! Values by reference, in the order in which they came, with holes where some were taken out. So nothing moves but where
-//! holes are closed, and each change costs the same whatever there is, taken over many.
-ghost use Rattle.std.specs.Prelude.{◌≡◌, ◌++◌, ◌∷◌, [], true, false, not, filter, is_some, Some, OnOk, OnErr, option_copied};
+//! Values by reference, in the order in which they came, with holes where some were taken out. So nothing moves but
+//! where holes are closed, and each change costs the same whatever there is, taken over many.
+ghost use Rattle.std.specs.Prelude.{◌≡◌, ◌++◌, ◌∷◌, [], false, not, filter, is_some, Some, OnOk, OnErr, option_copied};
 ghost use Rattle.std.specs.Map.{lookup, keys_of};
-ghost use Rattle.eutxo_types.specs.declared.output_ref.OutputRef.{OutputRef};
 ghost use Rattle.eutxo_types.specs.Parts.{same_ref};
 ghost use Rattle.chain_index.specs.Contents.{is_among};
-ghost use Rattle.chain_index.specs.HolesSupport.{live, staying, known, with_key};
+ghost use Rattle.chain_index.specs.HolesSupport.{live, staying, known, with_key, AreAmong};
 
 use collections::Memory;
 use eutxo_types::OutputRef;
@@ -98,7 +97,7 @@ fn close<V: Drop>(slots: &mut Slots<V>)
 #[tactic(auto, using(crate::proofs::LiveLemmas::closed, crate::proofs::LiveLemmas::fewer_known))]
 pub(crate) fn close_if_many<V: Drop>(slots: &mut Slots<V>, holes: usize) -> usize
     ensures live { live slots.new.entries ≡ live slots.old.entries }
-    ensures known { (r : OutputRef) → is_among (known slots.new.entries) r ≡ true → is_among (known slots.old.entries) r ≡ true }
+    ensures known { AreAmong (known slots.new.entries) (known slots.old.entries) }
 {
     if holes > slots.len() / 2 {
         close(slots);

@@ -1,11 +1,11 @@
 //! The index.
-ghost use Rattle.std.specs.Prelude.{◌≡◌, [], None, IfOk, OnOk, OnErr, map, filter, position, option_copied};
+ghost use Rattle.std.specs.Prelude.{◌≡◌, [], None, IfOk, OnOk, OnErr, position, option_copied};
 ghost use Rattle.std.specs.Map.{lookup};
 ghost use Rattle.eutxo_types.specs.Ids.{id_of};
 ghost use Rattle.eutxo_types.specs.Parts.{same_bytes, same_ref};
 ghost use Rattle.ledger_spec.specs.Replay.{published_at};
-ghost use Rattle.ledger_spec.specs.Views.{unspent_of};
-ghost use Rattle.chain_index.specs.Contents.{first_contents, accepting, publishing, is_used, is_among, end_in, CanBeAdded};
+ghost use Rattle.chain_index.specs.Contents.{beginning, accepting, publishing, CanBeAdded};
+ghost use Rattle.chain_index.specs.Contents.{is_used, is_among, end_in, under_locks_in};
 ghost use Rattle.chain_index.specs.Moves.{along};
 
 use crate::moves::StepPlace;
@@ -23,8 +23,8 @@ use std::marker::Model;
 /// Clauses see what there was when it was last settled, and what there is now.
 ///
 /// A look-up costs the same whatever there is, and takes no memory; but `steps` and `end_of` make one for each step of
-/// the thread, `under_locks` walks over all unspent outputs, and what `steps` and `under_locks` answer takes memory. Keys are
-/// found by their hashes, whose seed is fixed (docs/DECISIONS.md).
+/// the thread, `under_locks` walks over all unspent outputs, and the answers of `steps` and `under_locks` take memory.
+/// Keys are found by their hashes, whose seed is fixed (docs/DECISIONS.md).
 #[derive(Drop)]
 pub struct Index {
     parts: Parts,
@@ -42,7 +42,8 @@ impl Model for Index {
 
     ghost Value = { Indexed };
 
-    ghost coded = { Prim.hlevel (codes, outputs.the_row.coded, references.the_row.coded, publications.the_row.coded, move_rows.the_row.coded) };
+    ghost coded = { Prim.hlevel
+        (codes, outputs.the_row.coded, references.the_row.coded, publications.the_row.coded, move_rows.the_row.coded) };
 
     ghost view = { λ a. indexed a.parts a.settled };
 
@@ -52,7 +53,7 @@ impl Model for Index {
 impl Index {
     /// Nothing. Takes no memory.
     pub fn empty(alloc: Global) -> Index
-        ensures { result ≡ record { settled = first_contents []; present = first_contents [] } }
+        ensures { result ≡ beginning [] }
     {
         let parts = Parts::new(alloc);
         let settled = parts.sizes();
@@ -61,7 +62,7 @@ impl Index {
 
     /// What there is at the beginning: these outputs. Answers `Memory` only where a growth was refused.
     pub fn new(alloc: Global, genesis: &[Output]) -> Result<Index, Memory>
-        ensures { IfOk result (λ index. index ≡ record { settled = first_contents genesis.now; present = first_contents genesis.now }) }
+        ensures { IfOk result (λ index. index ≡ beginning genesis.now) }
     {
         let parts = Parts::of_genesis(alloc, genesis)?;
         let settled = parts.sizes();
@@ -142,7 +143,8 @@ impl Index {
         self.parts.is_start(reference)
     }
 
-    /// Where the thread from a start output ends; of another output, nowhere. Each step of the thread costs one look-up.
+    /// Where the thread from a start output ends; of another output, nowhere. Each step of the thread costs one
+    /// look-up.
     pub fn end_of(&self, reference: &OutputRef) -> Option<OutputRef>
         ensures { result ≡ end_in self.now.present reference.now }
     {
@@ -162,7 +164,7 @@ impl Index {
         alloc: Global,
         asked: &F,
     ) -> Result<Items<Unspent>, Memory>
-        ensures { IfOk result (λ shown. shown ≡ map unspent_of (filter (λ e. F.asks asked.now e.1.lock) self.now.present.unspent)) }
+        ensures { IfOk result (λ shown. shown ≡ under_locks_in (F.asks asked.now) self.now.present) }
     {
         self.parts.under_locks(alloc, asked)
     }

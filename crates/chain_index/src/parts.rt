@@ -1,14 +1,13 @@
 //! The lists that an index keeps.
-ghost use Rattle.std.specs.Prelude.{◌≡◌, ◌++◌, ◌∷◌, [], ℕ, true, false, None, OnOk, OnErr, IfOk, option_copied, map, filter, position};
+ghost use Rattle.std.specs.Prelude.{◌≡◌, ◌++◌, ◌∷◌, [], ℕ, false, None, OnOk, OnErr, IfOk, option_copied, position};
 ghost use Rattle.std.specs.Map.{lookup};
 ghost use Rattle.eutxo_types.specs.declared.output_ref.OutputRef.{OutputRef};
 ghost use Rattle.eutxo_types.specs.declared.output_ref.OutputRef.TheVariants.{Made};
 ghost use Rattle.eutxo_types.specs.Ids.{id_of};
 ghost use Rattle.eutxo_types.specs.Parts.{same_bytes, same_ref};
 ghost use Rattle.ledger_spec.specs.Replay.{published_at};
-ghost use Rattle.ledger_spec.specs.Views.{unspent_of};
-ghost use Rattle.chain_index.specs.Contents.{is_used, is_among, end_in, CanBeAdded};
-ghost use Rattle.chain_index.specs.HolesSupport.{known};
+ghost use Rattle.chain_index.specs.Contents.{is_used, is_among, end_in, under_locks_in, CanBeAdded};
+ghost use Rattle.chain_index.specs.HolesSupport.{known, AreAmong};
 ghost use Rattle.chain_index.specs.Moves.{along};
 ghost use Rattle.chain_index.specs.PartsSupport.{contents_in, no_parts, first_parts, sizes_of, front, Takes, IsGrown};
 
@@ -63,9 +62,18 @@ impl Model for Parts {
 
     ghost Value = { Parts };
 
-    ghost coded = { Prim.hlevel (codes, outputs.the_row.coded, references.the_row.coded, publications.the_row.coded, move_rows.the_row.coded) };
+    ghost coded = { Prim.hlevel
+        (codes, outputs.the_row.coded, references.the_row.coded, publications.the_row.coded, move_rows.the_row.coded) };
 
-    ghost view = { λ a. record { entries = a.entries.entries; leaving = a.leaving.keys; ids = a.ids.keys; objects = values_of a.objects.entries; moves = a.moves.entries; starts = a.starts.keys } };
+    ghost view = { λ a.
+        record {
+          entries = a.entries.entries;
+          leaving = a.leaving.keys;
+          ids = a.ids.keys;
+          objects = values_of a.objects.entries;
+          moves = a.moves.entries;
+          starts = a.starts.keys;
+        } };
 
     ghost invariant = { λ a. AreNamed a.objects.entries };
 }
@@ -188,7 +196,7 @@ impl Parts {
     pub(crate) fn settle(&mut self)
         ensures same { contents_in self.new ≡ contents_in self.old }
         ensures leaving { self.new.leaving ≡ [] }
-        ensures known { (r : OutputRef) → is_among (known self.new.entries) r ≡ true → is_among (known self.old.entries) r ≡ true }
+        ensures known { AreAmong (known self.new.entries) (known self.old.entries) }
     {
         let holes = self.holes.saturating_add(self.leaving.len());
         take_all_out(&mut self.entries, &mut self.leaving);
@@ -263,7 +271,7 @@ impl Parts {
         alloc: Global,
         asked: &F,
     ) -> Result<Items<Unspent>, Memory>
-        ensures { IfOk result (λ shown. shown ≡ map unspent_of (filter (λ e. F.asks asked.now e.1.lock) (contents_in self.now).unspent)) }
+        ensures { IfOk result (λ shown. shown ≡ under_locks_in (F.asks asked.now) (contents_in self.now)) }
     {
         under_locks(alloc, &self.entries, &self.leaving, asked)
     }

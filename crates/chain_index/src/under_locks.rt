@@ -35,7 +35,8 @@ fn add_output<F: LockFilter>(
     output: &Output,
     shown: &mut Items<Unspent>,
 ) -> Result<(), Memory>
-    ensures { OnOk result (shown.new ≡ shown.old ++ under (F.asks asked.now) leaving.now.keys ((reference.now, Some output.now) ∷ [])) }
+    ensures { OnOk result (shown.new ≡ shown.old
+        ++ under (F.asks asked.now) leaving.now.keys ((reference.now, Some output.now) ∷ [])) }
 {
     if asked.asks(&output.lock) && !is_noted(leaving, reference) {
         let output = output.try_clone()?;
@@ -51,7 +52,8 @@ fn add_slot<F: LockFilter>(
     slot: (&OutputRef, &Option<Output>),
     shown: &mut Items<Unspent>,
 ) -> Result<(), Memory>
-    ensures { OnOk result (shown.new ≡ shown.old ++ under (F.asks asked.now) leaving.now.keys ((slot.entry.0.now, slot.entry.1.now) ∷ [])) }
+    ensures { OnOk result (shown.new ≡ shown.old
+        ++ under (F.asks asked.now) leaving.now.keys ((slot.entry.0.now, slot.entry.1.now) ∷ [])) }
 {
     let (reference, value) = slot;
     match value {

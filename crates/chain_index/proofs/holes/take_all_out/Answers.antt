@@ -1,5 +1,4 @@
-use Rattle.std.proofs.Common.{◌≡◌, ◌++◌, ◌∷◌, [], refl, sym, ◌∙◌, ap, subst, Option, Some, None, List}
-use Rattle.std.specs.Option.{option_to_list}
+use Rattle.std.proofs.Common.{sym, ◌∙◌, ap, List}
 use Rattle.eutxo_types.specs.declared.output_ref.OutputRef.{OutputRef}
 use Rattle.chain_index.specs.HolesSupport.{live, staying}
 use Rattle.chain_index.proofs.LiveLemmas.{staying_more, none_leave, no_keys}

@@ -1,7 +1,7 @@
-use Rattle.std.proofs.Common.{◌≡◌, refl, sym, ◌∙◌, ap, subst, None}
+use Rattle.std.proofs.Common.{◌∙◌, ap, subst, None}
 use Rattle.std.specs.List.{IsDistinct}
 use Rattle.std.specs.Option.{option_copied_mut}
-use Rattle.std.specs.Map.{lookup, keys_of, set_value}
+use Rattle.std.specs.Map.{keys_of, set_value}
 use Rattle.chain_index.specs.HolesSupport.{live}
 use Rattle.chain_index.proofs.RefLemmas.{eq_same}
 use Rattle.chain_index.proofs.LiveLemmas.{removed, without_so}

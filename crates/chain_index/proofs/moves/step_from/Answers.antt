@@ -1,7 +1,6 @@
 use Rattle.std.proofs.Common.{ap, ◌∙◌}
 use Rattle.std.specs.Option.{option_map}
 use Rattle.std.specs.Map.{lookup}
-use Rattle.eutxo_types.specs.Parts.{same_ref}
 use Rattle.chain_index.specs.declared.moves.Move.{Move}
 use Rattle.chain_index.specs.Moves.{place_of}
 use Rattle.chain_index.proofs.RefLemmas.{eq_same}
