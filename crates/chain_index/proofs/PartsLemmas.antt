@@ -12,7 +12,7 @@ use Rattle.eutxo_types.specs.declared.tx.Tx.{Tx}
 use Rattle.eutxo_types.specs.Ids.{id_of}
 use Rattle.eutxo_types.specs.Parts.{same_bytes, same_ref}
 use Rattle.ledger_laws.specs.Past.{with_references, created_by, is_input_of}
-use Rattle.ledger_laws.proofs.PlainLaws.{and_true, or_true, take_twice}
+use Rattle.ledger_laws.proofs.PlainLaws.{and_true, no_more, or_true, take_twice}
 use Rattle.chain_index.specs.declared.parts.Sizes.{Sizes}
 use Rattle.chain_index.specs.Contents.{Contents, Indexed, first_contents, without, accepting, is_used, is_among, CanBeAdded}
 use Rattle.chain_index.specs.HolesSupport.{live, staying, known}
@@ -127,7 +127,7 @@ first_index genesis = settled_index (first_parts genesis) (record {
 pub first_view : (genesis : List Output) → indexed (first_parts genesis) (sizes_of (first_parts genesis)) ≡ (let x : Indexed = record { settled = first_contents genesis; present = first_contents genesis } in x)
 first_view genesis =
     let es = with_references (λ j. Genesis j) 0 genesis in
-    let u = none_leave (live (slots es)) ∙ live_slots es in
+    let u = none_leave (live (slots es)) ∙ live_slots es ∙ sym (no_more es) ∙ sym (none_leave (es ++ [])) in
     let c : contents_in (first_parts genesis) ≡ first_contents genesis = λ i. record { unspent = u i; used = []; published = []; moves = []; starts = [] } in
     settled_view (first_parts genesis) ∙ ap (λ (x : Contents). let y : Indexed = record { settled = x; present = x } in y) c
 

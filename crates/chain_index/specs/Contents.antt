@@ -5,14 +5,14 @@ use Rattle.std.specs.Map.{lookup, keys_of}
 use Rattle.eutxo_types.specs.declared.lock.Lock.{Lock}
 use Rattle.eutxo_types.specs.declared.output.Output.{Output}
 use Rattle.eutxo_types.specs.declared.output_ref.OutputRef.{OutputRef}
-use Rattle.eutxo_types.specs.declared.output_ref.OutputRef.TheVariants.{Genesis, Made}
+use Rattle.eutxo_types.specs.declared.output_ref.OutputRef.TheVariants.{Made}
 use Rattle.eutxo_types.specs.declared.tx.Tx.{Tx}
 use Rattle.eutxo_types.specs.Ids.{id_of}
 use Rattle.eutxo_types.specs.Parts.{same_bytes, same_ref}
 use Rattle.eutxo.specs.Judgement.{Moment}
 use Rattle.roles.specs.declared.published.Published.{Published}
 use Rattle.ledger.specs.declared.look.Unspent.{Unspent}
-use Rattle.ledger_laws.specs.Past.{Past, with_references, created_by, is_input_of, unspent}
+use Rattle.ledger_laws.specs.Past.{Past, created_by, is_input_of, unspent}
 use Rattle.ledger_spec.specs.Replay.{published_at}
 use Rattle.ledger_spec.specs.Views.{unspent_of}
 use Rattle.chain_index.specs.declared.moves.Move.{Move}
@@ -34,9 +34,9 @@ pub record Contents : Type 0 where
 abbrev pub contents_of : Past → List Published → Contents
 contents_of past ps = record { unspent = unspent past; used = map id_of past.accepted; published = ps; moves = moves_from 0 past.accepted; starts = starts_of past.accepted }
 
--- what there is at the beginning
+-- before anything was accepted and published
 abbrev pub first_contents : List Output → Contents
-first_contents genesis = record { unspent = with_references (λ i. Genesis i) 0 genesis; used = []; published = []; moves = []; starts = [] }
+first_contents genesis = contents_of (record { genesis = genesis; accepted = [] }) []
 
 -- without the outputs that a transaction spends
 abbrev pub without : Tx → List (OutputRef × Output) → List (OutputRef × Output)

@@ -1,10 +1,10 @@
 //! The ledger by indexes: what is unspent, which ids are in use, what is published, and where threads start and go on,
 //! after outputs, publications and accepted transactions that were handed in, in order.
 //!
-//! `specs/Contents.antt` says what is indexed of a past, `specs/Moves.antt` where the moves of contracts lead, and
-//! `specs/Laws.antt` that the rules and the threads read the same there as of the past. What is handed in is added
-//! alone; `cut` takes back what came since the last `settle`, and `settle` lets go of what was spent. Each look-up
-//! answers by the definitions at every moment, also in between, and costs the same whatever there is.
+//! `specs/Moves.antt` says where the moves of contracts lead, `specs/Contents.antt` what is indexed of a past, and
+//! `specs/Laws.antt` that the rules and the threads read the same there as of the past. What is handed in is only added;
+//! `cut` takes back what came since the last `settle`, and `settle` lets go of what was spent. Each look-up answers by
+//! the definitions at every moment, also in between.
 #![tactic(auto)]
 
 mod additions;
