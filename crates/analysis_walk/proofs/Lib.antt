@@ -1,0 +1,6 @@
+pub mod ListLemmas
+pub mod NumberLemmas
+pub mod FineLemmas
+pub mod SoundLemmas
+pub mod PromiseLemmas
+pub mod FindingsLaws

@@ -1,0 +1,5 @@
+pub mod Limits
+pub mod Covered
+pub mod Domain
+pub mod Findings
+pub mod Laws
