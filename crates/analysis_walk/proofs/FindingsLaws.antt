@@ -1,5 +1,5 @@
 -- What a walk over a lawful domain finds is so.
-use Rattle.std.proofs.Common.{◌≡◌, ℕ, suc, ℤ, ◌≤ℤ◌, ◌<ℤ◌, Bool, true, false, cond, ◌&&◌, List, [], ◌∷◌, ◌++◌, map, refl, sym, ap, ◌∙◌, subst, Option, Some, None, IfSome, int_lt, inl, inr, ◌⊎◌}
+use Rattle.std.proofs.Common.{◌≡◌, ℕ, suc, ℤ, ◌≤ℤ◌, Bool, true, false, cond, ◌&&◌, List, [], ◌∷◌, ◌++◌, map, refl, sym, subst, Option, Some, None, IfSome, int_lt, inl, inr}
 use Rattle.std.proofs.lemmas.Bool.Decides.{Decides-int_eq}
 use Rattle.std.specs.List.{list_any, AllByRecursion}
 use Rattle.std.specs.Int.{int_min, int_max}
@@ -31,12 +31,12 @@ use Rattle.analysis_walk.specs.declared.alarm.Alarm.{Alarm}
 use Rattle.analysis_walk.specs.declared.paid.PaidRange.{PaidRange}
 use Rattle.analysis_walk.specs.declared.path.PathStep.{PathStep}
 use Rattle.analysis_walk.specs.declared.path.PathStep.TheVariants.{Then, Else, TimeoutContinuation, Case, Action}
-use Rattle.analysis_walk.specs.Limits.{Limits, Scope, any_runs, written_runs, Admitted, Allowed, GoesOn, HasAlarm, AreClear, LiesIn, limits}
+use Rattle.analysis_walk.specs.Limits.{Limits, Scope, any_runs, written_runs, Allowed, GoesOn, HasAlarm, AreClear, LiesIn, limits}
 use Rattle.analysis_walk.specs.Covered.{NoneTakes, Keeps, CoversAction, Covers, CoversCases, CoversFrom}
 use Rattle.analysis_walk.specs.Domain.{IsAmong, Conclusion, Domain, Concludes, Lawful, DescribesStart}
 use Rattle.analysis_walk.specs.Findings.{Findings, alarm_at, both_found, found_after, found_from, of_bounds, findings, case_findings, least_at_ends, most_at_ends, range_at_ends}
 use Rattle.semantics.specs.Laws.{TimeGoesOn}
-use Rattle.analysis_walk.proofs.ListLemmas.{both, all_append, all_left, all_right, all_weaker, all_with}
+use Rattle.analysis_walk.proofs.ListLemmas.{both, all_left, all_right, all_weaker, all_with}
 use Rattle.analysis_walk.proofs.NumberLemmas.{true_lt, false_lt, reaches, below_of, max_from, max_after}
 use Rattle.analysis_walk.proofs.PromiseLemmas.{not_named, alarms_name_what_comes, numbers_stay_within_128}
 
@@ -132,11 +132,13 @@ module _ (D : Domain) (W : Lawful D) (scope : Scope) (alarms : List Alarm) (rang
       it = ((all_right (Allowed scope) (visited i s v) (taken_numbers s (Deposit b q u (eval i s v))) g.0.0, g.0.1), go g.1.0 (taken s (Deposit b q u (eval i s v))) g.1.1 g.1.2)
 
       by_input : (x : Input) → NoneTakes i s x earlier → AllByRecursion (Allowed scope) (tried i s x (deposit b q u v)) × (matches i s x (deposit b q u v) ≡ true → Keeps L here (taken_numbers s x) (taken_warnings x) × F (taken s x))
-      by_input (Deposit a p t n) z =
-          (by_test (agrees a p t b q u), λ e.
-          let w = same_deposit a p t n b q u (eval i s v) e in
-          let R : Party → Party → Token → ℤ → Type 0 = λ a p t n. Keeps L here (taken_numbers s (Deposit a p t n)) (taken_warnings (Deposit a p t n)) × F (taken s (Deposit a p t n)) in
-          subst (λ a. R a p t n) w.0 (subst (λ p. R b p t n) w.1 (subst (λ t. R b q t n) w.2 (subst (λ n. R b q u n) w.3 it))))
+      by_input (Deposit a p t n) z = (
+        by_test (agrees a p t b q u),
+        λ e.
+            let w = same_deposit a p t n b q u (eval i s v) e in
+            let R : Party → Party → Token → ℤ → Type 0 = λ a p t n. Keeps L here (taken_numbers s (Deposit a p t n)) (taken_warnings (Deposit a p t n)) × F (taken s (Deposit a p t n)) in
+            subst (λ a. R a p t n) w.0 (subst (λ p. R b p t n) w.1 (subst (λ t. R b q t n) w.2 (subst (λ n. R b q u n) w.3 it))),
+      )
       by_input (Choice id n) z = (tt, λ e. absurd (cc))
       by_input Notify z = (tt, λ e. absurd (cc))
 
@@ -144,12 +146,15 @@ module _ (D : Domain) (W : Lawful D) (scope : Scope) (alarms : List Alarm) (rang
       → D.Describes scope k i s ps → Hold (found_after here (D.chooses k earlier jd bounds).kinds (found_from f (D.chooses k earlier jd bounds).known))
       → ((m : D.Known) (then : StateMaps) → D.Describes scope m i then ps → Hold (f m) → F then) → CoversAction L here i s earlier (choice jd bounds) F
   covers_choice f F here k i s ps earlier jd bounds d h go (Deposit a p t n) z = (tt, λ e. absurd (cc))
-  covers_choice f F here k i s ps earlier jd bounds d h go (Choice id n) z = (tt, λ e.
-      let l = both (same_choice_id id jd) (list_any (in_bound n) bounds) e in
-      let q = (same_choice_id_decides id jd).0 l.0 in
-      let then : StateMaps = record s { choices = insert s.choices jd n } in
-      let g = steps f here (D.chooses k earlier jd bounds) i [] [] then ps (W.chooses scope k i s ps earlier jd bounds n d (subst (λ (w : ChoiceId). NoneTakes i s (Choice w n) earlier) q z) l.1) h in
-      ((tt, tt), subst (λ (w : ChoiceId). F (record s { choices = insert s.choices w n })) (sym q) (go g.1.0 then g.1.1 g.1.2)))
+  covers_choice f F here k i s ps earlier jd bounds d h go (Choice id n) z = (
+    tt,
+    λ e.
+        let l = both (same_choice_id id jd) (list_any (in_bound n) bounds) e in
+        let q = (same_choice_id_decides id jd).0 l.0 in
+        let then : StateMaps = record s { choices = insert s.choices jd n } in
+        let g = steps f here (D.chooses k earlier jd bounds) i [] [] then ps (W.chooses scope k i s ps earlier jd bounds n d (subst (λ (w : ChoiceId). NoneTakes i s (Choice w n) earlier) q z) l.1) h in
+        ((tt, tt), subst (λ (w : ChoiceId). F (record s { choices = insert s.choices w n })) (sym q) (go g.1.0 then g.1.1 g.1.2)),
+  )
   covers_choice f F here k i s ps earlier jd bounds d h go Notify z = (tt, λ e. absurd (cc))
 
   covers_notify : (f : D.Known → Findings D.Known) (F : StateMaps → Type 0) (here : List PathStep) (k : D.Known) (i : Interval) (s : StateMaps) (ps : List Payment) (earlier : List ActionTree) (o : ObservationTree)
@@ -163,8 +168,8 @@ module _ (D : Domain) (W : Lawful D) (scope : Scope) (alarms : List Alarm) (rang
       let on = goes_on scope alarms Z here x.kinds (hold_here here x.kinds (found_from f x.if_true) h) in (
         w.numbers on,
         λ e. let g = from_known f (λ m. D.Describes scope m i s ps) x.if_true (hold_after here x.kinds (found_from f x.if_true) h)
-             (subst (λ b. IsSomeAnd (cond b x.if_true x.if_false) (λ m. D.Describes scope m i s ps)) e (w.known on)) in
-        ((tt, tt), go g.0 s g.1 g.2),
+            (subst (λ b. IsSomeAnd (cond b x.if_true x.if_false) (λ m. D.Describes scope m i s ps)) e (w.known on)) in
+            ((tt, tt), go g.0 s g.1 g.2),
       )
 
   -- ---- the walk
@@ -192,9 +197,9 @@ module _ (D : Domain) (W : Lawful D) (scope : Scope) (alarms : List Alarm) (rang
         let on = goes_on scope alarms Z here x.kinds (hold_here here x.kinds both_branches h) in (
           w.numbers on,
           λ q. at_branch f (Covers L (here ++ Then ∷ []) i s ps c) i s ps x.if_true (hold_left (found_from f x.if_true) (found_from g x.if_false) rest)
-          (subst (λ b. IsSomeAnd (cond b x.if_true x.if_false) P) q (w.known on)) (λ m r z. covered (here ++ Then ∷ []) m i s ps c r z),
+              (subst (λ b. IsSomeAnd (cond b x.if_true x.if_false) P) q (w.known on)) (λ m r z. covered (here ++ Then ∷ []) m i s ps c r z),
           λ q. at_branch g (Covers L (here ++ Else ∷ []) i s ps e) i s ps x.if_false (hold_right (found_from f x.if_true) (found_from g x.if_false) rest)
-          (subst (λ b. IsSomeAnd (cond b x.if_true x.if_false) P) q (w.known on)) (λ m r z. covered (here ++ Else ∷ []) m i s ps e r z),
+              (subst (λ b. IsSomeAnd (cond b x.if_true x.if_false) P) q (w.known on)) (λ m r z. covered (here ++ Else ∷ []) m i s ps e r z),
         )
     covered here k i s ps (when ks t c) d h = λ j now g v a.
         let later = D.later k in
@@ -203,9 +208,9 @@ module _ (D : Domain) (W : Lawful D) (scope : Scope) (alarms : List Alarm) (rang
         let f : D.Known → Findings D.Known = λ m. case_findings D here 0 m [] ks in
         let e : D.Known → Findings D.Known = λ m. findings D (here ++ TimeoutContinuation ∷ []) m c in (
           λ q. at_branch f (CoversCases L here 0 j u ps [] ks) j u ps (D.waits later t) (hold_left (found_from f (D.waits later t)) (found_from e (D.times_out later t)) h)
-          (W.waits scope later j u ps t known q) (λ m r z. cases_covered here 0 m j u ps [] ks r z),
+              (W.waits scope later j u ps t known q) (λ m r z. cases_covered here 0 m j u ps [] ks r z),
           λ q. at_branch e (Covers L (here ++ TimeoutContinuation ∷ []) j u ps c) j u ps (D.times_out later t) (hold_right (found_from f (D.waits later t)) (found_from e (D.times_out later t)) h)
-          (W.times_out scope later j u ps t known q) (λ m r z. covered (here ++ TimeoutContinuation ∷ []) m j u ps c r z),
+              (W.times_out scope later j u ps t known q) (λ m r z. covered (here ++ TimeoutContinuation ∷ []) m j u ps c r z),
         )
     covered here k i s ps (let_be x v c) d h =
         let r = binding s x (eval i s v) (visited i s v) c in

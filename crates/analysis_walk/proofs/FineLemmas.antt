@@ -1,5 +1,5 @@
 -- Parts of a transaction that keep limits.
-use Rattle.std.proofs.Common.{◌≡◌, ℤ, Bool, true, false, cond, ◌&&◌, List, [], ◌++◌, append_assoc, refl, sym, ap, ◌∙◌, subst, Result, Ok, Err, is_ok}
+use Rattle.std.proofs.Common.{◌≡◌, Bool, true, false, cond, ◌&&◌, List, ◌++◌, append_assoc, refl, sym, ◌∙◌, subst, Result, Ok, Err, is_ok}
 use Rattle.std.specs.Prelude.{slice_get}
 use Rattle.std.specs.List.{AllByRecursion}
 use Rattle.std.specs.Option.{is_none}

@@ -4,3 +4,4 @@ pub mod FineLemmas
 pub mod SoundLemmas
 pub mod PromiseLemmas
 pub mod FindingsLaws
+pub mod PaidLemmas

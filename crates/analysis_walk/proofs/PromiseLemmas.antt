@@ -1,18 +1,16 @@
 -- What follows from limits that are kept.
-use Rattle.std.proofs.Common.{◌≡◌, ℤ, pos, neg_ℤ, ◌^◌, ◌≤ℤ◌, ◌<ℤ◌, Bool, true, false, cond, ◌&&◌, List, [], ◌∷◌, refl, sym, ap, ◌∙◌, subst, arith, Result, Ok, Err, inl, inr}
+use Rattle.std.proofs.Common.{◌≡◌, ℤ, ◌≤ℤ◌, true, cond, ◌&&◌, List, [], ◌∷◌, refl, sym, ap, ◌∙◌, arith, Err, inl, inr}
 use Rattle.std.proofs.lemmas.Int.{ints}
 use Rattle.std.specs.List.{AllByRecursion}
-use Rattle.contract.specs.declared.fault.SemFault.{SemFault}
 use Rattle.contract.specs.declared.fault.SemFault.TheVariants.{Leaves128}
 use Rattle.contract.specs.declared.interval.Interval.{Interval}
 use Rattle.contract.specs.declared.transaction.Transaction.{Transaction}
-use Rattle.contract.specs.declared.warning.Warning.{Warning}
 use Rattle.evaluation.specs.Numbers.{fits, all_fit}
 use Rattle.semantics.specs.Walk.{Walk, standing, answer_of}
 use Rattle.semantics.specs.Laws.{TimeGoesOn}
 use Rattle.analysis_spec.specs.declared.kind.AlarmKind.{AlarmKind}
 use Rattle.analysis_spec.specs.Runs.{walk_from, stands_after}
-use Rattle.analysis_spec.specs.Promises.{kind_of, IsWritten, HasWrittenTimes}
+use Rattle.analysis_spec.specs.Promises.{kind_of, IsWritten}
 use Rattle.analysis_walk.specs.declared.alarm.Alarm.{Alarm}
 use Rattle.analysis_walk.specs.declared.path.PathStep.{PathStep}
 use Rattle.analysis_walk.specs.Limits.{Scope, any_runs, written_runs, Admitted, HasAlarm, limits}

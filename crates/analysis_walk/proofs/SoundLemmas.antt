@@ -1,5 +1,5 @@
 -- A contract that keeps limits from its start keeps them in every run.
-use Rattle.std.proofs.Common.{◌≡◌, ℕ, suc, ℤ, ◌≤ℤ◌, ◌<ℤ◌, int_lt, int_le, Bool, true, false, cond, ◌&&◌, List, [], ◌∷◌, ◌++◌, map, append_assoc, refl, sym, ap, ◌∙◌, subst, Result, Ok, Err, Option, Some, None, length}
+use Rattle.std.proofs.Common.{◌≡◌, ℕ, suc, ℤ, ◌≤ℤ◌, ◌<ℤ◌, int_lt, int_le, Bool, true, false, cond, List, [], ◌∷◌, ◌++◌, map, append_assoc, refl, sym, ap, ◌∙◌, subst, Result, Ok, Err, Option, Some, None, length}
 use Rattle.std.proofs.lemmas.List.{append-nil}
 use Rattle.std.specs.List.{AllByRecursion}
 use Rattle.std.specs.Int.{int_max}
@@ -14,7 +14,7 @@ use Rattle.contract.specs.declared.interval.Interval.{Interval}
 use Rattle.contract.specs.declared.payment.Payment.{Payment}
 use Rattle.contract.specs.declared.transaction.Transaction.{Transaction}
 use Rattle.contract.specs.declared.warning.Warning.{Warning}
-use Rattle.contract.specs.Tree.{ObservationTree, ActionTree, ContractTree, CaseTrees, close, pay, if_obs, when, let_be, assert, no_cases, case_then}
+use Rattle.contract.specs.Tree.{ActionTree, ContractTree, CaseTrees, close, pay, if_obs, when, let_be, assert, no_cases, case_then}
 use Rattle.states.specs.States.{StateMaps}
 use Rattle.evaluation.specs.Evaluation.{eval, visited, holds, looked}
 use Rattle.evaluation.specs.Path.{case_list, waits_for}
@@ -43,7 +43,7 @@ pub no_entries : entries (empty {X = ℤ} {R = account_cmp}) ≡ []
 no_entries = none_counted (entries empty) (sym (len-entries (empty {X = ℤ} {R = account_cmp})) ∙ len-empty account_cmp ℤ)
 
 -- a success: all numbers fit, and the part ended well
-ok_answer : (b : Bool) (end : Result Standing SemFault) (a : Standing) → cond b end (Err Leaves128) ≡ Ok a → (b ≡ true) × (end ≡ Ok a)
+pub ok_answer : (b : Bool) (end : Result Standing SemFault) (a : Standing) → cond b end (Err Leaves128) ≡ Ok a → (b ≡ true) × (end ≡ Ok a)
 ok_answer true end a h = (refl, h)
 ok_answer false end a h = absurd (cc)
 
@@ -104,7 +104,7 @@ module _ (L : Limits) where
           (subst (λ qs. Fine L (λ b rs. Rests i b (qs ++ rs)) (settled i s c)) (sym (append-nil ps)) (go ((h i s.min_time (le_itself i.from) v a).1 (true_le t i.from q))))
       by_tests false false p q = fine_fault L (λ b qs. Rests i b (ps ++ qs)) (ended (Err Ambiguous)) Ambiguous tt tt refl (λ e. cc)
 
-  settles : (i : Interval) → i.from ≤ℤ i.to → L.Admits i → (s : StateMaps) (ps : List Payment) (c : ContractTree) (here : List PathStep) → Covers L here i s ps c → Fine L (λ b qs. Rests i b (ps ++ qs)) (settled i s c)
+  pub settles : (i : Interval) → i.from ≤ℤ i.to → L.Admits i → (s : StateMaps) (ps : List Payment) (c : ContractTree) (here : List PathStep) → Covers L here i s ps c → Fine L (λ b qs. Rests i b (ps ++ qs)) (settled i s c)
   settles i v a s ps close here h =
       let qs = (refunds s).payments in
       fine_ok L (λ b qs. Rests i b (ps ++ qs)) (refunds s) (standing (record s { accounts = empty }) close) tt tt refl

@@ -1,5 +1,5 @@
 -- What a contract that keeps limits promises.
-use Rattle.std.specs.Prelude.{◌≢◌, List, map}
+use Rattle.std.specs.Prelude.{◌≢◌, List}
 use Rattle.std.specs.List.{AllByRecursion}
 use Rattle.std.specs.FinMap.{entries}
 use Rattle.contract.specs.Tree.{ContractTree}

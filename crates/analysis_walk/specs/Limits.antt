@@ -1,5 +1,5 @@
 -- What a run may do. No reader of the promises needs this file.
-use Rattle.std.specs.Prelude.{◌≡◌, ◌≢◌, ℤ, ◌≤ℤ◌, Bool, true, List, [], ◌∷◌, ◌⊎◌, map, IfSome}
+use Rattle.std.specs.Prelude.{◌≡◌, ◌≢◌, ℤ, ◌≤ℤ◌, true, List, [], ◌∷◌, ◌⊎◌, IfSome}
 use Rattle.std.specs.List.{AllByRecursion}
 use Rattle.contract.specs.declared.interval.Interval.{Interval}
 use Rattle.contract.specs.declared.payment.Payment.{Payment}

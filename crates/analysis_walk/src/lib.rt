@@ -13,6 +13,6 @@ mod paid;
 mod path;
 
 pub use alarm::Alarm;
-pub use laws::{alarms_name_what_comes, numbers_stay_within_128};
+pub use laws::{alarms_name_what_comes, numbers_stay_within_128, payments_lie_in_ranges};
 pub use paid::PaidRange;
 pub use path::PathStep;
