@@ -653,7 +653,7 @@ operation_valued k r d l m low high n c v x y e f g =
     }
 
 -- what is known in the new symbol's numbers gives it
-new_gives : (k : Symbols) (r : Valuation) (n : ℤ) (m : Symbols) → m.next ≡ suc k.next → IsClosed m → IsValued (with_value r k.next n) m → Gives k r (m, symbol k.next) n
+pub new_gives : (k : Symbols) (r : Valuation) (n : ℤ) (m : Symbols) → m.next ≡ suc k.next → IsClosed m → IsValued (with_value r k.next n) m → Gives k r (m, symbol k.next) n
 new_gives k r n m f c v = record {
   closed = c;
   below = subst (λ l. IsBelow l (symbol k.next)) (sym f) (symbol_below k.next);

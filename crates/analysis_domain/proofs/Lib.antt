@@ -1,0 +1,5 @@
+pub mod ViewLemmas
+pub mod EvaluatedLemmas
+pub mod AccountLemmas
+pub mod StepLemmas
+pub mod DomainLaws
