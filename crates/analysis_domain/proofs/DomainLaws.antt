@@ -280,7 +280,7 @@ module _ (scope : Scope) (k : Known) (i : Interval) (s : StateMaps) (ps : List P
   looks : (o : ObservationTree) → Fitting scope (truth_fits k.view k.symbols o) → AllByRecursion (Allowed scope) (looked i s o)
   looks o h = truth_allowed scope k.view i s ps k.symbols d.numbers o d.closed d.valued sees h
 
-  let_concludes : (x : List ℕ) (n : ValueTree) (c : ContractTree) → let r = binding s x (eval i s n) (visited i s n) c in Concludes expressions scope (concluded_let k x n) i r.numbers r.warnings r.state ps
+  let_concludes : (x : List ℕ) (n : ValueTree) (c : ContractTree) → let r = binding s x (eval i s n) (visited i s n) c in Concludes IsDescribed scope (concluded_let k x n) i r.numbers r.warnings r.state ps
   let_concludes x n c =
       let a = evaluated k.view k.symbols n in
       let g = given n in
@@ -317,10 +317,10 @@ module _ (scope : Scope) (k : Known) (i : Interval) (s : StateMaps) (ps : List P
   some_is None h = absurd h
   some_is (Some m) h = refl
 
-  assert_concludes : (o : ObservationTree) (c : ContractTree) → let r = asserting s (holds i s o) (looked i s o) c in Concludes expressions scope (concluded_assert k o) i r.numbers r.warnings s ps
+  assert_concludes : (o : ObservationTree) (c : ContractTree) → let r = asserting s (holds i s o) (looked i s o) c in Concludes IsDescribed scope (concluded_assert k o) i r.numbers r.warnings s ps
   assert_concludes o c = by_truth (holds i s o) refl
     where
-      by_truth : (b : Bool) → holds i s o ≡ b → Concludes expressions scope (concluded_assert k o) i (looked i s o) (cond b [] (warnings.AssertionFailed ∷ [])) s ps
+      by_truth : (b : Bool) → holds i s o ≡ b → Concludes IsDescribed scope (concluded_assert k o) i (looked i s o) (cond b [] (warnings.AssertionFailed ∷ [])) s ps
       by_truth true e =
           let p = observed k.view k.symbols o in
           let failed = unless (is_none p.1) AssertionFailed in
@@ -341,7 +341,7 @@ module _ (scope : Scope) (k : Known) (i : Interval) (s : StateMaps) (ps : List P
           }
 
   observe_concludes : (o : ObservationTree) → let x = branches k o in let branch : Conclusion Known = record { kinds = x.kinds; known = cond (holds i s o) x.if_true x.if_false } in
-      Concludes expressions scope branch i (looked i s o) [] s ps
+      Concludes IsDescribed scope branch i (looked i s o) [] s ps
   observe_concludes o =
       let fit = truth_fits k.view k.symbols o in
       record { warned = tt; numbers = λ h. looks o (goes_fitting scope fit h); known = λ h. by_truth (holds i s o) refl }
@@ -417,10 +417,10 @@ module _ (scope : Scope) (k : Known) (i : Interval) (s : StateMaps) (ps : List P
     deposit_visits : Fitting scope fit → AllByRecursion (Allowed scope) (visited i s x)
     deposit_visits h = visits x (fitting_both scope (value_fits k.view k.symbols x) (stays_in w (e.0, held w.accounts (account_of p t))) h).0
 
-    deposit_concludes : Concludes expressions scope (concluded_deposit k p t x) i (visited i s x ++ taken_numbers s (Deposit p q t due)) (taken_warnings (Deposit p q t due)) (taken s (Deposit p q t due)) ps
+    deposit_concludes : Concludes IsDescribed scope (concluded_deposit k p t x) i (visited i s x ++ taken_numbers s (Deposit p q t due)) (taken_warnings (Deposit p q t due)) (taken s (Deposit p q t due)) ps
     deposit_concludes = by_test (int_lt (pos 0) due) refl
       where
-        by_test : (b : Bool) → int_lt (pos 0) due ≡ b → Concludes expressions scope (concluded_deposit k p t x) i (visited i s x ++ cond b ((balance s p t +ℤ due) ∷ []) []) (cond b [] (warnings.NonPositiveDeposit p q t due ∷ []))
+        by_test : (b : Bool) → int_lt (pos 0) due ≡ b → Concludes IsDescribed scope (concluded_deposit k p t x) i (visited i s x ++ cond b ((balance s p t +ℤ due) ∷ []) []) (cond b [] (warnings.NonPositiveDeposit p q t due ∷ []))
             (cond b (with_money s (account_of p t) (balance s p t +ℤ due)) s) ps
         by_test true f =
             let up = lt_le (pos 0) due (true_lt (pos 0) due f) in
@@ -494,7 +494,7 @@ chosen_seen scope r v i s ps id l n e f h = record {
 }
 
 module _ (scope : Scope) (k : Known) (i : Interval) (s : StateMaps) (ps : List Payment) (d : IsDescribed scope k i s ps) where
-  chosen_concludes : (id : ChoiceId) (low high n : ℤ) → low ≤ℤ n → n ≤ℤ high → Concludes expressions scope (chosen_from k id low high) i [] [] (record s { choices = insert s.choices id n }) ps
+  chosen_concludes : (id : ChoiceId) (low high n : ℤ) → low ≤ℤ n → n ≤ℤ high → Concludes IsDescribed scope (chosen_from k id low high) i [] [] (record s { choices = insert s.choices id n }) ps
   chosen_concludes id low high n f g = record { warned = tt; numbers = λ h. tt; known = λ h. by_test (int_lt high low) refl (allowed_between scope low high n (goes_fitting scope (fits low && fits high) h) f g) }
     where
       by_test : (b : Bool) → int_lt high low ≡ b → Allowed scope n
@@ -513,7 +513,7 @@ module _ (scope : Scope) (k : Known) (i : Interval) (s : StateMaps) (ps : List P
           }
 
   choice_concludes : (earlier : List ActionTree) (id : ChoiceId) (bounds : List Bound) (n : ℤ) → NoneTakes i s (Choice id n) earlier → list_any (in_bound n) bounds ≡ true
-      → Concludes expressions scope (concluded_choice k earlier id bounds) i [] [] (record s { choices = insert s.choices id n }) ps
+      → Concludes IsDescribed scope (concluded_choice k earlier id bounds) i [] [] (record s { choices = insert s.choices id n }) ps
   choice_concludes earlier id [] n z h = absurd (cc)
   choice_concludes earlier id (b ∷ bs) n z h =
       let q = in_range n b bs h in
@@ -579,7 +579,7 @@ to_allowed written_runs j a = written_fits j.to a.1
 
 pub two_times : (scope : Scope) (r : Valuation) (n m : ℕ) (xs : List ℕ) (j : Interval) → Admitted scope j → r n ≡ j.from → r m ≡ j.to → AreTimes scope r xs → AreTimes scope r (n ∷ m ∷ xs)
 two_times any_runs r n m xs j a e f h = tt
-two_times written_runs r n m xs j a e f h = (subst IsWritten (sym e) a.0, subst IsWritten (sym f) a.1, h)
+two_times written_runs r n m xs j a e f h = (subst IsWritten (sym e) a.0, (subst IsWritten (sym f) a.1, h))
 
 later_is : (scope : Scope) (k : Known) (i j : Interval) (s : StateMaps) (ps : List Payment) → IsDescribed scope k i s ps → i.from ≤ℤ j.from → j.from ≤ℤ j.to → Admitted scope j → IsDescribed scope (in_later k) j s ps
 later_is scope k i j s ps d h w o =
@@ -633,7 +633,7 @@ later_is scope k i j s ps d h w o =
 
 -- ---- the minimum time, and the end
 
-time_is : (scope : Scope) (k : Known) (i : Interval) (s : StateMaps) (ps : List Payment) (n : ℤ) → IsDescribed scope k i s ps → IsDescribed scope k i (record s { min_time = n }) ps
+pub time_is : (scope : Scope) (k : Known) (i : Interval) (s : StateMaps) (ps : List Payment) (n : ℤ) → IsDescribed scope k i s ps → IsDescribed scope k i (record s { min_time = n }) ps
 time_is scope k i s ps n d =
     let e = d.seen in
     record {
@@ -668,15 +668,14 @@ closes_is scope k i s ps p t d =
 
 pub expressions_are_lawful : Lawful expressions
 expressions_are_lawful = record {
-  pays = λ scope k i s ps p y t v c d. pay_concludes scope k i s ps d p y t v c;
-  binds = λ scope k i s ps x v c d. let_concludes scope k i s ps d x v c;
-  asserts = λ scope k i s ps o c d. assert_concludes scope k i s ps d o c;
-  observes = λ scope k i s ps o d. observe_concludes scope k i s ps d o;
-  deposits = λ scope k i s ps p q t v d. deposit_concludes scope k i s ps d p q t v;
-  chooses = λ scope k i s ps earlier id bounds n d z h. choice_concludes scope k i s ps d earlier id bounds n z h;
-  later = later_is;
-  waits = λ scope k i s ps timeout d h. waits_is scope k i s ps d timeout h;
-  times_out = λ scope k i s ps timeout d h. times_out_is scope k i s ps d timeout h;
-  closes = closes_is;
-  time = time_is;
+  pays = λ k p y t v scope i s ps c d. pay_concludes scope k i s ps d p y t v c;
+  binds = λ k x v scope i s ps c d. let_concludes scope k i s ps d x v c;
+  asserts = λ k o scope i s ps c d. assert_concludes scope k i s ps d o c;
+  observes = λ k o scope i s ps d. observe_concludes scope k i s ps d o;
+  deposits = λ k p t v scope i s ps q d. deposit_concludes scope k i s ps d p q t v;
+  chooses = λ k earlier id bounds scope i s ps n d z h. choice_concludes scope k i s ps d earlier id bounds n z h;
+  later = λ k scope i j s ps now d g v a. time_is scope (in_later k) j s ps now (later_is scope k i j s ps d g v a);
+  waits = λ k timeout scope i s ps d h. waits_is scope k i s ps d timeout h;
+  times_out = λ k timeout scope i s ps d h. times_out_is scope k i s ps d timeout h;
+  closes = λ k p t scope i s ps d. (closes_is scope k i s ps p t d, tt);
 }

@@ -3,3 +3,4 @@ pub mod EvaluatedLemmas
 pub mod AccountLemmas
 pub mod StepLemmas
 pub mod DomainLaws
+pub mod StartLaws

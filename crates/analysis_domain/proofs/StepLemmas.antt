@@ -374,11 +374,11 @@ module _ (scope : Scope) (k : Known) (i : Interval) (s : StateMaps) (ps : List P
         )
         by_test false f = tt
 
-    pay_concludes : (c : ContractTree) → let r = pay_step s p y t due (visited i s x) c in Concludes expressions scope (concluded_pay k p y t x) i r.numbers r.warnings r.state (ps ++ r.payments)
+    pub pay_concludes : (c : ContractTree) → let r = pay_step s p y t due (visited i s x) c in Concludes IsDescribed scope (concluded_pay k p y t x) i r.numbers r.warnings r.state (ps ++ r.payments)
     pay_concludes c = by_test (int_lt (pos 0) due) refl
       where
         by_test : (b : Bool) → int_lt (pos 0) due ≡ b → let r : Reduction = cond b (paying s p y t due (int_min (balance s p t) due) (visited i s x) c) (not_paying s p y t due (visited i s x) c) in
-            Concludes expressions scope (concluded_pay k p y t x) i r.numbers r.warnings r.state (ps ++ r.payments)
+            Concludes IsDescribed scope (concluded_pay k p y t x) i r.numbers r.warnings r.state (ps ++ r.payments)
         by_test true f =
             let b = balance s p t in
             let m = int_min b due in

@@ -1,5 +1,5 @@
 -- What a walk over a contract finds. No reader of the promises needs this file.
-use Rattle.std.specs.Prelude.{ℕ, suc, ℤ, List, [], ◌∷◌, ◌++◌, map, Option, Some, None}
+use Rattle.std.specs.Prelude.{ℕ, suc, ℤ, List, [], ◌∷◌, ◌++◌, Option, Some, None}
 use Rattle.std.specs.Int.{int_min, int_max}
 use Rattle.names.specs.declared.party.Party.{Party}
 use Rattle.names.specs.declared.token.Token.{Token}
@@ -10,6 +10,7 @@ use Rattle.analysis_walk.specs.declared.path.PathStep.TheVariants.{Then, Else, T
 use Rattle.analysis_walk.specs.declared.alarm.Alarm.{Alarm}
 use Rattle.analysis_walk.specs.declared.paid.PaidRange.{PaidRange}
 use Rattle.analysis_walk.specs.Domain.{Domain}
+use Rattle.analysis_walk.specs.Walked.{alarms_at}
 
 -- alarms in the order of their places, and what is known wherever the contract is closed
 pub record Findings (K : Type 0) : Type 0 where
@@ -22,12 +23,9 @@ none_found = record { alarms = []; ends = [] }
 abbrev pub both_found : {K : Type 0} → Findings K → Findings K → Findings K
 both_found f g = record { alarms = f.alarms ++ g.alarms; ends = f.ends ++ g.ends }
 
-abbrev pub alarm_at : List PathStep → AlarmKind → Alarm
-alarm_at here kind = record { kind = kind; place = here }
-
 -- alarms of these kinds at a place, and what is found from what is known afterwards, where that can be
 abbrev pub found_after : {K : Type 0} → List PathStep → List AlarmKind → Findings K → Findings K
-found_after here kinds f = record { alarms = map (alarm_at here) kinds ++ f.alarms; ends = f.ends }
+found_after here kinds f = record { alarms = alarms_at here kinds ++ f.alarms; ends = f.ends }
 
 abbrev pub found_from : {K : Type 0} → (K → Findings K) → Option K → Findings K
 found_from f None = none_found
