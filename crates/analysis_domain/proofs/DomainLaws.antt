@@ -47,7 +47,7 @@ use Rattle.analysis_walk.proofs.ListLemmas.{all_append, all_right}
 use Rattle.analysis_walk.proofs.PaidLemmas.{total_append}
 use Rattle.analysis_domain.specs.Known.{View, Known, held, AreTimes, IsSeen, EntriesBelow, SeesBelow, IsDescribed}
 use Rattle.analysis_domain.specs.Evaluated.{evaluated, observed, stays_in, value_fits, truth_fits}
-use Rattle.analysis_domain.specs.Expressions.{known, unless, grown, added_of, least_bound, greatest_bound, raised_by, lowered_by, raised, lowered, chosen_from, concluded_choice, concluded_let, known_with, concluded_assert, branches, concluded_deposit, with_facts, in_later, before, from, paid_in_all, expressions}
+use Rattle.analysis_domain.specs.Expressions.{known, unless, grown, added_of, least_bound, greatest_bound, raised_by, lowered_by, raised, lowered, without_empty, chosen_from, chosen_in, concluded_choice, concluded_let, known_with, concluded_assert, branches, concluded_deposit, with_facts, in_later, before, from, paid_in_all, expressions}
 use Rattle.analysis_domain.proofs.ViewLemmas.{found_below, entries_more, sees_more, same_seen, fits_between}
 use Rattle.analysis_domain.proofs.EvaluatedLemmas.{Fitting, fitting_both, stays, Sees, after_gives, after_leads, gives, observes, value_allowed, truth_allowed}
 use Rattle.analysis_domain.proofs.AccountLemmas.{same_money_seen, grown_number, grown_seen, account_decides, sum_natural, refunded_is}
@@ -468,6 +468,31 @@ allowed_between written_runs low high n h f g =
     let q = both (fits low) (fits high) h in
     fits_between n (reach (neg_ℤ (pos (2 ^ 127))) low n (fits_low low q.0) f) (less_first n high (pos (2 ^ 127)) g (fits_high high q.1))
 
+or_left : (a b : Bool) → a ≡ true → a || b ≡ true
+or_left true b h = refl
+or_left false b h = absurd (cc)
+
+or_right : (a b : Bool) → b ≡ true → a || b ≡ true
+or_right true b h = refl
+or_right false b h = h
+
+holds_none : {P : Type 0} (a b : ℤ) → a ≤ℤ b → int_le a b ≡ false → P
+holds_none a b h e = absurd (never a b h (false_le a b e))
+  where
+    never : (a b : ℤ) → a ≤ℤ b → b <ℤ a → ⊥
+    never a b h k = omega (arith, ints)
+
+-- a number lies in a bound that isn't empty
+still_in_bounds : (n : ℤ) (bs : List Bound) → list_any (in_bound n) bs ≡ true → list_any (in_bound n) (without_empty bs) ≡ true
+still_in_bounds n [] h = h
+still_in_bounds n (b ∷ bs) h = by_test (int_le b.from b.to) refl (still_in_bounds n bs)
+  where
+    by_test : (t : Bool) → int_le b.from b.to ≡ t → (list_any (in_bound n) bs ≡ true → list_any (in_bound n) (without_empty bs) ≡ true) → list_any (in_bound n) (cond t (b ∷ without_empty bs) (without_empty bs)) ≡ true
+    by_test true e go = one_of (in_bound n b) (list_any (in_bound n) bs) (λ f. or_left (in_bound n b) (list_any (in_bound n) (without_empty bs)) f) (λ f. or_right (in_bound n b) (list_any (in_bound n) (without_empty bs)) (go f)) h
+    by_test false e go =
+        one_of (in_bound n b) (list_any (in_bound n) bs)
+        (λ f. let q = both (int_le b.from n) (int_le n b.to) f in holds_none b.from b.to (reach b.from n b.to (true_le b.from n q.0) (true_le n b.to q.1)) e) go h
+
 not_between : (a b n : ℤ) → b <ℤ a → a ≤ℤ n → n ≤ℤ b → ⊥
 not_between a b n g h k = omega (arith, ints)
 
@@ -512,12 +537,16 @@ module _ (scope : Scope) (k : Known) (i : Interval) (s : StateMaps) (ps : List P
             seen = chosen_seen scope r k.view i s ps id (symbol m.next) n (same_seen scope m.next r d.numbers k.view i s ps (agree_below d.numbers m.next n) d.below d.seen) (sym (symbol_at r m.next ∙ at_new d.numbers m.next n)) h;
           }
 
-  choice_concludes : (earlier : List ActionTree) (id : ChoiceId) (bounds : List Bound) (n : ℤ) → NoneTakes i s (Choice id n) earlier → list_any (in_bound n) bounds ≡ true
-      → Concludes IsDescribed scope (concluded_choice k earlier id bounds) i [] [] (record s { choices = insert s.choices id n }) ps
-  choice_concludes earlier id [] n z h = absurd (cc)
-  choice_concludes earlier id (b ∷ bs) n z h =
+  chosen_in_concludes : (earlier : List ActionTree) (id : ChoiceId) (bounds : List Bound) (n : ℤ) → NoneTakes i s (Choice id n) earlier → list_any (in_bound n) bounds ≡ true
+      → Concludes IsDescribed scope (chosen_in k earlier id bounds) i [] [] (record s { choices = insert s.choices id n }) ps
+  chosen_in_concludes earlier id [] n z h = absurd (cc)
+  chosen_in_concludes earlier id (b ∷ bs) n z h =
       let q = in_range n b bs h in
       chosen_concludes id (raised id earlier (least_bound b bs)) (lowered id earlier (greatest_bound b bs)) n (raised_is i s id n earlier (least_bound b bs) z q.0) (lowered_is i s id n earlier (greatest_bound b bs) z q.1)
+
+  choice_concludes : (earlier : List ActionTree) (id : ChoiceId) (bounds : List Bound) (n : ℤ) → NoneTakes i s (Choice id n) earlier → list_any (in_bound n) bounds ≡ true
+      → Concludes IsDescribed scope (concluded_choice k earlier id bounds) i [] [] (record s { choices = insert s.choices id n }) ps
+  choice_concludes earlier id bounds n z h = chosen_in_concludes earlier id (without_empty bounds) n z (still_in_bounds n bounds h)
 
   -- ---- times
 

@@ -151,15 +151,19 @@ found_ranges_hold T N A s c whom above =
 -- ---- worked contracts
 
 pub sale_has_no_alarm : SaleHasNoAlarm
+unfolding fits
 sale_has_no_alarm = refl
 
 pub escrow_has_no_alarm : EscrowHasNoAlarm
+unfolding fits
 escrow_has_no_alarm = refl
 
 pub empty_pay_has_an_alarm : EmptyPayHasAnAlarm
+unfolding fits
 empty_pay_has_an_alarm = refl
 
 pub both_have_an_alarm : BothHaveAnAlarm
+unfolding fits
 both_have_an_alarm = refl
 
 none_counted : {K : Type 0} (es : List (K × ℤ)) → length es ≡ 0 → es ≡ []

@@ -163,9 +163,17 @@ chosen_from k id low high =
       known = if int_lt high low then None else Some (known (fresh k.symbols (Some low) (Some high)) (record (k.view) { choices = (id, symbol k.symbols.next) ∷ k.view.choices }));
     }
 
+-- the bounds that hold a number
+abbrev pub without_empty : List Bound → List Bound
+without_empty [] = []
+without_empty (b ∷ bs) = if int_le b.from b.to then b ∷ without_empty bs else without_empty bs
+
+abbrev pub chosen_in : Known → List ActionTree → ChoiceId → List Bound → Conclusion Known
+chosen_in k earlier id [] = record { kinds = []; known = None }
+chosen_in k earlier id (b ∷ bs) = chosen_from k id (raised id earlier (least_bound b bs)) (lowered id earlier (greatest_bound b bs))
+
 abbrev pub concluded_choice : Known → List ActionTree → ChoiceId → List Bound → Conclusion Known
-concluded_choice k earlier id [] = record { kinds = []; known = None }
-concluded_choice k earlier id (b ∷ bs) = chosen_from k id (raised id earlier (least_bound b bs)) (lowered id earlier (greatest_bound b bs))
+concluded_choice k earlier id bounds = chosen_in k earlier id (without_empty bounds)
 
 -- ---- times
 
