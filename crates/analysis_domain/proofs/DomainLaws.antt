@@ -448,7 +448,6 @@ module _ (scope : Scope) (k : Known) (i : Interval) (s : StateMaps) (ps : List P
                   };
             }
 
-
 -- ---- choices that no earlier case takes
 
 fits_low : (n : ℤ) → fits n ≡ true → neg_ℤ (pos (2 ^ 127)) ≤ℤ n

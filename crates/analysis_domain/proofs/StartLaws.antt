@@ -15,6 +15,7 @@ use Rattle.names.specs.Orders.{account_cmp, choice_id_cmp, bytes_cmp}
 use Rattle.contract.specs.declared.interval.Interval.{Interval}
 use Rattle.contract.specs.Tree.{ContractTree}
 use Rattle.states.specs.States.{StateMaps, AllPositive, money_of}
+use Rattle.evaluation.specs.Evaluation.{quotient}
 use Rattle.evaluation.specs.Numbers.{fits}
 use Rattle.semantics.specs.Laws.{TimeGoesOn}
 use Rattle.semantics.specs.Naturals.{PaymentsAreNatural, AccountsStayPositive}
@@ -33,7 +34,7 @@ use Rattle.analysis_walk.specs.Findings.{range_at_ends}
 use Rattle.analysis_domain.specs.Known.{held, AreTimes, EntriesBelow, IsSeen, IsDescribed}
 use Rattle.analysis_domain.specs.Expressions.{expressions}
 use Rattle.analysis_domain.specs.Start.{in_numbers, starting_with, at_start, found_from, EntriesFit, NumbersFit}
-use Rattle.analysis_domain.specs.Laws.{FoundAlarmsNameWhatComes, NoAlarmStaysWithin128, FoundRangesHold, sale, SaleHasNoAlarm, EscrowHasNoAlarm, SaleNeverWarns, EmptyPayHasAnAlarm, BothHaveAnAlarm}
+use Rattle.analysis_domain.specs.Laws.{FoundAlarmsNameWhatComes, NoAlarmStaysWithin128, FoundRangesHold, sale, SaleHasNoAlarm, EscrowHasNoAlarm, SaleNeverWarns, EmptyPayHasAnAlarm, BothHaveAnAlarm, ZeroDepositHasAnAlarm, ShadowedCaseIsSilent, PassedTimeoutIsSilent, BoundNameHasAnAlarm, LeavingHasAnAlarm, EndAndOneIsSilent, ClampIsSilent, HalfMayBeZero, EscrowRanges}
 use Rattle.analysis_domain.proofs.ViewLemmas.{zero_allowed, unwrapped_allowed}
 use Rattle.analysis_domain.proofs.DomainLaws.{from_allowed, to_allowed, two_times, time_is, expressions_are_lawful}
 
@@ -166,6 +167,42 @@ pub both_have_an_alarm : BothHaveAnAlarm
 unfolding fits
 both_have_an_alarm = refl
 
+pub zero_deposit_has_an_alarm : ZeroDepositHasAnAlarm
+unfolding fits quotient
+zero_deposit_has_an_alarm = refl
+
+pub shadowed_case_is_silent : ShadowedCaseIsSilent
+unfolding fits quotient
+shadowed_case_is_silent = refl
+
+pub passed_timeout_is_silent : PassedTimeoutIsSilent
+unfolding fits quotient
+passed_timeout_is_silent = refl
+
+pub bound_name_has_an_alarm : BoundNameHasAnAlarm
+unfolding fits quotient
+bound_name_has_an_alarm = refl
+
+pub leaving_has_an_alarm : LeavingHasAnAlarm
+unfolding fits quotient
+leaving_has_an_alarm = refl
+
+pub end_and_one_is_silent : EndAndOneIsSilent
+unfolding fits quotient
+end_and_one_is_silent = refl
+
+pub clamp_is_silent : ClampIsSilent
+unfolding fits quotient
+clamp_is_silent = refl
+
+pub half_may_be_zero : HalfMayBeZero
+unfolding fits quotient
+half_may_be_zero = (refl, (refl, refl))
+
+pub escrow_ranges : EscrowRanges
+unfolding fits quotient
+escrow_ranges = refl
+
 none_counted : {K : Type 0} (es : List (K × ℤ)) → length es ≡ 0 → es ≡ []
 none_counted [] h = refl
 none_counted (e ∷ es) h = absurd (cc)
@@ -181,8 +218,7 @@ nothing_known =
 pub sale_never_warns : TimeGoesOn → SaleNeverWarns
 sale_never_warns T =
     let none : (found_from nothing sale).alarms ≡ [] = ap (λ k. (findings expressions [] k sale).alarms) nothing_known ∙ sale_has_no_alarm in
-    let above : AllPositive (entries nothing.accounts) = subst AllPositive (sym (no_entries account_cmp)) tt in
-    (
+    let above : AllPositive (entries nothing.accounts) = subst AllPositive (sym (no_entries account_cmp)) tt in (
       λ kind. found_alarms_name_what_comes T nothing sale kind above (subst (AllByRecursion (λ a. a.kind ≡ kind → ⊥)) (sym none) tt),
       no_alarm_stays_within_128 T nothing sale above
           (record { accounts = subst EntriesFit (sym (no_entries account_cmp)) tt; choices = subst EntriesFit (sym (no_entries choice_id_cmp)) tt; bound = subst EntriesFit (sym (no_entries bytes_cmp)) tt })

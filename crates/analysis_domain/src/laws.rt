@@ -1,4 +1,5 @@
 //! What is found of a contract in linear expressions is so: laws, each the contract of a function that does nothing.
+ghost use Rattle.analysis_domain.specs.Laws.{ZeroDepositHasAnAlarm, ShadowedCaseIsSilent, PassedTimeoutIsSilent, BoundNameHasAnAlarm, LeavingHasAnAlarm, EndAndOneIsSilent, ClampIsSilent, HalfMayBeZero, EscrowRanges};
 ghost use Rattle.analysis_domain.specs.Laws.{FoundAlarmsNameWhatComes, NoAlarmStaysWithin128, FoundRangesHold, SaleHasNoAlarm, EscrowHasNoAlarm, SaleNeverWarns, EmptyPayHasAnAlarm, BothHaveAnAlarm};
 
 use semantics::{accounts_stay_above_zero, payments_are_natural, time_never_goes_back};
@@ -28,3 +29,19 @@ pub fn worked_contracts()
 {
     time_never_goes_back();
 }
+
+/// Worked alarms: a deposit of 0 and the Pay behind it, a name of the start state, the least number by -1, half of a price
+/// that may be 1. No alarm: a case that an earlier one shadows, one behind a timeout that has passed, the end of an interval
+/// and 1, an amount that a Cond bounds. Each role of the escrow is paid from 0 to 5.
+#[tactic(auto, using(crate::proofs::StartLaws::zero_deposit_has_an_alarm, crate::proofs::StartLaws::shadowed_case_is_silent, crate::proofs::StartLaws::passed_timeout_is_silent, crate::proofs::StartLaws::bound_name_has_an_alarm, crate::proofs::StartLaws::leaving_has_an_alarm, crate::proofs::StartLaws::end_and_one_is_silent, crate::proofs::StartLaws::clamp_is_silent, crate::proofs::StartLaws::half_may_be_zero, crate::proofs::StartLaws::escrow_ranges))]
+pub fn worked_alarms()
+    ensures zero_deposit { ZeroDepositHasAnAlarm }
+    ensures shadowed { ShadowedCaseIsSilent }
+    ensures passed { PassedTimeoutIsSilent }
+    ensures bound { BoundNameHasAnAlarm }
+    ensures leaving { LeavingHasAnAlarm }
+    ensures end_and_one { EndAndOneIsSilent }
+    ensures clamp { ClampIsSilent }
+    ensures half { HalfMayBeZero }
+    ensures ranges { EscrowRanges }
+{}

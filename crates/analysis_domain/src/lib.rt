@@ -8,4 +8,4 @@
 
 mod laws;
 
-pub use laws::{what_is_found_is_so, worked_contracts};
+pub use laws::{what_is_found_is_so, worked_alarms, worked_contracts};

@@ -159,11 +159,13 @@ module _ {K : Type 0} (Describes : Description K) (alarms : List Alarm) (ranges 
 
       by_input : (x : Input) → NoneTakes i s x earlier → AllByRecursion (Allowed scope) (tried i s x (deposit b q u v))
           × (matches i s x (deposit b q u v) ≡ true → Keeps (limits scope alarms ranges) here (taken_numbers s x) (taken_warnings x) × F (taken s x))
-      by_input (Deposit a p t n) _ =
-          (by_test (agrees a p t b q u), λ e.
-          let l = same_deposit a p t n b q u (eval i s v) e in
-          let R : Party → Party → Token → ℤ → Type 0 = λ a p t n. Keeps (limits scope alarms ranges) here (taken_numbers s (Deposit a p t n)) (taken_warnings (Deposit a p t n)) × F (taken s (Deposit a p t n)) in
-          subst (λ a. R a p t n) l.0 (subst (λ p. R b p t n) l.1 (subst (λ t. R b q t n) l.2 (subst (λ n. R b q u n) l.3 it))))
+      by_input (Deposit a p t n) _ = (
+        by_test (agrees a p t b q u),
+        λ e.
+            let l = same_deposit a p t n b q u (eval i s v) e in
+            let R : Party → Party → Token → ℤ → Type 0 = λ a p t n. Keeps (limits scope alarms ranges) here (taken_numbers s (Deposit a p t n)) (taken_warnings (Deposit a p t n)) × F (taken s (Deposit a p t n)) in
+            subst (λ a. R a p t n) l.0 (subst (λ p. R b p t n) l.1 (subst (λ t. R b q t n) l.2 (subst (λ n. R b q u n) l.3 it))),
+      )
       by_input (Choice id n) _ = (tt, λ e. absurd (cc))
       by_input Notify _ = (tt, λ e. absurd (cc))
 
@@ -171,13 +173,16 @@ module _ {K : Type 0} (Describes : Description K) (alarms : List Alarm) (ranges 
       (x : Conclusion K) → ChoosesSo Describes k earlier jd bounds x → AreAmong alarms (alarms_at here x.kinds) → IfSome x.known Q → Describes scope k i s ps → ((m : K) (then : StateMaps) → Describes scope m i then ps → Q m → F then)
       → CoversAction (limits scope alarms ranges) here i s earlier (choice jd bounds) F
   choice_action scope z here Q F k i s ps earlier jd bounds x so told know d go (Deposit a p t n) f = (tt, λ e. absurd (cc))
-  choice_action scope z here Q F k i s ps earlier jd bounds x so told know d go (Choice id n) f = (tt, λ e.
-      let l = both (same_choice_id id jd) (list_any (in_bound n) bounds) e in
-      let q = (same_choice_id_decides id jd).0 l.0 in
-      let then : StateMaps = record s { choices = insert s.choices jd n } in
-      let w = so scope i s ps n d (subst (λ (w : ChoiceId). NoneTakes i s (Choice w n) earlier) q f) l.1 in
-      let m = goes scope z here Q x i [] [] then ps w told know in
-      ((tt, tt), subst (λ (w : ChoiceId). F (record s { choices = insert s.choices w n })) (sym q) (go m.0 then m.1 m.2)))
+  choice_action scope z here Q F k i s ps earlier jd bounds x so told know d go (Choice id n) f = (
+    tt,
+    λ e.
+        let l = both (same_choice_id id jd) (list_any (in_bound n) bounds) e in
+        let q = (same_choice_id_decides id jd).0 l.0 in
+        let then : StateMaps = record s { choices = insert s.choices jd n } in
+        let w = so scope i s ps n d (subst (λ (w : ChoiceId). NoneTakes i s (Choice w n) earlier) q f) l.1 in
+        let m = goes scope z here Q x i [] [] then ps w told know in
+        ((tt, tt), subst (λ (w : ChoiceId). F (record s { choices = insert s.choices w n })) (sym q) (go m.0 then m.1 m.2)),
+  )
   choice_action scope z here Q F k i s ps earlier jd bounds x so told know d go Notify f = (tt, λ e. absurd (cc))
 
   notify_action : (scope : Scope) → AreClear scope alarms → (here : List PathStep) (Q : K → Type 0) (F : StateMaps → Type 0) (k : K) (i : Interval) (s : StateMaps) (ps : List Payment) (earlier : List ActionTree) (o : ObservationTree)

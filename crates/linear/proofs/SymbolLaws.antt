@@ -1,7 +1,7 @@
 -- What follows from what is known of symbols.
 use Rattle.std.proofs.Common.{◌≡◌, ℕ, zero, suc, ◌+◌, ◌-◌, ◌*◌, ◌/◌, ◌<◌, ◌≤◌, ◌==◌, ℤ, pos, negsuc, ◌+ℤ◌, ◌-ℤ◌, ◌*ℤ◌, ◌≤ℤ◌, ◌<ℤ◌, neg_ℤ, int_lt, Bool, true, false, not, cond, ◌&&◌, ◌||◌, List, [], ◌∷◌, ◌++◌, take, length, refl, sym, ap, ◌∙◌, subst, arith, Option, Some, None, inl, inr, ◌⊎◌}
 use Rattle.std.proofs.lemmas.Int.{ints}
-use Rattle.std.proofs.Math.Nat.{mul-div-le, lt-mul-div-succ, div-le_self}
+use Rattle.std.proofs.Math.Nat.{div-one, mul-div-le, lt-mul-div-succ, div-le_self}
 use Rattle.std.proofs.lemmas.Bool.Decides.{Decides-int_eq, nat_tests}
 use Rattle.std.specs.Prelude.{option_map, is_some, nat_abs, nat_lt}
 use Rattle.std.specs.Int.{int_min, int_max}
@@ -9,7 +9,7 @@ use Rattle.std.specs.Option.{option_and_then, IsSomeAnd}
 use Rattle.std.specs.Ordering.{int_eq}
 use Rattle.evaluation.specs.Evaluation.{quotient}
 use Rattle.linear.specs.Linear.{Linear, Valuation, sum_at, number_at, TermsBelow, IsBelow, number, symbol, plus, minus, times, Range, IsFrom, IsUpTo, AreInRange, AreNatural, least_of, greatest_of, greatest_at, least_shown, greatest_shown, floor_div, greater_of, lesser_of, range_by, narrowed}
-use Rattle.linear.specs.Symbols.{Agree, Knows, Leads, Gives, Possible, AreApart, is_apart, sharpened, with_apart, Symbols, Operation, result, AreResults, OperationsBelow, IsValued, RangesBelow, FactsBelow, IsClosed, fresh, unknown, same_truth, symbol_of, with_operation, least_of_four, greatest_of_four, known_or, product, product_by, divided, divided_down, new_quotient, quotient_of, Truths, of_truth, swapped, truths_in, both_true, one_true, is_zero, less, shows, opposite, learned, with_fact, only_if, above_zero, negated, least_of_both, greatest_of_both, hull, are_below, shared, new_facts, join, joined, same_terms, same_linear, learned_if, compared, either_number, one_number, number_of_either}
+use Rattle.linear.specs.Symbols.{Agree, Knows, Leads, Gives, Possible, AreApart, is_apart, sharpened, with_apart, Symbols, Operation, result, AreResults, OperationsBelow, IsValued, RangesBelow, FactsBelow, IsClosed, fresh, unknown, same_truth, symbol_of, with_operation, least_of_four, greatest_of_four, known_or, product, product_by, divided, divided_down, new_quotient, numbered_quotient, quotient_up, in_opposite, quotient_by, quotient_of, Truths, of_truth, swapped, truths_in, both_true, one_true, is_zero, less, shows, opposite, learned, with_fact, only_if, above_zero, negated, least_of_both, greatest_of_both, hull, are_below, shared, new_facts, join, joined, same_terms, same_linear, learned_if, compared, either_number, one_number, number_of_either}
 use Rattle.linear.proofs.NumberLaws.{both, true_lt, false_lt}
 use Rattle.linear.proofs.LinearLaws.{one_of, same_symbol, grows, shrinks, lt_le, reach, plus_at, times_at, minus_at, plus_below, times_below, minus_below, same_number, symbol_at, rest_at, least_is, greatest_is, least_shown_is, greatest_shown_is, narrowed_range, shown_is}
 
@@ -899,13 +899,69 @@ module _ (k : Symbols) (r : Valuation) (l m : Linear) (c : IsClosed k) (v : IsVa
       let n = quotient (number_at r l) (number_at r m) in
       known_gives k r true l m (new_quotient k l m us, symbol k.next) n c v refl (new_gives k r n (new_quotient k l m us) g.next g.closed g.valued)
 
+  pub numbered_gives : Gives k r (numbered_quotient k l m) (quotient (number_at r l) (number_at r m))
+  numbered_gives = quotient_known m.terms refl
+
+quotient_none : (a c : ℤ) → c ≡ pos 0 → quotient a c ≡ pos 0
+unfolding quotient
+quotient_none a c e = ap (quotient a) e
+
+quotient_whole : (a : ℤ) → quotient a (pos 1) ≡ a
+unfolding quotient
+quotient_whole (pos n) = ap pos (div-one n)
+quotient_whole (negsuc n) = ap (λ m. neg_ℤ (pos m)) (div-one (suc n))
+
+quotient_one : (a c : ℤ) → c ≡ pos 1 → quotient a c ≡ a
+quotient_one a c e = ap (quotient a) e ∙ quotient_whole a
+
+twice : (n : ℕ) → neg_ℤ (neg_ℤ (pos n)) ≡ pos n
+twice zero = refl
+twice (suc n) = refl
+
+twice_opposite : (a : ℤ) → neg_ℤ (neg_ℤ a) ≡ a
+twice_opposite (pos n) = twice n
+twice_opposite (negsuc n) = refl
+
+-- the sign of a divisor moves out
+sign_moves_out : (a b : ℤ) → quotient a (neg_ℤ b) ≡ neg_ℤ (quotient a b)
+unfolding quotient
+sign_moves_out a (pos zero) = refl
+sign_moves_out (pos a) (pos (suc b)) = refl
+sign_moves_out (negsuc a) (pos (suc b)) = sym (twice (suc a / suc b))
+sign_moves_out (pos a) (negsuc b) = sym (twice (a / suc b))
+sign_moves_out (negsuc a) (negsuc b) = refl
+
+module _ (k : Symbols) (r : Valuation) (l : Linear) (c : IsClosed k) (v : IsValued r k) (b : IsBelow k.next l) where
+  up_gives : (n : ℤ) → Gives k r (quotient_up k l n) (quotient (number_at r l) n)
+  up_gives n = by_test (int_eq n (pos 1)) refl
+    where
+      by_test : (t : Bool) → int_eq n (pos 1) ≡ t → Gives k r (cond t (k, l) (numbered_quotient k l (number n))) (quotient (number_at r l) n)
+      by_test true e = gives_here k r l (quotient (number_at r l) n) c v b (quotient_one (number_at r l) n ((Decides-int_eq n (pos 1)).0 e))
+      by_test false e = subst (λ z. Gives k r (numbered_quotient k l (number n)) (quotient (number_at r l) z)) (plus_none n) (numbered_gives k r l (number n) c v b tt)
+
+  opposite_gives : (a : Symbols × Linear) (n : ℤ) → (g : Gives k r a n) → Gives k r (in_opposite a) (neg_ℤ n)
+  opposite_gives a n g =
+      gives_then k r a (in_opposite a) n (neg_ℤ n) g
+      (gives_here a.0 g.values (negated a.1) (neg_ℤ n) g.closed g.valued (times_below a.0.next (neg_ℤ (pos 1)) a.1 g.below) (neg_is n ∙ ap (λ z. neg_ℤ (pos 1) *ℤ z) g.number ∙ sym (times_at g.values (neg_ℤ (pos 1)) a.1)))
+
+  by_gives : (n : ℤ) → Gives k r (quotient_by k l n) (quotient (number_at r l) n)
+  by_gives n = by_tests (int_eq n (pos 0)) (int_lt n (pos 0)) refl
+    where
+      by_tests : (t u : Bool) → int_eq n (pos 0) ≡ t → Gives k r (cond t (k, number (pos 0)) (cond u (in_opposite (quotient_up k l (neg_ℤ n))) (quotient_up k l n))) (quotient (number_at r l) n)
+      by_tests true u e = gives_here k r (number (pos 0)) (quotient (number_at r l) n) c v tt (quotient_none (number_at r l) n ((Decides-int_eq n (pos 0)).0 e) ∙ sym (plus_none (pos 0)))
+      by_tests false true e =
+          subst (λ z. Gives k r (in_opposite (quotient_up k l (neg_ℤ n))) z) (sym (sign_moves_out (number_at r l) (neg_ℤ n)) ∙ ap (quotient (number_at r l)) (twice_opposite n))
+          (opposite_gives (quotient_up k l (neg_ℤ n)) (quotient (number_at r l) (neg_ℤ n)) (up_gives (neg_ℤ n)))
+      by_tests false false e = up_gives n
+
+module _ (k : Symbols) (r : Valuation) (l m : Linear) (c : IsClosed k) (v : IsValued r k) (b : IsBelow k.next l) (d : IsBelow k.next m) where
   quotient_at : (ts us : List (ℕ × ℤ)) → l.terms ≡ ts → m.terms ≡ us → Gives k r (quotient_of k l m ts us) (quotient (number_at r l) (number_at r m))
   quotient_at [] [] e f =
       gives_here k r (number (quotient l.constant m.constant)) (quotient (number_at r l) (number_at r m)) c v tt
       (ap (λ z. quotient z (number_at r m)) (no_terms r l e) ∙ ap (λ z. quotient l.constant z) (no_terms r m f) ∙ sym (plus_none (quotient l.constant m.constant)))
-  quotient_at [] (u ∷ us) e f = quotient_known (u ∷ us) f
-  quotient_at (t ∷ ts) [] e f = quotient_known [] f
-  quotient_at (t ∷ ts) (u ∷ us) e f = quotient_known (u ∷ us) f
+  quotient_at (t ∷ ts) [] e f = subst (λ z. Gives k r (quotient_by k l m.constant) (quotient (number_at r l) z)) (sym (no_terms r m f)) (by_gives k r l c v b m.constant)
+  quotient_at [] (u ∷ us) e f = numbered_gives k r l m c v b d
+  quotient_at (t ∷ ts) (u ∷ us) e f = numbered_gives k r l m c v b d
 
 pub quotient_gives : (k : Symbols) (r : Valuation) (l m : Linear) (ts us : List (ℕ × ℤ)) (x y : ℤ) → l.terms ≡ ts → m.terms ≡ us → IsClosed k → IsValued r k → IsBelow k.next l → IsBelow k.next m
     → x ≡ number_at r l → y ≡ number_at r m → Gives k r (quotient_of k l m ts us) (quotient x y)

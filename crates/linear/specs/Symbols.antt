@@ -272,9 +272,23 @@ abbrev pub new_quotient : Symbols → Linear → Linear → List (ℕ × ℤ) �
 new_quotient k l m [] = if int_lt (pos 0) m.constant then divided l m.constant k.next (with_operation k true l m None None) else with_operation k true l m None None
 new_quotient k l m (u ∷ us) = divided_down l m k.next (with_operation k true l m None None)
 
+abbrev pub numbered_quotient : Symbols → Linear → Linear → Symbols × Linear
+numbered_quotient k l m = known_or k (symbol_of k.operations true l m) (new_quotient k l m m.terms, symbol k.next)
+
+-- by a constant: by 0 it is 0, by 1 the dividend, and the sign of a divisor below 0 moves out
+abbrev pub quotient_up : Symbols → Linear → ℤ → Symbols × Linear
+quotient_up k l c = if int_eq c (pos 1) then (k, l) else numbered_quotient k l (number c)
+
+abbrev pub in_opposite : Symbols × Linear → Symbols × Linear
+in_opposite a = (a.0, negated a.1)
+
+abbrev pub quotient_by : Symbols → Linear → ℤ → Symbols × Linear
+quotient_by k l c = if int_eq c (pos 0) then (k, number (pos 0)) else (if int_lt c (pos 0) then in_opposite (quotient_up k l (neg_ℤ c)) else quotient_up k l c)
+
 abbrev pub quotient_of : Symbols → Linear → Linear → List (ℕ × ℤ) → List (ℕ × ℤ) → Symbols × Linear
 quotient_of k l m [] [] = (k, number (quotient l.constant m.constant))
-quotient_of k l m ts us = known_or k (symbol_of k.operations true l m) (new_quotient k l m us, symbol k.next)
+quotient_of k l m (t ∷ ts) [] = quotient_by k l m.constant
+quotient_of k l m ts (u ∷ us) = numbered_quotient k l m
 
 -- ---- observations
 
