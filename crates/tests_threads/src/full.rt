@@ -152,7 +152,11 @@ fn pool_is_full<J: Session + Send + Sync, R: Threads + Wait + Abort + Sync + All
     let (closed, enqueued, rounds) = filled::<J, R>(rt, rt.alloc(), opening).expect(rt, "memory");
     assert_eq!(rt; closed.chain().entries().len(), 1_027);
     for ticket in 0..1_024 {
-        assert_eq!(rt; count_of(&enqueued, &Reply::Ticket(ticket)), 1, "each ticket once");
+        assert_eq!(rt;
+            count_of(&enqueued, &Reply::Ticket(ticket)),
+            1,
+            "each ticket once"
+        );
     }
     assert_eq!(rt; count_of(&enqueued, &Reply::Full), 1, "one finds no room");
     let (one, other) = match &rounds[..] {
