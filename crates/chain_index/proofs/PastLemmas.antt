@@ -21,17 +21,16 @@ use Rattle.eutxo_types.specs.Parts.{same_bytes, same_ref, is_step, steps, contra
 use Rattle.eutxo.specs.Asked.{Judges}
 use Rattle.eutxo.specs.Laws.{FoundIsEnough}
 use Rattle.roles.specs.declared.published.Published.{Published}
+use Rattle.ledger_laws.specs.Laws.{AfterIsSound}
 use Rattle.ledger_laws.specs.Past.{Past, after, is_input_of, is_spent, created, created_by, unspent, unspent_at, has_id}
 use Rattle.ledger_laws.specs.Past as past_words
 use Rattle.ledger_laws.specs.Threads.{next_of}
-use Rattle.ledger_laws.proofs.PlainLaws.{EachFalse, and_true, or_false, both, both_false, not_both, is_there, each_at, no_more}
+use Rattle.ledger_laws.proofs.PlainLaws.{EachFalse, and_true, or_false, both, both_false, not_both, is_there, any_there, each_at, no_more}
 use Rattle.ledger_laws.proofs.PartLaws.{output_so}
 use Rattle.ledger_laws.proofs.ReferenceLaws.{same_ref_so, created_grown, spent_more, unspent_so, at_place, and_never}
 use Rattle.ledger_laws.proofs.AcceptedLaws.{still_there}
 use Rattle.ledger_laws.proofs.FreshLemmas.{Fresh, fresh}
 use Rattle.ledger_laws.proofs.JudgedLemmas.{Passes, passes}
-use Rattle.ledger_laws.proofs.PairedLemmas.{named_at}
-use Rattle.ledger_laws.proofs.SoundLemmas.{after_is_sound}
 use Rattle.ledger_spec.specs.Replay.{published_at}
 use Rattle.ledger_spec.specs.Views.{starts_in}
 use Rattle.chain_index.specs.declared.moves.Move.{Move}
@@ -74,10 +73,10 @@ starts_after : (txs : List Tx) (tx : Tx) → starts_of (txs ++ tx ∷ []) ≡ st
 starts_after [] tx = no_more (starts_by tx)
 starts_after (t ∷ txs) tx = ap (λ (l : List OutputRef). starts_by t ++ l) (starts_after txs tx) ∙ sym (append_assoc (starts_by t) (starts_of txs) (starts_by tx))
 
-pub accepts_alike : (j : Judges Published) → FoundIsEnough j → AcceptsAlike j
-accepts_alike j enough published ps past tick tx sound h =
+pub accepts_alike : (j : Judges Published) → FoundIsEnough j → AfterIsSound j → AcceptsAlike j
+accepts_alike j enough after_is_sound published ps past tick tx sound h =
     let later = after past tx in
-    let grown = after_is_sound j published past tick tx sound h in
+    let grown = after_is_sound published past tick tx sound h in
     let new = subst (λ (l : List Tx). (i : ℕ) → is_spent (l ++ tx ∷ []) (Made (id_of tx) i) ≡ false) (take-append_seam past.accepted (tx ∷ [])) (still_there j enough published later grown (length past.accepted) tx (at_end past.accepted tx)) in
     let u = unspent_after past tx new in
     let d = sym (map-append id_of past.accepted (tx ∷ [])) in
@@ -185,5 +184,5 @@ can_be_added j enough published ps past tick tx h = record {
 
     there : (r : OutputRef) → is_input_of r tx ≡ true → is_some (unspent_at past r) ≡ true
     there r n =
-        let m = named_at r tx.inputs n in
-        ap (λ (q : OutputRef). is_some (unspent_at past q)) (sym m.name) ∙ some_if (unspent_at past m.input.reference) (each_at (λ x. is_none (unspent_at past x.reference)) m.index tx.inputs m.input p.unspent m.at)
+        let m = any_there (λ x. same_ref x.reference r) tx.inputs n in
+        ap (λ (q : OutputRef). is_some (unspent_at past q)) (sym (same_ref_so m.1.reference r m.3)) ∙ some_if (unspent_at past m.1.reference) (each_at (λ x. is_none (unspent_at past x.reference)) m.0 tx.inputs m.1 p.unspent m.2)

@@ -3,6 +3,7 @@ ghost use Rattle.roles.specs.Steps.{marlowe};
 ghost use Rattle.chain_index.specs.Laws.{ReadsAlike, AcceptsAlike, JudgedCanBeAdded, ThreadsAlike, EndsAlike};
 
 use eutxo::found_is_enough;
+use ledger_laws::accepting_is_sound;
 use roles::Published;
 
 /// The rules read the same of what is indexed of a past as of the past.
@@ -16,6 +17,7 @@ pub fn index_accepts_alike()
     ensures alike { AcceptsAlike marlowe }
     ensures added { JudgedCanBeAdded marlowe }
 {
+    accepting_is_sound::<Published>();
     found_is_enough::<Published>();
 }
 
