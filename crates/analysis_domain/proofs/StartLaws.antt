@@ -11,6 +11,9 @@ use Rattle.std.specs.FinMap.{FinMap, get, entries, empty, get-entries, len-empty
 use Rattle.collections.proofs.Positive.{AllPositive-find}
 use Rattle.names.specs.declared.account.Account.{Account}
 use Rattle.names.specs.declared.choice_id.ChoiceId.{ChoiceId}
+use Rattle.names.specs.declared.party.Party.{Party}
+use Rattle.names.specs.declared.token.Token.{Token}
+use Rattle.names.specs.Equal.{ada}
 use Rattle.names.specs.Orders.{account_cmp, choice_id_cmp, bytes_cmp}
 use Rattle.contract.specs.declared.interval.Interval.{Interval}
 use Rattle.contract.specs.Tree.{ContractTree}
@@ -19,12 +22,13 @@ use Rattle.evaluation.specs.Evaluation.{quotient}
 use Rattle.evaluation.specs.Numbers.{fits}
 use Rattle.semantics.specs.Laws.{TimeGoesOn}
 use Rattle.semantics.specs.Naturals.{PaymentsAreNatural, AccountsStayPositive}
-use Rattle.semantics.specs.Rows.{nothing}
+use Rattle.semantics.specs.Rows.{party_b, nothing}
 use Rattle.linear.specs.Linear.{Linear, Valuation, number_at, number, symbol, minus}
 use Rattle.linear.proofs.LinearLaws.{minus_at, minus_below, symbol_at}
 use Rattle.analysis_spec.specs.declared.kind.AlarmKind.{AlarmKind}
 use Rattle.analysis_spec.specs.declared.kind.AlarmKind.TheVariants.{Leaves128}
-use Rattle.analysis_spec.specs.Promises.{NeverWarns, StaysWithin128}
+use Rattle.analysis_spec.specs.Promises.{NeverWarns, StaysWithin128, PaysBetween}
+use Rattle.analysis_walk.specs.declared.paid.PaidRange.{PaidRange}
 use Rattle.analysis_walk.specs.Limits.{Scope, any_runs, written_runs, Admitted, Allowed}
 use Rattle.analysis_walk.specs.Domain.{DescribesStart}
 use Rattle.analysis_walk.specs.Findings.{findings}
@@ -34,7 +38,7 @@ use Rattle.analysis_walk.specs.Findings.{range_at_ends}
 use Rattle.analysis_domain.specs.Known.{held, AreTimes, EntriesBelow, IsSeen, IsDescribed}
 use Rattle.analysis_domain.specs.Expressions.{expressions}
 use Rattle.analysis_domain.specs.Start.{in_numbers, starting_with, at_start, found_from, EntriesFit, NumbersFit}
-use Rattle.analysis_domain.specs.Laws.{FoundAlarmsNameWhatComes, NoAlarmStaysWithin128, FoundRangesHold, sale, SaleHasNoAlarm, EscrowHasNoAlarm, SaleNeverWarns, EmptyPayHasAnAlarm, BothHaveAnAlarm, ZeroDepositHasAnAlarm, ShadowedCaseIsSilent, PassedTimeoutIsSilent, BoundNameHasAnAlarm, LeavingHasAnAlarm, EndAndOneIsSilent, ClampIsSilent, HalfMayBeZero, EscrowRanges}
+use Rattle.analysis_domain.specs.Laws.{FoundAlarmsNameWhatComes, NoAlarmStaysWithin128, FoundRangesHold, escrow, EscrowPaysBetween, sale, SaleHasNoAlarm, EscrowHasNoAlarm, SaleNeverWarns, EmptyPayHasAnAlarm, BothHaveAnAlarm, ZeroDepositHasAnAlarm, ShadowedCaseIsSilent, PassedTimeoutIsSilent, BoundNameHasAnAlarm, LeavingHasAnAlarm, EndAndOneIsSilent, ClampIsSilent, HalfMayBeZero, EscrowRanges}
 use Rattle.analysis_domain.proofs.ViewLemmas.{zero_allowed, unwrapped_allowed}
 use Rattle.analysis_domain.proofs.DomainLaws.{from_allowed, to_allowed, two_times, time_is, expressions_are_lawful}
 
@@ -224,3 +228,14 @@ sale_never_warns T =
           (record { accounts = subst EntriesFit (sym (no_entries account_cmp)) tt; choices = subst EntriesFit (sym (no_entries choice_id_cmp)) tt; bound = subst EntriesFit (sym (no_entries bytes_cmp)) tt })
           (subst (AllByRecursion (λ a. a.kind ≡ Leaves128 → ⊥)) (sym none) tt),
     )
+
+escrow_range : map (range_at_ends expressions (findings expressions [] (starting_with [] [] [] (pos 0)) escrow).ends) ((party_b, ada) ∷ []) ≡ record { party = party_b; token = ada; least = Some (pos 0); most = Some (pos 5) } ∷ []
+unfolding fits
+escrow_range = refl
+
+pub escrow_pays_between : TimeGoesOn → PaymentsAreNatural → AccountsStayPositive → EscrowPaysBetween
+escrow_pays_between T N A =
+    let above : AllPositive (entries nothing.accounts) = subst AllPositive (sym (no_entries account_cmp)) tt in
+    let whom : List (Party × Token) = (party_b, ada) ∷ [] in
+    let is = ap (λ k. map (range_at_ends expressions (findings expressions [] k escrow).ends) whom) nothing_known ∙ escrow_range in
+    (subst (AllByRecursion (λ (r : PaidRange). PaysBetween r.party r.token r.least r.most nothing escrow)) is (found_ranges_hold T N A nothing escrow whom above)).0

@@ -138,3 +138,7 @@ abbrev pub EscrowRanges : Type 0
 EscrowRanges =
     map (range_at_ends expressions (findings expressions [] (starting_with [] [] [] (pos 0)) escrow).ends) ((party_a, ada) ∷ (party_b, ada) ∷ [])
     ≡ record { party = party_a; token = ada; least = Some (pos 0); most = Some (pos 5) } ∷ record { party = party_b; token = ada; least = Some (pos 0); most = Some (pos 5) } ∷ []
+
+-- so the role b is never paid more than 5, and no less than 0 once the escrow is closed
+abbrev pub EscrowPaysBetween : Type 0
+EscrowPaysBetween = PaysBetween party_b ada (Some (pos 0)) (Some (pos 5)) nothing escrow

@@ -10,8 +10,8 @@ pub fn alarms_name_what_comes()
     time_never_goes_back();
 }
 
-/// A contract whose numbers fit, in runs whose times JSON can write and up to the first number that doesn't, stays within
-/// 128 bits in all of these runs.
+/// A contract whose numbers fit, in runs whose times JSON can write and up to the first number that doesn't, stays
+/// within 128 bits in all of these runs.
 pub fn numbers_stay_within_128()
     ensures { NumbersStayWithin128 }
 {
