@@ -2,11 +2,11 @@
 use crate::alike::stand_alike;
 use crate::attempt::{Attempt, Lent, Twice, insist, tell};
 use crate::given::{Deal, other_contract, other_currency, payment};
-use crate::ledgers::{Answers, Ledger, ask, ledger, step};
-use chain::{Call, Reply};
+use crate::ledgers::{Answers, Ledger, ask, ledger_of, step};
+use chain::{Call, Reply, Ticketed};
 use collections::{Items, Same};
 use eutxo::{Checked, check};
-use eutxo_types::Tx;
+use eutxo_types::{Tx, Verdict};
 use ledger::Look;
 use roles::Published;
 use std::alloc::Global;
@@ -45,13 +45,7 @@ pub fn word_of(reply: &Reply) -> &'static str {
         Reply::Look(look) => word_of_look(look),
         Reply::Accepted(_) => "accepted",
         Reply::Ticket(5) => "ticket 5",
-        Reply::Round(places) => {
-            if places.len() == 3 {
-                "three verdicts"
-            } else {
-                "another number of verdicts"
-            }
-        }
+        Reply::Round(places) => word_of_round(places.as_slice()),
         _ => "another reply",
     }
 }
@@ -61,6 +55,15 @@ fn word_of_look(look: &Look) -> &'static str {
         "a thread and a payout"
     } else {
         "another look"
+    }
+}
+
+fn word_of_round(places: &[Ticketed]) -> &'static str {
+    let are_accepted = places.iter().all(|p| p.verdict == Verdict::Accepted);
+    match (places.len(), are_accepted) {
+        (1, true) => "one accepted",
+        (3, true) => "three accepted",
+        _ => "another round",
     }
 }
 
@@ -117,13 +120,13 @@ pub fn call_chain<R: Print + Eprint + AllocGlobal>(
     has_check: bool,
 ) -> Option<()> {
     let alloc = rt.alloc();
-    let still = ledger(alloc, deal)?;
-    let mut after = ledger(alloc, deal)?;
+    let still = ledger_of(alloc, deal)?;
+    let mut after = ledger_of(alloc, deal)?;
     let call = call_of(alloc, &still, kind)?;
     let expected = after.chain.answer(alloc, call)?;
     let mut calling = Calling {
         alloc,
-        ledger: ledger(alloc, deal)?,
+        ledger: ledger_of(alloc, deal)?,
         call: Twice::new(call_of(alloc, &still, kind)?, call_of(alloc, &still, kind)?),
         cache: Lent::new(cache_of(alloc, &still, has_check))?,
         tx: step(alloc, &still.shown.look)?,

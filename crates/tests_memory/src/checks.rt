@@ -4,7 +4,7 @@ ghost use Rattle.std.specs.Prelude.{◌<◌, ◌≤◌};
 use crate::alike::{Job, same_checks};
 use crate::attempt::{Attempt, Twice, insist, tell};
 use crate::given::{Deal, payment};
-use crate::ledgers::{enqueue, ledger, step};
+use crate::ledgers::{enqueue, ledger_of, step};
 use collections::Same;
 use eutxo::{Checked, check_owned};
 use parallel_check::{NoGate, check_all};
@@ -43,7 +43,7 @@ impl<'a, R: Threads + Wait + Sync> Attempt<Vec<Checked<Published>>> for Checking
 
 // What is pending: the three payments of the history, a step of the thread, and 13 payments more.
 fn jobs(alloc: Global) -> Option<Vec<Job>> {
-    let mut ledger = ledger(alloc, Deal::Short)?;
+    let mut ledger = ledger_of(alloc, Deal::Short)?;
     let tx = step(alloc, &ledger.shown.look)?;
     enqueue(alloc, &mut ledger.chain, tx)?;
     for output in [

@@ -63,7 +63,7 @@ pub struct Ledger {
 }
 
 /// The chain that has that history.
-pub fn ledger(alloc: Global, deal: Deal) -> Option<Ledger> {
+pub fn ledger_of(alloc: Global, deal: Deal) -> Option<Ledger> {
     let mut chain = begun(alloc)?;
     let shown = history(alloc, &mut chain, deal)?;
     Some(Ledger { chain, shown })

@@ -1,7 +1,7 @@
 //! Calls on a contract, and the builders.
 use crate::attempt::{Attempt, Lent, Twice, insist, tell};
 use crate::given::{Deal, SOON, contract, currency, notify, one, published, state, text};
-use crate::ledgers::ledger;
+use crate::ledgers::ledger_of;
 use builder::{BuildFault, build_claim, build_start, build_step};
 use collections::{Bytes, Items, Same, Text, TryClone};
 use contract::{Contract, Input, Outcome, SemFault, State};
@@ -42,7 +42,7 @@ impl Attempt<Option<Outcome<Cont>>> for Computing {
     }
 }
 
-fn computing(alloc: Global) -> Option<Computing> {
+fn new_computing(alloc: Global) -> Option<Computing> {
     let published = published(alloc, Deal::Short)?;
     let datum = Datum {
         cont: published.root,
@@ -59,8 +59,8 @@ fn computing(alloc: Global) -> Option<Computing> {
 /// Computes a transaction on the table of a contract.
 pub fn compute_on_table<R: Print + Eprint + AllocGlobal>(rt: &R, name: &str) -> Option<()> {
     let alloc = rt.alloc();
-    let expected = computing(alloc)?.make()??;
-    let answer = insist(rt, name, &mut computing(alloc)?)??;
+    let expected = new_computing(alloc)?.make()??;
+    let answer = insist(rt, name, &mut new_computing(alloc)?)??;
     let is_right = answer == expected && answer.payments.len() == 1;
     tell(rt, is_right, "one payment")
 }
@@ -127,7 +127,7 @@ impl Request {
     }
 }
 
-fn request(alloc: Global) -> Option<Request> {
+fn new_request(alloc: Global) -> Option<Request> {
     Some(Request {
         look: Lent::new(look(alloc))?,
         signers: Lent::new(one(alloc, text(alloc, "ann")))?,
@@ -136,7 +136,7 @@ fn request(alloc: Global) -> Option<Request> {
 }
 
 fn look(alloc: Global) -> Option<Look> {
-    Some(ledger(alloc, Deal::Short)?.shown.look)
+    Some(ledger_of(alloc, Deal::Short)?.shown.look)
 }
 
 #[derive(Drop)]
@@ -165,10 +165,10 @@ impl Attempt<Option<Tx>> for Stepping {
     }
 }
 
-fn stepping(alloc: Global) -> Option<Stepping> {
+fn new_stepping(alloc: Global) -> Option<Stepping> {
     Some(Stepping {
         alloc,
-        request: request(alloc)?,
+        request: new_request(alloc)?,
         inputs: Lent::new(notify(alloc))?,
     })
 }
@@ -200,10 +200,10 @@ impl Attempt<Option<Tx>> for Starting {
     }
 }
 
-fn starting(alloc: Global) -> Option<Starting> {
+fn new_starting(alloc: Global) -> Option<Starting> {
     Some(Starting {
         alloc,
-        request: request(alloc)?,
+        request: new_request(alloc)?,
         published: Lent::new(published(alloc, Deal::Short))?,
         state: Lent::new(state(alloc, Deal::Short))?,
     })
@@ -234,10 +234,10 @@ impl Attempt<Option<Tx>> for Claiming {
     }
 }
 
-fn claiming(alloc: Global) -> Option<Claiming> {
+fn new_claiming(alloc: Global) -> Option<Claiming> {
     Some(Claiming {
         alloc,
-        request: request(alloc)?,
+        request: new_request(alloc)?,
     })
 }
 
@@ -257,15 +257,15 @@ fn build<B: Attempt<Option<Tx>> + Drop, R: Print + Eprint>(
 
 /// Builds a step.
 pub fn build_a_step<R: Print + Eprint + AllocGlobal>(rt: &R, name: &str) -> Option<()> {
-    build(rt, name, stepping(rt.alloc()), stepping(rt.alloc()))
+    build(rt, name, new_stepping(rt.alloc()), new_stepping(rt.alloc()))
 }
 
 /// Builds a start.
 pub fn build_a_start<R: Print + Eprint + AllocGlobal>(rt: &R, name: &str) -> Option<()> {
-    build(rt, name, starting(rt.alloc()), starting(rt.alloc()))
+    build(rt, name, new_starting(rt.alloc()), new_starting(rt.alloc()))
 }
 
 /// Builds a claim.
 pub fn build_a_claim<R: Print + Eprint + AllocGlobal>(rt: &R, name: &str) -> Option<()> {
-    build(rt, name, claiming(rt.alloc()), claiming(rt.alloc()))
+    build(rt, name, new_claiming(rt.alloc()), new_claiming(rt.alloc()))
 }

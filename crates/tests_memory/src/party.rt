@@ -62,7 +62,7 @@ struct Told {
     reply: Reply,
 }
 
-fn told(answer: &Answer) -> Option<Told> {
+fn told_of(answer: &Answer) -> Option<Told> {
     let call = answer.call.try_clone().ok()?;
     let reply = answer.reply.try_clone().ok()?;
     Some(Told { call, reply })
@@ -83,7 +83,7 @@ fn calls_of_all<R: Threads + Wait + Sync, J: Session>(
     let _receipts = party.run(rt, alloc, &hub, seat).ok()?;
     let mut all = Vec::new(alloc);
     for answer in seat.answers() {
-        all.push(told(answer)?).ok()?;
+        all.push(told_of(answer)?).ok()?;
     }
     Some(all)
 }
@@ -193,7 +193,7 @@ fn play_at<R: Print + Eprint + Threads + Wait + Sync, J: Session>(
     // the seat's list is what stands in the history in the end, though the seat is gone by then
     let mut listed = Vec::new(alloc);
     for answer in seats.first()?.answers() {
-        listed.push(told(answer)?).ok()?;
+        listed.push(told_of(answer)?).ok()?;
     }
     let closed = hub.close(seats);
     let entries = closed.chain().entries();

@@ -45,7 +45,7 @@ impl Attempt<Option<Vec<u8>>> for Running {
     }
 }
 
-fn running(alloc: Global) -> Option<Running> {
+fn new_running(alloc: Global) -> Option<Running> {
     Some(Running {
         alloc,
         contract: Lent::new(text(alloc, CONTRACT))?,
@@ -74,7 +74,7 @@ impl Attempt<Option<Vec<u8>>> for Tabling {
     }
 }
 
-fn tabling(alloc: Global) -> Option<Tabling> {
+fn new_tabling(alloc: Global) -> Option<Tabling> {
     Some(Tabling {
         alloc,
         contract: Lent::new(text(alloc, CONTRACT))?,
@@ -104,7 +104,7 @@ impl<'a, R: Threads + Wait + Sync> Attempt<Option<Vec<u8>>> for Playing<'a, R> {
     }
 }
 
-fn playing<R>(rt: &R, alloc: Global, one: bool) -> Option<Playing<'_, R>> {
+fn new_playing<R>(rt: &R, alloc: Global, one: bool) -> Option<Playing<'_, R>> {
     Some(Playing {
         rt,
         alloc,
@@ -128,13 +128,13 @@ fn text_of<C: Attempt<Option<Vec<u8>>>, R: Print + Eprint>(
 /// Runs a transaction.
 pub fn run_text<R: Print + Eprint + AllocGlobal>(rt: &R, name: &str) -> Option<()> {
     let alloc = rt.alloc();
-    text_of(rt, name, &mut running(alloc)?, &mut running(alloc)?)
+    text_of(rt, name, &mut new_running(alloc)?, &mut new_running(alloc)?)
 }
 
 /// Makes the text of a table.
 pub fn text_of_table<R: Print + Eprint + AllocGlobal>(rt: &R, name: &str) -> Option<()> {
     let alloc = rt.alloc();
-    text_of(rt, name, &mut tabling(alloc)?, &mut tabling(alloc)?)
+    text_of(rt, name, &mut new_tabling(alloc)?, &mut new_tabling(alloc)?)
 }
 
 /// Plays a scenario of one plan, in turn or in a thread of its own.
@@ -144,7 +144,7 @@ pub fn play_scenario<R: Print + Eprint + AllocGlobal + Threads + Wait + Sync>(
     one: bool,
 ) -> Option<()> {
     let alloc = rt.alloc();
-    let mut before = playing(rt, alloc, one)?;
-    let mut now = playing(rt, alloc, one)?;
+    let mut before = new_playing(rt, alloc, one)?;
+    let mut now = new_playing(rt, alloc, one)?;
     text_of(rt, name, &mut before, &mut now)
 }

@@ -3,7 +3,7 @@ use crate::alike::{Job, same_jobs, same_records};
 use crate::attempt::{Attempt, Lent, insist, tell};
 use crate::calls::are_alike;
 use crate::given::Deal;
-use crate::ledgers::{Ledger, ledger, step};
+use crate::ledgers::{Ledger, ledger_of, step};
 use chain::StepRecord;
 use collections::{Items, Same};
 use eutxo::Resolved;
@@ -26,11 +26,11 @@ impl Asking {
     }
 }
 
-fn asking(alloc: Global) -> Option<Asking> {
-    let still = ledger(alloc, Deal::Short)?;
+fn new_asking(alloc: Global) -> Option<Asking> {
+    let still = ledger_of(alloc, Deal::Short)?;
     Some(Asking {
         alloc,
-        ledger: ledger(alloc, Deal::Short)?,
+        ledger: ledger_of(alloc, Deal::Short)?,
         tx: Lent::new(step(alloc, &still.shown.look))?,
         still,
     })
@@ -54,8 +54,10 @@ impl Attempt<Vec<Job>> for Front {
 /// Asks for the first pending transactions.
 pub fn ask_front<R: Print + Eprint + AllocGlobal>(rt: &R, name: &str) -> Option<()> {
     let alloc = rt.alloc();
-    let expected = ledger(alloc, Deal::Short)?.chain.front(alloc, 3).ok()?;
-    let mut front = Front { of: asking(alloc)? };
+    let expected = ledger_of(alloc, Deal::Short)?.chain.front(alloc, 3).ok()?;
+    let mut front = Front {
+        of: new_asking(alloc)?,
+    };
     let answer = insist(rt, name, &mut front)?;
     let is_right = same_jobs(&answer, &expected) && answer.len() == 3 && front.is_as_before();
     tell(rt, is_right, "three jobs")
@@ -83,9 +85,11 @@ impl Attempt<Items<StepRecord>> for StepsOf {
 /// Asks for the records of a thread.
 pub fn ask_steps<R: Print + Eprint + AllocGlobal>(rt: &R, name: &str) -> Option<()> {
     let alloc = rt.alloc();
-    let other = ledger(alloc, Deal::Short)?;
+    let other = ledger_of(alloc, Deal::Short)?;
     let expected = other.chain.steps_of(alloc, &other.shown.start).ok()?;
-    let mut steps = StepsOf { of: asking(alloc)? };
+    let mut steps = StepsOf {
+        of: new_asking(alloc)?,
+    };
     let answer = insist(rt, name, &mut steps)?;
     let is_right = same_records(answer.as_slice(), expected.as_slice())
         && answer.len() == 1
@@ -112,8 +116,10 @@ impl Attempt<Resolved<Published>> for Resolving {
 /// Asks for what is found of a step.
 pub fn ask_found<R: Print + Eprint + AllocGlobal>(rt: &R, name: &str) -> Option<()> {
     let alloc = rt.alloc();
-    let mut resolving = Resolving { of: asking(alloc)? };
-    let other = ledger(alloc, Deal::Short)?;
+    let mut resolving = Resolving {
+        of: new_asking(alloc)?,
+    };
+    let other = ledger_of(alloc, Deal::Short)?;
     let expected = other.chain.resolve(alloc, &resolving.of.tx.lent).ok()?;
     let answer = insist(rt, name, &mut resolving)?;
     let is_right = answer.same(&expected) && answer.outputs.len() == 1 && resolving.is_as_before();

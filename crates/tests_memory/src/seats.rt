@@ -5,7 +5,7 @@ use crate::alike::{lists_all, stand_alike};
 use crate::attempt::{Attempt, Twice, insist, put, tell};
 use crate::calls::{Kind, call_of, word_of};
 use crate::given::Deal;
-use crate::ledgers::{Answers, Ledger, Sitting, begun, history, ledger, step};
+use crate::ledgers::{Answers, Ledger, Sitting, begun, history, ledger_of, step};
 use chain::{Call, Reply};
 use collections::{Same, TryClone};
 use eutxo::{Checked, check};
@@ -50,7 +50,7 @@ fn is_pooled(way: Way) -> bool {
 
 /// What stands before a call: the same history, on a chain.
 fn still_of(alloc: Global, deal: Deal, way: Way) -> Option<Ledger> {
-    let mut still = ledger(alloc, deal)?;
+    let mut still = ledger_of(alloc, deal)?;
     if is_pooled(way) {
         let tx = step(alloc, &still.shown.look)?;
         still.chain.answer(alloc, Call::Enqueue(tx))?;
