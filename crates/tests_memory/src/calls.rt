@@ -2,7 +2,7 @@
 use crate::alike::stand_alike;
 use crate::attempt::{Attempt, Lent, Twice, insist, tell};
 use crate::given::{Deal, other_contract, other_currency, payment};
-use crate::ledgers::{Answers, Ledger, ask, ledger_of, step};
+use crate::ledgers::{Answers, Ledger, ask, ledger_of, naming_all, show_alike, step};
 use chain::{Call, Reply, Ticketed};
 use collections::{Items, Same};
 use eutxo::{Checked, check};
@@ -129,12 +129,13 @@ pub fn call_chain<R: Print + Eprint + AllocGlobal>(
         ledger: ledger_of(alloc, deal)?,
         call: Twice::new(call_of(alloc, &still, kind)?, call_of(alloc, &still, kind)?),
         cache: Lent::new(cache_of(alloc, &still, has_check))?,
-        tx: step(alloc, &still.shown.look)?,
+        tx: naming_all(alloc, &still.shown.look)?,
         still,
     };
     let (mine, told) = insist(rt, name, &mut calling)?;
-    let is_right = mine.same(&expected)
-        && told.same(&expected)
-        && are_alike(alloc, &calling.ledger, &after, &calling.tx);
+    let alike = are_alike(alloc, &calling.ledger, &after, &calling.tx);
+    let start = after.shown.start;
+    let shown = show_alike(alloc, &mut calling.ledger.chain, &mut after.chain, start)?;
+    let is_right = mine.same(&expected) && told.same(&expected) && alike && shown;
     tell(rt, is_right, word_of(&mine))
 }

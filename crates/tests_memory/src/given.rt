@@ -73,14 +73,24 @@ fn pays(alloc: Global, count: u64) -> Option<Contract> {
 }
 
 fn pay(alloc: Global, then: Contract) -> Option<Contract> {
-    let from = Party::Role(text(alloc, "a")?);
-    let to = Payee::Account(Party::Role(text(alloc, "b")?));
+    let (from, to, ada) = paid(alloc)?;
+    let then = Boxed::new(alloc, then).ok()?;
+    Some(Contract::Pay(from, to, ada, Value::Constant(1), then))
+}
+
+// From whom to whom is paid, and what.
+fn paid(alloc: Global) -> Option<(Party, Payee, Token)> {
+    let from = role(alloc, "a")?;
+    let to = Payee::Account(role(alloc, "b")?);
     let ada = Token {
         symbol: Bytes::from_vec(Vec::new(alloc)),
         name: text(alloc, "")?,
     };
-    let then = Boxed::new(alloc, then).ok()?;
-    Some(Contract::Pay(from, to, ada, Value::Constant(1), then))
+    Some((from, to, ada))
+}
+
+fn role(alloc: Global, name: &str) -> Option<Party> {
+    Some(Party::Role(text(alloc, name)?))
 }
 
 /// The state that it starts from.

@@ -6,10 +6,11 @@ use crate::given::{
 };
 use builder::{build_start, build_step};
 use chain::{Call, Chain, Reply};
-use collections::{Items, TryClone};
+use collections::{Items, Same, TryClone};
 use eutxo_types::{OutputRef, Tx};
 use hub::{Hub, Seat, Session};
 use ledger::{Ask, Look, PayoutLock};
+use rows_text::put_keys;
 use std::alloc::Global;
 use std::sync::Wait;
 
@@ -176,4 +177,18 @@ pub fn step(alloc: Global, look: &Look) -> Option<Tx> {
         &change,
     )
     .ok()
+}
+
+/// What names all that the ledger began with, and what that step names: what is found of it tells which of these outputs are unspent.
+pub fn naming_all(alloc: Global, look: &Look) -> Option<Tx> {
+    let mut tx = step(alloc, look)?;
+    put_keys(&mut tx.inputs, 22).ok()?;
+    Some(tx)
+}
+
+/// Looks, and answers whether both chains show the same.
+pub fn show_alike(alloc: Global, x: &mut Chain, y: &mut Chain, start: OutputRef) -> Option<bool> {
+    let mine = look_at(alloc, x, Some(start))?;
+    let other = look_at(alloc, y, Some(start))?;
+    Some(mine.same(&other))
 }

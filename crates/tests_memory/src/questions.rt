@@ -3,7 +3,7 @@ use crate::alike::{Job, same_jobs, same_records};
 use crate::attempt::{Attempt, Lent, insist, tell};
 use crate::calls::are_alike;
 use crate::given::Deal;
-use crate::ledgers::{Ledger, ledger_of, step};
+use crate::ledgers::{Ledger, ledger_of, naming_all};
 use chain::StepRecord;
 use collections::{Items, Same};
 use eutxo::Resolved;
@@ -31,7 +31,7 @@ fn new_asking(alloc: Global) -> Option<Asking> {
     Some(Asking {
         alloc,
         ledger: ledger_of(alloc, Deal::Short)?,
-        tx: Lent::new(step(alloc, &still.shown.look))?,
+        tx: Lent::new(naming_all(alloc, &still.shown.look))?,
         still,
     })
 }
@@ -113,7 +113,7 @@ impl Attempt<Resolved<Published>> for Resolving {
     }
 }
 
-/// Asks for what is found of a step.
+/// Asks for what is found of a transaction that names a thread's output and all that the ledger began with.
 pub fn ask_found<R: Print + Eprint + AllocGlobal>(rt: &R, name: &str) -> Option<()> {
     let alloc = rt.alloc();
     let mut resolving = Resolving {
@@ -122,6 +122,6 @@ pub fn ask_found<R: Print + Eprint + AllocGlobal>(rt: &R, name: &str) -> Option<
     let other = ledger_of(alloc, Deal::Short)?;
     let expected = other.chain.resolve(alloc, &resolving.of.tx.lent).ok()?;
     let answer = insist(rt, name, &mut resolving)?;
-    let is_right = answer.same(&expected) && answer.outputs.len() == 1 && resolving.is_as_before();
-    tell(rt, is_right, "one output")
+    let is_right = answer.same(&expected) && answer.outputs.len() == 23 && resolving.is_as_before();
+    tell(rt, is_right, "23 outputs")
 }

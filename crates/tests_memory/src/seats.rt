@@ -5,7 +5,7 @@ use crate::alike::{lists_all, stand_alike};
 use crate::attempt::{Attempt, Twice, insist, put, tell};
 use crate::calls::{Kind, call_of, word_of};
 use crate::given::Deal;
-use crate::ledgers::{Answers, Ledger, Sitting, begun, history, ledger_of, step};
+use crate::ledgers::{Answers, Ledger, Sitting, begun, history, ledger_of, naming_all, step};
 use chain::{Call, Reply};
 use collections::{Same, TryClone};
 use eutxo::{Checked, check};
@@ -39,7 +39,7 @@ fn call_by(alloc: Global, still: &Ledger, way: Way) -> Option<Call> {
         Way::Call(kind) => call_of(alloc, still, kind),
         Way::Round(Deal::Short) => Some(Call::Round(3)),
         Way::Round(Deal::Long) | Way::Parts => Some(Call::Round(1)),
-        _ => call_of(alloc, still, Kind::Submit),
+        Way::Admit | Way::Close => call_of(alloc, still, Kind::Submit),
     }
 }
 
@@ -60,95 +60,36 @@ fn still_of(alloc: Global, deal: Deal, way: Way) -> Option<Ledger> {
 
 // ---- the calls
 
+// How a call is made, with what it takes by value.
 #[derive(Drop)]
-struct Calling<'a, R, J: Session> {
-    rt: &'a R,
-    alloc: Global,
-    hub: &'a Hub<J>,
-    seat: &'a mut Seat<J>,
-    still: &'a Ledger,
+enum How {
+    Call(Twice<Call>),
+    Admit(Twice<Checked<Published>>),
+    RoundOfOne,
+    RoundOfThree,
+    Parts,
 }
 
-impl<'a, R, J: Session> Calling<'a, R, J> {
-    // What a seat sees of what stands: its own list, which is of all entries, since no other seat calls.
-    fn is_as_before(&self) -> bool {
-        lists_all(self.seat, self.still.chain.entries())
+fn how_of(alloc: Global, still: &Ledger, way: Way) -> Option<How> {
+    match way {
+        Way::Admit => admit_of(alloc, still),
+        Way::Round(Deal::Short) => Some(How::RoundOfThree),
+        Way::Round(Deal::Long) => Some(How::RoundOfOne),
+        Way::Parts => Some(How::Parts),
+        Way::Call(_) | Way::Close => call_twice(alloc, still, way),
     }
 }
 
-#[derive(Drop)]
-struct ByCall<'a, R, J: Session> {
-    of: Calling<'a, R, J>,
-    call: Twice<Call>,
+fn call_twice(alloc: Global, still: &Ledger, way: Way) -> Option<How> {
+    let first = call_by(alloc, still, way)?;
+    let second = call_by(alloc, still, way)?;
+    Some(How::Call(Twice::new(first, second)))
 }
 
-impl<'a, R: Wait, J: Session> Attempt<Receipt<J>> for ByCall<'a, R, J> {
-    fn make(&mut self) -> Option<Receipt<J>> {
-        let call = self.call.take()?;
-        let of = &mut self.of;
-        of.hub.call(of.rt, of.alloc, of.seat, call).ok()
-    }
-
-    fn is_as_before(&self) -> bool {
-        self.of.is_as_before()
-    }
-}
-
-#[derive(Drop)]
-struct ByAdmit<'a, R, J: Session> {
-    of: Calling<'a, R, J>,
-    checked: Twice<Checked<Published>>,
-}
-
-impl<'a, R: Wait, J: Session> Attempt<Receipt<J>> for ByAdmit<'a, R, J> {
-    fn make(&mut self) -> Option<Receipt<J>> {
-        let checked = self.checked.take()?;
-        let of = &mut self.of;
-        of.hub.admit(of.rt, of.alloc, of.seat, checked).ok()
-    }
-
-    fn is_as_before(&self) -> bool {
-        self.of.is_as_before()
-    }
-}
-
-#[derive(Drop)]
-struct ByRound<'a, R, J: Session> {
-    of: Calling<'a, R, J>,
-    is_long: bool,
-}
-
-impl<'a, R: Threads + Wait + Sync, J: Session> Attempt<Receipt<J>> for ByRound<'a, R, J> {
-    fn make(&mut self) -> Option<Receipt<J>> {
-        let of = &mut self.of;
-        if self.is_long {
-            of.hub.round(of.rt, of.alloc, of.seat, &NoGate, 1, 1).ok()
-        } else {
-            of.hub.round(of.rt, of.alloc, of.seat, &NoGate, 4, 3).ok()
-        }
-    }
-
-    fn is_as_before(&self) -> bool {
-        self.of.is_as_before()
-    }
-}
-
-#[derive(Drop)]
-struct ByParts<'a, R, J: Session> {
-    of: Calling<'a, R, J>,
-}
-
-impl<'a, R: Threads + Wait + Sync, J: Session> Attempt<Receipt<J>> for ByParts<'a, R, J> {
-    fn make(&mut self) -> Option<Receipt<J>> {
-        let of = &mut self.of;
-        let jobs = of.still.chain.front(of.alloc, 1).ok()?;
-        let _checks = check_all(of.rt, of.alloc, &NoGate, 1, jobs).ok()?;
-        of.hub.call(of.rt, of.alloc, of.seat, Call::Round(1)).ok()
-    }
-
-    fn is_as_before(&self) -> bool {
-        self.of.is_as_before()
-    }
+fn admit_of(alloc: Global, still: &Ledger) -> Option<How> {
+    let first = checked(alloc, still)?;
+    let second = checked(alloc, still)?;
+    Some(How::Admit(Twice::new(first, second)))
 }
 
 // The check of the step that a Submit would bring.
@@ -158,28 +99,45 @@ fn checked(alloc: Global, still: &Ledger) -> Option<Checked<Published>> {
     check(alloc, &tx, found).ok()
 }
 
-// Makes the call between the marks.
-fn receipt_by<R: Print + Eprint + Threads + Wait + Sync, J: Session>(
-    of: Calling<'_, R, J>,
-    name: &str,
-    way: Way,
-) -> Option<Receipt<J>> {
-    let (rt, alloc, still) = (of.rt, of.alloc, of.still);
-    match way {
-        Way::Admit => {
-            let checked = Twice::new(checked(alloc, still)?, checked(alloc, still)?);
-            insist(rt, name, &mut ByAdmit { of, checked })
-        }
-        Way::Round(deal) => {
-            let is_long = deal == Deal::Long;
-            insist(rt, name, &mut ByRound { of, is_long })
-        }
-        Way::Parts => insist(rt, name, &mut ByParts { of }),
-        _ => {
-            let call = Twice::new(call_by(alloc, still, way)?, call_by(alloc, still, way)?);
-            insist(rt, name, &mut ByCall { of, call })
+#[derive(Drop)]
+struct Calling<'a, R, J: Session> {
+    rt: &'a R,
+    alloc: Global,
+    hub: &'a Hub<J>,
+    seat: &'a mut Seat<J>,
+    still: &'a Ledger,
+    how: How,
+}
+
+impl<'a, R: Threads + Wait + Sync, J: Session> Attempt<Receipt<J>> for Calling<'a, R, J> {
+    fn make(&mut self) -> Option<Receipt<J>> {
+        let (rt, alloc, hub) = (self.rt, self.alloc, self.hub);
+        match &mut self.how {
+            How::Call(call) => hub.call(rt, alloc, self.seat, call.take()?).ok(),
+            How::Admit(checked) => hub.admit(rt, alloc, self.seat, checked.take()?).ok(),
+            How::RoundOfOne => hub.round(rt, alloc, self.seat, &NoGate, 1, 1).ok(),
+            How::RoundOfThree => hub.round(rt, alloc, self.seat, &NoGate, 4, 3).ok(),
+            How::Parts => in_parts(rt, alloc, hub, self.seat, self.still),
         }
     }
+
+    // What a seat sees of what stands: its own list, which is of all entries, since no other seat calls.
+    fn is_as_before(&self) -> bool {
+        lists_all(self.seat, self.still.chain.entries())
+    }
+}
+
+// What a round of one does, by other calls.
+fn in_parts<R: Threads + Wait + Sync, J: Session>(
+    rt: &R,
+    alloc: Global,
+    hub: &Hub<J>,
+    seat: &mut Seat<J>,
+    still: &Ledger,
+) -> Option<Receipt<J>> {
+    let jobs = still.chain.front(alloc, 1).ok()?;
+    let _checks = check_all(rt, alloc, &NoGate, 1, jobs).ok()?;
+    hub.call(rt, alloc, seat, Call::Round(1)).ok()
 }
 
 // ---- a session
@@ -202,7 +160,7 @@ fn sit<R: Wait, J: Session>(
     Some(())
 }
 
-// The receipt, and the reply that it has.
+// Makes the call, between the marks if it is what is looked at.
 fn call_at<R: Print + Eprint + Threads + Wait + Sync, J: Session>(
     rt: &R,
     alloc: Global,
@@ -212,20 +170,19 @@ fn call_at<R: Print + Eprint + Threads + Wait + Sync, J: Session>(
     name: &str,
     way: Way,
 ) -> Option<Receipt<J>> {
-    let of = Calling {
+    if matches!(way, Way::Close) {
+        let call = call_by(alloc, still, way)?;
+        return hub.call(rt, alloc, seat, call).ok();
+    }
+    let mut calling = Calling {
         rt,
         alloc,
         hub,
         seat,
         still,
+        how: how_of(alloc, still, way)?,
     };
-    match way {
-        Way::Close => {
-            let call = call_by(alloc, still, way)?;
-            of.hub.call(rt, alloc, of.seat, call).ok()
-        }
-        _ => receipt_by(of, name, way),
-    }
+    insist(rt, name, &mut calling)
 }
 
 // Closes the hub, and says whether a receipt's entry has its reply. Between the marks, if that is what is looked at.
@@ -275,7 +232,7 @@ fn call_hub<R: Print + Eprint + Threads + Wait + Sync, J: Session>(
     let expected = after.chain.answer(alloc, call)?;
     let listed = lists_all(seats.first()?, after.chain.entries());
     let (closed, stands) = closed_by(rt, hub, seats, &receipt, name, way)?;
-    let tx = step(alloc, &still.shown.look)?;
+    let tx = naming_all(alloc, &still.shown.look)?;
     let alike = stand_alike(alloc, closed.chain(), &after.chain, &tx, &after.shown.start);
     let is_right = receipt.reply().same(&expected) && listed && stands && alike;
     tell(rt, is_right, word_of(receipt.reply()))
