@@ -27,8 +27,8 @@ BEGIN, END = "<!-- written by tools/believe.py -->", "<!-- to here -->"
 
 # The faces of the page: a title, and the calls. What a crate passes on is read off its lib.rt.
 FACES = [
-    ("`marlowe run`, and the texts that it reads and writes", "marlowe_run::run marlowe_run::refusal contract_json::read_contract contract_json::read_input contract_json::read_state "
-     "contract_json::read_transaction contract_json::write_contract contract_json::write_outcome"),
+    ("`marlowe run`, and the texts that it reads", "marlowe_run::run marlowe_run::refusal contract_json::read_contract contract_json::read_input contract_json::read_state "
+     "contract_json::read_transaction"),
     ("The transaction function on a tree, its laws, and states", "evaluation::value evaluation::holds semantics states"),
     ("Tables: what compiles to which, and runs on them", "marlowe_run::table_text compiler table machine"),
     ("Bytes and ids", "contract_bytes eutxo_types"),
@@ -39,8 +39,9 @@ FACES = [
     ("The headline's first half: what holds after every history", "chain::Chain::history(first,stands,in_use,fits,shown) ledger_spec::starts_are_told"),
     ("Its laws, over every list of accepted transactions", "ledger_laws"),
     ("The builders", "builder"),
-    ("The headline's second half: what is built is accepted", "chain::Chain::step(second) builder_laws"),
+    ("The headline's second half: what is built is accepted", "chain::Chain::step(second) chain::Chain::history(throughout) chain::both_halves_hold_of_legal_histories builder_laws"),
     ("Many threads: what each was told, one history, and parties", "hub parties"),
+    ("Contracts and outcomes written as texts", "contract_json::write_contract contract_json::write_outcome"),
 ]
 
 # words of the language, and names that are there without an import

@@ -1,9 +1,9 @@
-//! The outputs of a layout.
-ghost use Rattle.std.specs.Prelude.{◌≡◌, ◌++◌, ◌<ℤ◌, true, false, pos, IfOk, IfErr, OnOk};
+//! The outputs of a layout: those that are owed, where there is room for them, and the change.
+ghost use Rattle.std.specs.Prelude.{◌≡◌, ◌++◌, true, false, IfOk, IfErr, OnOk};
 ghost use Rattle.std.specs.FinMap.{entries};
 ghost use Rattle.bundle.specs.Bundles.{covers, minus};
 ghost use Rattle.eutxo.specs.Faults.{is_empty};
-ghost use Rattle.roles.specs.Steps.{lock_for, owed_output, due_outputs, continuation};
+ghost use Rattle.roles.specs.Steps.{continuation};
 ghost use Rattle.roles.specs.Sums.{sums_of};
 ghost use Rattle.builder_spec.specs.Holding.{sums};
 ghost use Rattle.builder_spec.specs.Causes.{is_much};
@@ -12,55 +12,16 @@ ghost use Rattle.builder.specs.OutputsSupport.{outcome_outputs};
 
 use builder_spec::BuildFault;
 use bundle::{Bundle, BundleFault};
-use coin_selection::{only, see_all, see_room, sum, sums_of};
-use collections::{Bytes, Items, Memory, Text, TryClone};
-use contract::{Outcome, Party, Payment};
+use coin_selection::{see_all, see_room, sum, sums_of};
+use collections::{Items, Memory, Text, TryClone};
+use contract::Outcome;
 use eutxo_types::{Cont, Datum, Lock, Output};
-use roles::{Published, due_to};
+use roles::{Published, continuation, put_due};
 use std::alloc::Global;
-
-fn lock_for(currency: &Bytes, party: &Party) -> Result<Lock, Memory>
-    ensures { IfOk result (λ lock. lock ≡ lock_for currency.now party.now) }
-{
-    match party {
-        Party::Address(address) => Ok(Lock::Key(address.try_clone()?)),
-        Party::Role(role) => Ok(Lock::Payout {
-            currency: currency.try_clone()?,
-            role: role.try_clone()?,
-        }),
-    }
-}
-
-// The output for a payment to a party.
-fn owed(alloc: Global, currency: &Bytes, party: &Party, payment: &Payment) -> Result<Output, Memory>
-    requires { pos 0 <ℤ payment.now.amount }
-    ensures { IfOk result (λ output. output ≡ owed_output currency.now party.now payment.now) }
-{
-    let lock = lock_for(currency, party)?;
-    let amount = only(alloc, &payment.token, payment.amount)?;
-    Ok(Output { lock, amount })
-}
-
-/// Puts the outputs that are due for payments behind others.
-pub(crate) fn put_due(
-    alloc: Global,
-    outputs: &mut Items<Output>,
-    currency: &Bytes,
-    payments: &[Payment],
-) -> Result<(), Memory>
-    ensures { OnOk result (outputs.new ≡ outputs.old ++ due_outputs currency.now payments.now) }
-{
-    for payment in payments {
-        if let Some(party) = due_to(payment) {
-            outputs.push(owed(alloc, currency, party, payment)?)?;
-        }
-    }
-    Ok(())
-}
 
 /// The output in which a contract goes on, with the sums of its accounts, none of which is too large for an amount. It
 /// is refused only for memory.
-pub(crate) fn continuation(
+pub(crate) fn continuing_output(
     alloc: Global,
     script: &[u8; 32],
     datum: Datum,
@@ -70,13 +31,7 @@ pub(crate) fn continuation(
     ensures err { IfErr result (λ fault. fault ≡ BuildFault.Memory) }
 {
     match sums_of(alloc, &datum.state) {
-        Ok(amount) => {
-            let lock = Lock::Contract {
-                script: *script,
-                datum,
-            };
-            Ok(Output { lock, amount })
-        }
+        Ok(sums) => Ok(continuation(script, datum, sums)),
         Err(BundleFault::Memory) => Err(BuildFault::Memory),
         Err(_) => unreachable!(),
     }
@@ -127,7 +82,7 @@ pub(crate) fn step_outputs(
     let mut outputs = Items::new(alloc);
     if !closed {
         let datum = Datum { cont: place, state };
-        outputs.push(continuation(alloc, &published.id, datum)?)?;
+        outputs.push(continuing_output(alloc, &published.id, datum)?)?;
     }
     let currency = &published.currency;
     put_due(alloc, &mut outputs, currency, payments.as_slice())?;

@@ -18,7 +18,7 @@ use crate::fitting::fitting;
 use crate::fresh::fresh;
 use crate::funds::Funds;
 use crate::inputs::{copies_of, put_keys};
-use crate::outputs::{continuation, put_paid, rest};
+use crate::outputs::{continuing_output, put_paid, rest};
 use crate::payouts::are_none;
 use builder_spec::BuildFault;
 use coin_selection::{
@@ -123,7 +123,7 @@ fn start_output(alloc: Global, asked: &StartAsked<'_>) -> Result<Output, BuildFa
         cont: published.root,
         state,
     };
-    continuation(alloc, &published.id, datum)
+    continuing_output(alloc, &published.id, datum)
 }
 
 // The transaction of a start that nothing hinders.

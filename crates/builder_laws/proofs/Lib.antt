@@ -5,7 +5,6 @@ pub mod FrontLemmas
 pub mod PairLemmas
 pub mod SpentLemmas
 pub mod AcceptingLemmas
-pub mod GoesOnLemmas
 pub mod OutputLemmas
 pub mod LookThreadLemmas
 pub mod CausesLemmas

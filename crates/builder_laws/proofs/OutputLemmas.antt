@@ -3,13 +3,11 @@ use Rattle.std.proofs.Common.{◌≡◌, ℕ, ◌+◌, Bool, true, false, ◌||�
 use Rattle.std.specs.Prelude.{if◌then◌else◌}
 use Rattle.std.specs.List.{slice_get, AllByRecursion}
 use Rattle.std.specs.FinMap.{entries}
-use Rattle.collections.proofs.SameLaws.{same_by_decides}
 use Rattle.names.specs.declared.party.Party.{Party}
 use Rattle.names.specs.declared.party.Party.TheVariants.{Address, Role}
 use Rattle.contract.specs.declared.payment.Payment.{Payment}
 use Rattle.bundle.specs.Bundles.{Amounts}
 use Rattle.machine.specs.declared.datum.Datum.{Datum}
-use Rattle.eutxo_types.specs.contracts.output.Output as outputs
 use Rattle.eutxo_types.specs.declared.fault.TxFault.TheVariants.{WrongStart}
 use Rattle.eutxo_types.specs.declared.lock.Lock.{Lock}
 use Rattle.eutxo_types.specs.declared.lock.Lock.TheVariants.{Key, Payout, Contract}
@@ -19,13 +17,10 @@ use Rattle.eutxo_types.specs.Parts.{instance_in, contract_at, outputs_from}
 use Rattle.eutxo.specs.Faults.{is_empty}
 use Rattle.eutxo.specs.Rules.{stray_after, after_answer, starts_wrong, wrong_start}
 use Rattle.roles.specs.declared.published.Published.{Published}
-use Rattle.roles.specs.Steps.{same_output, lock_for, continuation, due_to, and_owed_output, due_outputs, first_unpaid, goes_on_in, payments_from, answer_by, marlowe}
+use Rattle.roles.specs.Steps.{lock_for, continuation, due_to, and_owed_output, due_outputs, goes_on_in, payments_from, answer_by, marlowe}
+use Rattle.roles.proofs.OwedLaws.{goes_on_there}
 use Rattle.builder_spec.specs.Laying.{paid_to}
 use Rattle.builder_laws.proofs.TestLemmas.{each_at, no_place, mapped}
-use Rattle.builder_laws.proofs.GoesOnLemmas.{goes_on_there}
-
-pub same_output_itself : (o : Output) → same_output o o ≡ true
-same_output_itself o = (same_by_decides outputs.the_row.coded o o).1 refl
 
 -- ---- locks
 
@@ -79,10 +74,6 @@ after_first false script d xs ys = refl
 pub goes_on_first : (b : Bool) (tx : Tx) (script : List ℕ) (d : Datum) (xs ys : List Output) → tx.outputs ≡ (map (continuation script) (if b then [] else d ∷ []) ++ xs) ++ ys → b || goes_on_in tx 0 script d ≡ true
 goes_on_first true tx script d xs ys h = refl
 goes_on_first false tx script d xs ys h = goes_on_there tx 0 script d (ap (λ (os : List Output). slice_get os 0) h)
-
-pub all_paid : (i : ℕ) (xs ys : List Output) → first_unpaid i xs (xs ++ ys) ≡ None
-all_paid i [] ys = refl
-all_paid i (x ∷ xs) ys = ap (λ b. if b then first_unpaid (i + 1) xs (xs ++ ys) else Some i) (same_output_itself x) ∙ all_paid (i + 1) xs ys
 
 -- where no rule of the script refuses, those on stray contracts follow
 pub after_passing : (b : Bool) (os : List Output) → after_answer os (answer_by None b) ≡ stray_after (payments_from b 0) os

@@ -21,6 +21,7 @@ use Rattle.eutxo.specs.Rules.{starts_wrong, starts_wrong_at, steps_of, step_faul
 use Rattle.roles.specs.declared.published.Published.{Published}
 use Rattle.roles.specs.Sums.{sums_of}
 use Rattle.roles.specs.Steps.{same_cont, is_fresh, same_amounts, starts_from, marlowe}
+use Rattle.roles.proofs.OwedLaws.{same_amounts_itself}
 use Rattle.ledger.specs.declared.look.Unspent.{Unspent}
 use Rattle.builder_spec.specs.declared.fault.BuildFault.TheVariants.{NoFunds}
 use Rattle.builder_spec.specs.Requests.{StartRequest}
@@ -35,7 +36,6 @@ use Rattle.builder_laws.proofs.TestLemmas.{both, together, not_so, none_counted,
 use Rattle.builder_laws.proofs.PairLemmas.{laid, pairs, all_paired, all_named, AreKeyed, nowhere_keys, no_step}
 use Rattle.builder_laws.proofs.SumsLemmas.{total-changed}
 use Rattle.builder_laws.proofs.FrontLemmas.{shortest_rest}
-use Rattle.builder_laws.proofs.GoesOnLemmas.{same_amounts_itself}
 use Rattle.builder_laws.proofs.OutputLemmas.{IsSo, each_given, each_given_so, none_starts_wrong}
 use Rattle.builder_laws.proofs.SpentLemmas.{first_rules, passing}
 use Rattle.builder_laws.proofs.CausesLemmas.{is_nothing, unless_else, keyed_front, named_once, not_many, pairs_known}

@@ -27,6 +27,7 @@ use Rattle.roles.specs.declared.published.Published.{Published}
 use Rattle.table.specs.Flat.{is_close}
 use Rattle.roles.specs.Steps.{holds_role, role_token, actor, authorised, due_outputs, first_unpaid, payments_from, next_datum, by_answer, answer_by, step_of, marlowe}
 use Rattle.roles.specs.Steps as roles
+use Rattle.roles.proofs.OwedLaws.{all_paid}
 use Rattle.ledger.specs.declared.look.Look.{Look}
 use Rattle.ledger.specs.declared.look.Unspent.{Unspent}
 use Rattle.builder_spec.specs.declared.fault.BuildFault.TheVariants.{NotAuthorised, NoFunds, TooMany}
@@ -43,7 +44,7 @@ use Rattle.builder_laws.proofs.PairLemmas.{laid, paired, pairs, all_paired, all_
 use Rattle.builder_laws.proofs.SumsLemmas.{total-changed}
 use Rattle.builder_laws.proofs.FrontLemmas.{shortest_rest}
 use Rattle.builder_spec.proofs.SufficesLaws.{front_suffices}
-use Rattle.builder_laws.proofs.OutputLemmas.{IsSo, each_due, each_given, each_unless, after_first, goes_on_first, all_paid, after_passing}
+use Rattle.builder_laws.proofs.OutputLemmas.{IsSo, each_due, each_given, each_unless, after_first, goes_on_first, after_passing}
 use Rattle.builder_laws.proofs.SpentLemmas.{first_rules, IsOpened, passing}
 use Rattle.builder_laws.proofs.LookThreadLemmas.{IsThread, thread_so}
 use Rattle.builder_laws.proofs.CausesLemmas.{is_nothing, unless_else, keyed_front, named_once, not_many, pairs_known}

@@ -24,8 +24,8 @@ use Rattle.builder_laws.specs.ShownThreads.{IsShown, ShownThreadsAreCurrent}
 use Rattle.ledger_spec.specs.Headline.{AnyoneClosesShown}
 use Rattle.ledger_spec.specs.Replay.{Course, world, past_of, published, published_at}
 use Rattle.ledger_spec.specs.Views.{thread_shown, look}
-use Rattle.chain.specs.ChainSupport.{IsKept}
-use Rattle.chain.proofs.HeadlineLemmas.{accepts_steps, under_ids, shown_so}
+use Rattle.ledger_spec.proofs.PublishingLaws.{found_under}
+use Rattle.chain.proofs.HeadlineLemmas.{IsSoundCourse, accepts_steps, shown_so}
 
 all_at : {A : Type 0} (P : A → Type 0) (xs : List A) (n : ℕ) (x : A) → All P xs → slice_get xs n ≡ Some x → P x
 all_at P xs n x h at = subst P (get_or_from_slice_get xs n x x at) (All-get_or P xs n x (slice_get_within xs n x at) h)
@@ -38,7 +38,7 @@ output_fits past keys fits q o h is =
       | inr m ↦ all_at OutputFits m.tx.outputs m.index o (all_at TxFits past.accepted m.number m.tx fits m.accepted).1.1 m.made
     ]
 
-module _ (current : ShownThreadsAreCurrent) (ps : List Published) (ids : List (List ℕ)) (c : Course) (kept : IsKept ps ids c) where
+module _ (current : ShownThreadsAreCurrent) (c : Course) (kept : IsSoundCourse c) where
   abbrev known : List ℕ → Option Published
   known = published_at (published c.entries)
 
@@ -54,15 +54,15 @@ module _ (current : ShownThreadsAreCurrent) (ps : List Published) (ids : List (L
       by (Some t) k m =
           let s = shown_so (world c) ask.thread t k in
           let x : Thread = record { shown = t; datum = s.0 } in
-          let same : x ≡ e = same_some x e (sym (current known past (look (world c) ask) t s.0 kept.tables (under_ids (published c.entries)) kept.sound k s.1) ∙ h) in
+          let same : x ≡ e = same_some x e (sym (current known past (look (world c) ask) t s.0 kept.tables (found_under (published c.entries)) kept.sound k s.1) ∙ h) in
           subst (λ (y : Thread). IsShown known past y.shown y.datum) same s.1
 
   pub closes_shown : AnyoneCloses → StepsAreAcceptedAfter → AnyoneClosesShown c
   closes_shown law accepted ask e i signers change shown reached order late =
       let s = look_shows ask e shown in
       let is : is_contract e.shown.output.lock ≡ true = is_contract_so e.shown.output.lock _ s.contract in
-      let named : known e.shown.published.id ≡ Some e.shown.published = ap known (under_ids (published c.entries) s.script e.shown.published s.named) ∙ s.named in
+      let named : known e.shown.published.id ≡ Some e.shown.published = ap known (found_under (published c.entries) s.script e.shown.published s.named) ∙ s.named in
       record {
         outcome = law (look (world c) ask) e i signers change shown (output_fits past kept.sound.keys kept.fits e.shown.reference e.shown.output s.unspent is) reached order late;
-        accepted = λ clear free. accepts_steps accepted ps ids c kept (look (world c) ask) (closing i signers change) e shown clear named free;
+        accepted = λ clear free. accepts_steps accepted c kept (look (world c) ask) (closing i signers change) e shown clear named free;
       }

@@ -18,8 +18,8 @@ use Rattle.builder_laws.specs.ShownThreads.{ShownThreadsAreCurrent}
 use Rattle.ledger_spec.specs.Headline.{ShowsWhereRunsStand, ShowsWhatIsNotOver}
 use Rattle.ledger_spec.specs.Replay.{Course, World, world, past_of, published, published_at}
 use Rattle.ledger_spec.specs.Views.{EachStartIsTold, end_of, object_under, thread_output_at, thread_shown, look}
-use Rattle.chain.specs.ChainSupport.{IsKept}
-use Rattle.chain.proofs.HeadlineLemmas.{under_ids}
+use Rattle.ledger_spec.proofs.PublishingLaws.{found_under}
+use Rattle.chain.proofs.HeadlineLemmas.{IsSoundCourse}
 use Rattle.chain.proofs.ShownLemmas.{shown_thread}
 
 -- the end of the thread from a start: unspent, under the thread's script, which is published, with a datum that stands where a run
@@ -45,7 +45,7 @@ StandsWithItsRun w r i e =
     × ((run : List Member) → Run ((thread_terms e).tree e.shown.published.root) i.datum.state run → Carries (thread_terms e) i.script (thread (past_of w) r) run →
     ((thread_terms e).tree e.datum.cont ≡ contract_after ((thread_terms e).tree e.shown.published.root) run) × (e.datum.state ≡ state_after i.datum.state run))
 
-module _ (run_law : ThreadsAreRuns) (end_law : ThreadsEndWithRuns) (made_law : ContractsEndThreads marlowe) (unspent_law : EndsAreUnspent marlowe) (told : EachStartIsTold) (current : ShownThreadsAreCurrent) (ps : List Published) (ids : List (List ℕ)) (c : Course) (kept : IsKept ps ids c) where
+module _ (run_law : ThreadsAreRuns) (end_law : ThreadsEndWithRuns) (made_law : ContractsEndThreads marlowe) (unspent_law : EndsAreUnspent marlowe) (told : EachStartIsTold) (current : ShownThreadsAreCurrent) (c : Course) (kept : IsSoundCourse c) where
   abbrev known : List ℕ → Option Published
   known = published_at (published c.entries)
 
@@ -73,7 +73,7 @@ module _ (run_law : ThreadsAreRuns) (end_law : ThreadsEndWithRuns) (made_law : C
   shown_end ask r i q a h s =
       let lock : ContractLock = record { script = i.script; datum = s.datum } in
       let under : object_under (published c.entries) (script_in s.output.lock) ≡ Some s.object = ap (object_under (published c.entries)) (script_so s.output.lock lock s.contract) ∙ s.named in
-      current known past (look (world c) ask) (thread_at known past r i q s).shown s.datum kept.tables (under_ids (published c.entries)) kept.sound
+      current known past (look (world c) ask) (thread_at known past r i q s).shown s.datum kept.tables (found_under (published c.entries)) kept.sound
       (shown_thread (world c) ask.thread r q s.output s.object a h s.unspent under)
       (record { script = i.script; unspent = s.unspent; contract = s.contract; named = s.named })
 

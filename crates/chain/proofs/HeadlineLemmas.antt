@@ -1,45 +1,47 @@
 -- Layouts are accepted, and a thread that is shown stands.
-use Rattle.std.proofs.Common.{◌≡◌, ℕ, Bool, true, false, cond, List, [], ◌∷◌, refl, sym, ap, ◌∙◌, subst, Option, Some, None}
-use Rattle.std.specs.Cmp.Lexicographic.{bytes_decides}
+use Rattle.std.proofs.Common.{◌≡◌, List, refl, ap, subst, Option, Some, None, All}
 use Rattle.machine.specs.declared.datum.Datum.{Datum}
 use Rattle.eutxo_types.specs.declared.lock.Lock.{Lock}
 use Rattle.eutxo_types.specs.declared.lock.Lock.TheVariants.{Key, Payout, Contract}
 use Rattle.eutxo_types.specs.declared.output.Output.{Output}
 use Rattle.eutxo_types.specs.declared.output_ref.OutputRef.{OutputRef}
-use Rattle.eutxo_types.specs.Parts.{same_bytes, script_in, contract_in}
+use Rattle.eutxo_types.specs.Fitting.{TxFits}
+use Rattle.eutxo_types.specs.Parts.{script_in, contract_in}
 use Rattle.roles.specs.declared.published.Published.{Published}
+use Rattle.roles.specs.Steps.{marlowe}
 use Rattle.ledger.specs.declared.look.ThreadOutput.{ThreadOutput}
+use Rattle.ledger_laws.specs.Laws.{AreTables}
 use Rattle.ledger_laws.specs.Past.{Past, unspent_at}
+use Rattle.ledger_laws.specs.Sound.{IsSound}
 use Rattle.builder_spec.specs.Steps.{layout_step}
 use Rattle.builder_spec.specs.Starts.{layout_start}
 use Rattle.builder_spec.specs.Claims.{layout_claim}
 use Rattle.builder_laws.specs.AfterPasts.{StepsAreAcceptedAfter, StartsAreAcceptedAfter, ClaimsAreAcceptedAfter}
-use Rattle.builder_laws.specs.ShownThreads.{AreUnderIds, IsShown, ShownThreadsAreCurrent}
+use Rattle.builder_laws.specs.ShownThreads.{IsShown, ShownThreadsAreCurrent}
 use Rattle.ledger_spec.specs.Replay.{Course, World, world, past_of, published, published_at}
 use Rattle.ledger_spec.specs.Views.{thread_output, object_under, thread_output_in, thread_output_at, end_of, thread_shown, look}
 use Rattle.ledger_spec.specs.Calls.{submit_reply}
-use Rattle.chain.specs.ChainSupport.{IsKept}
+use Rattle.ledger_spec.proofs.PublishingLaws.{found_under}
 use Rattle.ledger_spec.specs.Headline.{AcceptsSteps, AcceptsStarts, AcceptsClaims, ShowsCurrentThreads}
 
-pub accepts_steps : StepsAreAcceptedAfter → (ps : List Published) (ids : List (List ℕ)) (c : Course) → IsKept ps ids c → AcceptsSteps c
-accepts_steps law ps ids c kept look r e shown clear script is = ap (submit_reply (layout_step look r)) (law look r e (published_at (world c).published) (past_of (world c)) (world c).replay.tick shown clear script (record { fits = is.0; accepted = kept.fits }) is.1)
+-- what a course accepted is sound and fits its spelling, and what it published are tables
+pub record IsSoundCourse (c : Course) : Type 0 where
+  pub sound : IsSound marlowe (published_at (published c.entries)) (past_of (world c))
+  pub tables : AreTables (published_at (published c.entries))
+  pub fits : All TxFits (past_of (world c)).accepted
 
-pub accepts_starts : StartsAreAcceptedAfter → (ps : List Published) (ids : List (List ℕ)) (c : Course) → IsKept ps ids c → AcceptsStarts c
-accepts_starts law ps ids c kept r clear script is = ap (submit_reply (layout_start r)) (law r (published_at (world c).published) (past_of (world c)) (world c).replay.tick clear script (record { fits = is.0; accepted = kept.fits }) is.1)
+-- ---- what is built
 
-pub accepts_claims : ClaimsAreAcceptedAfter → (ps : List Published) (ids : List (List ℕ)) (c : Course) → IsKept ps ids c → AcceptsClaims c
-accepts_claims law ps ids c kept r clear is = ap (submit_reply (layout_claim r)) (law r (published_at (world c).published) (past_of (world c)) (world c).replay.tick clear (record { fits = is.0; accepted = kept.fits }) is.1)
+pub accepts_steps : StepsAreAcceptedAfter → (c : Course) → IsSoundCourse c → AcceptsSteps c
+accepts_steps law c kept look r e shown clear script is = ap (submit_reply (layout_step look r)) (law look r e (published_at (world c).published) (past_of (world c)) (world c).replay.tick shown clear script (record { fits = is.0; accepted = kept.fits }) is.1)
+
+pub accepts_starts : StartsAreAcceptedAfter → (c : Course) → IsSoundCourse c → AcceptsStarts c
+accepts_starts law c kept r clear script is = ap (submit_reply (layout_start r)) (law r (published_at (world c).published) (past_of (world c)) (world c).replay.tick clear script (record { fits = is.0; accepted = kept.fits }) is.1)
+
+pub accepts_claims : ClaimsAreAcceptedAfter → (c : Course) → IsSoundCourse c → AcceptsClaims c
+accepts_claims law c kept r clear is = ap (submit_reply (layout_claim r)) (law r (published_at (world c).published) (past_of (world c)) (world c).replay.tick clear (record { fits = is.0; accepted = kept.fits }) is.1)
 
 -- ---- what is shown
-
--- what is found under an id has it
-pub under_ids : (ps : List Published) → AreUnderIds (published_at ps)
-under_ids [] id p h = cc
-under_ids (q ∷ ps) id p h = by (same_bytes q.id id) refl h (under_ids ps id p)
-  where
-    by : (b : Bool) → same_bytes q.id id ≡ b → cond b (Some q) (published_at ps id) ≡ Some p → (published_at ps id ≡ Some p → p.id ≡ id) → p.id ≡ id
-    by true e k go = let same : q ≡ p = cc in ap (λ (x : Published). x.id) (sym same) ∙ (bytes_decides q.id id).0 e
-    by false e k go = go k
 
 with_so : (ps : List Published) (past : Past) (q : OutputRef) (o : Output) → unspent_at past q ≡ Some o → (lock : Lock) → o.lock ≡ lock → (t : ThreadOutput) → thread_output q o (object_under ps (script_in lock)) ≡ Some t →
     (d : Datum) × IsShown (published_at ps) past t d
@@ -65,7 +67,7 @@ pub shown_so : (w : World) (r : Option OutputRef) (t : ThreadOutput) → thread_
 shown_so w None t k = cc
 shown_so w (Some r) t k = at_so w (end_of (past_of w) r) t k
 
-pub shows_standing : ShownThreadsAreCurrent → (ps : List Published) (ids : List (List ℕ)) (c : Course) → IsKept ps ids c → ShowsCurrentThreads c
-shows_standing law ps ids c kept ask t h =
+pub shows_standing : ShownThreadsAreCurrent → (c : Course) → IsSoundCourse c → ShowsCurrentThreads c
+shows_standing law c kept ask t h =
     let s = shown_so (world c) ask.thread t h in
-    (s.0, law (published_at (published c.entries)) (past_of (world c)) (look (world c) ask) t s.0 kept.tables (under_ids (published c.entries)) kept.sound h s.1)
+    (s.0, law (published_at (published c.entries)) (past_of (world c)) (look (world c) ask) t s.0 kept.tables (found_under (published c.entries)) kept.sound h s.1)

@@ -1,46 +1,34 @@
 -- One more entry of a course.
-use Rattle.std.proofs.Common.{◌≡◌, ℕ, zero, suc, ℤ, Bool, true, false, List, [], ◌∷◌, ◌++◌, refl, sym, ◌∙◌, ap, subst, arith, Option, Some, None, ◌⊎◌, inl, inr, map, take, All, Result, Ok, Err}
+use Rattle.std.proofs.Common.{◌≡◌, ℕ, zero, suc, ℤ, Bool, true, false, List, [], ◌∷◌, ◌++◌, refl, sym, ◌∙◌, ap, subst, arith, Option, Some, None, inl, inr, map, take, length, All, Result, Ok, Err}
 use Rattle.std.specs.Prelude.{if◌then◌else◌, is_some, OnErr}
 use Rattle.std.specs.List.{slice_get}
+use Rattle.std.proofs.Math.Seq.{take-append_seam}
+use Rattle.std.proofs.lemmas.List.Elements.{All-take}
 use Rattle.compiler.specs.declared.fault.CompileFault.{CompileFault}
 use Rattle.eutxo_types.specs.declared.output.Output.{Output}
+use Rattle.eutxo_types.specs.declared.tx.Tx.{Tx}
 use Rattle.eutxo_types.specs.Fitting.{TxFits}
 use Rattle.roles.specs.declared.published.Published.{Published}
-use Rattle.roles.specs.Publications.{PublishedAreTables}
 use Rattle.roles.specs.Steps.{marlowe}
-use Rattle.ledger_laws.specs.Laws.{AreTables, StartIsSound, AfterIsSound, LaterIsSound}
-use Rattle.ledger_laws.specs.Sound.{AreKeys, IsMore}
+use Rattle.ledger_laws.specs.Laws.{StartIsSound, AfterIsSound, LaterIsSound}
+use Rattle.ledger_laws.specs.Sound.{AreKeys, IsSound, IsMore}
+use Rattle.ledger_laws.proofs.PlainLaws.{get_grown, take_none, take_some, take_whole}
 use Rattle.ledger.specs.declared.call.Call.{Call}
 use Rattle.ledger.specs.declared.call.Call.TheVariants as on
 use Rattle.ledger.specs.declared.call.Reply.{Reply}
 use Rattle.ledger.specs.declared.call.Reply.TheVariants as answer
 use Rattle.ledger.specs.declared.call.Entry.{Entry}
 use Rattle.eutxo_types.specs.Ids.{id_of}
-use Rattle.ledger_spec.specs.Replay.{Replay, World, Course, after_call, count_of, world, published_at, publication, with_object, published_after, published_from, published}
+use Rattle.ledger_spec.specs.Replay.{Replay, World, Course, after_call, count_of, world, past_of, published_at, publication, with_object, published_after, published}
 use Rattle.ledger.specs.Replies.{is_published}
 use Rattle.ledger_spec.specs.Calls.{same_publication, publish_reply_beside, publish_reply, reply_to, published_with}
 use Rattle.ledger_spec.specs.Genesis.{SumsFit}
-use Rattle.ledger_spec.specs.Legal.{Follows, IsLegal, with_entry, entry_of}
+use Rattle.ledger_spec.specs.Legal.{Follows, IsLegal, before_entry, with_entry, entry_of}
 use Rattle.chain.specs.ChainSupport.{IsKept}
+use Rattle.ledger_spec.proofs.CallsLaws.{accepted_before}
 use Rattle.ledger_spec.proofs.ReplayLaws.{replay_after}
-use Rattle.chain.proofs.PublishedLemmas.{new_is_more}
-use Rattle.chain.proofs.SoundLemmas.{course_so, tables_so}
-
--- the element at n of a list that grew
-get_grown : {A : Type 0} (xs : List A) (y : A) (n : ℕ) (x : A) → slice_get (xs ++ y ∷ []) n ≡ Some x →
-    ((slice_get xs n ≡ Some x) × (take n (xs ++ y ∷ []) ≡ take n xs)) ⊎ ((y ≡ x) × (take n (xs ++ y ∷ []) ≡ xs))
-get_grown [] y zero x h = let e : y ≡ x = cc in inr (e, refl)
-get_grown [] y (suc n) x h = cc
-get_grown (z ∷ xs) y zero x h = inl (h, refl)
-get_grown (z ∷ xs) y (suc n) x h =
-    elim (get_grown xs y n x h) [
-      | inl p ↦ inl (p.0, ap (λ (l : List _). z ∷ l) p.1)
-      | inr p ↦ inr (p.0, ap (λ (l : List _). z ∷ l) p.1)
-    ]
-
-published_more : (ps : List Published) (es : List Entry) (e : Entry) → published_from ps (es ++ e ∷ []) ≡ published_after (published_from ps es) e.call e.reply
-published_more ps [] e = refl
-published_more ps (x ∷ es) e = published_more (published_after ps x.call x.reply) es e
+use Rattle.ledger_spec.proofs.PublishingLaws.{with_stays, published_two}
+use Rattle.chain.proofs.SoundLemmas.{course_so}
 
 -- what is published by the reply of the table
 new_if : (w : World) (p : Published) (known : Option Published) → published_at w.published p.id ≡ known →
@@ -66,10 +54,10 @@ new_is w (on.Round k) = refl
 
 -- what is published after one call more
 pub published_after_one : (c : Course) (seat : ℕ) (call : Call) → published (with_entry c (entry_of c seat call)).entries ≡ published_with (published c.entries) call
-published_after_one c seat call = published_more [] c.entries (entry_of c seat call) ∙ new_is (world c) call
+published_after_one c seat call = published_two [] c.entries (entry_of c seat call ∷ []) ∙ new_is (world c) call
 
 call_is_more : (ps : List Published) (call : Call) → IsMore (published_at ps) (published_at (published_with ps call))
-call_is_more ps (on.Publish contract currency) = new_is_more ps (publication contract currency)
+call_is_more ps (on.Publish contract currency) = with_stays ps (publication contract currency)
 call_is_more ps (on.Advance t) = λ script v h. h
 call_is_more ps (on.Look ask) = λ script v h. h
 call_is_more ps (on.Submit tx) = λ script v h. h
@@ -91,10 +79,10 @@ legal_more c seat call legal n e h =
     ]
 
 -- a chain that kept one more entry
-pub kept_more : AfterIsSound marlowe → LaterIsSound marlowe → PublishedAreTables → (ps later : List Published) (ids more : List (List ℕ)) (c : Course) (seat : ℕ) (call : Call) → IsKept ps ids c → later ≡ published_with (published c.entries) call →
+pub kept_more : AfterIsSound marlowe → LaterIsSound marlowe → (ps later : List Published) (ids more : List (List ℕ)) (c : Course) (seat : ℕ) (call : Call) → IsKept ps ids c → later ≡ published_with (published c.entries) call →
     map id_of (world c).replay.accepted ++ more ≡ map id_of (after_call (world c).replay call (reply_to (world c) call)).accepted →
     All TxFits (after_call (world c).replay call (reply_to (world c) call)).accepted → IsKept later (ids ++ more) (with_entry c (entry_of c seat call))
-kept_more law law_later law_tables ps later ids more c seat call kept h k fits =
+kept_more law law_later ps later ids more c seat call kept h k fits =
     let e = entry_of c seat call in
     let all : published (c.entries ++ e ∷ []) ≡ published_with (published c.entries) call = published_after_one c seat call in
     let grown = sym (replay_after (record { tick = c.first_tick; accepted = []; pending = [] }) c.entries e) in
@@ -103,14 +91,13 @@ kept_more law law_later law_tables ps later ids more c seat call kept h k fits =
       used = ap (λ (l : List (List ℕ)). l ++ more) kept.used ∙ k ∙ ap (λ (s : Replay). map id_of s.accepted) grown;
       legal = legal_more c seat call kept.legal;
       sound = course_so law law_later c (published (c.entries ++ e ∷ [])) kept.sound seat call all;
-      tables = subst (λ (l : List Published). AreTables (published_at l)) (sym all) (tables_so law_tables (published c.entries) kept.tables call);
       sums = kept.sums;
       fits = subst (λ (s : Replay). All TxFits s.accepted) grown fits;
     }
 
 pub kept_start : StartIsSound marlowe → (genesis : List Output) (tick : ℤ) → AreKeys genesis → SumsFit genesis → IsKept [] [] (record { genesis = genesis; first_tick = tick; entries = [] })
 kept_start law genesis tick keys sums =
-    record { objects = refl; used = refl; legal = λ n e h. cc; sound = law (published_at []) genesis keys; tables = λ script p h. cc; sums = sums; fits = λ n tx h. absurd (omega arith) }
+    record { objects = refl; used = refl; legal = λ n e h. cc; sound = law (published_at []) genesis keys; sums = sums; fits = λ n tx h. absurd (omega arith) }
 
 pub same_entry : (a b : Entry) → a.seat ≡ b.seat → a.number ≡ b.number → a.call ≡ b.call → a.reply ≡ b.reply → a ≡ b
 same_entry a b p q r s = λ i. record { seat = p i; number = q i; call = r i; reply = s i }
@@ -126,3 +113,36 @@ grown_by c seat number call reply entries grown n r same g =
 pub on_err : {T E P : Type 0} (r : Result T E) → P → OnErr r P
 on_err (Ok v) p = tt
 on_err (Err e) p = p
+
+-- ---- a legal course is sound
+
+-- a course with these entries is sound
+abbrev SoundAfter : Course → List Entry → Type 0
+SoundAfter c l = IsSound marlowe (published_at (published l)) (past_of (world (record c { entries = l })))
+
+-- from one entry to the next
+sound_next : AfterIsSound marlowe → LaterIsSound marlowe → (c : Course) → IsLegal c → (n : ℕ) → SoundAfter c (take n c.entries) → (o : Option Entry) → slice_get c.entries n ≡ o → SoundAfter c (take (suc n) c.entries)
+sound_next after later c legal n before None at = subst (λ (l : List Entry). SoundAfter c l) (sym (take_none n c.entries at)) before
+sound_next after later c legal n before (Some e) at =
+    let d = before_entry c n in
+    let f = legal n e at in
+    let is : entry_of d e.seat e.call ≡ e = same_entry (entry_of d e.seat e.call) e refl (sym f.number) refl (sym f.reply) in
+    let next = course_so after later d (published (with_entry d (entry_of d e.seat e.call)).entries) before e.seat e.call (published_after_one d e.seat e.call) in
+    subst (λ (l : List Entry). SoundAfter c l) (sym (take_some n c.entries e at)) (subst (λ (x : Entry). SoundAfter c (take n c.entries ++ x ∷ [])) is next)
+
+pub sound_at : StartIsSound marlowe → AfterIsSound marlowe → LaterIsSound marlowe → (c : Course) → AreKeys c.genesis → IsLegal c → (n : ℕ) → SoundAfter c (take n c.entries)
+sound_at start after later c keys legal zero = start (published_at []) c.genesis keys
+sound_at start after later c keys legal (suc n) = sound_next after later c legal n (sound_at start after later c keys legal n) (slice_get c.entries n) refl
+
+-- where it began with key outputs
+pub legal_sound : StartIsSound marlowe → AfterIsSound marlowe → LaterIsSound marlowe → (c : Course) → AreKeys c.genesis → IsLegal c → IsSound marlowe (published_at (published c.entries)) (past_of (world c))
+legal_sound start after later c keys legal = subst (λ (l : List Entry). SoundAfter c l) (take_whole c.entries) (sound_at start after later c keys legal (length c.entries))
+
+-- what was accepted before an entry fits where all does
+fits_front : (xs ys : List Tx) → All TxFits (xs ++ ys) → All TxFits xs
+fits_front xs ys h = subst (λ (l : List Tx). All TxFits l) (take-append_seam xs ys) (All-take TxFits (length xs) (xs ++ ys) h)
+
+pub fits_before : (c : Course) (n : ℕ) → All TxFits (past_of (world c)).accepted → All TxFits (past_of (world (before_entry c n))).accepted
+fits_before c n h =
+    let m = accepted_before c n in
+    fits_front (world (before_entry c n)).replay.accepted m.0 (subst (λ (l : List Tx). All TxFits l) m.1 h)

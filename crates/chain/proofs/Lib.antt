@@ -1,5 +1,3 @@
-mod AcceptedLemmas
-mod PublishedLemmas
 mod SoundLemmas
 mod LegalLemmas
 mod HeadlineLemmas

@@ -1,6 +1,6 @@
 -- What looks show of what was made before them.
-use Rattle.std.proofs.Common.{◌≡◌, ℕ, zero, suc, ◌+◌, ◌<◌, ◌≤◌, Bool, true, false, not, ◌&&◌, ◌||◌, cond, List, [], ◌∷◌, ◌++◌, refl, sym, ◌∙◌, ap, subst, arith, append_assoc, Option, Some, None, map, take, drop, length}
-use Rattle.std.specs.Prelude.{if◌then◌else◌, is_some, filter}
+use Rattle.std.proofs.Common.{◌≡◌, ℕ, zero, suc, ◌+◌, ◌<◌, Bool, true, false, ◌||◌, cond, List, [], ◌∷◌, ◌++◌, refl, sym, ◌∙◌, ap, subst, arith, append_assoc, Option, Some, None, map, take, drop, length}
+use Rattle.std.specs.Prelude.{if◌then◌else◌, filter}
 use Rattle.std.specs.List.{slice_get, list_any, Contains, slice_index_or}
 use Rattle.std.specs.Map.{lookup}
 use Rattle.std.proofs.lemmas.List.Folds.{list_any-append}
@@ -8,12 +8,11 @@ use Rattle.eutxo_types.specs.declared.lock.Lock.{Lock}
 use Rattle.eutxo_types.specs.declared.lock.Lock.TheVariants.{Key, Payout, Contract}
 use Rattle.eutxo_types.specs.declared.output.Output.{Output}
 use Rattle.eutxo_types.specs.declared.output_ref.OutputRef.{OutputRef}
-use Rattle.eutxo_types.specs.declared.output_ref.OutputRef.TheVariants.{Genesis, Made}
+use Rattle.eutxo_types.specs.declared.output_ref.OutputRef.TheVariants.{Made}
 use Rattle.eutxo_types.specs.declared.tx.Tx.{Tx}
 use Rattle.eutxo_types.specs.Ids.{id_of}
 use Rattle.eutxo.specs.Laws.{FoundIsEnough}
-use Rattle.eutxo_types.specs.Parts.{same_ref, is_contract, script_in, contract_at, steps}
-use Rattle.std.specs.Cmp.Lexicographic.{bytes_decides}
+use Rattle.eutxo_types.specs.Parts.{same_ref, is_contract, script_in}
 use Rattle.roles.specs.declared.published.Published.{Published}
 use Rattle.ledger.specs.declared.ask.Ask.{Ask}
 use Rattle.ledger.specs.declared.call.Call.{Call}
@@ -24,85 +23,32 @@ use Rattle.ledger.specs.declared.call.Reply.TheVariants as answer
 use Rattle.ledger.specs.declared.look.Look.{Look}
 use Rattle.ledger.specs.declared.look.ThreadOutput.{ThreadOutput}
 use Rattle.ledger.specs.declared.look.Unspent.{Unspent}
-use Rattle.ledger_laws.specs.Past.{Past, unspent, unspent_at, is_input_of, is_spent, has_id}
-use Rattle.ledger_laws.specs.Sound.{IsSound}
+use Rattle.ledger_laws.specs.Past.{Past, unspent, unspent_at, is_input_of, is_spent}
+use Rattle.ledger_laws.specs.Sound.{AreKeys, IsSound}
 use Rattle.roles.specs.Steps.{marlowe}
 use Rattle.ledger_laws.specs.Laws.{StartIsSound, AfterIsSound, LaterIsSound, EndsAreUnspent}
-use Rattle.ledger_laws.specs.Threads.{next_of, thread, ends, StartsThread}
+use Rattle.ledger_laws.specs.Threads.{next_of, thread, ends}
 use Rattle.ledger_laws.proofs.AcceptedLaws.{made_there, still_there, made_published}
-use Rattle.ledger_laws.proofs.PlainLaws.{and_true, both_false, same_some, is_there, cut_at, take_some, take_none}
+use Rattle.ledger_laws.proofs.PlainLaws.{both_false, same_some, cut_at, take_some}
 use Rattle.ledger_laws.proofs.ReferenceLaws.{same_ref_so, unspent_is}
 use Rattle.ledger_laws.proofs.SpineLaws.{reached, reached_append, ends_reached, stays}
-use Rattle.ledger_spec.specs.Legal.{IsLegal, before_entry, with_entry, entry_of}
+use Rattle.ledger_spec.specs.Legal.{IsLegal, before_entry}
 use Rattle.ledger_spec.specs.Calls.{reply_to}
-use Rattle.ledger_spec.specs.Replay.{Replay, World, Course, after_call, accepted_among, replay, replay_from, with_pending, world, past_of, published, published_at}
-use Rattle.ledger_spec.specs.Shown.{IsShown, ShowsWhatWasMade}
+use Rattle.ledger_spec.specs.Replay.{Replay, World, Course, after_call, replay_from, world, past_of, published, published_at}
+use Rattle.ledger_spec.specs.Shown.{ShowsOutput, ShowsWhatWasMade}
 use Rattle.ledger_spec.specs.Views.{is_key_of, is_payout_of, unspent_of, under_locks, starts_in, end_of, thread_output, thread_output_at, thread_output_in, object_under, thread_shown, look}
-use Rattle.ledger.specs.Replies.{is_advanced, is_accepted, ticket_in, verdicts_in}
-use Rattle.chain.proofs.LegalLemmas.{same_entry, published_after_one}
-use Rattle.chain.proofs.SoundLemmas.{course_so}
+use Rattle.ledger_spec.proofs.CallsLaws.{GoesOn, accepted_on}
+use Rattle.ledger_spec.proofs.ReplayLaws.{replay_two}
+use Rattle.ledger_spec.proofs.StartsLaws.{end_told, end_starts}
+use Rattle.chain.proofs.LegalLemmas.{sound_at}
 
--- ---- what was accepted only grows
-
--- the second list goes on from the first
-abbrev GoesOn : List Tx → List Tx → Type 0
-GoesOn xs ys = (more : List Tx) × (ys ≡ xs ++ more)
-
-nothing_more : (xs ys : List Tx) → ys ≡ xs → GoesOn xs ys
-nothing_more xs ys h = ([], h ∙ sym (no_nil xs))
-  where
-    no_nil : (l : List Tx) → l ++ [] ≡ l
-    no_nil [] = refl
-    no_nil (x ∷ l) = ap (λ (k : List Tx). x ∷ k) (no_nil l)
-
-goes_on_twice : (xs ys zs : List Tx) → GoesOn xs ys → GoesOn ys zs → GoesOn xs zs
-goes_on_twice xs ys zs p q = (p.0 ++ q.0, q.1 ∙ ap (λ (l : List Tx). l ++ q.0) p.1 ∙ append_assoc xs p.0 q.0)
-
-waiting : (s : Replay) (tx : Tx) (o : Option ℕ) → (with_pending s tx o).accepted ≡ s.accepted
-waiting s tx None = refl
-waiting s tx (Some n) = refl
-
-call_more : (s : Replay) (c : Call) (r : Reply) → GoesOn s.accepted (after_call s c r).accepted
-call_more s (on.Publish contract currency) r = nothing_more s.accepted s.accepted refl
-call_more s (on.Advance t) r = by (is_advanced r)
-  where
-    by : (b : Bool) → GoesOn s.accepted (if b then record s { tick = t } else s).accepted
-    by true = nothing_more s.accepted s.accepted refl
-    by false = nothing_more s.accepted s.accepted refl
-call_more s (on.Look ask) r = nothing_more s.accepted s.accepted refl
-call_more s (on.Submit tx) r = by (is_accepted r)
-  where
-    by : (b : Bool) → GoesOn s.accepted (if b then record s { accepted = s.accepted ++ tx ∷ [] } else s).accepted
-    by true = (tx ∷ [], refl)
-    by false = nothing_more s.accepted s.accepted refl
-call_more s (on.Enqueue tx) r = nothing_more s.accepted (with_pending s tx (ticket_in r)).accepted (waiting s tx (ticket_in r))
-call_more s (on.Round k) r = (accepted_among s.pending (verdicts_in r), refl)
-
-replay_more : (s : Replay) (es : List Entry) → GoesOn s.accepted (replay_from s es).accepted
-replay_more s [] = nothing_more s.accepted s.accepted refl
-replay_more s (e ∷ es) = goes_on_twice s.accepted (after_call s e.call e.reply).accepted (replay_from (after_call s e.call e.reply) es).accepted (call_more s e.call e.reply) (replay_more (after_call s e.call e.reply) es)
-
-replay_two : (s : Replay) (es fs : List Entry) → replay_from s (es ++ fs) ≡ replay_from (replay_from s es) fs
-replay_two s [] fs = refl
-replay_two s (e ∷ es) fs = replay_two (after_call s e.call e.reply) es fs
-
-take_on : {A : Type 0} (n m : ℕ) (xs : List A) → n ≤ m → (rest : List A) × (take m xs ≡ take n xs ++ rest)
-take_on zero m xs h = (take m xs, refl)
-take_on (suc n) zero xs h = absurd (omega arith)
-take_on (suc n) (suc m) [] h = ([], refl)
-take_on (suc n) (suc m) (x ∷ xs) h = let p = take_on n m xs (omega (arith, h)) in (p.0, ap (λ (l : List _). x ∷ l) p.1)
+-- ---- what was accepted
 
 abbrev begun : Course → Replay
 begun c = record { tick = c.first_tick; accepted = []; pending = [] }
 
 abbrev accepted_at_entry : Course → ℕ → List Tx
 accepted_at_entry c n = (world (before_entry c n)).replay.accepted
-
-accepted_on : (c : Course) (n m : ℕ) → n ≤ m → GoesOn (accepted_at_entry c n) (accepted_at_entry c m)
-accepted_on c n m h =
-    let p = take_on n m c.entries h in
-    let q = replay_more (replay_from (begun c) (take n c.entries)) p.0 in
-    (q.0, ap (λ (l : List Entry). (replay_from (begun c) l).accepted) p.1 ∙ ap (λ (s : Replay). s.accepted) (replay_two (begun c) (take n c.entries) p.0) ∙ q.1)
 
 plus_one : (n : ℕ) → n + 1 ≡ suc n
 plus_one n = omega arith
@@ -119,33 +65,13 @@ submitted c n e tx at call reply =
     ∙ ap (λ (k : Call). (after_call s k e.reply).accepted) call
     ∙ ap (λ (r : Reply). (after_call s (on.Submit tx) r).accepted) reply
 
--- ---- a legal course is sound at each entry
-
--- a course with these entries is sound
-abbrev SoundAfter : Course → List Entry → Type 0
-SoundAfter c l = IsSound marlowe (published_at (published l)) (past_of (world (record c { entries = l })))
-
--- from one entry to the next
-sound_next : AfterIsSound marlowe → LaterIsSound marlowe → (c : Course) → IsLegal c → (n : ℕ) → SoundAfter c (take n c.entries) → (o : Option Entry) → slice_get c.entries n ≡ o → SoundAfter c (take (suc n) c.entries)
-sound_next after later c legal n before None at = subst (λ (l : List Entry). SoundAfter c l) (sym (take_none n c.entries at)) before
-sound_next after later c legal n before (Some e) at =
-    let d = before_entry c n in
-    let f = legal n e at in
-    let is : entry_of d e.seat e.call ≡ e = same_entry (entry_of d e.seat e.call) e refl (sym f.number) refl (sym f.reply) in
-    let next = course_so after later d (published (with_entry d (entry_of d e.seat e.call)).entries) before e.seat e.call (published_after_one d e.seat e.call) in
-    subst (λ (l : List Entry). SoundAfter c l) (sym (take_some n c.entries e at)) (subst (λ (x : Entry). SoundAfter c (take n c.entries ++ x ∷ [])) is next)
-
-sound_at : StartIsSound marlowe → AfterIsSound marlowe → LaterIsSound marlowe → (c : Course) (ps : List Published) → IsSound marlowe (published_at ps) (past_of (world c)) → IsLegal c → (n : ℕ) → SoundAfter c (take n c.entries)
-sound_at start after later c ps whole legal zero = start (published_at []) c.genesis whole.keys
-sound_at start after later c ps whole legal (suc n) = sound_next after later c legal n (sound_at start after later c ps whole legal n) (slice_get c.entries n) refl
-
 -- ---- elements of lists
 
 -- where an element stands
-abbrev Stands : {A : Type 0} → List A → A → Type 0
-Stands xs x = (k : ℕ) × (slice_get xs k ≡ Some x)
+abbrev Among : {A : Type 0} → List A → A → Type 0
+Among xs x = (k : ℕ) × (slice_get xs k ≡ Some x)
 
-contains : {A : Type 0} (xs : List A) (x : A) → Stands xs x → Contains xs x
+contains : {A : Type 0} (xs : List A) (x : A) → Among xs x → Contains xs x
 contains xs x p = (p.0, low xs p.0 p.1, is xs p.0 p.1)
   where
     low : (ys : List _) (k : ℕ) → slice_get ys k ≡ Some x → k < length ys
@@ -158,32 +84,32 @@ contains xs x p = (p.0, low xs p.0 p.1, is xs p.0 p.1)
     is (y ∷ ys) zero h = same_some y x h
     is (y ∷ ys) (suc k) h = is ys k h
 
-looked_up : (es : List (OutputRef × Output)) (r : OutputRef) (o : Output) → lookup (same_ref r) es ≡ Some o → (let e : OutputRef × Output = (r, o) in Stands es e)
+looked_up : (es : List (OutputRef × Output)) (r : OutputRef) (o : Output) → lookup (same_ref r) es ≡ Some o → (let e : OutputRef × Output = (r, o) in Among es e)
 looked_up [] r o h = cc
 looked_up (e ∷ es) r o h = by (same_ref r e.0) refl h (looked_up es r o)
   where
-    by : (b : Bool) → same_ref r e.0 ≡ b → cond b (Some e.1) (lookup (same_ref r) es) ≡ Some o → (lookup (same_ref r) es ≡ Some o → (let x : OutputRef × Output = (r, o) in Stands es x)) → (let x : OutputRef × Output = (r, o) in Stands (e ∷ es) x)
+    by : (b : Bool) → same_ref r e.0 ≡ b → cond b (Some e.1) (lookup (same_ref r) es) ≡ Some o → (lookup (same_ref r) es ≡ Some o → (let x : OutputRef × Output = (r, o) in Among es x)) → (let x : OutputRef × Output = (r, o) in Among (e ∷ es) x)
     by true s k go =
         let a : r ≡ e.0 = same_ref_so r e.0 s in
         let b : e.1 ≡ o = same_some e.1 o k in
         let is : (let x : OutputRef × Output = (r, o) in e ≡ x) = λ i. (sym a i, b i) in (0, ap Some is)
     by false s k go = let q = go k in (suc q.0, q.1)
 
-filtered : {A : Type 0} (test : A → Bool) (xs : List A) (x : A) → test x ≡ true → Stands xs x → Stands (filter test xs) x
+filtered : {A : Type 0} (test : A → Bool) (xs : List A) (x : A) → test x ≡ true → Among xs x → Among (filter test xs) x
 filtered test xs x yes_x p = go xs p.0 p.1
   where
-    go : (ys : List _) (k : ℕ) → slice_get ys k ≡ Some x → Stands (filter test ys) x
+    go : (ys : List _) (k : ℕ) → slice_get ys k ≡ Some x → Among (filter test ys) x
     go [] k h = cc
     go (y ∷ ys) zero h =
         let is : test y ≡ true = ap test (same_some y x h) ∙ yes_x in
         rw is (0, h)
     go (y ∷ ys) (suc k) h = by (test y) (go ys k h)
       where
-        by : (b : Bool) → Stands (filter test ys) x → Stands (if b then y ∷ filter test ys else filter test ys) x
+        by : (b : Bool) → Among (filter test ys) x → Among (if b then y ∷ filter test ys else filter test ys) x
         by true q = (suc q.0, q.1)
         by false q = q
 
-mapped : {A B : Type 0} (f : A → B) (xs : List A) (x : A) → Stands xs x → Stands (map f xs) (f x)
+mapped : {A B : Type 0} (f : A → B) (xs : List A) (x : A) → Among xs x → Among (map f xs) (f x)
 mapped f xs x p = (p.0, go xs p.0 p.1)
   where
     go : (ys : List _) (k : ℕ) → slice_get ys k ≡ Some x → slice_get (map f ys) k ≡ Some (f x)
@@ -206,14 +132,10 @@ list_some test xs ys h = list_any-append test xs ys ∙ by (list_any test xs) h
     by true e = refl
     by false e = cc
 
-if_some : {A : Type 0} (b : Bool) (o : Option A) (x : A) → (if b then o else None) ≡ Some x → (b ≡ true) × (o ≡ Some x)
-if_some true o x h = (refl, h)
-if_some false o x h = cc
-
 -- a thread that ended at an output ends there while nobody spends it
 end_stays : (genesis : List Output) (txs more : List Tx) (r q : OutputRef) → end_of (record { genesis = genesis; accepted = txs }) r ≡ Some q → is_spent more q ≡ false → end_of (record { genesis = genesis; accepted = txs ++ more }) r ≡ Some q
 end_stays genesis txs more r q h free =
-    let p = if_some (list_any (starts_in r) txs) (ends (Some r) (thread (record { genesis = genesis; accepted = txs }) r)) q h in
+    let p = end_told (record { genesis = genesis; accepted = txs }) r q h in
     let at : reached next_of (Some r) txs ≡ Some q = sym (ends_reached next_of (Some r) txs) ∙ p.1 in
     let on : reached next_of (Some r) (txs ++ more) ≡ Some q = reached_append next_of (Some r) txs more ∙ ap (λ (s : Option OutputRef). reached next_of s more) at ∙ stays next_of q more free in
     rw (list_some (starts_in r) txs more p.0) (ends_reached next_of (Some r) (txs ++ more) ∙ on)
@@ -223,38 +145,6 @@ published_so : (ps : List Published) (lock : Lock) → ((script : List ℕ) → 
 published_so ps (Key a) known h = cc
 published_so ps (Payout currency role) known h = cc
 published_so ps (Contract script d) known h = known script refl
-
-not_true : (b : Bool) → not b ≡ true → b ≡ false
-not_true true h = cc
-not_true false h = refl
-
--- where a thread ends, it started
-end_contract : (past : Past) (s q : OutputRef) → end_of past s ≡ Some q → StartsThread past s × (ends (Some s) (thread past s) ≡ Some q)
-end_contract past s q h =
-    let p = if_some (list_any (starts_in s) past.accepted) (ends (Some s) (thread past s)) q h in
-    let f = some_passes (starts_in s) past.accepted p.0 in
-    (starts_so past s f.0 f.1 f.2 f.3, p.1)
-  where
-    some_passes : (test : Tx → Bool) (xs : List Tx) → list_any test xs ≡ true → (n : ℕ) × (x : Tx) × (slice_get xs n ≡ Some x) × (test x ≡ true)
-    some_passes test [] e = cc
-    some_passes test (x ∷ xs) e = by (test x) refl e (some_passes test xs)
-      where
-        by : (b : Bool) → test x ≡ b → (b || list_any test xs) ≡ true → (list_any test xs ≡ true → (n : ℕ) × (y : Tx) × (slice_get xs n ≡ Some y) × (test y ≡ true)) → (n : ℕ) × (y : Tx) × (slice_get (x ∷ xs) n ≡ Some y) × (test y ≡ true)
-        by true t k go = (0, x, refl, t)
-        by false t k go = let g = go k in (suc g.0, g.1, g.2, g.3)
-
-    starts_so : (at : Past) (r : OutputRef) (n : ℕ) (tx : Tx) → slice_get at.accepted n ≡ Some tx → starts_in r tx ≡ true → StartsThread at r
-    starts_so at (Genesis i) n tx g k = cc
-    starts_so at (Made id i) n tx g k =
-        let a = and_true (has_id id tx) (not (steps tx) && is_some (contract_at tx i)) k in
-        let b = and_true (not (steps tx)) (is_some (contract_at tx i)) a.1 in
-        let c = is_there (contract_at tx i) b.1 in (
-          c.0,
-          record {
-            made = record { number = n; tx = tx; accepted = g; index = i; name = ap (λ (x : List ℕ). Made x i) ((bytes_decides id (id_of tx)).0 a.0); contract = c.1 };
-            bare = not_true (steps tx) b.0;
-          },
-        )
 
 list_none : {A : Type 0} (test : A → Bool) (xs ys : List A) → list_any test xs ≡ false → list_any test ys ≡ false → list_any test (xs ++ ys) ≡ false
 list_none test xs ys h k = list_any-append test xs ys ∙ both_false (list_any test xs) (list_any test ys) h k
@@ -292,7 +182,7 @@ module _ (enough : FoundIsEnough marlowe) (start : StartIsSound marlowe) (after 
   -- after a sound course, what a look shows of an output that is unspent
   shown_now : (c : Course) (k i : ℕ) (tx : Tx) (o : Output) (ask : Ask) → IsSound marlowe (published_at (published c.entries)) (past_of (world c)) → slice_get (world c).replay.accepted k ≡ Some tx → slice_get tx.outputs i ≡ Some o →
       is_spent (drop (suc k) (world c).replay.accepted) (Made (id_of tx) i) ≡ false → (earlier : Past) → ((r : OutputRef) → end_of earlier r ≡ Some (Made (id_of tx) i) → end_of (past_of (world c)) r ≡ Some (Made (id_of tx) i)) →
-      IsShown earlier ask (look (world c) ask) (record { reference = Made (id_of tx) i; output = o })
+      ShowsOutput earlier ask (look (world c) ask) (record { reference = Made (id_of tx) i; output = o })
   shown_now c k i tx o ask sound at made free earlier same =
       record {
         key = under (is_key_of ask.keys) past r o there;
@@ -321,15 +211,15 @@ module _ (enough : FoundIsEnough marlowe) (start : StartIsSound marlowe) (after 
       as_thread : (s : OutputRef) → ask.thread ≡ Some s → end_of earlier s ≡ Some r → (p : Published) × (let t : ThreadOutput = record { reference = r; output = o; published = p } in (look (world c) ask).thread ≡ Some t)
       as_thread s asked ended =
           let e : end_of past s ≡ Some r = same s ended in
-          let q = end_contract past s r e in
+          let q = end_starts past s r e in
           let z = ends_unspent named past sound s r q.0 q.1 in
           let is : is_contract o.lock ≡ true = subst (λ (x : Output). is_contract x.lock ≡ true) (same_some z.0 o (sym z.1 ∙ there)) z.2 in
           let p = published_so (published c.entries) o.lock (λ script l. made_published marlowe enough named past sound k tx at i o script made l) is in
           (p.0, shown_thread (world c) ask.thread s r o p.0 asked e there p.1)
 
-  pub shows : (c : Course) (ps : List Published) → IsSound marlowe (published_at ps) (past_of (world c)) → IsLegal c → ShowsWhatWasMade c
-  shows c ps whole legal n m i e f tx ask l o before at_n call_n reply_n at_m call_m reply_m made free =
-      subst (λ (x : Look). IsShown (past_of (world (before_entry c (n + 1)))) ask x u) is (shown_now d k i tx o ask sound at made free' (past_of (world (before_entry c (n + 1)))) same)
+  pub shows : (c : Course) → AreKeys c.genesis → IsLegal c → ShowsWhatWasMade c
+  shows c keys legal n m i e f tx ask l o before at_n call_n reply_n at_m call_m reply_m made free =
+      subst (λ (x : Look). ShowsOutput (past_of (world (before_entry c (n + 1)))) ask x u) is (shown_now d k i tx o ask sound at made free' (past_of (world (before_entry c (n + 1)))) same)
     where
       d : Course
       d = before_entry c m
@@ -341,7 +231,7 @@ module _ (enough : FoundIsEnough marlowe) (start : StartIsSound marlowe) (after 
       k = length (accepted_at_entry c n)
 
       sound : IsSound marlowe (published_at (published d.entries)) (past_of (world d))
-      sound = sound_at start after later c ps whole legal m
+      sound = sound_at start after later c keys legal m
 
       made_here : accepted_at_entry c (n + 1) ≡ accepted_at_entry c n ++ tx ∷ []
       made_here = submitted c n e tx at_n call_n reply_n

@@ -4,10 +4,10 @@ use Rattle.eutxo_types.specs.declared.output.Output.{Output}
 use Rattle.eutxo_types.specs.declared.tx.Tx.{Tx}
 use Rattle.eutxo_types.specs.declared.fault.TxFault.{TxFault}
 use Rattle.roles.specs.declared.published.Published.{Published}
-use Rattle.roles.specs.Publications.{PublishedAreTables}
 use Rattle.roles.specs.Steps.{marlowe}
-use Rattle.ledger_laws.specs.Laws.{AreTables, AfterIsSound, LaterIsSound}
+use Rattle.ledger_laws.specs.Laws.{AfterIsSound, LaterIsSound}
 use Rattle.ledger_laws.specs.Sound.{IsSound}
+use Rattle.ledger_laws.proofs.PlainLaws.{no_more}
 use Rattle.ledger.specs.declared.call.Call.{Call}
 use Rattle.ledger.specs.declared.call.Call.TheVariants as on
 use Rattle.ledger.specs.declared.call.Reply.{Reply}
@@ -15,8 +15,8 @@ use Rattle.ledger_spec.specs.Replay.{Pending, Replay, World, Course, world, past
 use Rattle.ledger_spec.specs.Calls.{submit_reply, with_accepted, with_accepted_unless, fault_on, round_verdicts, reply_to, published_with}
 use Rattle.ledger_spec.specs.Legal.{with_entry, entry_of}
 use Rattle.ledger_spec.proofs.ReplayLaws.{replay_after}
-use Rattle.ledger_spec.proofs.CallsLaws.{after_advance, after_enqueue, only_first, no_more, one_kept}
-use Rattle.chain.proofs.PublishedLemmas.{new_is_more, new_are_tables}
+use Rattle.ledger_spec.proofs.CallsLaws.{after_advance, after_enqueue, only_first, one_kept}
+use Rattle.ledger_spec.proofs.PublishingLaws.{with_stays}
 
 abbrev SoundWith : List Published → List Output → List Tx → Type 0
 SoundWith ps genesis txs = IsSound marlowe (published_at ps) (record { genesis = genesis; accepted = txs })
@@ -59,7 +59,7 @@ submit_so law w sound tx (Some f) h = sound
 
 call_so : AfterIsSound marlowe → LaterIsSound marlowe → (w : World) → SoundIn w → (call : Call) → SoundWith (published_with w.published call) w.genesis (after_call w.replay call (reply_to w call)).accepted
 call_so law later w sound (on.Publish contract currency) =
-    later (published_at w.published) (published_at (with_object w.published (publication contract currency))) (past_of w) (new_is_more w.published (publication contract currency)) sound
+    later (published_at w.published) (published_at (with_object w.published (publication contract currency))) (past_of w) (with_stays w.published (publication contract currency)) sound
 call_so law later w sound (on.Advance t) = subst (λ (l : List Tx). SoundWith w.published w.genesis l) (after_advance w.replay t) sound
 call_so law later w sound (on.Look ask) = sound
 call_so law later w sound (on.Submit tx) = submit_so law w sound tx (fault_on w tx) refl
@@ -74,11 +74,3 @@ pub course_so : AfterIsSound marlowe → LaterIsSound marlowe → (c : Course) (
 course_so law later c ps sound seat call h =
     subst (λ (l : List Tx). SoundWith ps c.genesis l) (ap (λ (s : Replay). s.accepted) (sym (replay_after (record { tick = c.first_tick; accepted = []; pending = [] }) c.entries (entry_of c seat call))))
     (subst (λ (l : List Published). SoundWith l c.genesis (after_call (replay c.first_tick c.entries) call (reply_to (world c) call)).accepted) (sym h) (call_so law later (world c) sound call))
-
-pub tables_so : PublishedAreTables → (ps : List Published) → AreTables (published_at ps) → (call : Call) → AreTables (published_at (published_with ps call))
-tables_so law ps h (on.Publish contract currency) = new_are_tables law ps h contract currency
-tables_so law ps h (on.Advance t) = h
-tables_so law ps h (on.Look ask) = h
-tables_so law ps h (on.Submit tx) = h
-tables_so law ps h (on.Enqueue tx) = h
-tables_so law ps h (on.Round k) = h

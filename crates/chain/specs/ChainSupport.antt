@@ -4,7 +4,6 @@ use Rattle.eutxo_types.specs.Fitting.{TxFits}
 use Rattle.eutxo_types.specs.Ids.{id_of}
 use Rattle.roles.specs.declared.published.Published.{Published}
 use Rattle.roles.specs.Steps.{marlowe}
-use Rattle.ledger_laws.specs.Laws.{AreTables}
 use Rattle.ledger_laws.specs.Sound.{IsSound}
 use Rattle.ledger_spec.specs.Replay.{Course, published_at, published, world, past_of}
 use Rattle.ledger_spec.specs.Legal.{IsLegal}
@@ -16,6 +15,5 @@ pub record IsKept (ps : List Published) (ids : List (List ℕ)) (c : Course) : T
   pub used : ids ≡ map id_of (world c).replay.accepted
   pub legal : IsLegal c
   pub sound : IsSound marlowe (published_at (published c.entries)) (past_of (world c))
-  pub tables : AreTables (published_at (published c.entries))
   pub sums : SumsFit c.genesis
   pub fits : All TxFits (world c).replay.accepted

@@ -1,39 +1,32 @@
 //! The ledger of one thread.
-ghost use Rattle.std.specs.Prelude.{◌≡◌, ◌++◌, ◌≤◌, [], All, IfOk, IfErr, OnErr, OnOk, length, drop, map, option_to_list};
+ghost use Rattle.std.specs.Prelude.{◌≡◌, ℕ, ◌++◌, [], All, IfOk, IfErr, OnErr, OnOk, map, option_to_list};
 ghost use Rattle.ledger_laws.specs.Sound.{AreKeys, IsMore};
 ghost use Rattle.eutxo.specs.Judgement.{found};
 ghost use Rattle.ledger_spec.specs.Genesis.{SumsFit, RefusesGenesis};
 ghost use Rattle.eutxo_types.specs.Fitting.{TxFits};
 ghost use Rattle.eutxo_types.specs.Ids.{id_of};
 ghost use Rattle.ledger_spec.specs.Replay.{after_call, past_of, world, replay, published, published_at, moment_of};
-ghost use Rattle.ledger_spec.specs.Headline.{FirstHalf, SecondHalf};
+ghost use Rattle.ledger_spec.specs.Headline.{FirstHalf, SecondHalf, BothHalves};
 ghost use Rattle.ledger_spec.specs.Calls.{reply_to, published_with};
-ghost use Rattle.ledger_spec.specs.Legal.{entry_of, with_entry, IsLegal};
+ghost use Rattle.ledger_spec.specs.Legal.{entry_of, with_entry, before_entry, IsLegal};
 ghost use Rattle.ledger_spec.specs.Records.{AreSteps};
 ghost use Rattle.ledger_spec.specs.Publishing.{InUseByAnother};
-ghost use Rattle.ledger_spec.specs.Standing.{Stands};
+ghost use Rattle.ledger_spec.specs.Standing.{StandsAsTold};
 ghost use Rattle.ledger_spec.specs.Shown.{ShowsWhatWasMade};
 ghost use Rattle.ledger_spec.specs.Views.{pool_front};
 
-use builder_laws::{
-    anyone_closes_after_the_last_timeout, bytes_tell_accepted_apart, change_is_the_rest,
-    claims_are_accepted, shown_threads_are_current, starts_are_accepted, steps_are_accepted,
-};
+use crate::laws::both_halves_hold_of_legal_histories;
 use collections::{Items, Memory, TryClone};
 use eutxo::{Checked, Resolved, Shared, found_is_enough};
 use eutxo_types::{Output, OutputRef, Tx};
 use ledger::{Call, Entry, Reply};
 use ledger_dispatch::{answer, front, records, resolution};
 use ledger_laws::{
-    accepting_is_sound, contracts_are_funded, contracts_end_threads, names_are_single,
-    outputs_are_spent_once, parties_are_authorised, publishing_is_sound, starting_is_sound,
-    steps_stand_on_threads, threads_are_runs, tokens_are_preserved,
+    accepting_is_sound, contracts_end_threads, publishing_is_sound, starting_is_sound,
 };
-use ledger_replay::{World, check_genesis, count_of, ids_of, last_tick, world_after};
-use ledger_spec::{
-    GenesisFault, StepRecord, legal_histories_stand, publications_are_entries, starts_are_told,
-};
-use roles::{Published, published_are_tables};
+use ledger_replay::{World, check_genesis, count_of, last_tick, world_after};
+use ledger_spec::{GenesisFault, StepRecord, legal_histories_stand, publications_are_entries};
+use roles::Published;
 use std::alloc::Global;
 use std::marker::Model;
 
@@ -110,23 +103,18 @@ struct Answered<R, O> {
     ids: Vec<[u8; 32]>,
 }
 
-// With two copies of the reply, carried generically, and the ids of what was accepted after the first so many.
+// With two copies of the reply; all of it is carried generically.
 fn with_copies<R: TryClone + Drop, O: Drop>(
-    alloc: Global,
-    world: &World<'_>,
-    known: usize,
     reply: R,
     object: O,
+    ids: Vec<[u8; 32]>,
 ) -> Result<Answered<R, O>, Memory>
-    requires { known ≤ length world.now.replay.accepted }
     ensures reply { IfOk result (λ r. r.reply ≡ reply) }
     ensures mine { IfOk result (λ r. r.copies.0 ≡ reply) }
     ensures told { IfOk result (λ r. r.copies.1 ≡ reply) }
     ensures object { IfOk result (λ r. r.object ≡ object) }
-    ensures ids { IfOk result (λ r. r.ids.items ≡ map id_of (drop known world.now.replay.accepted)) }
-    ensures fits { IfOk result (λ r. All TxFits (drop known world.now.replay.accepted)) }
+    ensures ids { IfOk result (λ r. r.ids.items ≡ ids.items) }
 {
-    let ids = ids_of(alloc, &world.accepted()[known..])?;
     let mine = reply.try_clone()?;
     let told = reply.try_clone()?;
     Ok(Answered {
@@ -174,7 +162,6 @@ impl Chain {
     }
 
     // What a call is answered, what it publishes, and the ids of what it accepts.
-    #[tactic(auto, using(crate::proofs::AcceptedLemmas::enough_found))]
     fn replies(
         &self,
         alloc: Global,
@@ -190,10 +177,9 @@ impl Chain {
     {
         // touch: brings the invariant
         let _tick = self.tick;
-        let mut world = self.world(alloc, cache)?;
-        let known = world.accepted().len();
-        let (reply, object) = answer(alloc, &mut world, call)?;
-        let found = with_copies(alloc, &world, known, reply, object)?;
+        let world = self.world(alloc, cache)?;
+        let (reply, object, ids) = answer(alloc, world, call)?;
+        let found = with_copies(reply, object, ids)?;
         Ok(found)
     }
 
@@ -201,34 +187,25 @@ impl Chain {
     fn layouts_are_accepted(&self)
         ensures { SecondHalf self.now }
     {
-        steps_are_accepted();
-        starts_are_accepted();
-        claims_are_accepted();
-        bytes_tell_accepted_apart();
-        shown_threads_are_current();
-        starts_are_told();
-        threads_are_runs();
-        contracts_end_threads::<Published>();
-        anyone_closes_after_the_last_timeout();
-        change_is_the_rest();
+        both_halves_hold_of_legal_histories();
         // touch: brings the invariant
         let _tick = self.tick;
     }
 
-    /// Makes the entry of one call, and answers its reply in two equal copies. The entry's number counts the
-    /// earlier entries of its seat, and its reply is that of the table of calls (`reply_to`). `cache` has checks
-    /// that were made before: a transaction of which one has a resolution equal to what is found now isn't judged again, in a
-    /// Submit and in each place of a Round. No clause names them, so the reply is the same for every cache. Answers `Memory` only where a growth was refused: then no
-    /// entry is made, and nothing is changed.
+    /// Makes the entry of one call, and answers its reply in two equal copies. The entry's number counts the earlier
+    /// entries of its seat, and its reply is that of the table of calls (`reply_to`). `cache` has checks that were
+    /// made before: a transaction of which one has a resolution equal to what is found now isn't judged again, in a
+    /// Submit and in each place of a Round. No clause names them, so the reply is the same for every cache. Answers
+    /// `Memory` only where a growth was refused: then no entry is made, and nothing is changed.
     ///
-    /// So a Submit of what a builder answers to a request that nothing hinders (`builder`) is accepted, whatever other entries
-    /// there are: where what it spends is unspent as it was handed in, no accepted transaction of other bytes has its id,
-    /// the tick lies in its interval and its script is published as the request has it. A Look shows each thread that
-    /// isn't over, and none but one that stands, where the thread's run stands. From the last timeout on anyone closes a
-    /// thread that a Look shows, without inputs and offers, in an interval that ends neither before its start nor before the
-    /// minimum time: the parties are paid all that the thread's output held, and what is built is accepted like any step,
-    /// unless a number leaves 128 bits or nothing is left to do. The change of a step is what its front holds above the
-    /// deposits. What is published stays published.
+    /// So a Submit of what a builder answers to a request that nothing hinders (`builder`) is accepted, whatever other
+    /// entries there are: where what it spends is unspent as it was handed in, no accepted transaction of other bytes
+    /// has its id, the tick lies in its interval and its script is published as the request has it. A Look shows each
+    /// thread that isn't over, and none but one that stands, where the thread's run stands. From the last timeout on
+    /// anyone closes a thread that a Look shows, without inputs and offers, in an interval that ends neither before
+    /// its start nor before the minimum time: the parties are paid all that the thread's output held, and what is
+    /// built is accepted like any step, unless a number leaves 128 bits or nothing is left to do. The change of a step
+    /// is what its front holds above the deposits. What is published stays published.
     pub fn step(
         &mut self,
         alloc: Global,
@@ -247,7 +224,6 @@ impl Chain {
         self.layouts_are_accepted();
         accepting_is_sound::<Published>();
         publishing_is_sound::<Published>();
-        published_are_tables();
         let Answered {
             reply,
             copies,
@@ -282,47 +258,44 @@ impl Chain {
 
     /// The entries, in order. Takes no memory.
     ///
-    /// They are legal, and what stands after them is what they say (`Stands`): the tick, the pool and what was accepted.
-    /// What is published under an id is what a Publish call published, one contract with one currency; an id
-    /// is answered to be in use only where another contract or currency has it.
+    /// They are legal, and what stands after them is what they say (`StandsAsTold`): the tick, the pool and what was
+    /// accepted. What is published under an id is what a Publish call published, one contract with one currency; an id
+    /// is answered to be in use only where an earlier call published another contract or currency under it.
     ///
-    /// And whatever was called, this holds of what was accepted. The thread of each start output
-    /// is exactly one run of the contract that was published under its script, and where the thread has an end,
-    /// its datum says where that run stands. Every input that spends a contract output stands on exactly one
-    /// thread; a contract output is spent by a step alone, and a step spends one. Each party that a step's inputs
-    /// need is authorised: an address among the signers, or a role whose token a key input's output holds. Each
-    /// unspent contract output is the end of exactly one thread, and each thread's end is an unspent contract
-    /// output. Such an output holds just the sums of its accounts, and stands at a number of the table that was
-    /// published under its script. No two outputs ever had one reference, no two accepted
-    /// transactions one id, and no output is spent twice. Of each token the unspent outputs hold together what the first
-    /// outputs held. The first outputs are keys, whose sums fit an amount; the accepted transactions fit their spelling.
+    /// And whatever was called, this holds of what was accepted. The thread of each start output is exactly one run of
+    /// the contract that was published under its script, and where the thread has an end, its datum says where that
+    /// run stands. Every input that spends a contract output stands on exactly one thread; a contract output is spent
+    /// by a step alone, and a step spends one. Each party that a step's inputs need is authorised: an address among
+    /// the signers, or a role whose token a key input's output holds. Each unspent contract output is the end of
+    /// exactly one thread, and each thread's end is an unspent contract output. Such an output holds just the sums of
+    /// its accounts, and stands at a number of the table that was published under its script. No two outputs ever had
+    /// one reference, no two accepted transactions one id, and no output is spent twice. Of each token the unspent
+    /// outputs hold together what the first outputs held. The first outputs are keys, whose sums fit an amount; the
+    /// accepted transactions fit their spelling.
     ///
-    /// What is built of a request that nothing hinders is accepted now where it is open, as `step` says. And a Look that comes after an accepted Submit shows what
-    /// that made, where it asks for it and nothing that was accepted between the two spent it.
+    /// What is built of a request that nothing hinders is accepted now where it is open, as `step` says. All of this
+    /// held before each entry too (`throughout`): a Look in the middle of the history showed each thread that wasn't
+    /// over, where its run stood, and what was built of it was accepted where it was open at its Submit. And a Look
+    /// that comes after an accepted Submit shows what that made, where it asks for it and nothing that was accepted
+    /// between the two spent it.
     pub fn history(&self) -> &[Entry]
         ensures all { result.now ≡ self.now.entries }
         ensures legal { IsLegal self.now }
         ensures begins { AreKeys self.now.genesis × SumsFit self.now.genesis }
-        ensures stands { Stands self.now }
+        ensures stands { StandsAsTold self.now }
         ensures in_use { InUseByAnother self.now.entries }
         ensures fits { All TxFits (past_of (world self.now)).accepted }
         ensures first { FirstHalf self.now }
         ensures second { SecondHalf self.now }
+        ensures throughout { (n : ℕ) → BothHalves (before_entry self.now n) }
         ensures shown { ShowsWhatWasMade self.now }
     {
-        self.layouts_are_accepted();
+        both_halves_hold_of_legal_histories();
         found_is_enough::<Published>();
         starting_is_sound::<Published>();
         accepting_is_sound::<Published>();
         publishing_is_sound::<Published>();
-        threads_are_runs();
-        steps_stand_on_threads::<Published>();
         contracts_end_threads::<Published>();
-        parties_are_authorised();
-        contracts_are_funded();
-        names_are_single::<Published>();
-        outputs_are_spent_once::<Published>();
-        tokens_are_preserved::<Published>();
         legal_histories_stand();
         publications_are_entries();
         &self.entries
@@ -358,6 +331,7 @@ impl Chain {
     ) -> Result<Items<StepRecord>, Memory>
         ensures { IfOk result (λ records. AreSteps (published_at (published self.now.entries)) (past_of (world self.now)) reference.now records) }
     {
+        publications_are_entries();
         // touch: brings the invariant
         let _tick = self.tick;
         let world = self.world(alloc, &[])?;

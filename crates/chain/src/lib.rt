@@ -4,11 +4,13 @@
 //! after it, what each call is answered then (the table of calls), and that a history is legal where each entry has
 //! the reply of the table. A `Chain` makes the entries one by one, so that its history is always legal; and both
 //! halves of the headline (`Headline` of `ledger_spec`) hold of it, whatever was called: `Chain::history` and
-//! `Chain::step` say so.
+//! `Chain::step` say so, and `both_halves_hold_of_legal_histories` says it of every legal history.
 #![tactic(auto)]
 
 mod chain;
+mod laws;
 
 pub use chain::Chain;
+pub use laws::both_halves_hold_of_legal_histories;
 pub use ledger::{Call, Entry, Reply, Ticketed};
 pub use ledger_spec::{GenesisFault, StepRecord};

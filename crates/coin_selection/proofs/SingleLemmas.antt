@@ -1,14 +1,13 @@
 -- Bundles of one token, and their sums.
 use Rattle.std.proofs.Common.{◌≡◌, ℤ, pos, ◌+ℤ◌, ◌<ℤ◌, ◌≤ℤ◌, List, [], ◌∷◌, map, refl, sym, ◌∙◌, ap, subst, arith}
 use Rattle.std.proofs.lemmas.Int.{ints}
-use Rattle.std.specs.FinMap.{entries, empty, get-entries, same_map, from_sorted, entries-from_sorted, entries-insert}
-use Rattle.std.specs.FinMap.Entries.{find, put}
+use Rattle.std.specs.FinMap.{entries, empty, entries-insert}
+use Rattle.std.specs.FinMap.Entries.{put}
 use Rattle.collections.specs.Total.{total}
 use Rattle.names.specs.declared.account.Account.{Account}
 use Rattle.names.specs.declared.token.Token.{Token}
 use Rattle.names.specs.Orders.{token_cmp}
 use Rattle.names.specs.Totals.{token_total}
-use Rattle.names.proofs.Exact.{token_exact}
 use Rattle.states.specs.States as states
 use Rattle.states.specs.States.{in_token}
 use Rattle.bundle.specs.Bundles.{Amounts, amount_of, AllPositive}
@@ -21,15 +20,8 @@ use Rattle.builder_spec.specs.Holding.{sums, AreBundles}
 use Rattle.builder_spec.proofs.HoldingLaws.{entries-empty, amount_of-sums, positive_with, positive_sums}
 use Rattle.builder_spec.proofs.FundsLaws.{amount_of-only, amount_of-sums_in}
 
-same_entries : (a b : Amounts) → entries a ≡ entries b → a ≡ b
-same_entries a b e = same_map token_total token_exact a b (λ t. get-entries a t ∙ ap (find token_cmp t) e ∙ sym (get-entries b t))
-
 entries-only : (t : Token) (n : ℤ) → entries (only t n) ≡ (t, n) ∷ []
 entries-only t n = entries-insert token_total empty t n ∙ ap (put token_cmp t n) entries-empty
-
--- the map of one entry
-pub only_is : (t : Token) (n : ℤ) → from_sorted {R = token_cmp} ((t, n) ∷ []) ≡ only t n
-only_is t n = same_entries (from_sorted ((t, n) ∷ [])) (only t n) (entries-from_sorted token_cmp ((t, n) ∷ []) tt ∙ sym (entries-only t n))
 
 abbrev pub single : Account × ℤ → Amounts
 single e = only e.0.token e.1

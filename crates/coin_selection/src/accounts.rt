@@ -1,5 +1,5 @@
-//! Amounts of one token, and what the accounts of a state hold together.
-ghost use Rattle.std.specs.Prelude.{◌≡◌, pos, ◌<ℤ◌, map, IfOk};
+//! What the accounts of a state hold together.
+ghost use Rattle.std.specs.Prelude.{◌≡◌, map, IfOk};
 ghost use Rattle.states.specs.States.{AllPositive};
 ghost use Rattle.roles.specs.Steps.{only};
 ghost use Rattle.roles.specs.Sums.{sums_of};
@@ -7,20 +7,10 @@ ghost use Rattle.coin_selection.specs.Answers.{RefusesMuch};
 
 use crate::sums::{see_all, sum};
 use bundle::{Bundle, BundleFault};
-use collections::{Entries, Memory};
+use collections::Memory;
 use contract::{Account, State};
-use names::Token;
+use roles::only;
 use std::alloc::Global;
-
-/// Just this much of one token.
-pub fn only(alloc: Global, token: &Token, amount: i128) -> Result<Bundle, Memory>
-    requires { pos 0 <ℤ amount }
-    ensures { IfOk result (λ bundle. bundle ≡ only token.now amount) }
-{
-    let mut entries = Entries::new(alloc);
-    entries.set(token, amount)?;
-    Ok(Bundle::from_entries(entries))
-}
 
 // What each account holds.
 fn bundles_of(alloc: Global, accounts: &[(Account, i128)]) -> Result<Vec<Bundle>, Memory>

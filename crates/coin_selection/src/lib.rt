@@ -20,7 +20,7 @@ mod role_tokens;
 mod signed;
 mod sums;
 
-pub use accounts::{only, sums_of};
+pub use accounts::sums_of;
 pub use amounts::{Amount, accounts_of, deposits};
 pub use authorise::first_unheld;
 pub use checks::{check_apart, check_authorised, check_funds, check_once, check_signed};

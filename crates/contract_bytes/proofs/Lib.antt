@@ -4,4 +4,5 @@ pub mod ApartTrees
 pub mod Examples
 pub mod FitsForms
 pub mod Forms
+pub mod Fronts
 pub mod OneMore

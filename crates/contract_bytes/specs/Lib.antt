@@ -1,3 +1,4 @@
+pub mod Writing
 pub mod Numbers
 pub mod Names
 pub mod Values

@@ -1,6 +1,7 @@
 //! Inputs.
-ghost use Rattle.std.specs.Prelude.{◌≡◌, ◌++◌, OnOk};
+ghost use Rattle.std.specs.Prelude.{◌≡◌, ◌++◌, OnOk, OnErr};
 ghost use Rattle.contract_bytes.specs.Inputs.{input_bytes, InputFits};
+ghost use Rattle.contract_bytes.specs.Writing.{AppendsFront};
 
 use crate::names_of::{put_choice_id, put_party, put_token};
 use crate::number::{put_byte, put_number};
@@ -8,9 +9,11 @@ use collections::Memory;
 use contract::Input;
 
 /// Appends an input: a tag, then its parts.
+#[tactic(auto, using(std::proofs::Common::append_assoc))]
 pub fn put_input(out: &mut Vec<u8>, input: &Input) -> Result<(), Memory>
     ensures spelling { OnOk result (out.new.items ≡ out.old.items ++ input_bytes input.now) }
     ensures fits { OnOk result (InputFits input.now) }
+    ensures err { OnErr result (AppendsFront (input_bytes input.now) out.old.items out.new.items) }
 {
     match input {
         Input::Deposit(account, party, token, amount) => {

@@ -3,7 +3,8 @@
 //! A tag is one byte, a length 8, a number 16 and a time 8; all are big endian, numbers and times in
 //! two's complement. A text, a string of bytes or a list is its length and what is in it. Each value is
 //! written in one pass. The writers append to bytes that are there, so that crates above write the
-//! larger forms with them.
+//! larger forms with them. What stood there stays. On a refusal a beginning of the spelling may stand
+//! behind it, and no other byte; of a byte, a length, a number or a time none does.
 #![tactic(auto)]
 
 mod encode;

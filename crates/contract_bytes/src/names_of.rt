@@ -1,6 +1,7 @@
 //! Parties, tokens, choice ids, payees and bounds.
-ghost use Rattle.std.specs.Prelude.{◌≡◌, ◌++◌, OnOk};
+ghost use Rattle.std.specs.Prelude.{◌≡◌, ◌++◌, OnOk, OnErr};
 ghost use Rattle.contract_bytes.specs.Names.{party_bytes, token_bytes, choice_id_bytes, payee_bytes, bound_bytes, PartyFits, TokenFits, ChoiceIdFits, PayeeFits, BoundFits};
+ghost use Rattle.contract_bytes.specs.Writing.{AppendsFront};
 
 use crate::number::{put_byte, put_bytes, put_number, put_text};
 use collections::Memory;
@@ -10,6 +11,7 @@ use names::{Bound, ChoiceId, Party, Payee, Token};
 pub fn put_party(out: &mut Vec<u8>, party: &Party) -> Result<(), Memory>
     ensures spelling { OnOk result (out.new.items ≡ out.old.items ++ party_bytes party.now) }
     ensures fits { OnOk result (PartyFits party.now) }
+    ensures err { OnErr result (AppendsFront (party_bytes party.now) out.old.items out.new.items) }
 {
     match party {
         Party::Address(text) => {
@@ -24,18 +26,22 @@ pub fn put_party(out: &mut Vec<u8>, party: &Party) -> Result<(), Memory>
 }
 
 /// Appends a token: its currency symbol, then its name.
+#[tactic(auto, using(std::proofs::Common::append_assoc))]
 pub fn put_token(out: &mut Vec<u8>, token: &Token) -> Result<(), Memory>
     ensures spelling { OnOk result (out.new.items ≡ out.old.items ++ token_bytes token.now) }
     ensures fits { OnOk result (TokenFits token.now) }
+    ensures err { OnErr result (AppendsFront (token_bytes token.now) out.old.items out.new.items) }
 {
     put_bytes(out, &token.symbol)?;
     put_text(out, &token.name)
 }
 
 /// Appends a choice id: its name, then its owner.
+#[tactic(auto, using(std::proofs::Common::append_assoc))]
 pub fn put_choice_id(out: &mut Vec<u8>, id: &ChoiceId) -> Result<(), Memory>
     ensures spelling { OnOk result (out.new.items ≡ out.old.items ++ choice_id_bytes id.now) }
     ensures fits { OnOk result (ChoiceIdFits id.now) }
+    ensures err { OnErr result (AppendsFront (choice_id_bytes id.now) out.old.items out.new.items) }
 {
     put_text(out, &id.name)?;
     put_party(out, &id.owner)
@@ -45,6 +51,7 @@ pub fn put_choice_id(out: &mut Vec<u8>, id: &ChoiceId) -> Result<(), Memory>
 pub fn put_payee(out: &mut Vec<u8>, payee: &Payee) -> Result<(), Memory>
     ensures spelling { OnOk result (out.new.items ≡ out.old.items ++ payee_bytes payee.now) }
     ensures fits { OnOk result (PayeeFits payee.now) }
+    ensures err { OnErr result (AppendsFront (payee_bytes payee.now) out.old.items out.new.items) }
 {
     match payee {
         Payee::Account(owner) => {
@@ -62,6 +69,7 @@ pub fn put_payee(out: &mut Vec<u8>, payee: &Payee) -> Result<(), Memory>
 pub fn put_bound(out: &mut Vec<u8>, bound: &Bound) -> Result<(), Memory>
     ensures spelling { OnOk result (out.new.items ≡ out.old.items ++ bound_bytes bound.now) }
     ensures fits { OnOk result (BoundFits bound.now) }
+    ensures err { OnErr result (AppendsFront (bound_bytes bound.now) out.old.items out.new.items) }
 {
     put_number(out, bound.from)?;
     put_number(out, bound.to)

@@ -1,6 +1,7 @@
 //! States.
-ghost use Rattle.std.specs.Prelude.{◌≡◌, ◌++◌, OnOk};
+ghost use Rattle.std.specs.Prelude.{◌≡◌, ◌++◌, OnOk, OnErr};
 ghost use Rattle.contract_bytes.specs.States.{state_bytes, StateFits};
+ghost use Rattle.contract_bytes.specs.Writing.{AppendsFront};
 
 use crate::number::put_time;
 use crate::spell::put_list;
@@ -12,6 +13,7 @@ use contract::State;
 pub fn put_state(out: &mut Vec<u8>, state: &State) -> Result<(), Memory>
     ensures spelling { OnOk result (out.new.items ≡ out.old.items ++ state_bytes state.now) }
     ensures fits { OnOk result (StateFits state.now) }
+    ensures err { OnErr result (AppendsFront (state_bytes state.now) out.old.items out.new.items) }
 {
     put_list(out, state.accounts())?;
     put_list(out, state.choices())?;

@@ -1,7 +1,8 @@
 //! Values and observations.
-ghost use Rattle.std.specs.Prelude.{◌≡◌, ◌++◌, OnOk};
+ghost use Rattle.std.specs.Prelude.{◌≡◌, ◌++◌, OnOk, OnErr};
 ghost use Rattle.contract.specs.Tree.{value_tree, observation_tree};
 ghost use Rattle.contract_bytes.specs.Values.{value_bytes, observation_bytes, ValueFits, ObservationFits};
+ghost use Rattle.contract_bytes.specs.Writing.{AppendsFront};
 
 use crate::names_of::{put_choice_id, put_party, put_token};
 use crate::number::{put_byte, put_number, put_text};
@@ -12,6 +13,7 @@ use contract::{Observation, Value};
 fn put_operand(out: &mut Vec<u8>, value: &Boxed<Value>) -> Result<(), Memory>
     ensures spelling { OnOk result (out.new.items ≡ out.old.items ++ value_bytes (value_tree value.now)) }
     ensures fits { OnOk result (ValueFits (value_tree value.now)) }
+    ensures err { OnErr result (AppendsFront (value_bytes (value_tree value.now)) out.old.items out.new.items) }
 {
     put_value(out, value.get())
 }
@@ -20,6 +22,8 @@ fn put_operand(out: &mut Vec<u8>, value: &Boxed<Value>) -> Result<(), Memory>
 fn put_condition(out: &mut Vec<u8>, observation: &Boxed<Observation>) -> Result<(), Memory>
     ensures spelling { OnOk result (out.new.items ≡ out.old.items ++ observation_bytes (observation_tree observation.now)) }
     ensures fits { OnOk result (ObservationFits (observation_tree observation.now)) }
+    ensures err { OnErr result
+        (AppendsFront (observation_bytes (observation_tree observation.now)) out.old.items out.new.items) }
 {
     put_observation(out, observation.get())
 }
@@ -29,6 +33,7 @@ fn put_condition(out: &mut Vec<u8>, observation: &Boxed<Observation>) -> Result<
 pub(crate) fn put_value(out: &mut Vec<u8>, value: &Value) -> Result<(), Memory>
     ensures spelling { OnOk result (out.new.items ≡ out.old.items ++ value_bytes (value_tree value.now)) }
     ensures fits { OnOk result (ValueFits (value_tree value.now)) }
+    ensures err { OnErr result (AppendsFront (value_bytes (value_tree value.now)) out.old.items out.new.items) }
 {
     match value {
         Value::AvailableMoney(party, token) => {
@@ -98,6 +103,8 @@ pub(crate) fn put_value(out: &mut Vec<u8>, value: &Value) -> Result<(), Memory>
 pub(crate) fn put_observation(out: &mut Vec<u8>, observation: &Observation) -> Result<(), Memory>
     ensures spelling { OnOk result (out.new.items ≡ out.old.items ++ observation_bytes (observation_tree observation.now)) }
     ensures fits { OnOk result (ObservationFits (observation_tree observation.now)) }
+    ensures err { OnErr result
+        (AppendsFront (observation_bytes (observation_tree observation.now)) out.old.items out.new.items) }
 {
     match observation {
         Observation::AndObs(a, b) => {

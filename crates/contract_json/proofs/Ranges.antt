@@ -13,9 +13,9 @@ use Rattle.serde_json.specs.Data.{Num, unsigned, negative, float, Data, null, bo
 use Rattle.serde_json.specs.Find.{get_member}
 use Rattle.serde_json.specs.Read.{read, max_depth, is_integer, float_of, number_from, number_of, of_json, of_items, of_members}
 use Rattle.collections.specs.Answers.{◌>>=◌}
-use Rattle.json_read_names.specs.Parts.{Reading, found, whole, time, member_at, reading_at}
+use Rattle.json_read_names.specs.Parts.{Reading, needed, whole_number, time, member_at, reading_at}
 use Rattle.json_read_names.specs.declared.fault.JsonFault.TheVariants.{OutOfRange}
-use Rattle.json_write_contracts.specs.Written.{number_fits, time_fits}
+use Rattle.json_write_contracts.specs.WrittenNames.{number_fits, time_fits}
 
 abbrev pub NumInRange : Num → Type 0
 NumInRange (unsigned n) = number_fits (pos n) ≡ true
@@ -140,7 +140,7 @@ get_member-in-range : (key : List ℕ) (ms : Members) (e : Data) → MembersInRa
 get_member-in-range key no_members e r h = cc
 get_member-in-range key (member k d ms) e r h = one-of (slice_cmp nat_cmp key k) (get_member key ms) d e h r.0 (λ later. get_member-in-range key ms e r.1 later)
 
-found-some : (o : Option Data) (e : Data) → found o ≡ Ok e → o ≡ Some e
+found-some : (o : Option Data) (e : Data) → needed o ≡ Ok e → o ≡ Some e
 found-some None e h = cc
 found-some (Some d) e h = ap Some (ok-same d e h)
 
@@ -157,7 +157,7 @@ pub at-fits : {X : Type 0} (P : X → Type 0) (reading : Data → Reading X) →
     → (d : Data) (key : List ℕ) (x : X) → InRange d → reading_at reading d key ≡ Ok x → P x
 at-fits P reading each d key x r h = let e = bind_ok (member_at key d) reading x h in each e.0 x (member_at-in-range key d e.0 r e.1) e.2
 
-pub whole-fits : (d : Data) (n : ℤ) → InRange d → whole d ≡ Ok n → number_fits n ≡ true
+pub whole-fits : (d : Data) (n : ℤ) → InRange d → whole_number d ≡ Ok n → number_fits n ≡ true
 whole-fits null n r h = cc
 whole-fits (boolean b) n r h = cc
 whole-fits (number (unsigned m)) n r h = subst (λ z. number_fits z ≡ true) (ok-same (pos m) n h) r

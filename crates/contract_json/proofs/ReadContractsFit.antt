@@ -15,7 +15,7 @@ use Rattle.contract.specs.Tree.{action_tree, case_trees, case_tree, contract_tre
 use Rattle.contract.proofs.TreeLaws as laws
 use Rattle.json_read_names.specs.Forms.{has_two, contract_form, case_form, action_form}
 use Rattle.collections.specs.Answers.{◌>>=◌}
-use Rattle.json_read_names.specs.Parts.{ByKey, reading_at, both_readings, nowhere, text, whole, time, all_items, list}
+use Rattle.json_read_names.specs.Parts.{ByKey, reading_at, both_readings, nowhere, text, whole_number, time, all_items, list}
 use Rattle.json_read_names.specs.ReadsNames.{party, payee, token, choice_id, bound}
 use Rattle.json_read_names.specs.ReadsText.{json_of, json_or_not, of_text}
 use Rattle.json_read_names.specs.declared.fault.JsonFault.TheVariants.{NoForm, NotJson, TooLong}
@@ -28,7 +28,8 @@ use Rattle.json_read_names.specs.declared.forms.ActionForm.TheVariants as action
 use Rattle.json_read_values.specs.ReadsAction.{action, action_by}
 use Rattle.json_read_values.specs.ReadsValue.{value, observation}
 use Rattle.json_read_contracts.specs.ReadsContract.{contract, contract_by, contract_in, case, case_by, cases, all_cases, cases_in}
-use Rattle.json_write_contracts.specs.Written.{number_fits, time_fits, bound_fits, action_fits, case_fits, cases_fit, contract_fits}
+use Rattle.json_write_contracts.specs.WrittenNames.{number_fits, time_fits}
+use Rattle.json_write_contracts.specs.WrittenContract.{bound_fits, action_fits, case_fits, cases_fit, contract_fits}
 use Rattle.contract_json.proofs.Ranges.{InRange, ItemsInRange, MembersInRange, bind_ok, ok-same, at-fits, whole-fits, time-fits, read-in-range}
 use Rattle.contract_json.proofs.ReadValuesFit.{VF, OF, value-read-fits, observation-read-fits, both-ok, either}
 
@@ -56,12 +57,12 @@ CF c = contract_fits (contract_tree c) ≡ true
 -- ---- actions
 
 bound-parts : (d : Data) (b : Bound) (c : Bool) → InRange d
-    → cond c (reading_at whole d (codes "from") >>= λ from. reading_at whole d (codes "to") >>= λ to. Ok (record { from = from; to = to })) (Err NoForm) ≡ Ok b → bound_fits b ≡ true
+    → cond c (reading_at whole_number d (codes "from") >>= λ from. reading_at whole_number d (codes "to") >>= λ to. Ok (record { from = from; to = to })) (Err NoForm) ≡ Ok b → bound_fits b ≡ true
 bound-parts d b true r h =
-    let from = bind_ok (reading_at whole d (codes "from")) _ b h in
-    let to = bind_ok (reading_at whole d (codes "to")) _ b from.2 in
+    let from = bind_ok (reading_at whole_number d (codes "from")) _ b h in
+    let to = bind_ok (reading_at whole_number d (codes "to")) _ b from.2 in
     subst (λ e. bound_fits e ≡ true) (ok-same _ _ to.2)
-    (λ i. at-fits NF whole whole-fits d (codes "from") from.0 r from.1 i && at-fits NF whole whole-fits d (codes "to") to.0 r to.1 i)
+    (λ i. at-fits NF whole_number whole-fits d (codes "from") from.0 r from.1 i && at-fits NF whole_number whole-fits d (codes "to") to.0 r to.1 i)
 bound-parts d b false r h = cc
 
 bound-fits : (d : Data) (b : Bound) → InRange d → bound d ≡ Ok b → bound_fits b ≡ true

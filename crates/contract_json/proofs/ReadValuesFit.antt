@@ -9,14 +9,14 @@ use Rattle.contract.specs.declared.value.Observation.{Observation}
 use Rattle.contract.specs.Tree.{value_tree, observation_tree}
 use Rattle.contract.proofs.TreeLaws as laws
 use Rattle.json_read_names.specs.Forms.{value_form, observation_form}
-use Rattle.json_read_names.specs.Parts.{Reading, ByKey, reading_at, both_readings, nowhere, text, whole}
+use Rattle.json_read_names.specs.Parts.{Reading, ByKey, reading_at, both_readings, nowhere, text, whole_number}
 use Rattle.json_read_names.specs.ReadsNames.{party, token, choice_id}
 use Rattle.json_read_names.specs.declared.forms.ValueForm.{ValueForm}
 use Rattle.json_read_names.specs.declared.forms.ValueForm.TheVariants as value_forms
 use Rattle.json_read_names.specs.declared.forms.ObservationForm.{ObservationForm}
 use Rattle.json_read_names.specs.declared.forms.ObservationForm.TheVariants as observation_forms
 use Rattle.json_read_values.specs.ReadsValue.{value_by, observation_by, value, value_in, observation, observation_in}
-use Rattle.json_write_contracts.specs.Written.{value_fits, observation_fits}
+use Rattle.json_write_contracts.specs.WrittenValues.{value_fits, observation_fits}
 use Rattle.contract_json.proofs.Ranges.{InRange, MembersInRange, bind_ok, ok-same, whole-fits}
 
 abbrev pub VF : Value → Type 0
@@ -42,7 +42,7 @@ nothing P key x h = cc
 value_by-fits : (f : ValueForm) (d : Data) (va : ByKey Value) (oa : ByKey Observation) → ((key : List ℕ) (w : Value) → va key ≡ Ok w → VF w) → ((key : List ℕ) (o : Observation) → oa key ≡ Ok o → OF o) → (x : Value) → InRange d → value_by f d va oa ≡ Ok x → VF x
 unfolding value_by
 value_by-fits value_forms.Constant d va oa hv ho x r h =
-    let b = bind_ok (whole d) _ x h in subst VF (ok-same _ _ b.2) (ap value_fits (laws.value_tree-Constant b.0) ∙ whole-fits d b.0 r b.1)
+    let b = bind_ok (whole_number d) _ x h in subst VF (ok-same _ _ b.2) (ap value_fits (laws.value_tree-Constant b.0) ∙ whole-fits d b.0 r b.1)
 value_by-fits value_forms.TimeIntervalStart d va oa hv ho x r h = subst VF (ok-same _ _ h) (ap value_fits laws.value_tree-TimeIntervalStart)
 value_by-fits value_forms.TimeIntervalEnd d va oa hv ho x r h = subst VF (ok-same _ _ h) (ap value_fits laws.value_tree-TimeIntervalEnd)
 value_by-fits value_forms.AvailableMoney d va oa hv ho x r h =

@@ -26,7 +26,9 @@ use Rattle.contract_json.specs.WrittenInput.{input_json, input_fits, transaction
 use Rattle.contract.specs.Tree.{ValueTree, available_money, constant, neg_value, add_value, sub_value, mul_value, div_value, choice_value, time_interval_start, time_interval_end, use_value, cond_value}
 use Rattle.contract.specs.Tree.{ObservationTree, and_obs, or_obs, not_obs, chose_something, value_ge, value_gt, value_lt, value_le, value_eq, true_obs, false_obs}
 use Rattle.contract.specs.Tree.{ActionTree, deposit, choice, notify, ContractTree, close, pay, if_obs, when, let_be, assert, CaseTrees, no_cases, case_then}
-use Rattle.json_write_contracts.specs.Written.{bound_json, bound_fits, action_json, action_fits, contract_json, contract_fits, cases_json, cases_fit, time_fits, number_fits, number_json, wide_json, token_json, case_json, case_fits, party_json, payee_json, choice_id_json, value_json, value_fits, observation_json, observation_fits}
+use Rattle.json_write_contracts.specs.WrittenNames.{time_fits, number_fits, number_json, wide_json, token_json, party_json, payee_json, choice_id_json}
+use Rattle.json_write_contracts.specs.WrittenValues.{value_json, value_fits, observation_json, observation_fits}
+use Rattle.json_write_contracts.specs.WrittenContract.{bound_json, bound_fits, action_json, action_fits, contract_json, contract_fits, cases_json, cases_fit, case_json, case_fits}
 use Rattle.contract_json.specs.Readable.{Readable, ItemsReadable}
 
 pub number-readable : (n : ℤ) → number_fits n ≡ true → Readable (number_json n)

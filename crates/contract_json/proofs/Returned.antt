@@ -20,7 +20,8 @@ use Rattle.json_read_values.specs.ReadsAction.{action}
 use Rattle.json_read_values.specs.ReadsValue.{value, observation}
 use Rattle.json_read_contracts.specs.ReadsContract.{contract, case}
 use Rattle.json_write_contracts.specs.Symbols.{ValueSymbols, ObservationSymbols, ActionSymbols, CaseSymbols, ContractSymbols}
-use Rattle.json_write_contracts.specs.Written.{value_json, observation_json, action_json, action_fits, case_json, case_fits, contract_json, contract_fits}
+use Rattle.json_write_contracts.specs.WrittenValues.{value_json, observation_json}
+use Rattle.json_write_contracts.specs.WrittenContract.{action_json, action_fits, case_json, case_fits, contract_json, contract_fits}
 use Rattle.contract_json.proofs.ReturnsNames.{party-party_json, payee-payee_json, choice_id-choice_id_json, bound-bound_json}
 use Rattle.contract_json.proofs.ReturnsValue.{value-back, observation-back}
 use Rattle.contract_json.proofs.ReturnsContract.{action-back, case-back, contract-back}

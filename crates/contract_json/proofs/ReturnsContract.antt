@@ -25,7 +25,9 @@ use Rattle.json_read_values.specs.ReadsValue.{value, observation}
 use Rattle.json_read_values.specs.ReadsAction.{action, action_by}
 use Rattle.json_read_contracts.specs.ReadsContract.{contract, contract_by, case, case_by, all_cases}
 use Rattle.json_write_contracts.specs.Symbols.{ActionSymbols, ContractSymbols, CasesSymbols}
-use Rattle.json_write_contracts.specs.Written.{one, two, three, four, five, number_json, party_json, payee_json, token_json, choice_id_json, bound_json, value_json, observation_json, action_json, contract_json, cases_json, contract_fits, cases_fit}
+use Rattle.json_write_contracts.specs.WrittenNames.{one, two, three, four, five, number_json, party_json, payee_json, token_json, choice_id_json}
+use Rattle.json_write_contracts.specs.WrittenValues.{value_json, observation_json}
+use Rattle.json_write_contracts.specs.WrittenContract.{bound_json, action_json, contract_json, cases_json, contract_fits, cases_fit}
 use Rattle.contract_json.proofs.Hexes.{token-token_json}
 use Rattle.contract_json.proofs.ReturnsNames.{time-number_json, party-party_json, payee-payee_json, choice_id-choice_id_json, bounds-written}
 use Rattle.contract_json.proofs.ReturnsValue.{value-back, observation-back}

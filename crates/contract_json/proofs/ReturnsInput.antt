@@ -10,23 +10,23 @@ use Rattle.contract.specs.declared.input.Input.{Input}
 use Rattle.contract.specs.declared.input.Input.TheVariants as inputs
 use Rattle.contract.specs.declared.interval.Interval.{Interval}
 use Rattle.json_read_names.specs.Forms.{input_form}
-use Rattle.json_read_names.specs.Parts.{whole, all_items, list}
+use Rattle.json_read_names.specs.Parts.{whole_number, all_items, list}
 use Rattle.json_read_names.specs.ReadsNames.{party, token, choice_id}
 use Rattle.json_read_inputs.specs.ReadsInput.{input, input_by, interval, transaction}
 use Rattle.contract.specs.declared.transaction.Transaction.{Transaction}
 use Rattle.json_write_outcomes.specs.Each.{Each}
-use Rattle.json_write_contracts.specs.Written.{two, four, number_json, time_fits, party_json, token_json, choice_id_json}
+use Rattle.json_write_contracts.specs.WrittenNames.{two, four, number_json, time_fits, party_json, token_json, choice_id_json}
 use Rattle.contract_json.specs.WrittenInput.{input_json, interval_json, transaction_json}
 use Rattle.contract_json.specs.InputSymbols.{InputSymbols}
 use Rattle.contract_json.proofs.Hexes.{token-token_json}
 use Rattle.contract_json.proofs.ReturnsNames.{whole-number_json, time-number_json, party-party_json, choice_id-choice_id_json}
 
-input-deposit : (p a t n : Data) (r q : Party) (k : Token) (z : ℤ) → party p ≡ Ok q → party a ≡ Ok r → token t ≡ Ok k → whole n ≡ Ok z
+input-deposit : (p a t n : Data) (r q : Party) (k : Token) (z : ℤ) → party p ≡ Ok q → party a ≡ Ok r → token t ≡ Ok k → whole_number n ≡ Ok z
     → input (four (codes "input_from_party") p (codes "into_account") a (codes "of_token") t (codes "that_deposits") n) ≡ Ok (inputs.Deposit r q k z)
 unfolding input_by input_form
 input-deposit p a t n r q k z h i j l = rw (h, i, j, l) refl
 
-input-choice : (i n : Data) (id : ChoiceId) (z : ℤ) → choice_id i ≡ Ok id → whole n ≡ Ok z → input (two (codes "for_choice_id") i (codes "input_that_chooses_num") n) ≡ Ok (inputs.Choice id z)
+input-choice : (i n : Data) (id : ChoiceId) (z : ℤ) → choice_id i ≡ Ok id → whole_number n ≡ Ok z → input (two (codes "for_choice_id") i (codes "input_that_chooses_num") n) ≡ Ok (inputs.Choice id z)
 unfolding input_by input_form
 input-choice i n id z h j = rw (h, j) refl
 

@@ -8,11 +8,12 @@ use Rattle.names.specs.declared.payee.Payee.{Payee}
 use Rattle.names.specs.declared.payee.Payee.TheVariants as payees
 use Rattle.names.specs.declared.choice_id.ChoiceId.{ChoiceId}
 use Rattle.names.specs.declared.bound.Bound.{Bound}
-use Rattle.json_read_names.specs.Parts.{Reading, whole, time, all_items, list}
+use Rattle.json_read_names.specs.Parts.{Reading, whole_number, time, all_items, list}
 use Rattle.json_read_names.specs.ReadsNames.{party, payee, choice_id, bound}
-use Rattle.json_write_contracts.specs.Written.{number_json, time_fits, party_json, payee_json, choice_id_json, bound_json}
+use Rattle.json_write_contracts.specs.WrittenNames.{number_json, time_fits, party_json, payee_json, choice_id_json}
+use Rattle.json_write_contracts.specs.WrittenContract.{bound_json}
 
-pub whole-number_json : (n : ℤ) → whole (number_json n) ≡ Ok n
+pub whole-number_json : (n : ℤ) → whole_number (number_json n) ≡ Ok n
 whole-number_json (pos n) = refl
 whole-number_json (negsuc n) = refl
 

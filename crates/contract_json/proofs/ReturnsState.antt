@@ -20,15 +20,15 @@ use Rattle.std.specs.Fmt.{signed_decimal}
 use Rattle.serde_json.specs.Data.{Data, string, Items, no_items, item}
 use Rattle.serde_json.specs.Find.{as_array}
 use Rattle.collections.specs.Answers.{◌>>=◌}
-use Rattle.json_read_names.specs.Parts.{Reading, found, all_items, list, time}
+use Rattle.json_read_names.specs.Parts.{Reading, needed, all_items, list, time}
 use Rattle.json_read_inputs.specs.ReadsState.{account_row, choice_row, bound_row, rows_into, rows, state}
 use Rattle.json_read_inputs.specs.Rows.{and_then, until_fault}
 use Rattle.names.specs.declared.choice_id.ChoiceId.{ChoiceId}
 use Rattle.serde_json.specs.Data.{array}
 use Rattle.serde_json.specs.View.{items_of}
-use Rattle.json_read_names.specs.Parts.{text, whole}
+use Rattle.json_read_names.specs.Parts.{text, whole_number}
 use Rattle.json_read_names.specs.ReadsNames.{party, token, choice_id}
-use Rattle.json_write_contracts.specs.Written.{four, pair_json, number_json, wide_json, party_json, token_json, choice_id_json, number_fits, time_fits}
+use Rattle.json_write_contracts.specs.WrittenNames.{four, pair_json, number_json, wide_json, party_json, token_json, choice_id_json, number_fits, time_fits}
 use Rattle.json_write_outcomes.specs.Each.{Each, HasBytes}
 use Rattle.json_write_outcomes.specs.WrittenOutcome.{account_row_json, choice_row_json, bound_row_json, state_json, state_fits}
 use Rattle.contract_json.proofs.Hexes.{token-token_json}
@@ -90,7 +90,7 @@ module _ {K : Type 0} (R : K → K → Ordering) (o : IsTotalOrder R) (exact : I
 
   -- a list of a map's rows stands for the map
   pub rows-list : (row : Data → Reading (K × ℤ)) (d : Data) (m : FinMap R ℤ) → list row d ≡ Ok (entries m) → rows R row d ≡ Ok m
-  rows-list row d m h = either_way row (found (as_array d)) m h
+  rows-list row d m h = either_way row (needed (as_array d)) m h
 
 above : (n : ℤ) → pos 0 <ℤ n → int_lt (pos 0) n ≡ true
 above n h = elim (int_lt (pos 0) n) as (λ b. int_lt (pos 0) n ≡ b → b ≡ true) [ true ↦ λ is. refl | false ↦ λ is. absurd (omega (arith, ints, is)) ] refl
@@ -102,18 +102,18 @@ accounts_fit (e ∷ es) p h =
     let parts = both (number_fits e.1) (list_all (λ x. number_fits x.1) es) h in
     λ i. (parts.0 i && above e.1 p.0 i) && accounts_fit es p.1 parts.1 i
 
-wide-back : (n : ℤ) → number_fits n ≡ true → whole (wide_json n) ≡ Ok n
-wide-back n h = ap (λ b. whole (cond b (number_json n) (string (signed_decimal n)))) h ∙ whole-number_json n
+wide-back : (n : ℤ) → number_fits n ≡ true → whole_number (wide_json n) ≡ Ok n
+wide-back n h = ap (λ b. whole_number (cond b (number_json n) (string (signed_decimal n)))) h ∙ whole-number_json n
 
-account-pair : (o t n : Data) (e : Account × ℤ) → party o ≡ Ok e.0.owner → token t ≡ Ok e.0.token → whole n ≡ Ok e.1 → int_lt (pos 0) e.1 ≡ true → account_row (pair_json (pair_json o t) n) ≡ Ok e
+account-pair : (o t n : Data) (e : Account × ℤ) → party o ≡ Ok e.0.owner → token t ≡ Ok e.0.token → whole_number n ≡ Ok e.1 → int_lt (pos 0) e.1 ≡ true → account_row (pair_json (pair_json o t) n) ≡ Ok e
 unfolding account_row
 account-pair o t n e h k l m = rw (h, k, l, m) refl
 
-choice-pair : (i n : Data) (e : ChoiceId × ℤ) → choice_id i ≡ Ok e.0 → whole n ≡ Ok e.1 → choice_row (pair_json i n) ≡ Ok e
+choice-pair : (i n : Data) (e : ChoiceId × ℤ) → choice_id i ≡ Ok e.0 → whole_number n ≡ Ok e.1 → choice_row (pair_json i n) ≡ Ok e
 unfolding choice_row
 choice-pair i n e h k = rw (h, k) refl
 
-bound-pair : (t n : Data) (e : List ℕ × ℤ) → text t ≡ Ok e.0 → whole n ≡ Ok e.1 → bound_row (pair_json t n) ≡ Ok e
+bound-pair : (t n : Data) (e : List ℕ × ℤ) → text t ≡ Ok e.0 → whole_number n ≡ Ok e.1 → bound_row (pair_json t n) ≡ Ok e
 unfolding bound_row
 bound-pair t n e h k = rw (h, k) refl
 

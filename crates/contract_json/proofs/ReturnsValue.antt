@@ -17,7 +17,8 @@ use Rattle.json_read_names.specs.Forms.{value_form, observation_form}
 use Rattle.json_read_names.specs.ReadsNames.{party, token, choice_id}
 use Rattle.json_read_values.specs.ReadsValue.{value, value_by, observation, observation_by}
 use Rattle.json_write_contracts.specs.Symbols.{ValueSymbols, ObservationSymbols}
-use Rattle.json_write_contracts.specs.Written.{one, two, three, number_json, party_json, token_json, choice_id_json, value_json, observation_json}
+use Rattle.json_write_contracts.specs.WrittenNames.{one, two, three, number_json, party_json, token_json, choice_id_json}
+use Rattle.json_write_contracts.specs.WrittenValues.{value_json, observation_json}
 use Rattle.contract_json.proofs.Hexes.{token-token_json}
 use Rattle.contract_json.proofs.ReturnsNames.{party-party_json, choice_id-choice_id_json}
 

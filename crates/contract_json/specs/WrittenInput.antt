@@ -7,7 +7,7 @@ use Rattle.contract.specs.declared.input.Input.{Input}
 use Rattle.contract.specs.declared.input.Input.TheVariants as inputs
 use Rattle.contract.specs.declared.interval.Interval.{Interval}
 use Rattle.contract.specs.declared.transaction.Transaction.{Transaction}
-use Rattle.json_write_contracts.specs.Written.{two, four, number_json, number_fits, party_json, token_json, choice_id_json}
+use Rattle.json_write_contracts.specs.WrittenNames.{two, four, number_json, number_fits, party_json, token_json, choice_id_json}
 
 abbrev pub input_json : Input → Data
 input_json (inputs.Deposit a p t n) = four (codes "input_from_party") (party_json p) (codes "into_account") (party_json a) (codes "of_token") (token_json t) (codes "that_deposits") (number_json n)

@@ -1,14 +1,15 @@
 //! Inputs and transactions, written to a text.
-ghost use Rattle.std.specs.Prelude.{◌≡◌, true, map, codes, OnOk};
+//! Where a call fails, what was written before it stays, and behind it stand some tokens or none.
+ghost use Rattle.std.specs.Prelude.{◌≡◌, true, map, codes, OnOk, OnErr};
 ghost use Rattle.std.specs.List.{list_all};
 ghost use Rattle.hex.specs.Hex.{IsBytes};
 ghost use Rattle.serde_json.specs.Data.{array};
 ghost use Rattle.serde_json.specs.View.{items_of};
 ghost use Rattle.json_write_outcomes.specs.Each.{Each};
-ghost use Rattle.json_write_contracts.specs.Tokens.{Puts, PutsFitting};
+ghost use Rattle.json_write_contracts.specs.Tokens.{Keeps, Puts, PutsFitting};
 ghost use Rattle.contract_json.specs.InputSymbols.{InputSymbols};
-ghost use Rattle.json_write_contracts.specs.Written as written;
-ghost use Rattle.json_write_contracts.specs.Written.{number_fits, time_fits};
+ghost use Rattle.json_write_contracts.specs.WrittenNames as written_names;
+ghost use Rattle.json_write_contracts.specs.WrittenNames.{number_fits, time_fits};
 ghost use Rattle.contract_json.specs.WrittenInput.{input_json, input_fits, interval_json, transaction_json, transaction_fits};
 
 use collections::{Items, Memory};
@@ -21,7 +22,8 @@ use names::{ChoiceId, Party, Token};
 use std::alloc::Global;
 
 fn put_whole(out: &mut Writer, number: &i128) -> Result<(), WriteFault>
-    ensures { PutsFitting result out.old out.new (number_fits number.now) (written.number_json number.now) }
+    ensures put { PutsFitting result out.old out.new (number_fits number.now) (written_names.number_json number.now) }
+    ensures err { OnErr result (Keeps out.old out.new) }
 {
     put_number(out, *number)
 }
@@ -34,8 +36,9 @@ fn put_deposit(
     token: &Token,
     amount: &i128,
 ) -> Result<(), WriteFault>
-    ensures put { PutsFitting result out.old out.new (number_fits amount.now) (written.four (codes "input_from_party") (written.party_json party.now)
-        (codes "into_account") (written.party_json account.now) (codes "of_token") (written.token_json token.now) (codes "that_deposits") (written.number_json amount.now)) }
+    ensures put { PutsFitting result out.old out.new (number_fits amount.now) (written_names.four (codes "input_from_party") (written_names.party_json party.now)
+        (codes "into_account") (written_names.party_json account.now) (codes "of_token") (written_names.token_json token.now) (codes "that_deposits") (written_names.number_json amount.now)) }
+    ensures err { OnErr result (Keeps out.old out.new) }
     ensures symbol { OnOk result (IsBytes token.now.symbol) }
 {
     out.begin_object()?;
@@ -52,8 +55,9 @@ fn put_deposit(
 }
 
 fn put_choice(out: &mut Writer, id: &ChoiceId, number: &i128) -> Result<(), WriteFault>
-    ensures { PutsFitting result out.old out.new (number_fits number.now) (written.two (codes "for_choice_id") (written.choice_id_json id.now)
-        (codes "input_that_chooses_num") (written.number_json number.now)) }
+    ensures put { PutsFitting result out.old out.new (number_fits number.now) (written_names.two (codes "for_choice_id") (written_names.choice_id_json id.now)
+        (codes "input_that_chooses_num") (written_names.number_json number.now)) }
+    ensures err { OnErr result (Keeps out.old out.new) }
 {
     out.begin_object()?;
     out.key("for_choice_id")?;
@@ -66,6 +70,7 @@ fn put_choice(out: &mut Writer, id: &ChoiceId, number: &i128) -> Result<(), Writ
 
 pub(crate) fn put_input(alloc: Global, out: &mut Writer, input: &Input) -> Result<(), WriteFault>
     ensures put { PutsFitting result out.old out.new (input_fits input.now) (input_json input.now) }
+    ensures err { OnErr result (Keeps out.old out.new) }
     ensures symbols { OnOk result (InputSymbols input.now) }
 {
     match input {
@@ -82,6 +87,7 @@ pub(crate) fn put_input(alloc: Global, out: &mut Writer, input: &Input) -> Resul
 
 fn put_inputs(alloc: Global, out: &mut Writer, inputs: &Items<Input>) -> Result<(), WriteFault>
     ensures put { PutsFitting result out.old out.new (list_all input_fits inputs.now) (array (items_of (map input_json inputs.now))) }
+    ensures err { OnErr result (Keeps out.old out.new) }
     ensures symbols { OnOk result (Each InputSymbols inputs.now) }
 {
     out.begin_array()?;
@@ -93,7 +99,8 @@ fn put_inputs(alloc: Global, out: &mut Writer, inputs: &Items<Input>) -> Result<
 }
 
 fn put_moment(out: &mut Writer, time: &i64) -> Result<(), Memory>
-    ensures put { OnOk result (Puts out.old out.new (written.number_json time.now)) }
+    ensures put { OnOk result (Puts out.old out.new (written_names.number_json time.now)) }
+    ensures err { OnErr result (Keeps out.old out.new) }
     ensures fits { time_fits time.now ≡ true }
 {
     put_time(out, *time)
@@ -101,6 +108,7 @@ fn put_moment(out: &mut Writer, time: &i64) -> Result<(), Memory>
 
 fn put_interval(out: &mut Writer, interval: &Interval) -> Result<(), Memory>
     ensures put { OnOk result (Puts out.old out.new (interval_json interval.now)) }
+    ensures err { OnErr result (Keeps out.old out.new) }
     ensures from { OnOk result (time_fits interval.now.from ≡ true) }
     ensures to { OnOk result (time_fits interval.now.to ≡ true) }
 {
@@ -119,6 +127,7 @@ pub(crate) fn put_transaction(
     transaction: &Transaction,
 ) -> Result<(), WriteFault>
     ensures put { PutsFitting result out.old out.new (transaction_fits transaction.now) (transaction_json transaction.now) }
+    ensures err { OnErr result (Keeps out.old out.new) }
     ensures symbols { OnOk result (Each InputSymbols transaction.now.inputs) }
     ensures from { OnOk result (time_fits transaction.now.interval.from ≡ true) }
     ensures to { OnOk result (time_fits transaction.now.interval.to ≡ true) }

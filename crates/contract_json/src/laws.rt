@@ -4,7 +4,7 @@ ghost use Rattle.contract.specs.declared.tree.Contract.{Contract};
 ghost use Rattle.contract.specs.Tree.{contract_tree};
 ghost use Rattle.json_read_contracts.specs.ReadsContract.{contract};
 ghost use Rattle.json_read_names.specs.ReadsText.{of_text};
-ghost use Rattle.json_write_contracts.specs.Written.{contract_fits};
+ghost use Rattle.json_write_contracts.specs.WrittenContract.{contract_fits};
 
 /// A contract that was read can be written: JSON has all its numbers.
 #[tactic(auto, using(crate::proofs::ReadContractsFit::contracts_read_fit))]

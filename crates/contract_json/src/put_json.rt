@@ -1,12 +1,12 @@
 //! What is written as JSON, and how it becomes a text or a `serde_json` value.
-ghost use Rattle.std.specs.Prelude.{◌≡◌, ◌≤◌, Bool, true, length, Some, IfOk, OnOk, IsUtf8};
+ghost use Rattle.std.specs.Prelude.{◌≡◌, ◌≤◌, Bool, true, length, Some, IfOk, OnOk, OnErr, IsUtf8};
 ghost use Rattle.collections.specs.Answers.{AsideBy};
 ghost use Rattle.serde_json.specs.Data.{Data, depth};
 ghost use Rattle.serde_json.specs.Read.{read, max_depth};
 ghost use Rattle.serde_json.specs.View.{view};
 ghost use Rattle.serde_json.specs.Written.{compact_text};
 ghost use Rattle.json_tree.specs.View.{read_within};
-ghost use Rattle.json_write_contracts.specs.Tokens.{PutsFitting};
+ghost use Rattle.json_write_contracts.specs.Tokens.{Keeps, PutsFitting};
 ghost use Rattle.json_write_contracts.specs.Written.{in_range};
 ghost use Rattle.contract_json.specs.Readable.{Readable};
 
@@ -28,9 +28,11 @@ pub trait PutJson {
     /// A JSON value is read as it. This says nothing where no reader reads what stands for it.
     ghost reads_as: { Self → Data → Type 0 };
 
-    /// Writes it. A number that JSON has to have and doesn't is out of range.
+    /// Writes it. A number that JSON has to have and doesn't is out of range. Where it fails, what was written before
+    /// it stays, and behind it stand some tokens or none.
     fn put(&self, alloc: Global, out: &mut Writer) -> Result<(), WriteFault>
         ensures put { PutsFitting result out.old out.new (fits self.now) (json self.now) }
+        ensures err { OnErr result (Keeps out.old out.new) }
         ensures readable { OnOk result (Readable (json self.now)) }
         ensures reads_back { OnOk result (reads_as self.now (json self.now)) };
 }

@@ -7,8 +7,11 @@ ghost use Rattle.json_read_values.specs.ReadsAction.{action};
 ghost use Rattle.json_read_contracts.specs.ReadsContract as contract_reads;
 ghost use Rattle.json_read_inputs.specs.ReadsInput as input_reads;
 ghost use Rattle.json_read_inputs.specs.ReadsState as state_reads;
-ghost use Rattle.json_write_contracts.specs.Written as written;
-ghost use Rattle.json_write_contracts.specs.Written.{bound_fits, value_fits, observation_fits, action_fits, case_fits, contract_fits};
+ghost use Rattle.json_write_contracts.specs.WrittenNames as written_names;
+ghost use Rattle.json_write_contracts.specs.WrittenValues as written_values;
+ghost use Rattle.json_write_contracts.specs.WrittenContract as written_contracts;
+ghost use Rattle.json_write_contracts.specs.WrittenValues.{value_fits, observation_fits};
+ghost use Rattle.json_write_contracts.specs.WrittenContract.{bound_fits, action_fits, case_fits, contract_fits};
 ghost use Rattle.json_write_outcomes.specs.WrittenOutcome.{payment_json, warning_json, state_json, state_fits, outcome_json};
 ghost use Rattle.contract_json.specs.WrittenInput.{input_json, input_fits, transaction_json, transaction_fits};
 
@@ -29,7 +32,7 @@ use std::alloc::Global;
 
 /// A party.
 impl PutJson for Party {
-    ghost json = { written.party_json };
+    ghost json = { written_names.party_json };
 
     ghost fits = { λ _. true };
 
@@ -44,7 +47,7 @@ impl PutJson for Party {
 
 /// A token: its currency symbol in lower-case hexadecimal.
 impl PutJson for Token {
-    ghost json = { written.token_json };
+    ghost json = { written_names.token_json };
 
     ghost fits = { λ _. true };
 
@@ -59,7 +62,7 @@ impl PutJson for Token {
 
 /// A choice id.
 impl PutJson for ChoiceId {
-    ghost json = { written.choice_id_json };
+    ghost json = { written_names.choice_id_json };
 
     ghost fits = { λ _. true };
 
@@ -74,7 +77,7 @@ impl PutJson for ChoiceId {
 
 /// A payee.
 impl PutJson for Payee {
-    ghost json = { written.payee_json };
+    ghost json = { written_names.payee_json };
 
     ghost fits = { λ _. true };
 
@@ -89,7 +92,7 @@ impl PutJson for Payee {
 
 /// A bound. An end that doesn't lie from -2^63 to 2^64 - 1 is out of range.
 impl PutJson for Bound {
-    ghost json = { written.bound_json };
+    ghost json = { written_contracts.bound_json };
 
     ghost fits = { bound_fits };
 
@@ -104,7 +107,7 @@ impl PutJson for Bound {
 /// A value (Marlowe specification version 3, "Values and observations"): a constant as a number, and each other form
 /// as an object or a word of its own. A constant that doesn't lie from -2^63 to 2^64 - 1 is out of range.
 impl PutJson for Value {
-    ghost json = { λ v. written.value_json (value_tree v) };
+    ghost json = { λ v. written_values.value_json (value_tree v) };
 
     ghost fits = { λ v. value_fits (value_tree v) };
 
@@ -119,7 +122,7 @@ impl PutJson for Value {
 /// An observation (Marlowe specification version 3, "Values and observations"): `true`, `false`, or an object. A constant
 /// in it that doesn't lie from -2^63 to 2^64 - 1 is out of range.
 impl PutJson for Observation {
-    ghost json = { λ o. written.observation_json (observation_tree o) };
+    ghost json = { λ o. written_values.observation_json (observation_tree o) };
 
     ghost fits = { λ o. observation_fits (observation_tree o) };
 
@@ -134,7 +137,7 @@ impl PutJson for Observation {
 /// An action (Marlowe specification version 3, "Actions and inputs"). A number in it that doesn't lie from -2^63 to
 /// 2^64 - 1 is out of range.
 impl PutJson for Action {
-    ghost json = { λ a. written.action_json (action_tree a) };
+    ghost json = { λ a. written_contracts.action_json (action_tree a) };
 
     ghost fits = { λ a. action_fits (action_tree a) };
 
@@ -149,7 +152,7 @@ impl PutJson for Action {
 /// A case: its action, and the contract that is gone on with. A number in them that doesn't lie from -2^63 to 2^64 - 1
 /// is out of range.
 impl PutJson for Case {
-    ghost json = { λ k. written.case_json (case_tree k) };
+    ghost json = { λ k. written_contracts.case_json (case_tree k) };
 
     ghost fits = { λ k. case_fits (case_tree k) };
 
@@ -164,7 +167,7 @@ impl PutJson for Case {
 /// A contract (Marlowe specification version 3, "Contracts"). A number in it that doesn't lie from -2^63 to 2^64 - 1
 /// is out of range.
 impl PutJson for Contract {
-    ghost json = { λ c. written.contract_json (contract_tree c) };
+    ghost json = { λ c. written_contracts.contract_json (contract_tree c) };
 
     ghost fits = { λ c. contract_fits (contract_tree c) };
 

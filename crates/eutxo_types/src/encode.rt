@@ -1,7 +1,9 @@
-//! The spelling of transactions.
-ghost use Rattle.std.specs.Prelude.{◌≡◌, ◌++◌, IfOk, OnOk};
+//! The spelling of transactions. A writer that is refused memory leaves a beginning of what it spells, or nothing,
+//! behind what was there.
+ghost use Rattle.std.specs.Prelude.{◌≡◌, ◌++◌, IfOk, OnOk, OnErr};
 ghost use Rattle.eutxo_types.specs.Fitting.{PlaceFits, IdFits, ReferenceFits, RedeemerFits, SpendFits, LockFits, AmountFits, OutputFits, TxFits};
 ghost use Rattle.eutxo_types.specs.Spelling.{place_bytes, reference_bytes, redeemer_bytes, spend_bytes, lock_bytes, amount_bytes, output_bytes, tx_bytes};
+ghost use Rattle.contract_bytes.specs.Writing.{AppendsFront};
 
 use crate::lock::Lock;
 use crate::output::Output;
@@ -17,6 +19,7 @@ use std::alloc::Global;
 fn put_id(out: &mut Vec<u8>, id: &[u8; 32]) -> Result<(), Memory>
     ensures spelling { OnOk result (out.new.items ≡ out.old.items ++ id.now) }
     ensures fits { IdFits id.now }
+    ensures err { OnErr result (out.new.items ≡ out.old.items) }
 {
     out.extend_from_slice(id.as_slice())?;
     Ok(())
@@ -25,13 +28,16 @@ fn put_id(out: &mut Vec<u8>, id: &[u8; 32]) -> Result<(), Memory>
 fn put_place(out: &mut Vec<u8>, place: u64) -> Result<(), Memory>
     ensures spelling { OnOk result (out.new.items ≡ out.old.items ++ place_bytes place) }
     ensures fits { PlaceFits place }
+    ensures err { OnErr result (out.new.items ≡ out.old.items) }
 {
     put_length(out, place as usize)
 }
 
+#[tactic(auto, using(std::proofs::Common::append_assoc))]
 fn put_reference(out: &mut Vec<u8>, reference: &OutputRef) -> Result<(), Memory>
     ensures spelling { OnOk result (out.new.items ≡ out.old.items ++ reference_bytes reference.now) }
     ensures fits { OnOk result (ReferenceFits reference.now) }
+    ensures err { OnErr result (AppendsFront (reference_bytes reference.now) out.old.items out.new.items) }
 {
     match reference {
         OutputRef::Genesis { index } => {
@@ -49,6 +55,7 @@ fn put_reference(out: &mut Vec<u8>, reference: &OutputRef) -> Result<(), Memory>
 fn put_redeemer(out: &mut Vec<u8>, redeemer: &Redeemer) -> Result<(), Memory>
     ensures spelling { OnOk result (out.new.items ≡ out.old.items ++ redeemer_bytes redeemer.now) }
     ensures fits { OnOk result (RedeemerFits redeemer.now) }
+    ensures err { OnErr result (AppendsFront (redeemer_bytes redeemer.now) out.old.items out.new.items) }
 {
     match redeemer {
         Redeemer::None => put_byte(out, 0x00),
@@ -60,9 +67,11 @@ fn put_redeemer(out: &mut Vec<u8>, redeemer: &Redeemer) -> Result<(), Memory>
     }
 }
 
+#[tactic(auto, using(std::proofs::Common::append_assoc))]
 fn put_lock(out: &mut Vec<u8>, lock: &Lock) -> Result<(), Memory>
     ensures spelling { OnOk result (out.new.items ≡ out.old.items ++ lock_bytes lock.now) }
     ensures fits { OnOk result (LockFits lock.now) }
+    ensures err { OnErr result (AppendsFront (lock_bytes lock.now) out.old.items out.new.items) }
 {
     match lock {
         Lock::Key(address) => {
@@ -85,6 +94,7 @@ fn put_lock(out: &mut Vec<u8>, lock: &Lock) -> Result<(), Memory>
 fn put_amount(out: &mut Vec<u8>, amount: &Bundle) -> Result<(), Memory>
     ensures spelling { OnOk result (out.new.items ≡ out.old.items ++ amount_bytes amount.now) }
     ensures fits { OnOk result (AmountFits amount.now) }
+    ensures err { OnErr result (AppendsFront (amount_bytes amount.now) out.old.items out.new.items) }
 {
     put_list(out, amount.entries())
 }
@@ -94,6 +104,7 @@ impl Spell for Spend {
 
     ghost Fits = { SpendFits };
 
+    #[tactic(auto, using(std::proofs::Common::append_assoc))]
     fn put(&self, out: &mut Vec<u8>) -> Result<(), Memory> {
         put_reference(out, &self.reference)?;
         put_redeemer(out, &self.redeemer)
@@ -105,6 +116,7 @@ impl Spell for Output {
 
     ghost Fits = { OutputFits };
 
+    #[tactic(auto, using(std::proofs::Common::append_assoc))]
     fn put(&self, out: &mut Vec<u8>) -> Result<(), Memory> {
         put_lock(out, &self.lock)?;
         put_amount(out, &self.amount)
@@ -115,6 +127,7 @@ impl Spell for Output {
 fn put_tx(out: &mut Vec<u8>, tx: &Tx) -> Result<(), Memory>
     ensures spelling { OnOk result (out.new.items ≡ out.old.items ++ tx_bytes tx.now) }
     ensures fits { OnOk result (TxFits tx.now) }
+    ensures err { OnErr result (AppendsFront (tx_bytes tx.now) out.old.items out.new.items) }
 {
     put_list(out, tx.inputs.as_slice())?;
     put_list(out, tx.outputs.as_slice())?;

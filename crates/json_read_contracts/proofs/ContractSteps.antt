@@ -7,7 +7,7 @@ use Rattle.serde_json.specs.Data.{Data, null, boolean, number, string, array, ob
 use Rattle.serde_json.specs.Find.{get_member}
 use Rattle.json_read_names.specs.Forms.{contract_form, case_form}
 use Rattle.collections.specs.Answers.{◌>>=◌}
-use Rattle.json_read_names.specs.Parts.{Reading, ByKey, both_readings, found, reading_at, time, list, all_items}
+use Rattle.json_read_names.specs.Parts.{Reading, ByKey, both_readings, needed, reading_at, time, list, all_items}
 use Rattle.json_read_names.specs.ReadsNames.{party, payee, token}
 use Rattle.json_read_values.specs.ReadsValue.{value}
 use Rattle.json_read_contracts.specs.ReadsContract.{contract_by, case_by, contract, contract_in, case, cases, all_cases, cases_in}
@@ -17,12 +17,12 @@ use Rattle.contract.specs.declared.tree.Case.{Case}
 use Rattle.contract.specs.declared.tree.Contract.{Contract}
 use Rattle.contract.specs.declared.tree.Contract as contracts
 
-contract_in-found : (key : List ℕ) (ms : Members) → contract_in key ms ≡ (found (get_member key ms) >>= contract)
+contract_in-found : (key : List ℕ) (ms : Members) → contract_in key ms ≡ (needed (get_member key ms) >>= contract)
 unfolding contract
 contract_in-found key no_members = refl
 contract_in-found key (member k d ms) = read_found (slice_cmp nat_cmp key k) (contract_in key ms) (get_member key ms) d contract (contract_in-found key ms)
 
-cases_in-found : (key : List ℕ) (ms : Members) → cases_in key ms ≡ (found (get_member key ms) >>= cases)
+cases_in-found : (key : List ℕ) (ms : Members) → cases_in key ms ≡ (needed (get_member key ms) >>= cases)
 unfolding contract
 cases_in-found key no_members = refl
 cases_in-found key (member k d ms) = read_found (slice_cmp nat_cmp key k) (cases_in key ms) (get_member key ms) d cases (cases_in-found key ms)
@@ -41,8 +41,8 @@ cases-list (string s) = refl
 cases-list (array ds) = all_cases-items ds
 cases-list (object ms) = refl
 
-cases_in-list : (key : List ℕ) (ms : Members) → cases_in key ms ≡ (found (get_member key ms) >>= list case)
-cases_in-list key ms = cases_in-found key ms ∙ ap (λ (f : Data → Reading (List Case)). found (get_member key ms) >>= f) (λ i d. cases-list d i)
+cases_in-list : (key : List ℕ) (ms : Members) → cases_in key ms ≡ (needed (get_member key ms) >>= list case)
+cases_in-list key ms = cases_in-found key ms ∙ ap (λ (f : Data → Reading (List Case)). needed (get_member key ms) >>= f) (λ i d. cases-list d i)
 
 pub contract-step : (d : Data) → contract d ≡ contract_by (contract_form d) d (reading_at contract d) (reading_at (list case) d)
 unfolding contract

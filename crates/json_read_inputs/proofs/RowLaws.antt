@@ -18,7 +18,7 @@ use Rattle.serde_json.specs.Data.{Data, Items, no_items, item}
 use Rattle.serde_json.specs.Find.{as_array}
 use Rattle.serde_json.specs.View.{items_of}
 use Rattle.collections.specs.Answers.{◌>>=◌}
-use Rattle.json_read_names.specs.Parts.{Reading, found, pair, whole}
+use Rattle.json_read_names.specs.Parts.{Reading, needed, pair, whole_number}
 use Rattle.json_read_names.specs.ReadsNames.{token}
 use Rattle.json_read_inputs.specs.ReadsState.{account, account_row, amount_row, rows_into, rows}
 use Rattle.json_read_inputs.specs.Rows.{and_then, until_fault}
@@ -174,8 +174,8 @@ module _ {K : Type 0} where
       -- all rows that are read have more than 0
       rows-positive : (d : Data) (es : List (K × ℤ)) → T (is_sorted R es) → rows R row d ≡ Ok (from_sorted es) → AllPositive es
       rows-positive d es sorted h =
-          let found = bind_ok (found (as_array d)) _ _ h in
-          subst AllPositive (entries-from_sorted R es sorted) (all_positive empty (from_sorted es) found.0 no_rows found.1)
+          let needed = bind_ok (needed (as_array d)) _ _ h in
+          subst AllPositive (entries-from_sorted R es sorted) (all_positive empty (from_sorted es) needed.0 no_rows needed.1)
 
 -- an account that is read has more than 0
 account_row-positive : (d : Data) (e : Account × ℤ) → account_row d ≡ Ok e → pos 0 <ℤ e.1
@@ -183,7 +183,7 @@ unfolding account_row
 account_row-positive d e h =
     let p = bind_ok (pair d) _ e h in
     let a = bind_ok (account p.0.0) _ e p.1 in
-    let n = bind_ok (whole p.0.1) _ e a.1 in
+    let n = bind_ok (whole_number p.0.1) _ e a.1 in
     row_positive a.0 n.0 e n.1
 
 -- and so has an amount
@@ -192,7 +192,7 @@ unfolding amount_row
 amount_row-positive d e h =
     let p = bind_ok (pair d) _ e h in
     let t = bind_ok (token p.0.0) _ e p.1 in
-    let n = bind_ok (whole p.0.1) _ e t.1 in
+    let n = bind_ok (whole_number p.0.1) _ e t.1 in
     row_positive t.0 n.0 e n.1
 
 pub accounts_positive : (d : Data) (es : List (Account × ℤ)) → T (is_sorted account_cmp es) → rows account_cmp account_row d ≡ Ok (from_sorted es) → AllPositive es

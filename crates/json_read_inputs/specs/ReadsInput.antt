@@ -7,7 +7,7 @@ use Rattle.contract.specs.declared.interval.Interval.{Interval}
 use Rattle.contract.specs.declared.transaction.Transaction.{Transaction}
 use Rattle.json_read_names.specs.Forms.{has_two, input_form}
 use Rattle.collections.specs.Answers.{◌>>=◌}
-use Rattle.json_read_names.specs.Parts.{Reading, reading_at, whole, time, list}
+use Rattle.json_read_names.specs.Parts.{Reading, reading_at, whole_number, time, list}
 use Rattle.json_read_names.specs.ReadsNames.{party, token, choice_id}
 use Rattle.json_read_names.specs.declared.fault.JsonFault.TheVariants.{NoForm}
 use Rattle.json_read_names.specs.declared.forms.InputForm.{InputForm}
@@ -18,13 +18,13 @@ unfoldable pub input_by : InputForm → Data → Reading Input
 input_by input_forms.Notify d = Ok inputs.Notify
 input_by input_forms.Deposit d = do
   depositor ← reading_at party d (codes "input_from_party")
-  amount ← reading_at whole d (codes "that_deposits")
+  amount ← reading_at whole_number d (codes "that_deposits")
   token ← reading_at token d (codes "of_token")
   account ← reading_at party d (codes "into_account")
   Ok (inputs.Deposit account depositor token amount)
 input_by input_forms.Choice d = do
   id ← reading_at choice_id d (codes "for_choice_id")
-  number ← reading_at whole d (codes "input_that_chooses_num")
+  number ← reading_at whole_number d (codes "input_that_chooses_num")
   Ok (inputs.Choice id number)
 input_by input_forms.Nothing d = Err NoForm
 

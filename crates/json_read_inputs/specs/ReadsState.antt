@@ -11,7 +11,7 @@ use Rattle.names.specs.Orders.{bytes_cmp, account_cmp, choice_id_cmp}
 use Rattle.states.specs.States.{StateMaps}
 use Rattle.json_read_names.specs.Forms.{has_two}
 use Rattle.collections.specs.Answers.{◌>>=◌}
-use Rattle.json_read_names.specs.Parts.{Reading, found, reading_at, text, whole, time, pair}
+use Rattle.json_read_names.specs.Parts.{Reading, needed, reading_at, text, whole_number, time, pair}
 use Rattle.json_read_names.specs.ReadsNames.{party, token, choice_id}
 use Rattle.json_read_names.specs.declared.fault.JsonFault.TheVariants.{NoForm, BadState}
 
@@ -28,7 +28,7 @@ unfoldable pub account_row : Data → Reading (Account × ℤ)
 account_row d = do
   p ← pair d
   account ← account p.0
-  amount ← whole p.1
+  amount ← whole_number p.1
   if int_lt (pos 0) amount then Ok (account, amount) else Err BadState
 
 -- [token, number]: the number is above 0
@@ -36,7 +36,7 @@ unfoldable pub amount_row : Data → Reading (Token × ℤ)
 amount_row d = do
   p ← pair d
   token ← token p.0
-  amount ← whole p.1
+  amount ← whole_number p.1
   if int_lt (pos 0) amount then Ok (token, amount) else Err BadState
 
 -- [choice id, number]
@@ -44,7 +44,7 @@ unfoldable pub choice_row : Data → Reading (ChoiceId × ℤ)
 choice_row d = do
   p ← pair d
   id ← choice_id p.0
-  number ← whole p.1
+  number ← whole_number p.1
   Ok (id, number)
 
 -- [text, number]
@@ -52,7 +52,7 @@ unfoldable pub bound_row : Data → Reading (List ℕ × ℤ)
 bound_row d = do
   p ← pair d
   name ← text p.0
-  value ← whole p.1
+  value ← whole_number p.1
   Ok (name, value)
 
 -- row after row goes into a map in which its key isn't yet
@@ -63,7 +63,7 @@ rows_into row map (item d ds) = row d >>= λ e.
 
 -- a list of rows, each key once
 abbrev pub rows : {K : Type 0} (R : K → K → Ordering) → (Data → Reading (K × ℤ)) → Data → Reading (FinMap R ℤ)
-rows R row d = found (as_array d) >>= rows_into row empty
+rows R row d = needed (as_array d) >>= rows_into row empty
 
 abbrev pub state : Data → Reading StateMaps
 state d =

@@ -5,7 +5,7 @@ use Rattle.std.specs.Ordering.{match_ordering}
 use Rattle.serde_json.specs.Data.{Data}
 use Rattle.serde_json.specs.View.{items_of}
 use Rattle.collections.specs.Answers.{◌>>=◌}
-use Rattle.json_read_names.specs.Parts.{Reading, both_readings, found, all_items}
+use Rattle.json_read_names.specs.Parts.{Reading, both_readings, needed, all_items}
 
 -- the reading of the rest, behind what was read before
 abbrev pub with_front : {X : Type 0} → List X → Reading (List X) → Reading (List X)
@@ -27,8 +27,8 @@ front_step json reading ys zs y vs i v pushed below is read =
     ∙ ap (with_front ys) (sym (next ∙ ap (λ r. r >>= λ x. rest >>= λ xs. Ok (x ∷ xs)) read))
 
 -- the reading of a member, by whether the key in front of it is the one that is sought
-pub read_found : {X : Type 0} (o : Ordering) (later : Reading X) (next : Option Data) (d : Data) (f : Data → Reading X) → later ≡ (found next >>= f)
-    → match_ordering o later (f d) later ≡ (found (match_ordering o next (Some d) next) >>= f)
+pub read_found : {X : Type 0} (o : Ordering) (later : Reading X) (next : Option Data) (d : Data) (f : Data → Reading X) → later ≡ (needed next >>= f)
+    → match_ordering o later (f d) later ≡ (needed (match_ordering o next (Some d) next) >>= f)
 read_found Less later next d f e = e
 read_found Equal later next d f e = refl
 read_found Greater later next d f e = e

@@ -13,13 +13,13 @@ use Rattle.json_read_names.specs.declared.fault.JsonFault.TheVariants as faults
 abbrev pub Reading : Type 0 → Type 0
 Reading X = Result X JsonFault
 
-abbrev pub found : {X : Type 0} → Option X → Reading X
-found None = Err faults.NoForm
-found (Some x) = Ok x
+abbrev pub needed : {X : Type 0} → Option X → Reading X
+needed None = Err faults.NoForm
+needed (Some x) = Ok x
 
 -- the member at a key
 abbrev pub member_at : List ℕ → Data → Reading Data
-member_at key d = found (get key d)
+member_at key d = needed (get key d)
 
 -- the readings of an object's members, by key
 abbrev pub ByKey : Type 0 → Type 0
@@ -49,7 +49,7 @@ nowhere key = Err faults.NoForm
 
 -- a text
 abbrev pub text : Data → Reading (List ℕ)
-text d = found (as_str d)
+text d = needed (as_str d)
 
 abbrev pub decoded : Result (List ℕ) FromHexError → Reading (List ℕ)
 decoded (Ok bytes) = Ok bytes
@@ -64,17 +64,17 @@ integer None = Err faults.NotWhole
 integer (Some n) = Ok n
 
 -- a whole number
-abbrev pub whole : Data → Reading ℤ
-whole d = found (as_number d) >>= λ n. integer (as_integer n)
+abbrev pub whole_number : Data → Reading ℤ
+whole_number d = needed (as_number d) >>= λ n. integer (as_integer n)
 
-abbrev pub moment : Num → Reading ℤ
-moment (unsigned n) = if nat_lt n (2 ^ 63) then Ok (pos n) else Err faults.OutOfRange
-moment (negative z) = Ok z
-moment (float x) = Err faults.NotWhole
+abbrev pub time_number : Num → Reading ℤ
+time_number (unsigned n) = if nat_lt n (2 ^ 63) then Ok (pos n) else Err faults.OutOfRange
+time_number (negative z) = Ok z
+time_number (float x) = Err faults.NotWhole
 
 -- a time
 abbrev pub time : Data → Reading ℤ
-time d = found (as_number d) >>= moment
+time d = needed (as_number d) >>= time_number
 
 -- the readings of all items, in order
 abbrev pub all_items : {X : Type 0} → (Data → Reading X) → Items → Reading (List X)
@@ -83,7 +83,7 @@ all_items reading (item d ds) = reading d >>= λ x. all_items reading ds >>= λ 
 
 -- a list, whose items have one reading
 abbrev pub list : {X : Type 0} → (Data → Reading X) → Data → Reading (List X)
-list reading d = found (as_array d) >>= all_items reading
+list reading d = needed (as_array d) >>= all_items reading
 
 abbrev pub two_items : Items → Reading (Data × Data)
 two_items (item a (item b no_items)) = Ok (a, b)
@@ -91,4 +91,4 @@ two_items ds = Err faults.NoForm
 
 -- a list of just two
 abbrev pub pair : Data → Reading (Data × Data)
-pair d = found (as_array d) >>= two_items
+pair d = needed (as_array d) >>= two_items

@@ -10,7 +10,7 @@ use Rattle.names.specs.declared.payee.Payee.TheVariants as payees
 use Rattle.names.specs.declared.bound.Bound.{Bound}
 use Rattle.json_read_names.specs.Forms.{has, has_two}
 use Rattle.collections.specs.Answers.{◌>>=◌}
-use Rattle.json_read_names.specs.Parts.{Reading, of_one, reading_at, text, bytes, whole}
+use Rattle.json_read_names.specs.Parts.{Reading, of_one, reading_at, text, bytes, whole_number}
 use Rattle.json_read_names.specs.declared.fault.JsonFault.TheVariants.{NoForm}
 
 abbrev pub party : Data → Reading Party
@@ -42,7 +42,7 @@ payee d =
 abbrev pub bound : Data → Reading Bound
 bound d =
     if has_two (codes "from") (codes "to") d then (do
-      from ← reading_at whole d (codes "from")
-      to ← reading_at whole d (codes "to")
+      from ← reading_at whole_number d (codes "from")
+      to ← reading_at whole_number d (codes "to")
       Ok (record { from = from; to = to }))
     else Err NoForm

@@ -1,13 +1,13 @@
 //! Whole numbers and times as JSON values.
 ghost use Rattle.collections.specs.Answers.{Aside};
-ghost use Rattle.json_read_names.specs.Parts.{whole, time};
+ghost use Rattle.json_read_names.specs.Parts.{whole_number, time};
 
 use crate::fault::JsonFault;
 use json_tree::JsonValue;
 
 /// The whole number from -2^63 to 2^64 - 1 that a JSON value is. Another number isn't whole here.
 pub fn read_whole<J: JsonValue>(json: &J) -> Result<i128, JsonFault>
-    ensures { Aside JsonFault.Memory result (whole (J.json json.now)) }
+    ensures { Aside JsonFault.Memory result (whole_number (J.json json.now)) }
 {
     if let Some(n) = json.natural() {
         Ok(i128::from(n))

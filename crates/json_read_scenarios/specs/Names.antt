@@ -5,7 +5,7 @@ use Rattle.names.specs.Equal.{same_text}
 use Rattle.serde_json.specs.Data.{Data, Items, no_items, item}
 use Rattle.serde_json.specs.Find.{as_array}
 use Rattle.collections.specs.Answers.{◌>>=◌}
-use Rattle.json_read_names.specs.Parts.{Reading, found, text}
+use Rattle.json_read_names.specs.Parts.{Reading, needed, text}
 use Rattle.json_read_names.specs.declared.fault.JsonFault.TheVariants.{NoForm}
 
 module _ {X : Type 0} (name_of : X → List ℕ) where
@@ -16,7 +16,7 @@ module _ {X : Type 0} (name_of : X → List ℕ) where
 
   -- a name that an item has: the item's place
   abbrev pub known : List X → Data → Reading ℕ
-  known xs d = text d >>= λ name. found (place_of name xs)
+  known xs d = text d >>= λ name. needed (place_of name xs)
 
   -- a name that no item has
   abbrev pub new_name : List X → Data → Reading (List ℕ)
@@ -30,4 +30,4 @@ module _ {X : Type 0} (reading : List X → Data → Reading X) where
 
   -- a list, each of whose items is read beside those before it
   abbrev pub list_in_turn : Data → Reading (List X)
-  list_in_turn d = found (as_array d) >>= one_by_one []
+  list_in_turn d = needed (as_array d) >>= one_by_one []

@@ -10,7 +10,7 @@ use Rattle.plans.specs.declared.scenario.NamedContract.{NamedContract}
 use Rattle.plans.specs.declared.scenario.NamedThread.{NamedThread}
 use Rattle.collections.specs.Answers.{◌>>=◌}
 use Rattle.json_read_names.specs.Forms.{has, has_two}
-use Rattle.json_read_names.specs.Parts.{Reading, ByKey, found, reading_at, text, time, list}
+use Rattle.json_read_names.specs.Parts.{Reading, ByKey, needed, reading_at, text, time, list}
 use Rattle.json_read_names.specs.declared.fault.JsonFault.{JsonFault}
 use Rattle.json_read_names.specs.declared.fault.JsonFault.TheVariants.{NoForm, NotWhole, OutOfRange}
 use Rattle.json_read_inputs.specs.ReadsInput.{input, interval}
@@ -37,7 +37,7 @@ from_zero below (negative z) = Err below
 from_zero below (float x) = Err NotWhole
 
 abbrev pub natural : JsonFault → Data → Reading ℕ
-natural below d = found (as_number d) >>= from_zero below
+natural below d = needed (as_number d) >>= from_zero below
 
 -- how many transactions a round takes: from 0 to 2^64 - 1
 abbrev pub count : Data → Reading ℕ
@@ -53,7 +53,7 @@ calls d = natural OutOfRange d >>= λ n. if nat_lt n (2 ^ 63) then Ok n else Err
 
 -- `true` or `false`
 abbrev pub truth : Data → Reading Bool
-truth d = found (as_bool d)
+truth d = needed (as_bool d)
 
 abbrev if_found : {X : Type 0} → (Data → Reading X) → Option Data → Reading (Option X)
 if_found reading None = Ok None

@@ -44,8 +44,8 @@ first_state d = do
   Ok (record { accounts = accounts; choices = empty; bound_values = empty; min_time = min_time })
 
 -- a thread of one of these contracts, beside those before it
-abbrev pub thread : List NamedContract → List NamedThread → Data → Reading NamedThread
-thread contracts before d =
+abbrev pub new_thread : List NamedContract → List NamedThread → Data → Reading NamedThread
+new_thread contracts before d =
     if has_three (codes "name") (codes "contract") (codes "by") d && has_two (codes "accounts") (codes "minTime") d then (do
       name ← reading_at (new_name thread_name before) d (codes "name")
       contract ← reading_at (known contract_name contracts) d (codes "contract")
@@ -60,7 +60,7 @@ scenario d =
       tick ← reading_at time d (codes "tick")
       genesis ← reading_at (list funds) d (codes "genesis")
       contracts ← reading_at (list_in_turn contract) d (codes "contracts")
-      threads ← reading_at (list_in_turn (thread contracts)) d (codes "threads")
+      threads ← reading_at (list_in_turn (new_thread contracts)) d (codes "threads")
       plans ← reading_at (list_in_turn (plan contracts threads)) d (codes "plans")
       Ok (record { tick = tick; genesis = genesis; contracts = contracts; threads = threads; plans = plans }))
     else Err NoForm

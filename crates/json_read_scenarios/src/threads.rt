@@ -39,7 +39,7 @@ fn thread_from_json<J: JsonValue>(
     before: &NameList<NamedThread>,
     json: &J,
 ) -> Result<NamedThread, JsonFault>
-    ensures reading { Aside JsonFault.Memory result (reads.thread contracts.now before.now (J.json json.now)) }
+    ensures reading { Aside JsonFault.Memory result (reads.new_thread contracts.now before.now (J.json json.now)) }
     ensures new { IfOk result (λ thread. place_of thread_name thread.name before.now ≡ None) }
 {
     if !(has_three(json, "name", "contract", "by") && has_two(json, "accounts", "minTime")) {
@@ -63,7 +63,7 @@ pub(crate) fn threads_from_json<J: JsonValue>(
     contracts: &NameList<NamedContract>,
     json: &J,
 ) -> Result<NameList<NamedThread>, JsonFault>
-    ensures { Aside JsonFault.Memory result (list_in_turn (reads.thread contracts.now) (J.json json.now)) }
+    ensures { Aside JsonFault.Memory result (list_in_turn (reads.new_thread contracts.now) (J.json json.now)) }
 {
     let items = json.items().ok_or(JsonFault::NoForm)?;
     let mut threads = NameList::new(alloc);

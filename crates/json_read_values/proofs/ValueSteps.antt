@@ -6,16 +6,16 @@ use Rattle.serde_json.specs.Data.{Data, null, boolean, number, string, array, ob
 use Rattle.serde_json.specs.Find.{get_member}
 use Rattle.json_read_names.specs.Forms.{value_form, observation_form}
 use Rattle.collections.specs.Answers.{◌>>=◌}
-use Rattle.json_read_names.specs.Parts.{found, reading_at}
+use Rattle.json_read_names.specs.Parts.{needed, reading_at}
 use Rattle.json_read_names.proofs.ListLaws.{read_found}
 use Rattle.json_read_values.specs.ReadsValue.{value_by, observation_by, value, value_in, observation, observation_in}
 
-value_in-found : (key : List ℕ) (ms : Members) → value_in key ms ≡ (found (get_member key ms) >>= value)
+value_in-found : (key : List ℕ) (ms : Members) → value_in key ms ≡ (needed (get_member key ms) >>= value)
 unfolding value
 value_in-found key no_members = refl
 value_in-found key (member k d ms) = read_found (slice_cmp nat_cmp key k) (value_in key ms) (get_member key ms) d value (value_in-found key ms)
 
-observation_in-found : (key : List ℕ) (ms : Members) → observation_in key ms ≡ (found (get_member key ms) >>= observation)
+observation_in-found : (key : List ℕ) (ms : Members) → observation_in key ms ≡ (needed (get_member key ms) >>= observation)
 unfolding value
 observation_in-found key no_members = refl
 observation_in-found key (member k d ms) = read_found (slice_cmp nat_cmp key k) (observation_in key ms) (get_member key ms) d observation (observation_in-found key ms)

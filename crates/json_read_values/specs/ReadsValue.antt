@@ -10,7 +10,7 @@ use Rattle.contract.specs.declared.value.Observation.{Observation}
 use Rattle.contract.specs.declared.value.Observation as observations
 use Rattle.json_read_names.specs.Forms.{value_form, observation_form}
 use Rattle.collections.specs.Answers.{◌>>=◌}
-use Rattle.json_read_names.specs.Parts.{Reading, ByKey, reading_at, both_readings, of_one, of_two, nowhere, text, whole}
+use Rattle.json_read_names.specs.Parts.{Reading, ByKey, reading_at, both_readings, of_one, of_two, nowhere, text, whole_number}
 use Rattle.json_read_names.specs.ReadsNames.{party, token, choice_id}
 use Rattle.json_read_names.specs.declared.fault.JsonFault.TheVariants.{NoForm}
 use Rattle.json_read_names.specs.declared.forms.ValueForm.{ValueForm}
@@ -20,7 +20,7 @@ use Rattle.json_read_names.specs.declared.forms.ObservationForm.TheVariants as o
 
 -- A value of each form, from what the members stand for.
 unfoldable pub value_by : ValueForm → Data → ByKey Value → ByKey Observation → Reading Value
-value_by value_forms.Constant d value observation = of_one values.Constant (whole d)
+value_by value_forms.Constant d value observation = of_one values.Constant (whole_number d)
 value_by value_forms.TimeIntervalStart d value observation = Ok values.TimeIntervalStart
 value_by value_forms.TimeIntervalEnd d value observation = Ok values.TimeIntervalEnd
 value_by value_forms.AvailableMoney d value observation = do

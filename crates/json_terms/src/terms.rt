@@ -1,9 +1,9 @@
 //! Terms as compact JSON.
-ghost use Rattle.std.specs.Prelude.{◌≡◌, IfOk, OnOk, string_bytes};
+ghost use Rattle.std.specs.Prelude.{◌≡◌, IfOk, OnOk, OnErr, string_bytes};
 ghost use Rattle.serde_json.specs.Data.{Data, string};
 ghost use Rattle.serde_json.specs.Written.{compact_text};
-ghost use Rattle.json_write_contracts.specs.Tokens.{Puts};
-ghost use Rattle.json_write_contracts.specs.Written as written;
+ghost use Rattle.json_write_contracts.specs.Tokens.{Keeps, Puts};
+ghost use Rattle.json_write_contracts.specs.WrittenNames as written_names;
 
 use collections::{Memory, Text};
 use json::Writer;
@@ -16,9 +16,10 @@ pub trait Term {
     /// The value that stands for it.
     ghost json: { Self → Data };
 
-    /// Writes it behind what was written.
+    /// Writes it behind what was written, which stays where it fails, with some tokens behind it or none.
     fn put(&self, alloc: Global, out: &mut Writer) -> Result<(), Memory>
-        ensures { OnOk result (Puts out.old out.new (json self.now)) };
+        ensures put { OnOk result (Puts out.old out.new (json self.now)) }
+        ensures err { OnErr result (Keeps out.old out.new) };
 }
 
 /// The compact text of a term, its hexadecimal digits in lower case. Answers `Memory` only where a growth was refused.
@@ -34,7 +35,7 @@ pub fn term_text<T: Term>(alloc: Global, term: &T) -> Result<String, Memory>
 }
 
 impl Term for Party {
-    ghost json = { written.party_json };
+    ghost json = { written_names.party_json };
 
     fn put(&self, _alloc: Global, out: &mut Writer) -> Result<(), Memory> {
         put_party(out, self)
@@ -42,7 +43,7 @@ impl Term for Party {
 }
 
 impl Term for Token {
-    ghost json = { written.token_json };
+    ghost json = { written_names.token_json };
 
     fn put(&self, alloc: Global, out: &mut Writer) -> Result<(), Memory> {
         put_token(alloc, out, self)
@@ -50,7 +51,7 @@ impl Term for Token {
 }
 
 impl Term for ChoiceId {
-    ghost json = { written.choice_id_json };
+    ghost json = { written_names.choice_id_json };
 
     fn put(&self, _alloc: Global, out: &mut Writer) -> Result<(), Memory> {
         put_choice_id(out, self)
@@ -58,7 +59,7 @@ impl Term for ChoiceId {
 }
 
 impl Term for Payee {
-    ghost json = { written.payee_json };
+    ghost json = { written_names.payee_json };
 
     fn put(&self, _alloc: Global, out: &mut Writer) -> Result<(), Memory> {
         put_payee(out, self)

@@ -15,7 +15,9 @@ use Rattle.contract.specs.declared.tree.Contract.{Contract}
 use Rattle.contract.specs.declared.tree.Contract as made
 use Rattle.contract.specs.Tree.{ActionTree, ContractTree, value_tree, observation_tree, action_tree, case_trees, case_tree, contract_tree}
 use Rattle.contract.proofs.TreeLaws.{contract_tree-Close, contract_tree-Pay, contract_tree-If, contract_tree-When, contract_tree-Let, contract_tree-Assert, case_tree-parts}
-use Rattle.json_write_contracts.specs.Written.{two, three, five, number_json, time_fits, party_json, payee_json, token_json, value_json, observation_json, action_json, contract_json, cases_json, case_json, value_fits, observation_fits, action_fits, contract_fits, cases_fit, case_fits}
+use Rattle.json_write_contracts.specs.WrittenNames.{two, three, five, number_json, time_fits, party_json, payee_json, token_json}
+use Rattle.json_write_contracts.specs.WrittenValues.{value_json, observation_json, value_fits, observation_fits}
+use Rattle.json_write_contracts.specs.WrittenContract.{action_json, contract_json, cases_json, case_json, action_fits, contract_fits, cases_fit, case_fits}
 
 cases-json : (ks : List (ActionTree × ContractTree)) → cases_json (case_trees ks) ≡ items_of (map case_json ks)
 cases-json [] = refl

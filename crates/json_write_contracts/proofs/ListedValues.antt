@@ -11,7 +11,8 @@ use Rattle.contract.specs.declared.value.Observation.{Observation}
 use Rattle.contract.specs.declared.value.Observation as observations
 use Rattle.contract.specs.Tree.{value_tree, observation_tree}
 use Rattle.contract.proofs.TreeLaws as laws
-use Rattle.json_write_contracts.specs.Written.{one, two, three, number_json, number_fits, party_json, token_json, choice_id_json, value_json, observation_json, value_fits, observation_fits}
+use Rattle.json_write_contracts.specs.WrittenNames.{one, two, three, number_json, number_fits, party_json, token_json, choice_id_json}
+use Rattle.json_write_contracts.specs.WrittenValues.{value_json, observation_json, value_fits, observation_fits}
 
 and-swap : (a b : Bool) → (a && b) ≡ (b && a)
 and-swap true true = refl

@@ -16,6 +16,10 @@ pub record Adds (old new : json.Written) (ts : List Token) : Type 0 where
   pub tokens : new.tokens ≡ old.tokens ++ ts
   pub before : new.before ≡ old.before
 
+-- what stood there stays, and some tokens came behind it, or none: what a refused call leaves
+abbrev pub Keeps : json.Written → json.Written → Type 0
+Keeps old new = (more : List Token) × Adds old new more
+
 -- the value was written
 abbrev pub Puts : json.Written → json.Written → Data → Type 0
 Puts old new d = Adds old new (data_tokens d)

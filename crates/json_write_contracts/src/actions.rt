@@ -1,14 +1,18 @@
 //! Bounds and actions.
-ghost use Rattle.std.specs.Prelude.{◌≡◌, ◌&&◌, map, codes, OnOk};
+//! Where a call fails, what was written before it stays, and behind it stand some tokens or none.
+ghost use Rattle.std.specs.Prelude.{◌≡◌, ◌&&◌, map, codes, OnOk, OnErr};
 ghost use Rattle.std.specs.List.{list_all};
 ghost use Rattle.serde_json.specs.Data.{array};
 ghost use Rattle.serde_json.specs.View.{items_of};
 ghost use Rattle.hex.specs.Hex.{IsBytes};
 ghost use Rattle.contract.specs.Tree.{action_tree, value_tree, observation_tree};
 ghost use Rattle.json_write_contracts.specs.Symbols.{ValueSymbols, ObservationSymbols, ActionSymbols};
-ghost use Rattle.json_write_contracts.specs.Tokens.{Puts, PutsFitting};
-ghost use Rattle.json_write_contracts.specs.Written as written;
-ghost use Rattle.json_write_contracts.specs.Written.{bound_fits, action_fits, value_fits, observation_fits};
+ghost use Rattle.json_write_contracts.specs.Tokens.{Keeps, Puts, PutsFitting};
+ghost use Rattle.json_write_contracts.specs.WrittenNames as written_names;
+ghost use Rattle.json_write_contracts.specs.WrittenValues as written_values;
+ghost use Rattle.json_write_contracts.specs.WrittenContract as written_contracts;
+ghost use Rattle.json_write_contracts.specs.WrittenValues.{value_fits, observation_fits};
+ghost use Rattle.json_write_contracts.specs.WrittenContract.{bound_fits, action_fits};
 
 use crate::fault::WriteFault;
 use crate::name_forms::{put_choice_id, put_party, put_token};
@@ -22,7 +26,8 @@ use std::alloc::Global;
 
 /// Writes a bound. An end that doesn't lie from -2^63 to 2^64 - 1 is out of range.
 pub fn put_bound(out: &mut Writer, bound: &Bound) -> Result<(), WriteFault>
-    ensures { PutsFitting result out.old out.new (bound_fits bound.now) (written.bound_json bound.now) }
+    ensures put { PutsFitting result out.old out.new (bound_fits bound.now) (written_contracts.bound_json bound.now) }
+    ensures err { OnErr result (Keeps out.old out.new) }
 {
     out.begin_object()?;
     out.key("from")?;
@@ -34,7 +39,8 @@ pub fn put_bound(out: &mut Writer, bound: &Bound) -> Result<(), WriteFault>
 }
 
 fn put_bounds(out: &mut Writer, bounds: &Items<Bound>) -> Result<(), WriteFault>
-    ensures { PutsFitting result out.old out.new (list_all bound_fits bounds.now) (array (items_of (map written.bound_json bounds.now))) }
+    ensures put { PutsFitting result out.old out.new (list_all bound_fits bounds.now) (array (items_of (map written_contracts.bound_json bounds.now))) }
+    ensures err { OnErr result (Keeps out.old out.new) }
 {
     out.begin_array()?;
     for bound in bounds.as_slice() {
@@ -52,8 +58,9 @@ fn put_deposit(
     token: &Token,
     value: &Value,
 ) -> Result<(), WriteFault>
-    ensures put { PutsFitting result out.old out.new (value_fits (value_tree value.now)) (written.four (codes "deposits") (written.value_json (value_tree value.now))
-        (codes "into_account") (written.party_json account.now) (codes "of_token") (written.token_json token.now) (codes "party") (written.party_json party.now)) }
+    ensures put { PutsFitting result out.old out.new (value_fits (value_tree value.now)) (written_names.four (codes "deposits") (written_values.value_json (value_tree value.now))
+        (codes "into_account") (written_names.party_json account.now) (codes "of_token") (written_names.token_json token.now) (codes "party") (written_names.party_json party.now)) }
+    ensures err { OnErr result (Keeps out.old out.new) }
     ensures value_symbols { OnOk result (ValueSymbols (value_tree value.now)) }
     ensures symbol { OnOk result (IsBytes token.now.symbol) }
 {
@@ -71,8 +78,9 @@ fn put_deposit(
 }
 
 fn put_choice(out: &mut Writer, id: &ChoiceId, bounds: &Items<Bound>) -> Result<(), WriteFault>
-    ensures { PutsFitting result out.old out.new (list_all bound_fits bounds.now) (written.two (codes "choose_between") (array (items_of (map written.bound_json bounds.now)))
-        (codes "for_choice") (written.choice_id_json id.now)) }
+    ensures put { PutsFitting result out.old out.new (list_all bound_fits bounds.now) (written_names.two (codes "choose_between") (array (items_of (map written_contracts.bound_json bounds.now)))
+        (codes "for_choice") (written_names.choice_id_json id.now)) }
+    ensures err { OnErr result (Keeps out.old out.new) }
 {
     out.begin_object()?;
     out.key("choose_between")?;
@@ -84,7 +92,8 @@ fn put_choice(out: &mut Writer, id: &ChoiceId, bounds: &Items<Bound>) -> Result<
 }
 
 fn put_notify(alloc: Global, out: &mut Writer, observation: &Observation) -> Result<(), WriteFault>
-    ensures put { PutsFitting result out.old out.new (observation_fits (observation_tree observation.now)) (written.one (codes "notify_if") (written.observation_json (observation_tree observation.now))) }
+    ensures put { PutsFitting result out.old out.new (observation_fits (observation_tree observation.now)) (written_names.one (codes "notify_if") (written_values.observation_json (observation_tree observation.now))) }
+    ensures err { OnErr result (Keeps out.old out.new) }
     ensures symbols { OnOk result (ObservationSymbols (observation_tree observation.now)) }
 {
     out.begin_object()?;
@@ -96,7 +105,8 @@ fn put_notify(alloc: Global, out: &mut Writer, observation: &Observation) -> Res
 
 /// Writes an action. A number in it that doesn't lie from -2^63 to 2^64 - 1 is out of range.
 pub fn put_action(alloc: Global, out: &mut Writer, action: &Action) -> Result<(), WriteFault>
-    ensures put { PutsFitting result out.old out.new (action_fits (action_tree action.now)) (written.action_json (action_tree action.now)) }
+    ensures put { PutsFitting result out.old out.new (action_fits (action_tree action.now)) (written_contracts.action_json (action_tree action.now)) }
+    ensures err { OnErr result (Keeps out.old out.new) }
     ensures symbols { OnOk result (ActionSymbols (action_tree action.now)) }
 {
     match action {

@@ -1,14 +1,19 @@
 //! Cases and contracts.
-ghost use Rattle.std.specs.Prelude.{◌≡◌, true, ◌&&◌, codes, map, OnOk};
+//! Where a call fails, what was written before it stays, and behind it stand some tokens or none.
+ghost use Rattle.std.specs.Prelude.{◌≡◌, true, ◌&&◌, codes, map, OnOk, OnErr};
 ghost use Rattle.std.specs.List.{list_all};
 ghost use Rattle.hex.specs.Hex.{IsBytes};
 ghost use Rattle.serde_json.specs.Data.{array, string};
 ghost use Rattle.serde_json.specs.View.{items_of};
 ghost use Rattle.contract.specs.Tree.{value_tree, observation_tree, contract_tree, case_tree};
 ghost use Rattle.json_write_contracts.specs.Symbols.{ValueSymbols, ObservationSymbols, ContractSymbols, CaseSymbols, ListSymbols};
-ghost use Rattle.json_write_contracts.specs.Tokens.{Puts, PutsFitting};
-ghost use Rattle.json_write_contracts.specs.Written as written;
-ghost use Rattle.json_write_contracts.specs.Written.{value_fits, observation_fits, contract_fits, case_fits, time_fits};
+ghost use Rattle.json_write_contracts.specs.Tokens.{Keeps, Puts, PutsFitting};
+ghost use Rattle.json_write_contracts.specs.WrittenNames as written_names;
+ghost use Rattle.json_write_contracts.specs.WrittenValues as written_values;
+ghost use Rattle.json_write_contracts.specs.WrittenContract as written_contracts;
+ghost use Rattle.json_write_contracts.specs.WrittenNames.{time_fits};
+ghost use Rattle.json_write_contracts.specs.WrittenValues.{value_fits, observation_fits};
+ghost use Rattle.json_write_contracts.specs.WrittenContract.{contract_fits, case_fits};
 
 use crate::actions::put_action;
 use crate::fault::WriteFault;
@@ -26,7 +31,8 @@ use std::alloc::Global;
 #[cycle(put_contract)]
 #[tactic(auto, using(crate::proofs::ListedContract::contract_writes, crate::proofs::SymbolsOf::contract_symbols))]
 pub fn put_contract(alloc: Global, out: &mut Writer, contract: &Contract) -> Result<(), WriteFault>
-    ensures put { PutsFitting result out.old out.new (contract_fits (contract_tree contract.now)) (written.contract_json (contract_tree contract.now)) }
+    ensures put { PutsFitting result out.old out.new (contract_fits (contract_tree contract.now)) (written_contracts.contract_json (contract_tree contract.now)) }
+    ensures err { OnErr result (Keeps out.old out.new) }
     ensures symbols { OnOk result (ContractSymbols (contract_tree contract.now)) }
 {
     match contract {
@@ -52,8 +58,9 @@ fn put_pay(
     then: &Boxed<Contract>,
 ) -> Result<(), WriteFault>
     ensures put { PutsFitting result out.old out.new (value_fits (value_tree pay.now) && contract_fits (contract_tree then.now))
-        (written.five (codes "from_account") (written.party_json from.now) (codes "pay") (written.value_json (value_tree pay.now)) (codes "then") (written.contract_json (contract_tree then.now))
-        (codes "to") (written.payee_json to.now) (codes "token") (written.token_json token.now)) }
+        (written_names.five (codes "from_account") (written_names.party_json from.now) (codes "pay") (written_values.value_json (value_tree pay.now)) (codes "then") (written_contracts.contract_json (contract_tree then.now))
+        (codes "to") (written_names.payee_json to.now) (codes "token") (written_names.token_json token.now)) }
+    ensures err { OnErr result (Keeps out.old out.new) }
     ensures token_symbol { OnOk result (IsBytes token.now.symbol) }
     ensures value_symbols { OnOk result (ValueSymbols (value_tree pay.now)) }
     ensures then_symbols { OnOk result (ContractSymbols (contract_tree then.now)) }
@@ -82,7 +89,8 @@ fn put_if(
     otherwise: &Boxed<Contract>,
 ) -> Result<(), WriteFault>
     ensures put { PutsFitting result out.old out.new (observation_fits (observation_tree condition.now) && contract_fits (contract_tree then.now) && contract_fits (contract_tree otherwise.now))
-        (written.three (codes "else") (written.contract_json (contract_tree otherwise.now)) (codes "if") (written.observation_json (observation_tree condition.now)) (codes "then") (written.contract_json (contract_tree then.now))) }
+        (written_names.three (codes "else") (written_contracts.contract_json (contract_tree otherwise.now)) (codes "if") (written_values.observation_json (observation_tree condition.now)) (codes "then") (written_contracts.contract_json (contract_tree then.now))) }
+    ensures err { OnErr result (Keeps out.old out.new) }
     ensures condition_symbols { OnOk result (ObservationSymbols (observation_tree condition.now)) }
     ensures then_symbols { OnOk result (ContractSymbols (contract_tree then.now)) }
     ensures otherwise_symbols { OnOk result (ContractSymbols (contract_tree otherwise.now)) }
@@ -107,8 +115,9 @@ fn put_when(
     then: &Boxed<Contract>,
 ) -> Result<(), WriteFault>
     ensures put { PutsFitting result out.old out.new (list_all (λ k. case_fits (case_tree k)) cases.now && time_fits timeout.now && contract_fits (contract_tree then.now))
-        (written.three (codes "timeout") (written.number_json timeout.now) (codes "timeout_continuation") (written.contract_json (contract_tree then.now))
-        (codes "when") (array (items_of (map (λ k. written.case_json (case_tree k)) cases.now)))) }
+        (written_names.three (codes "timeout") (written_names.number_json timeout.now) (codes "timeout_continuation") (written_contracts.contract_json (contract_tree then.now))
+        (codes "when") (array (items_of (map (λ k. written_contracts.case_json (case_tree k)) cases.now)))) }
+    ensures err { OnErr result (Keeps out.old out.new) }
     ensures case_symbols { OnOk result (ListSymbols (map (λ k. case_tree k) cases.now)) }
     ensures then_symbols { OnOk result (ContractSymbols (contract_tree then.now)) }
 {
@@ -132,7 +141,8 @@ fn put_let(
     then: &Boxed<Contract>,
 ) -> Result<(), WriteFault>
     ensures put { PutsFitting result out.old out.new (value_fits (value_tree value.now) && contract_fits (contract_tree then.now))
-        (written.three (codes "be") (written.value_json (value_tree value.now)) (codes "let") (string name.now) (codes "then") (written.contract_json (contract_tree then.now))) }
+        (written_names.three (codes "be") (written_values.value_json (value_tree value.now)) (codes "let") (string name.now) (codes "then") (written_contracts.contract_json (contract_tree then.now))) }
+    ensures err { OnErr result (Keeps out.old out.new) }
     ensures value_symbols { OnOk result (ValueSymbols (value_tree value.now)) }
     ensures then_symbols { OnOk result (ContractSymbols (contract_tree then.now)) }
 {
@@ -155,7 +165,8 @@ fn put_assert(
     then: &Boxed<Contract>,
 ) -> Result<(), WriteFault>
     ensures put { PutsFitting result out.old out.new (observation_fits (observation_tree condition.now) && contract_fits (contract_tree then.now))
-        (written.two (codes "assert") (written.observation_json (observation_tree condition.now)) (codes "then") (written.contract_json (contract_tree then.now))) }
+        (written_names.two (codes "assert") (written_values.observation_json (observation_tree condition.now)) (codes "then") (written_contracts.contract_json (contract_tree then.now))) }
+    ensures err { OnErr result (Keeps out.old out.new) }
     ensures condition_symbols { OnOk result (ObservationSymbols (observation_tree condition.now)) }
     ensures then_symbols { OnOk result (ContractSymbols (contract_tree then.now)) }
 {
@@ -172,7 +183,8 @@ fn put_assert(
 #[cycle(put_contract)]
 #[tactic(auto, using(crate::proofs::ListedContract::contract_writes, crate::proofs::SymbolsOf::contract_symbols))]
 pub fn put_case(alloc: Global, out: &mut Writer, case: &Case) -> Result<(), WriteFault>
-    ensures put { PutsFitting result out.old out.new (case_fits (case_tree case.now)) (written.case_json (case_tree case.now)) }
+    ensures put { PutsFitting result out.old out.new (case_fits (case_tree case.now)) (written_contracts.case_json (case_tree case.now)) }
+    ensures err { OnErr result (Keeps out.old out.new) }
     ensures symbols { OnOk result (CaseSymbols (case_tree case.now)) }
 {
     out.begin_object()?;
@@ -186,7 +198,8 @@ pub fn put_case(alloc: Global, out: &mut Writer, case: &Case) -> Result<(), Writ
 
 #[cycle(put_contract)]
 fn put_cases(alloc: Global, out: &mut Writer, cases: &Items<Case>) -> Result<(), WriteFault>
-    ensures put { PutsFitting result out.old out.new (list_all (λ k. case_fits (case_tree k)) cases.now) (array (items_of (map (λ k. written.case_json (case_tree k)) cases.now))) }
+    ensures put { PutsFitting result out.old out.new (list_all (λ k. case_fits (case_tree k)) cases.now) (array (items_of (map (λ k. written_contracts.case_json (case_tree k)) cases.now))) }
+    ensures err { OnErr result (Keeps out.old out.new) }
     ensures symbols { OnOk result (ListSymbols (map (λ k. case_tree k) cases.now)) }
 {
     out.begin_array()?;
@@ -199,14 +212,16 @@ fn put_cases(alloc: Global, out: &mut Writer, cases: &Items<Case>) -> Result<(),
 
 #[cycle(put_contract)]
 fn put_boxed(alloc: Global, out: &mut Writer, contract: &Boxed<Contract>) -> Result<(), WriteFault>
-    ensures put { PutsFitting result out.old out.new (contract_fits (contract_tree contract.now)) (written.contract_json (contract_tree contract.now)) }
+    ensures put { PutsFitting result out.old out.new (contract_fits (contract_tree contract.now)) (written_contracts.contract_json (contract_tree contract.now)) }
+    ensures err { OnErr result (Keeps out.old out.new) }
     ensures symbols { OnOk result (ContractSymbols (contract_tree contract.now)) }
 {
     put_contract(alloc, out, contract.get())
 }
 
 fn put_timeout(out: &mut Writer, timeout: &i64) -> Result<(), Memory>
-    ensures put { OnOk result (Puts out.old out.new (written.number_json timeout.now)) }
+    ensures put { OnOk result (Puts out.old out.new (written_names.number_json timeout.now)) }
+    ensures err { OnErr result (Keeps out.old out.new) }
     ensures fits { time_fits timeout.now ≡ true }
 {
     put_time(out, *timeout)

@@ -1,9 +1,10 @@
 //! Texts, bytes, parties, tokens, choice ids and payees.
-ghost use Rattle.std.specs.Prelude.{◌≡◌, OnOk};
+//! Where a call fails, what was written before it stays, and behind it stand some tokens or none.
+ghost use Rattle.std.specs.Prelude.{◌≡◌, OnOk, OnErr};
 ghost use Rattle.serde_json.specs.Data.{string};
 ghost use Rattle.hex.specs.Hex.{IsBytes, encode_lower};
-ghost use Rattle.json_write_contracts.specs.Tokens.{Puts};
-ghost use Rattle.json_write_contracts.specs.Written as written;
+ghost use Rattle.json_write_contracts.specs.Tokens.{Keeps, Puts};
+ghost use Rattle.json_write_contracts.specs.WrittenNames as written_names;
 
 use collections::{Bytes, Memory, Text};
 use json::Writer;
@@ -12,7 +13,8 @@ use std::alloc::Global;
 
 /// Writes a text.
 pub fn put_text(out: &mut Writer, text: &Text) -> Result<(), Memory>
-    ensures { OnOk result (Puts out.old out.new (string text.now)) }
+    ensures put { OnOk result (Puts out.old out.new (string text.now)) }
+    ensures err { OnErr result (Keeps out.old out.new) }
 {
     out.string(text.as_str())
 }
@@ -20,6 +22,7 @@ pub fn put_text(out: &mut Writer, text: &Text) -> Result<(), Memory>
 /// Writes bytes as a text of lower-case hexadecimal.
 pub fn put_bytes(alloc: Global, out: &mut Writer, bytes: &Bytes) -> Result<(), Memory>
     ensures put { OnOk result (Puts out.old out.new (string (encode_lower bytes.now))) }
+    ensures err { OnErr result (Keeps out.old out.new) }
     ensures bytes { IsBytes bytes.now }
 {
     let digits = hex::encode(alloc, bytes.as_slice())?;
@@ -28,7 +31,8 @@ pub fn put_bytes(alloc: Global, out: &mut Writer, bytes: &Bytes) -> Result<(), M
 
 /// Writes a party.
 pub fn put_party(out: &mut Writer, party: &Party) -> Result<(), Memory>
-    ensures { OnOk result (Puts out.old out.new (written.party_json party.now)) }
+    ensures put { OnOk result (Puts out.old out.new (written_names.party_json party.now)) }
+    ensures err { OnErr result (Keeps out.old out.new) }
 {
     out.begin_object()?;
     match party {
@@ -47,7 +51,8 @@ pub fn put_party(out: &mut Writer, party: &Party) -> Result<(), Memory>
 
 /// Writes a token, its currency symbol in lower-case hexadecimal.
 pub fn put_token(alloc: Global, out: &mut Writer, token: &Token) -> Result<(), Memory>
-    ensures put { OnOk result (Puts out.old out.new (written.token_json token.now)) }
+    ensures put { OnOk result (Puts out.old out.new (written_names.token_json token.now)) }
+    ensures err { OnErr result (Keeps out.old out.new) }
     ensures symbol { OnOk result (IsBytes token.now.symbol) }
 {
     out.begin_object()?;
@@ -61,7 +66,8 @@ pub fn put_token(alloc: Global, out: &mut Writer, token: &Token) -> Result<(), M
 
 /// Writes a choice id.
 pub fn put_choice_id(out: &mut Writer, id: &ChoiceId) -> Result<(), Memory>
-    ensures { OnOk result (Puts out.old out.new (written.choice_id_json id.now)) }
+    ensures put { OnOk result (Puts out.old out.new (written_names.choice_id_json id.now)) }
+    ensures err { OnErr result (Keeps out.old out.new) }
 {
     out.begin_object()?;
     out.key("choice_name")?;
@@ -74,7 +80,8 @@ pub fn put_choice_id(out: &mut Writer, id: &ChoiceId) -> Result<(), Memory>
 
 /// Writes a payee.
 pub fn put_payee(out: &mut Writer, payee: &Payee) -> Result<(), Memory>
-    ensures { OnOk result (Puts out.old out.new (written.payee_json payee.now)) }
+    ensures put { OnOk result (Puts out.old out.new (written_names.payee_json payee.now)) }
+    ensures err { OnErr result (Keeps out.old out.new) }
 {
     out.begin_object()?;
     match payee {

@@ -1,12 +1,14 @@
 //! Values and observations.
-ghost use Rattle.std.specs.Prelude.{◌≡◌, ◌&&◌, codes, OnOk};
+//! Where a call fails, what was written before it stays, and behind it stand some tokens or none.
+ghost use Rattle.std.specs.Prelude.{◌≡◌, ◌&&◌, codes, OnOk, OnErr};
 ghost use Rattle.serde_json.specs.Data.{string};
 ghost use Rattle.hex.specs.Hex.{IsBytes};
 ghost use Rattle.contract.specs.Tree.{value_tree, observation_tree};
 ghost use Rattle.json_write_contracts.specs.Symbols.{ValueSymbols, ObservationSymbols};
-ghost use Rattle.json_write_contracts.specs.Tokens.{Puts, PutsFitting};
-ghost use Rattle.json_write_contracts.specs.Written as written;
-ghost use Rattle.json_write_contracts.specs.Written.{value_fits, observation_fits};
+ghost use Rattle.json_write_contracts.specs.Tokens.{Keeps, Puts, PutsFitting};
+ghost use Rattle.json_write_contracts.specs.WrittenNames as written_names;
+ghost use Rattle.json_write_contracts.specs.WrittenValues as written_values;
+ghost use Rattle.json_write_contracts.specs.WrittenValues.{value_fits, observation_fits};
 
 use crate::fault::WriteFault;
 use crate::name_forms::{put_choice_id, put_party, put_text, put_token};
@@ -23,7 +25,8 @@ fn put_available(
     party: &Party,
     token: &Token,
 ) -> Result<(), Memory>
-    ensures put { OnOk result (Puts out.old out.new (written.two (codes "amount_of_token") (written.token_json token.now) (codes "in_account") (written.party_json party.now))) }
+    ensures put { OnOk result (Puts out.old out.new (written_names.two (codes "amount_of_token") (written_names.token_json token.now) (codes "in_account") (written_names.party_json party.now))) }
+    ensures err { OnErr result (Keeps out.old out.new) }
     ensures symbol { OnOk result (IsBytes token.now.symbol) }
 {
     out.begin_object()?;
@@ -37,7 +40,8 @@ fn put_available(
 
 // An object of one key, beside a choice.
 fn one_choice(out: &mut Writer, key: &str, id: &ChoiceId) -> Result<(), Memory>
-    ensures { OnOk result (Puts out.old out.new (written.one key.now (written.choice_id_json id.now))) }
+    ensures put { OnOk result (Puts out.old out.new (written_names.one key.now (written_names.choice_id_json id.now))) }
+    ensures err { OnErr result (Keeps out.old out.new) }
 {
     out.begin_object()?;
     out.key(key)?;
@@ -48,7 +52,8 @@ fn one_choice(out: &mut Writer, key: &str, id: &ChoiceId) -> Result<(), Memory>
 
 // An object of one key, beside a text.
 fn one_text(out: &mut Writer, key: &str, text: &Text) -> Result<(), Memory>
-    ensures { OnOk result (Puts out.old out.new (written.one key.now (string text.now))) }
+    ensures put { OnOk result (Puts out.old out.new (written_names.one key.now (string text.now))) }
+    ensures err { OnErr result (Keeps out.old out.new) }
 {
     out.begin_object()?;
     out.key(key)?;
@@ -59,7 +64,8 @@ fn one_text(out: &mut Writer, key: &str, text: &Text) -> Result<(), Memory>
 
 /// Writes a word of its own.
 pub fn word(out: &mut Writer, word: &str) -> Result<(), Memory>
-    ensures { OnOk result (Puts out.old out.new (string word.now)) }
+    ensures put { OnOk result (Puts out.old out.new (string word.now)) }
+    ensures err { OnErr result (Keeps out.old out.new) }
 {
     out.string(word)
 }
@@ -69,7 +75,8 @@ pub fn word(out: &mut Writer, word: &str) -> Result<(), Memory>
 #[cycle(put_value)]
 #[tactic(auto, using(crate::proofs::ListedValues::value_writes, crate::proofs::SymbolsOf::value_symbols))]
 pub fn put_value(alloc: Global, out: &mut Writer, value: &Value) -> Result<(), WriteFault>
-    ensures put { PutsFitting result out.old out.new (value_fits (value_tree value.now)) (written.value_json (value_tree value.now)) }
+    ensures put { PutsFitting result out.old out.new (value_fits (value_tree value.now)) (written_values.value_json (value_tree value.now)) }
+    ensures err { OnErr result (Keeps out.old out.new) }
     ensures symbols { OnOk result (ValueSymbols (value_tree value.now)) }
 {
     match value {
@@ -99,7 +106,8 @@ pub fn put_observation(
     out: &mut Writer,
     observation: &Observation,
 ) -> Result<(), WriteFault>
-    ensures put { PutsFitting result out.old out.new (observation_fits (observation_tree observation.now)) (written.observation_json (observation_tree observation.now)) }
+    ensures put { PutsFitting result out.old out.new (observation_fits (observation_tree observation.now)) (written_values.observation_json (observation_tree observation.now)) }
+    ensures err { OnErr result (Keeps out.old out.new) }
     ensures symbols { OnOk result (ObservationSymbols (observation_tree observation.now)) }
 {
     match observation {
@@ -124,7 +132,8 @@ fn one_value(
     key: &str,
     value: &Boxed<Value>,
 ) -> Result<(), WriteFault>
-    ensures put { PutsFitting result out.old out.new (value_fits (value_tree value.now)) (written.one key.now (written.value_json (value_tree value.now))) }
+    ensures put { PutsFitting result out.old out.new (value_fits (value_tree value.now)) (written_names.one key.now (written_values.value_json (value_tree value.now))) }
+    ensures err { OnErr result (Keeps out.old out.new) }
     ensures symbols { OnOk result (ValueSymbols (value_tree value.now)) }
 {
     out.begin_object()?;
@@ -141,7 +150,8 @@ fn one_observation(
     key: &str,
     observation: &Boxed<Observation>,
 ) -> Result<(), WriteFault>
-    ensures put { PutsFitting result out.old out.new (observation_fits (observation_tree observation.now)) (written.one key.now (written.observation_json (observation_tree observation.now))) }
+    ensures put { PutsFitting result out.old out.new (observation_fits (observation_tree observation.now)) (written_names.one key.now (written_values.observation_json (observation_tree observation.now))) }
+    ensures err { OnErr result (Keeps out.old out.new) }
     ensures symbols { OnOk result (ObservationSymbols (observation_tree observation.now)) }
 {
     out.begin_object()?;
@@ -161,7 +171,8 @@ fn two_values(
     w: &Boxed<Value>,
 ) -> Result<(), WriteFault>
     ensures put { PutsFitting result out.old out.new (value_fits (value_tree v.now) && value_fits (value_tree w.now))
-        (written.two a.now (written.value_json (value_tree v.now)) b.now (written.value_json (value_tree w.now))) }
+        (written_names.two a.now (written_values.value_json (value_tree v.now)) b.now (written_values.value_json (value_tree w.now))) }
+    ensures err { OnErr result (Keeps out.old out.new) }
     ensures first_symbols { OnOk result (ValueSymbols (value_tree v.now)) }
     ensures second_symbols { OnOk result (ValueSymbols (value_tree w.now)) }
 {
@@ -184,7 +195,8 @@ fn two_observations(
     p: &Boxed<Observation>,
 ) -> Result<(), WriteFault>
     ensures put { PutsFitting result out.old out.new (observation_fits (observation_tree o.now) && observation_fits (observation_tree p.now))
-        (written.two a.now (written.observation_json (observation_tree o.now)) b.now (written.observation_json (observation_tree p.now))) }
+        (written_names.two a.now (written_values.observation_json (observation_tree o.now)) b.now (written_values.observation_json (observation_tree p.now))) }
+    ensures err { OnErr result (Keeps out.old out.new) }
     ensures first_symbols { OnOk result (ObservationSymbols (observation_tree o.now)) }
     ensures second_symbols { OnOk result (ObservationSymbols (observation_tree p.now)) }
 {
@@ -206,7 +218,8 @@ fn put_cond(
     otherwise: &Boxed<Value>,
 ) -> Result<(), WriteFault>
     ensures put { PutsFitting result out.old out.new (observation_fits (observation_tree condition.now) && value_fits (value_tree then.now) && value_fits (value_tree otherwise.now))
-        (written.three (codes "else") (written.value_json (value_tree otherwise.now)) (codes "if") (written.observation_json (observation_tree condition.now)) (codes "then") (written.value_json (value_tree then.now))) }
+        (written_names.three (codes "else") (written_values.value_json (value_tree otherwise.now)) (codes "if") (written_values.observation_json (observation_tree condition.now)) (codes "then") (written_values.value_json (value_tree then.now))) }
+    ensures err { OnErr result (Keeps out.old out.new) }
     ensures condition_symbols { OnOk result (ObservationSymbols (observation_tree condition.now)) }
     ensures then_symbols { OnOk result (ValueSymbols (value_tree then.now)) }
     ensures otherwise_symbols { OnOk result (ValueSymbols (value_tree otherwise.now)) }

@@ -1,8 +1,9 @@
 //! Lists, item by item.
-ghost use Rattle.std.specs.Prelude.{◌≡◌, map, OnOk};
+//! Where a call fails, what was written before it stays, and behind it stand some tokens or none.
+ghost use Rattle.std.specs.Prelude.{◌≡◌, map, OnOk, OnErr};
 ghost use Rattle.serde_json.specs.Data.{Data, array};
 ghost use Rattle.serde_json.specs.View.{items_of};
-ghost use Rattle.json_write_contracts.specs.Tokens.{Puts};
+ghost use Rattle.json_write_contracts.specs.Tokens.{Keeps, Puts};
 ghost use Rattle.json_write_outcomes.specs.Each.{Each};
 
 use collections::Memory;
@@ -19,6 +20,7 @@ pub(crate) trait PutItem {
 
     fn put(&self, alloc: Global, out: &mut Writer) -> Result<(), Memory>
         ensures put { OnOk result (Puts out.old out.new (json self.now)) }
+        ensures err { OnErr result (Keeps out.old out.new) }
         ensures known { OnOk result (known self.now) };
 }
 
@@ -29,6 +31,7 @@ pub(crate) fn put_list<T: PutItem>(
     items: &[T],
 ) -> Result<(), Memory>
     ensures put { OnOk result (Puts out.old out.new (array (items_of (map T.json items.now)))) }
+    ensures err { OnErr result (Keeps out.old out.new) }
     ensures known { OnOk result (Each T.known items.now) }
 {
     out.begin_array()?;

@@ -1,10 +1,12 @@
 //! Outcomes.
-ghost use Rattle.std.specs.Prelude.{◌≡◌, true, map, OnOk};
+//! Where a call fails, what was written before it stays, and behind it stand some tokens or none.
+ghost use Rattle.std.specs.Prelude.{◌≡◌, true, map, OnOk, OnErr};
 ghost use Rattle.serde_json.specs.Data.{array};
 ghost use Rattle.serde_json.specs.View.{items_of};
 ghost use Rattle.contract.specs.Tree.{contract_tree};
-ghost use Rattle.json_write_contracts.specs.Tokens.{Puts, PutsFitting};
-ghost use Rattle.json_write_contracts.specs.Written.{contract_fits, time_fits};
+ghost use Rattle.json_write_contracts.specs.Tokens.{Keeps, Puts, PutsFitting};
+ghost use Rattle.json_write_contracts.specs.WrittenNames.{time_fits};
+ghost use Rattle.json_write_contracts.specs.WrittenContract.{contract_fits};
 ghost use Rattle.json_write_outcomes.specs.WrittenOutcome.{payment_json, warning_json, outcome_json};
 
 use crate::lists::put_list;
@@ -16,13 +18,15 @@ use json_write_contracts::{WriteFault, put_contract};
 use std::alloc::Global;
 
 fn put_payments(alloc: Global, out: &mut Writer, payments: &Items<Payment>) -> Result<(), Memory>
-    ensures { OnOk result (Puts out.old out.new (array (items_of (map payment_json payments.now)))) }
+    ensures put { OnOk result (Puts out.old out.new (array (items_of (map payment_json payments.now)))) }
+    ensures err { OnErr result (Keeps out.old out.new) }
 {
     put_list(alloc, out, payments.as_slice())
 }
 
 fn put_warnings(alloc: Global, out: &mut Writer, warnings: &Items<Warning>) -> Result<(), Memory>
-    ensures { OnOk result (Puts out.old out.new (array (items_of (map warning_json warnings.now)))) }
+    ensures put { OnOk result (Puts out.old out.new (array (items_of (map warning_json warnings.now)))) }
+    ensures err { OnErr result (Keeps out.old out.new) }
 {
     put_list(alloc, out, warnings.as_slice())
 }
@@ -37,6 +41,7 @@ pub fn put_outcome(
 ) -> Result<(), WriteFault>
     ensures put { PutsFitting result out.old out.new (contract_fits (contract_tree outcome.now.place.now))
         (outcome_json outcome.now.warnings outcome.now.payments outcome.now.state (contract_tree outcome.now.place.now)) }
+    ensures err { OnErr result (Keeps out.old out.new) }
     ensures time { OnOk result (time_fits outcome.now.state.min_time ≡ true) }
 {
     out.begin_object()?;

@@ -1,6 +1,7 @@
 //! Payments.
-ghost use Rattle.std.specs.Prelude.{⊤, ◌≡◌, OnOk};
-ghost use Rattle.json_write_contracts.specs.Tokens.{Puts};
+//! Where a call fails, what was written before it stays, and behind it stand some tokens or none.
+ghost use Rattle.std.specs.Prelude.{⊤, ◌≡◌, OnOk, OnErr};
+ghost use Rattle.json_write_contracts.specs.Tokens.{Keeps, Puts};
 ghost use Rattle.json_write_outcomes.specs.WrittenOutcome.{payment_json};
 
 use crate::lists::PutItem;
@@ -12,7 +13,8 @@ use std::alloc::Global;
 
 /// Writes a payment. An amount that JSON doesn't have is a text of its decimal digits.
 pub fn put_payment(alloc: Global, out: &mut Writer, payment: &Payment) -> Result<(), Memory>
-    ensures { OnOk result (Puts out.old out.new (payment_json payment.now)) }
+    ensures put { OnOk result (Puts out.old out.new (payment_json payment.now)) }
+    ensures err { OnErr result (Keeps out.old out.new) }
 {
     out.begin_object()?;
     out.key("amount")?;

@@ -1,8 +1,9 @@
 //! The rows of a state's maps, each a list of a key and a number.
-ghost use Rattle.std.specs.Prelude.{⊤, ◌≡◌, OnOk};
+//! Where a call fails, what was written before it stays, and behind it stand some tokens or none.
+ghost use Rattle.std.specs.Prelude.{⊤, ◌≡◌, OnOk, OnErr};
 ghost use Rattle.hex.specs.Hex.{IsBytes};
-ghost use Rattle.json_write_contracts.specs.Tokens.{Puts};
-ghost use Rattle.json_write_contracts.specs.Written.{pair_json, party_json, token_json};
+ghost use Rattle.json_write_contracts.specs.Tokens.{Keeps, Puts};
+ghost use Rattle.json_write_contracts.specs.WrittenNames.{pair_json, party_json, token_json};
 ghost use Rattle.json_write_outcomes.specs.Each.{HasBytes};
 ghost use Rattle.json_write_outcomes.specs.WrittenOutcome.{account_row_json, choice_row_json, bound_row_json};
 
@@ -15,6 +16,7 @@ use std::alloc::Global;
 
 fn put_account(alloc: Global, out: &mut Writer, account: &Account) -> Result<(), Memory>
     ensures put { OnOk result (Puts out.old out.new (pair_json (party_json account.now.owner) (token_json account.now.token))) }
+    ensures err { OnErr result (Keeps out.old out.new) }
     ensures symbol { OnOk result (IsBytes account.now.token.symbol) }
 {
     out.begin_array()?;

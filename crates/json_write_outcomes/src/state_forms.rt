@@ -1,10 +1,11 @@
 //! States.
-ghost use Rattle.std.specs.Prelude.{◌≡◌, true, map, OnOk};
+//! Where a call fails, what was written before it stays, and behind it stand some tokens or none.
+ghost use Rattle.std.specs.Prelude.{◌≡◌, true, map, OnOk, OnErr};
 ghost use Rattle.std.specs.FinMap.{entries};
 ghost use Rattle.serde_json.specs.Data.{array};
 ghost use Rattle.serde_json.specs.View.{items_of};
-ghost use Rattle.json_write_contracts.specs.Tokens.{Puts};
-ghost use Rattle.json_write_contracts.specs.Written.{number_json, time_fits};
+ghost use Rattle.json_write_contracts.specs.Tokens.{Keeps, Puts};
+ghost use Rattle.json_write_contracts.specs.WrittenNames.{number_json, time_fits};
 ghost use Rattle.json_write_outcomes.specs.Each.{Each, HasBytes};
 ghost use Rattle.json_write_outcomes.specs.WrittenOutcome.{account_row_json, choice_row_json, bound_row_json, state_json};
 
@@ -17,25 +18,29 @@ use std::alloc::Global;
 
 fn put_accounts(alloc: Global, out: &mut Writer, state: &State) -> Result<(), Memory>
     ensures put { OnOk result (Puts out.old out.new (array (items_of (map account_row_json (entries state.now.accounts))))) }
+    ensures err { OnErr result (Keeps out.old out.new) }
     ensures symbols { OnOk result (Each HasBytes (entries state.now.accounts)) }
 {
     put_list(alloc, out, state.accounts())
 }
 
 fn put_bound_values(alloc: Global, out: &mut Writer, state: &State) -> Result<(), Memory>
-    ensures { OnOk result (Puts out.old out.new (array (items_of (map bound_row_json (entries state.now.bound_values))))) }
+    ensures put { OnOk result (Puts out.old out.new (array (items_of (map bound_row_json (entries state.now.bound_values))))) }
+    ensures err { OnErr result (Keeps out.old out.new) }
 {
     put_list(alloc, out, state.bound_values())
 }
 
 fn put_choices(alloc: Global, out: &mut Writer, state: &State) -> Result<(), Memory>
-    ensures { OnOk result (Puts out.old out.new (array (items_of (map choice_row_json (entries state.now.choices))))) }
+    ensures put { OnOk result (Puts out.old out.new (array (items_of (map choice_row_json (entries state.now.choices))))) }
+    ensures err { OnErr result (Keeps out.old out.new) }
 {
     put_list(alloc, out, state.choices())
 }
 
 fn put_min_time(out: &mut Writer, state: &State) -> Result<(), Memory>
     ensures put { OnOk result (Puts out.old out.new (number_json state.now.min_time)) }
+    ensures err { OnErr result (Keeps out.old out.new) }
     ensures fits { time_fits state.now.min_time ≡ true }
 {
     put_time(out, state.min_time())
@@ -45,6 +50,7 @@ fn put_min_time(out: &mut Writer, state: &State) -> Result<(), Memory>
 /// its decimal digits; such a state isn't read again.
 pub fn put_state(alloc: Global, out: &mut Writer, state: &State) -> Result<(), Memory>
     ensures put { OnOk result (Puts out.old out.new (state_json state.now)) }
+    ensures err { OnErr result (Keeps out.old out.new) }
     ensures symbols { OnOk result (Each HasBytes (entries state.now.accounts)) }
     ensures time { OnOk result (time_fits state.now.min_time ≡ true) }
 {

@@ -1,8 +1,9 @@
 //! Warnings.
-ghost use Rattle.std.specs.Prelude.{⊤, ◌≡◌, codes, OnOk};
+//! Where a call fails, what was written before it stays, and behind it stand some tokens or none.
+ghost use Rattle.std.specs.Prelude.{⊤, ◌≡◌, codes, OnOk, OnErr};
 ghost use Rattle.serde_json.specs.Data.{string};
-ghost use Rattle.json_write_contracts.specs.Tokens.{Puts};
-ghost use Rattle.json_write_contracts.specs.Written as written;
+ghost use Rattle.json_write_contracts.specs.Tokens.{Keeps, Puts};
+ghost use Rattle.json_write_contracts.specs.WrittenNames as written_names;
 ghost use Rattle.json_write_outcomes.specs.WrittenOutcome.{warning_json};
 
 use crate::lists::PutItem;
@@ -21,8 +22,9 @@ fn put_deposit_warning(
     token: &Token,
     amount: &i128,
 ) -> Result<(), Memory>
-    ensures { OnOk result (Puts out.old out.new (written.five (codes "account") (written.party_json account.now) (codes "amount") (written.wide_json amount.now)
-        (codes "party") (written.party_json party.now) (codes "token") (written.token_json token.now) (codes "warning") (string (codes "NonPositiveDeposit")))) }
+    ensures put { OnOk result (Puts out.old out.new (written_names.five (codes "account") (written_names.party_json account.now) (codes "amount") (written_names.wide_json amount.now)
+        (codes "party") (written_names.party_json party.now) (codes "token") (written_names.token_json token.now) (codes "warning") (string (codes "NonPositiveDeposit")))) }
+    ensures err { OnErr result (Keeps out.old out.new) }
 {
     out.begin_object()?;
     out.key("account")?;
@@ -47,8 +49,9 @@ fn put_pay_warning(
     token: &Token,
     amount: &i128,
 ) -> Result<(), Memory>
-    ensures { OnOk result (Puts out.old out.new (written.five (codes "account") (written.party_json account.now) (codes "amount") (written.wide_json amount.now)
-        (codes "payee") (written.payee_json payee.now) (codes "token") (written.token_json token.now) (codes "warning") (string (codes "NonPositivePay")))) }
+    ensures put { OnOk result (Puts out.old out.new (written_names.five (codes "account") (written_names.party_json account.now) (codes "amount") (written_names.wide_json amount.now)
+        (codes "payee") (written_names.payee_json payee.now) (codes "token") (written_names.token_json token.now) (codes "warning") (string (codes "NonPositivePay")))) }
+    ensures err { OnErr result (Keeps out.old out.new) }
 {
     out.begin_object()?;
     out.key("account")?;
@@ -74,9 +77,10 @@ fn put_partial_warning(
     paid: &i128,
     expected: &i128,
 ) -> Result<(), Memory>
-    ensures { OnOk result (Puts out.old out.new (written.six (codes "account") (written.party_json account.now) (codes "expected") (written.wide_json expected.now)
-        (codes "paid") (written.wide_json paid.now) (codes "payee") (written.payee_json payee.now) (codes "token") (written.token_json token.now)
+    ensures put { OnOk result (Puts out.old out.new (written_names.six (codes "account") (written_names.party_json account.now) (codes "expected") (written_names.wide_json expected.now)
+        (codes "paid") (written_names.wide_json paid.now) (codes "payee") (written_names.payee_json payee.now) (codes "token") (written_names.token_json token.now)
         (codes "warning") (string (codes "PartialPay")))) }
+    ensures err { OnErr result (Keeps out.old out.new) }
 {
     out.begin_object()?;
     out.key("account")?;
@@ -102,8 +106,9 @@ fn put_shadowing(
     old: &i128,
     new: &i128,
 ) -> Result<(), Memory>
-    ensures { OnOk result (Puts out.old out.new (written.four (codes "name") (string name.now) (codes "new") (written.wide_json new.now) (codes "old") (written.wide_json old.now)
+    ensures put { OnOk result (Puts out.old out.new (written_names.four (codes "name") (string name.now) (codes "new") (written_names.wide_json new.now) (codes "old") (written_names.wide_json old.now)
         (codes "warning") (string (codes "Shadowing")))) }
+    ensures err { OnErr result (Keeps out.old out.new) }
 {
     out.begin_object()?;
     out.key("name")?;
@@ -119,7 +124,8 @@ fn put_shadowing(
 }
 
 fn put_failed_assertion(out: &mut Writer) -> Result<(), Memory>
-    ensures { OnOk result (Puts out.old out.new (written.one (codes "warning") (string (codes "AssertionFailed")))) }
+    ensures put { OnOk result (Puts out.old out.new (written_names.one (codes "warning") (string (codes "AssertionFailed")))) }
+    ensures err { OnErr result (Keeps out.old out.new) }
 {
     out.begin_object()?;
     out.key("warning")?;
@@ -131,7 +137,8 @@ fn put_failed_assertion(out: &mut Writer) -> Result<(), Memory>
 /// Writes a warning (Marlowe specification version 3, "Compute transaction"): an object with its name under the
 /// key `warning`, beside what it says. A number that JSON doesn't have is a text of its decimal digits.
 pub fn put_warning(alloc: Global, out: &mut Writer, warning: &Warning) -> Result<(), Memory>
-    ensures { OnOk result (Puts out.old out.new (warning_json warning.now)) }
+    ensures put { OnOk result (Puts out.old out.new (warning_json warning.now)) }
+    ensures err { OnErr result (Keeps out.old out.new) }
 {
     match warning {
         Warning::NonPositiveDeposit(account, party, token, amount) => {

@@ -1,3 +1,4 @@
 mod RoundLemmas
+mod AcceptedLemmas
 pub mod CallsLemmas
 mod PublishLemmas

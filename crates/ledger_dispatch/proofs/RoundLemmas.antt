@@ -5,14 +5,9 @@ use Rattle.eutxo_types.specs.declared.tx.Tx.{Tx}
 use Rattle.eutxo_types.specs.declared.fault.TxFault.{TxFault}
 use Rattle.eutxo.specs.Local.{verdict_of}
 use Rattle.ledger.specs.declared.call.Ticketed.{Ticketed}
+use Rattle.ledger_laws.proofs.PlainLaws.{drop_some}
 use Rattle.ledger_spec.specs.Replay.{Pending, World}
 use Rattle.ledger_spec.specs.Calls.{with_accepted_unless, fault_on, round_verdicts}
-
-pub drop_at : {A : Type 0} (xs : List A) (n : ℕ) (x : A) → slice_get xs n ≡ Some x → drop n xs ≡ x ∷ drop (suc n) xs
-drop_at [] zero x h = cc
-drop_at [] (suc n) x h = cc
-drop_at (y ∷ xs) zero x h = let e : y ≡ x = cc in ap (λ (z : _). z ∷ xs) e
-drop_at (y ∷ xs) (suc n) x h = drop_at xs n x h
 
 pub one_more : (i : ℕ) → suc i ≡ i + 1
 one_more i = omega arith
@@ -30,7 +25,7 @@ pub place_more : (w next : World) (ps : List Pending) (i : ℕ) (p : Pending) (p
     all ≡ (places ++ t ∷ []) ++ round_verdicts next (drop (i + 1) ps)
 place_more w next ps i p places t all h at e n =
     h
-    ∙ ap (λ (l : List Pending). places ++ round_verdicts w l) (drop_at ps i p at ∙ ap (λ (k : ℕ). p ∷ drop k ps) (one_more i))
+    ∙ ap (λ (l : List Pending). places ++ round_verdicts w l) (drop_some i ps p at ∙ ap (λ (k : ℕ). p ∷ drop k ps) (one_more i))
     ∙ ap (λ (x : Ticketed). places ++ x ∷ round_verdicts (with_accepted_unless w p.1 (fault_on w p.1)) (drop (i + 1) ps)) (sym e)
     ∙ ap (λ (v : World). places ++ t ∷ round_verdicts v (drop (i + 1) ps)) (sym n)
     ∙ sym (append_assoc places (t ∷ []) (round_verdicts next (drop (i + 1) ps)))

@@ -1,5 +1,5 @@
 //! What a call is answered.
-ghost use Rattle.std.specs.Prelude.{◌≡◌, ◌<◌, ◌≤◌, ◌++◌, ◌⊎◌, IfOk, IfErr, OnOk, Ok, Err, Some, None, if◌then◌else◌, length, take, slice_get, option_to_list};
+ghost use Rattle.std.specs.Prelude.{◌≡◌, ◌<◌, ◌≤◌, ◌++◌, ◌⊎◌, All, IfOk, IfErr, OnOk, Ok, Err, Some, None, if◌then◌else◌, length, take, drop, map, slice_get, option_to_list};
 ghost use Rattle.compiler.specs.declared.fault.CompileFault.TheVariants as faults;
 ghost use Rattle.eutxo_types.specs.Fitting.{TxFits};
 ghost use Rattle.eutxo_types.specs.Ids.{id_of};
@@ -14,7 +14,7 @@ use contract::Contract;
 use eutxo::{Shared, verdict_of};
 use eutxo_types::{Tx, TxFault, tx_id};
 use ledger::{Ask, Call, Reply, Resolves, Ticketed};
-use ledger_replay::{PendingTx, World};
+use ledger_replay::{PendingTx, World, ids_of};
 use ledger_views::show;
 use roles::{CompileFault, Published, publish};
 use std::alloc::{AllocError, Global};
@@ -220,10 +220,11 @@ fn look(alloc: Global, world: &World<'_>, ask: &Ask) -> Result<Reply, Memory>
     Ok(Reply::Look(show(alloc, world, ask)?))
 }
 
-/// What a call is answered after what stands, by the table of calls (`reply_to`), and what it adds to what is published.
-/// The world has then accepted what the call accepts; of its tick and its pending transactions nothing is told, since whoever
-/// keeps the entries reads them off calls and replies. Answers `Memory` only where a growth was refused.
-pub fn answer<'a>(
+// ---- a call
+
+// What a call is answered, and what it publishes. The world that is lent accepts what the call accepts; where memory
+// is refused it may have accepted a beginning of a round.
+fn answer_in<'a>(
     alloc: Global,
     world: &mut World<'a>,
     call: &'a Call,
@@ -240,4 +241,46 @@ pub fn answer<'a>(
         Call::Enqueue(_) => Ok((enqueue(world), None)),
         Call::Round(count) => Ok((Reply::Round(round(alloc, world, *count)?), None)),
     }
+}
+
+// With the ids of what was accepted after the first so many. The rest is carried generically.
+fn with_ids<R: Drop, O: Drop>(
+    alloc: Global,
+    world: &World<'_>,
+    known: usize,
+    reply: R,
+    object: O,
+) -> Result<(R, O, Vec<[u8; 32]>), Memory>
+    requires { known ≤ length world.now.replay.accepted }
+    ensures reply { IfOk result (λ r. r.0 ≡ reply) }
+    ensures object { IfOk result (λ r. r.1 ≡ object) }
+    ensures ids { IfOk result (λ r. r.2.items ≡ map id_of (drop known world.now.replay.accepted)) }
+    ensures fits { IfOk result (λ r. All TxFits (drop known world.now.replay.accepted)) }
+{
+    let ids = ids_of(alloc, &world.accepted()[known..])?;
+    Ok((reply, object, ids))
+}
+
+/// What a call is answered after what stands, by the table of calls (`reply_to`); what it adds to what is published;
+/// and the ids of the transactions that it accepts, in order, each of which fits its spelling. Of the tick and the
+/// pending transactions nothing is told, since whoever keeps the entries reads them off calls and replies. Answers
+/// `Memory` only where a growth was refused.
+///
+/// The world is handed in, and is gone with the answer. So a refusal leaves nothing: a Round that runs out of memory at
+/// a later place has accepted nothing that its caller could keep.
+#[tactic(auto, using(crate::proofs::AcceptedLemmas::enough_found))]
+pub fn answer<'a>(
+    alloc: Global,
+    mut world: World<'a>,
+    call: &'a Call,
+) -> Result<(Reply, Option<Shared<Published>>, Vec<[u8; 32]>), Memory>
+    ensures reply { IfOk result (λ r. r.0 ≡ reply_to world.entry call.now) }
+    ensures object { IfOk result (λ r. world.entry.published ++ option_to_list r.1 ≡ published_with world.entry.published call.now) }
+    ensures ids { IfOk result (λ r. map id_of world.entry.replay.accepted ++ r.2.items ≡ map id_of (after_call world.entry.replay call.now (reply_to world.entry call.now)).accepted) }
+    ensures fits { IfOk result (λ r. All TxFits world.entry.replay.accepted → All TxFits (after_call world.entry.replay call.now (reply_to world.entry call.now)).accepted) }
+{
+    let known = world.accepted().len();
+    let (reply, object) = answer_in(alloc, &mut world, call)?;
+    let found = with_ids(alloc, &world, known, reply, object)?;
+    Ok(found)
 }

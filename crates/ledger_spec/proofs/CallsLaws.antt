@@ -1,14 +1,21 @@
--- What a call accepts.
-use Rattle.std.proofs.Common.{◌≡◌, ℕ, zero, suc, ℤ, Bool, true, false, List, [], ◌∷◌, ◌++◌, refl, ◌∙◌, ap, append_assoc, Option, Some, None, take, length}
+-- What a call accepts, and that what was accepted stays.
+use Rattle.std.proofs.Common.{◌≡◌, ℕ, zero, suc, ℤ, ◌≤◌, Bool, true, false, List, [], ◌∷◌, ◌++◌, refl, sym, ◌∙◌, ap, append_assoc, arith, Option, Some, None, take, drop, length}
 use Rattle.std.specs.Prelude.{if◌then◌else◌, int_le, nat_lt}
 use Rattle.eutxo_types.specs.declared.tx.Tx.{Tx}
 use Rattle.eutxo_types.specs.declared.fault.TxFault.{TxFault}
 use Rattle.eutxo.specs.Local.{verdict_of}
+use Rattle.ledger.specs.declared.call.Call.{Call}
 use Rattle.ledger.specs.declared.call.Call.TheVariants as on
+use Rattle.ledger.specs.declared.call.Entry.{Entry}
 use Rattle.ledger.specs.declared.call.Reply.{Reply}
 use Rattle.ledger.specs.declared.call.Reply.TheVariants as answer
-use Rattle.ledger_spec.specs.Replay.{Pending, Replay, World, after_call, accepted_at, accepted_among}
+use Rattle.ledger.specs.Replies.{is_advanced, is_accepted, ticket_in, verdicts_in}
+use Rattle.std.proofs.lemmas.List.{take-append-drop}
+use Rattle.ledger_laws.proofs.PlainLaws.{no_more}
+use Rattle.ledger_spec.specs.Legal.{before_entry}
+use Rattle.ledger_spec.specs.Replay.{Course, Pending, Replay, World, with_pending, after_call, accepted_at, accepted_among, replay_from, world}
 use Rattle.ledger_spec.specs.Calls.{submit_reply, with_accepted_unless, fault_on, round_verdicts, most_pending, advance_reply, enqueue_reply}
+use Rattle.ledger_spec.proofs.ReplayLaws.{replay_two}
 
 -- ---- one call
 
@@ -42,11 +49,65 @@ only_first w zero (p ∷ ps) = refl
 only_first w (suc k) [] = refl
 only_first w (suc k) (p ∷ ps) = ap (λ (l : List Tx). accepted_at p (Some (record { ticket = p.0; verdict = verdict_of (fault_on w p.1) })) ++ l) (only_first (with_accepted_unless w p.1 (fault_on w p.1)) k ps)
 
-pub no_more : {A : Type 0} (xs : List A) → xs ++ [] ≡ xs
-no_more [] = refl
-no_more (x ∷ xs) = ap (λ (l : List _). x ∷ l) (no_more xs)
-
 pub one_kept : (w : World) (p : Pending) (rest : List Tx) (f : Option TxFault) →
     (with_accepted_unless w p.1 f).replay.accepted ++ rest ≡ w.replay.accepted ++ (accepted_at p (Some (record { ticket = p.0; verdict = verdict_of f })) ++ rest)
 one_kept w p rest None = append_assoc w.replay.accepted (p.1 ∷ []) rest
 one_kept w p rest (Some f) = refl
+
+-- ---- what was accepted stays
+
+-- the second list goes on from the first
+abbrev pub GoesOn : List Tx → List Tx → Type 0
+GoesOn xs ys = (more : List Tx) × (ys ≡ xs ++ more)
+
+nothing_more : (xs ys : List Tx) → ys ≡ xs → GoesOn xs ys
+nothing_more xs ys h = ([], h ∙ sym (no_more xs))
+
+goes_on_twice : (xs ys zs : List Tx) → GoesOn xs ys → GoesOn ys zs → GoesOn xs zs
+goes_on_twice xs ys zs p q = (p.0 ++ q.0, q.1 ∙ ap (λ (l : List Tx). l ++ q.0) p.1 ∙ append_assoc xs p.0 q.0)
+
+waiting : (s : Replay) (tx : Tx) (o : Option ℕ) → (with_pending s tx o).accepted ≡ s.accepted
+waiting s tx None = refl
+waiting s tx (Some n) = refl
+
+pub call_more : (s : Replay) (call : Call) (r : Reply) → GoesOn s.accepted (after_call s call r).accepted
+call_more s (on.Publish contract currency) r = nothing_more s.accepted s.accepted refl
+call_more s (on.Advance t) r = by (is_advanced r)
+  where
+    by : (b : Bool) → GoesOn s.accepted (if b then record s { tick = t } else s).accepted
+    by true = nothing_more s.accepted s.accepted refl
+    by false = nothing_more s.accepted s.accepted refl
+call_more s (on.Look ask) r = nothing_more s.accepted s.accepted refl
+call_more s (on.Submit tx) r = by (is_accepted r)
+  where
+    by : (b : Bool) → GoesOn s.accepted (if b then record s { accepted = s.accepted ++ tx ∷ [] } else s).accepted
+    by true = (tx ∷ [], refl)
+    by false = nothing_more s.accepted s.accepted refl
+call_more s (on.Enqueue tx) r = nothing_more s.accepted (with_pending s tx (ticket_in r)).accepted (waiting s tx (ticket_in r))
+call_more s (on.Round k) r = (accepted_among s.pending (verdicts_in r), refl)
+
+replay_more : (s : Replay) (es : List Entry) → GoesOn s.accepted (replay_from s es).accepted
+replay_more s [] = nothing_more s.accepted s.accepted refl
+replay_more s (e ∷ es) = goes_on_twice s.accepted (after_call s e.call e.reply).accepted (replay_from (after_call s e.call e.reply) es).accepted (call_more s e.call e.reply) (replay_more (after_call s e.call e.reply) es)
+
+abbrev begun : Course → Replay
+begun c = record { tick = c.first_tick; accepted = []; pending = [] }
+
+take_on : {A : Type 0} (n m : ℕ) (xs : List A) → n ≤ m → (rest : List A) × (take m xs ≡ take n xs ++ rest)
+take_on zero m xs h = (take m xs, refl)
+take_on (suc n) zero xs h = absurd (omega arith)
+take_on (suc n) (suc m) [] h = ([], refl)
+take_on (suc n) (suc m) (x ∷ xs) h = let p = take_on n m xs (omega (arith, h)) in (p.0, ap (λ (l : List _). x ∷ l) p.1)
+
+-- so from one entry of a history to a later one
+pub accepted_on : (c : Course) (n m : ℕ) → n ≤ m → GoesOn (world (before_entry c n)).replay.accepted (world (before_entry c m)).replay.accepted
+accepted_on c n m h =
+    let p = take_on n m c.entries h in
+    let q = replay_more (replay_from (begun c) (take n c.entries)) p.0 in
+    (q.0, ap (λ (l : List Entry). (replay_from (begun c) l).accepted) p.1 ∙ ap (λ (s : Replay). s.accepted) (replay_two (begun c) (take n c.entries) p.0) ∙ q.1)
+
+-- and to its end
+pub accepted_before : (c : Course) (n : ℕ) → GoesOn (world (before_entry c n)).replay.accepted (world c).replay.accepted
+accepted_before c n =
+    let q = replay_more (replay_from (begun c) (take n c.entries)) (drop n c.entries) in
+    (q.0, ap (λ (l : List Entry). (replay_from (begun c) l).accepted) (sym (take-append-drop n c.entries)) ∙ ap (λ (s : Replay). s.accepted) (replay_two (begun c) (take n c.entries) (drop n c.entries)) ∙ q.1)

@@ -1,5 +1,7 @@
 pub mod ReplayLaws
 pub mod CallsLaws
 pub mod StartsLaws
+pub mod LegalLaws
+pub mod PublishingLaws
 mod StandingLemmas
 mod PublishingLemmas

@@ -1,16 +1,12 @@
 -- What is published after a legal history is what its Publish entries published.
-use Rattle.std.proofs.Common.{◌≡◌, ℕ, zero, suc, Bool, true, false, cond, List, [], ◌∷◌, ◌++◌, refl, sym, ◌∙◌, ap, subst, Option, Some, None, Result, Ok, Err, take, drop, length, ◌⊎◌, inl, inr}
+use Rattle.std.proofs.Common.{◌≡◌, ℕ, zero, suc, Bool, true, false, List, [], ◌∷◌, ◌++◌, refl, sym, ◌∙◌, ap, subst, Option, Some, None, Result, Ok, Err, take, drop, length, inl, inr}
 use Rattle.std.specs.Prelude.{if◌then◌else◌, is_some}
 use Rattle.std.specs.List.{slice_get}
-use Rattle.std.specs.Option.{option_or}
-use Rattle.std.specs.Cmp.Lexicographic.{bytes_decides}
-use Rattle.std.proofs.lemmas.List.Folds.{find-append}
 use Rattle.collections.proofs.SameLaws.{same_by_decides}
 use Rattle.contract.specs.declared.tree.Contract.{Contract}
 use Rattle.contract.specs.Tree.{contract_tree}
 use Rattle.compiler.specs.declared.fault.CompileFault.{CompileFault}
 use Rattle.compiler.specs.Limits.{compile_fault}
-use Rattle.eutxo_types.specs.Parts.{same_bytes}
 use Rattle.roles.specs.contracts.published.Published as publications
 use Rattle.roles.specs.declared.published.Published.{Published}
 use Rattle.roles.specs.Publications.{published_of, PublishedAreTables, PublishedTellApart}
@@ -22,68 +18,12 @@ use Rattle.ledger.specs.declared.call.Entry.{Entry}
 use Rattle.ledger.specs.declared.call.Reply.{Reply}
 use Rattle.ledger.specs.declared.call.Reply.TheVariants as answer
 use Rattle.ledger.specs.Replies.{is_published}
-use Rattle.ledger_spec.specs.Replay.{Course, World, world, published_at, if_compiled, publication, with_object, published_after, published_from, published}
+use Rattle.ledger_spec.specs.Replay.{Course, World, world, published_at, if_compiled, publication, with_object, published_after, published}
 use Rattle.ledger_spec.specs.Calls.{same_publication, publish_reply_beside, publish_reply, reply_to}
 use Rattle.ledger_spec.specs.Legal.{IsLegal, before_entry}
 use Rattle.ledger_spec.specs.Publishing.{Publishes, PublicationsAreEntries, EntriesArePublished, LegalIdsTellContracts, LegalIdsInUse}
-
--- ---- what is found under an id
-
--- has that id
-found_under : (ps : List Published) (id : List ℕ) (p : Published) → published_at ps id ≡ Some p → p.id ≡ id
-found_under [] id p h = cc
-found_under (q ∷ ps) id p h = by (same_bytes q.id id) refl h (found_under ps id p)
-  where
-    by : (b : Bool) → same_bytes q.id id ≡ b → cond b (Some q) (published_at ps id) ≡ Some p → (published_at ps id ≡ Some p → p.id ≡ id) → p.id ≡ id
-    by true e k go = ap (λ (x : Published). x.id) (sym (same_some q p k)) ∙ (bytes_decides q.id id).0 e
-    by false e k go = go k
-
--- with one object more it is the same, or that object
-one_more : (ps : List Published) (p : Published) (id : List ℕ) (q : Published) → published_at (ps ++ p ∷ []) id ≡ Some q → (published_at ps id ≡ Some q) ⊎ (p ≡ q)
-one_more ps p id q h = by (published_at ps id) (same_bytes p.id id) (sym (find-append (λ r. same_bytes r.id id) ps (p ∷ [])) ∙ h)
-  where
-    by : (o : Option Published) (b : Bool) → option_or o (cond b (Some p) None) ≡ Some q → (o ≡ Some q) ⊎ (p ≡ q)
-    by (Some r) b e = inl e
-    by None true e = inr (same_some p q e)
-    by None false e = cc
-
--- which is found where nothing was
-found_last : (ps : List Published) (p : Published) → published_at ps p.id ≡ None → published_at (ps ++ p ∷ []) p.id ≡ Some p
-found_last ps p h =
-    find-append (λ r. same_bytes r.id p.id) ps (p ∷ [])
-    ∙ ap (λ (o : Option Published). option_or o (published_at (p ∷ []) p.id)) h
-    ∙ ap (λ (b : Bool). cond b (Some p) None) ((bytes_decides p.id p.id).1 refl)
-
--- ---- what is published stays published
-
-with_stays : (ps : List Published) (r : Result Published CompileFault) (id : List ℕ) (q : Published) → published_at ps id ≡ Some q → published_at (with_object ps r) id ≡ Some q
-with_stays ps (Err f) id q h = h
-with_stays ps (Ok p) id q h = by (is_some (published_at ps p.id))
-  where
-    by : (b : Bool) → published_at (if b then ps else ps ++ p ∷ []) id ≡ Some q
-    by true = h
-    by false = find-append (λ r. same_bytes r.id id) ps (p ∷ []) ∙ ap (λ (o : Option Published). option_or o (published_at (p ∷ []) id)) h
-
-call_stays : (ps : List Published) (call : Call) (r : Reply) (id : List ℕ) (q : Published) → published_at ps id ≡ Some q → published_at (published_after ps call r) id ≡ Some q
-call_stays ps (on.Publish c x) r id q h = by (is_published r)
-  where
-    by : (b : Bool) → published_at (if b then with_object ps (publication c x) else ps) id ≡ Some q
-    by true = with_stays ps (publication c x) id q h
-    by false = h
-call_stays ps (on.Advance t) r id q h = h
-call_stays ps (on.Look ask) r id q h = h
-call_stays ps (on.Submit tx) r id q h = h
-call_stays ps (on.Enqueue tx) r id q h = h
-call_stays ps (on.Round k) r id q h = h
-
-stays : (ps : List Published) (es : List Entry) (id : List ℕ) (q : Published) → published_at ps id ≡ Some q → published_at (published_from ps es) id ≡ Some q
-stays ps [] id q h = h
-stays ps (e ∷ es) id q h = stays (published_after ps e.call e.reply) es id q (call_stays ps e.call e.reply id q h)
-
--- what is published after some entries and then others
-published_two : (ps : List Published) (es fs : List Entry) → published_from ps (es ++ fs) ≡ published_from (published_from ps es) fs
-published_two ps [] fs = refl
-published_two ps (e ∷ es) fs = published_two (published_after ps e.call e.reply) es fs
+use Rattle.ledger_spec.proofs.LegalLaws.{legal_before}
+use Rattle.ledger_spec.proofs.PublishingLaws.{found_under, one_more, found_last, stays, published_two}
 
 -- ---- what is published came by an entry
 
@@ -157,10 +97,12 @@ came_before : (c : Course) → IsLegal c → (n : ℕ) → AllCame c.entries (pu
 came_before c legal zero = λ id p h. cc
 came_before c legal (suc n) = came_next c legal n (came_before c legal n) (slice_get c.entries n) refl
 
+came_at_last : (c : Course) → IsLegal c → AllCame c.entries (published c.entries)
+came_at_last c legal = subst (λ (l : List Entry). AllCame c.entries (published l)) (take_whole c.entries) (came_before c legal (length c.entries))
+
 pub are_entries : PublishedAreTables → PublicationsAreEntries
 are_entries law c legal id p h =
-    let all = came_before c legal (length c.entries) in
-    let came = subst (λ (l : List Entry). AllCame c.entries (published l)) (take_whole c.entries) all id p h in
+    let came = came_at_last c legal id p h in
     let under = found_under (published c.entries) id p h in
     let so = publication_so came.0 p.currency p came.2 in
     let table = law (contract_tree came.0) p.currency so.0 in
@@ -251,14 +193,14 @@ in_use c legal n e d x at call told =
     let a = another w (publication d x) (sym (told_by_table c legal n e d x at call) ∙ told) in
     let p = a.0 in
     let q = a.2 in
-    let came = came_before c legal n p.id q a.3 in
+    let came = came_at_last (before_entry c n) (legal_before c legal n) p.id q a.3 in
     let of_p = publication_so d x p a.1 in
     let of_q = publication_so came.0 q.currency q came.2 in (
       p,
       a.1,
       came.0,
       q.currency,
-      subst (λ (i : List ℕ). Publishes c.entries i came.0 q.currency) (found_under w.published p.id q a.3) came.1,
+      subst (λ (i : List ℕ). Publishes (take n c.entries) i came.0 q.currency) (found_under w.published p.id q a.3) came.1,
       λ same.
           let is : q ≡ p = sym of_q.1 ∙ (λ i. published_of (sym same.0 i) (sym same.1 i)) ∙ of_p.1 in
           not_both ((same_by_decides publications.the_row.coded q p).1 is) a.4,

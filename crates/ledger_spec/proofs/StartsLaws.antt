@@ -1,18 +1,22 @@
 -- What a look follows of an output: its thread, where it starts one.
-use Rattle.std.proofs.Common.{◌≡◌, ℕ, Bool, true, false, not, ◌&&◌, List, refl, ◌∙◌, ap, Some, None}
+use Rattle.std.proofs.Common.{◌≡◌, ℕ, Bool, true, false, not, ◌&&◌, List, refl, ◌∙◌, ap, Option, Some, None}
 use Rattle.std.specs.Prelude.{if◌then◌else◌, is_some}
 use Rattle.std.specs.List.{slice_get, list_any}
 use Rattle.std.specs.Cmp.Lexicographic.{bytes_decides}
+use Rattle.eutxo_types.specs.declared.output.Output.{Output}
 use Rattle.eutxo_types.specs.declared.output_ref.OutputRef.{OutputRef}
 use Rattle.eutxo_types.specs.declared.output_ref.OutputRef.TheVariants.{Genesis, Made}
 use Rattle.eutxo_types.specs.declared.tx.Tx.{Tx}
 use Rattle.eutxo_types.specs.Ids.{id_of}
-use Rattle.eutxo_types.specs.Parts.{contract_at, steps}
-use Rattle.ledger_laws.specs.Past.{Past, has_id}
+use Rattle.eutxo_types.specs.Parts.{contract_at, script_in, steps}
+use Rattle.roles.specs.declared.published.Published.{Published}
+use Rattle.ledger.specs.declared.look.ThreadOutput.{ThreadOutput}
+use Rattle.ledger_laws.specs.Past.{Past, unspent_at, has_id}
 use Rattle.ledger_laws.specs.Threads.{IsMade, StartsThread, thread, ends}
 use Rattle.ledger_laws.proofs.PlainLaws.{and_true, both, is_there, any_there, any_at}
 use Rattle.ledger_laws.proofs.ReferenceLaws.{itself}
-use Rattle.ledger_spec.specs.Views.{starts_in, StartsAreTold}
+use Rattle.ledger_spec.specs.Replay.{World, past_of}
+use Rattle.ledger_spec.specs.Views.{starts_in, StartsAreTold, end_of, object_under, thread_output, thread_output_in, thread_output_at, thread_shown}
 
 not_true : (b : Bool) → not b ≡ true → b ≡ false
 not_true true h = cc
@@ -59,3 +63,37 @@ starts_told past r = (
     by : (b : Bool) → list_any (starts_in r) past.accepted ≡ b → (StartsThread past r → ⊥) → (if b then ends (Some r) (thread past r) else None) ≡ None
     by true h never = absurd (never (start_told past r h))
     by false h never = refl
+
+-- ---- what a look shows of a thread
+
+if_some : {A : Type 0} (b : Bool) (o : Option A) (x : A) → (if b then o else None) ≡ Some x → (b ≡ true) × (o ≡ Some x)
+if_some true o x h = (refl, h)
+if_some false o x h = cc
+
+-- where it follows a thread to its end, that is a start's
+pub end_told : (past : Past) (r q : OutputRef) → end_of past r ≡ Some q → (list_any (starts_in r) past.accepted ≡ true) × (ends (Some r) (thread past r) ≡ Some q)
+end_told past r q h = if_some (list_any (starts_in r) past.accepted) (ends (Some r) (thread past r)) q h
+
+pub end_starts : (past : Past) (r q : OutputRef) → end_of past r ≡ Some q → StartsThread past r × (ends (Some r) (thread past r) ≡ Some q)
+end_starts past r q h = let p = end_told past r q h in (start_told past r p.0, p.1)
+
+named_by : (q : OutputRef) (o : Output) (p : Option Published) (t : ThreadOutput) → thread_output q o p ≡ Some t → q ≡ t.reference
+named_by q o None t h = cc
+named_by q o (Some p) t h = let same : (let z : ThreadOutput = record { reference = q; output = o; published = p } in z) ≡ t = cc in ap (λ (z : ThreadOutput). z.reference) same
+
+named_in : (ps : List Published) (q : OutputRef) (o : Option Output) (t : ThreadOutput) → thread_output_in ps q o ≡ Some t → q ≡ t.reference
+named_in ps q None t h = cc
+named_in ps q (Some o) t h = named_by q o (object_under ps (script_in o.lock)) t h
+
+-- so a thread that is shown is a start's, and is shown where it ends
+pub shown_starts : (w : World) (asked : Option OutputRef) (t : ThreadOutput) → thread_shown w asked ≡ Some t →
+    (r : OutputRef) × (asked ≡ Some r) × StartsThread (past_of w) r × (ends (Some r) (thread (past_of w) r) ≡ Some t.reference)
+shown_starts w None t h = cc
+shown_starts w (Some r) t h = by (end_of (past_of w) r) refl h
+  where
+    by : (o : Option OutputRef) → end_of (past_of w) r ≡ o → thread_output_at w o ≡ Some t →
+        (s : OutputRef) × (Some r ≡ Some s) × StartsThread (past_of w) s × (ends (Some s) (thread (past_of w) s) ≡ Some t.reference)
+    by None e k = cc
+    by (Some q) e k =
+        let s = end_starts (past_of w) r q e in
+        (r, refl, s.0, s.1 ∙ ap Some (named_in w.published q (unspent_at (past_of w) q) t k))

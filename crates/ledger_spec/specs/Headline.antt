@@ -1,8 +1,11 @@
 -- THE HEADLINE: whatever a ledger accepts, each contract's transactions are one run of that contract; and what is built of a request
 -- that nothing hinders is accepted.
-use Rattle.std.specs.Prelude.{◌≡◌, ℕ, ◌≤ℤ◌, List, ◌++◌, Option, Some, None, ◌⊎◌}
+use Rattle.std.specs.Prelude.{◌≡◌, ℕ, ◌≤ℤ◌, List, ◌++◌, All, Option, Some, None, ◌⊎◌}
+use Rattle.std.specs.FinMap.{entries}
+use Rattle.collections.specs.Positive.{AllPositive}
 use Rattle.contract.specs.declared.interval.Interval.{Interval}
 use Rattle.contract.specs.Tree.{contract_tree}
+use Rattle.states.specs.States.{StateMaps}
 use Rattle.evaluation.specs.Timeouts.{last}
 use Rattle.semantics.specs.Closing.{HasReached}
 use Rattle.machine.specs.declared.datum.Datum.{Datum}
@@ -12,8 +15,10 @@ use Rattle.eutxo_types.specs.Fitting.{TxFits}
 use Rattle.eutxo_types.specs.Ids.{id_of}
 use Rattle.eutxo_types.specs.Parts.{Instance}
 use Rattle.roles.specs.declared.published.Published.{Published}
+use Rattle.roles.specs.Sums.{sums_of, SumsAreTotals}
 use Rattle.roles.specs.Terms.{terms_of}
 use Rattle.ledger_laws.specs.Past.{Past}
+use Rattle.ledger_laws.specs.Sound.{AreKeys}
 use Rattle.ledger_laws.specs.Threads.{thread, ends, IsStart, StartsThread, Member, Run, Carries, contract_after, state_after}
 use Rattle.ledger_laws.specs.Laws.{ExactlyOne, EndsWithItsRun, EachStepHasItsThread, ContractsAreStepped, EachIsAuthorised, EachContractEndsAThread, EachEndIsUnspent, AreFunded, AreOfTables, ReferencesAreSingle, IdsAreSingle, IsSpentOnce, IsPreserved, StepsAreOfContracts}
 use Rattle.ledger.specs.declared.ask.Ask.{Ask}
@@ -29,6 +34,7 @@ use Rattle.builder_spec.specs.Closings.{closing, Closes}
 use Rattle.builder_spec.specs.Change.{StepChangeIsTheRest, StartChangeIsTheRest}
 use Rattle.builder_spec.specs.Starts.{start_front, hinders_start, layout_start}
 use Rattle.builder_spec.specs.Claims.{claim_front, hinders_claim, layout_claim}
+use Rattle.ledger_spec.specs.Legal.{IsLegal, before_entry}
 use Rattle.ledger_spec.specs.Open.{IsOpen}
 use Rattle.ledger_spec.specs.Publishing.{IsPublication, StandsUnderItsId, IdsTellContracts}
 use Rattle.ledger_spec.specs.Replay.{Course, published, published_at, world, past_of}
@@ -44,6 +50,10 @@ EachIsARunOfItsContract es named past =
     (r : OutputRef) (i : Instance) → IsStart past r i →
     (p : Published) × (named i.script ≡ Some p) × (x : IsPublication es i.script p)
     × ExactlyOne (λ run. Run (contract_tree x.contract) i.datum.state run × Carries (terms_of p) i.script (thread past r) run)
+
+-- of accounts above 0 the sums are above 0, of each token that they hold
+abbrev pub SumsArePositive : Type 0
+SumsArePositive = (s : StateMaps) → AllPositive (entries s.accounts) → AllPositive (entries (sums_of s))
 
 -- what holds after these entries of all that was accepted, where this is published under ids
 pub record IsSoundLedger (es : List Entry) (named : List ℕ → Option Published) (past : Past) : Type 0 where
@@ -72,6 +82,10 @@ pub record IsSoundLedger (es : List Entry) (named : List ℕ → Option Publishe
   pub unspent : EachEndIsUnspent past
   -- such an output holds exactly the sums of its accounts
   pub funded : AreFunded past
+  -- which are, token by token, the totals by which the transaction function keeps money
+  pub sums : SumsAreTotals
+  -- and above 0, as accounts are
+  pub positive : SumsArePositive
   -- and stands at a number of the table that was published under its script
   pub numbers : AreOfTables named past
   -- no two outputs that there ever were have one reference
@@ -116,6 +130,12 @@ AcceptsClaims c = (r : ClaimRequest) → hinders_claim r ≡ None → IsOpenAfte
 abbrev pub ShowsCurrentThreads : Course → Type 0
 ShowsCurrentThreads c = (ask : Ask) (t : ThreadOutput) → thread_shown (world c) ask.thread ≡ Some t → (d : Datum) × (look_thread (look (world c) ask) ≡ Some (record { shown = t; datum = d }))
 
+-- and it is that of the start output that the look asks for, shown where that ends
+abbrev pub ShowsThreadsOfStarts : Course → Type 0
+ShowsThreadsOfStarts c =
+    (ask : Ask) (t : ThreadOutput) → thread_shown (world c) ask.thread ≡ Some t →
+    (r : OutputRef) × (ask.thread ≡ Some r) × StartsThread (past_of (world c)) r × (ends (Some r) (thread (past_of (world c)) r) ≡ Some t.reference)
+
 -- its datum stands where the thread's run stands
 abbrev pub ShowsWhereRunsStand : Course → Type 0
 ShowsWhereRunsStand c =
@@ -133,7 +153,7 @@ ShowsWhatIsNotOver c =
 -- AFTER THE LAST TIMEOUT ANYONE CLOSES a thread that a look shows: without inputs and offers, in an interval that ends neither before its
 -- start nor before the minimum time, nothing hinders it but that a number leaves 128 bits or that Close without accounts stands. Where
 -- nothing does, the parties are paid all that the output held, and the layout is accepted while it is open
-pub record IsClosed (c : Course) (look : Look) (e : Thread) (r : StepRequest) : Type 0 where
+pub record IsClosedByAnyone (c : Course) (look : Look) (e : Thread) (r : StepRequest) : Type 0 where
   pub outcome : Closes r e (hinders_step look r)
   pub accepted : hinders_step look r ≡ None → IsOpenAfter c (step_spent r e) (layout_step look r) → Accepts c (layout_step look r)
 
@@ -141,7 +161,7 @@ abbrev pub AnyoneClosesShown : Course → Type 0
 AnyoneClosesShown c =
     (ask : Ask) (e : Thread) (i : Interval) (signers : List (List ℕ)) (change : List ℕ) → look_thread (look (world c) ask) ≡ Some e →
     HasReached (last ((thread_terms e).tree e.datum.cont)) i.from → i.from ≤ℤ i.to → e.datum.state.min_time ≤ℤ i.to →
-    IsClosed c (look (world c) ask) e (closing i signers change)
+    IsClosedByAnyone c (look (world c) ask) e (closing i signers change)
 
 -- WHAT IS BUILT IS ACCEPTED after this history, for every look and request, whatever other entries there are; and what the looks of its
 -- end show
@@ -156,6 +176,8 @@ pub record SecondHalf (c : Course) : Type 0 where
   pub claims : AcceptsClaims c
   -- a look shows no thread but one that meets the first clause of what hinders a step
   pub shown : ShowsCurrentThreads c
+  -- it is the thread of a start output, and shown where it ends
+  pub of_starts : ShowsThreadsOfStarts c
   -- at the state and the contract where the thread's run stands
   pub current : ShowsWhereRunsStand c
   -- and each thread that isn't over
@@ -166,3 +188,13 @@ pub record SecondHalf (c : Course) : Type 0 where
   pub step_change : StepChangeIsTheRest
   -- and that of a start what its front holds above the accounts
   pub start_change : StartChangeIsTheRest
+
+-- ---- BOTH HALVES
+
+abbrev pub BothHalves : Course → Type 0
+BothHalves c = FirstHalf c × SecondHalf c
+
+-- BOTH HOLD THROUGHOUT EVERY LEGAL HISTORY that began with key outputs and whose accepted transactions fit their spelling: after the whole of it,
+-- and before each of its entries
+abbrev pub LegalHistoriesHaveBothHalves : Type 0
+LegalHistoriesHaveBothHalves = (c : Course) → IsLegal c → AreKeys c.genesis → All TxFits (past_of (world c)).accepted → BothHalves c × ((n : ℕ) → BothHalves (before_entry c n))

@@ -1,5 +1,5 @@
 -- What the Publish calls of a history published.
-use Rattle.std.specs.Prelude.{◌≡◌, ℕ, List, slice_get, Option, Some, Ok}
+use Rattle.std.specs.Prelude.{◌≡◌, ℕ, List, take, slice_get, Option, Some, Ok}
 use Rattle.contract.specs.declared.tree.Contract.{Contract}
 use Rattle.contract.specs.Tree.{contract_tree}
 use Rattle.roles.specs.declared.published.Published.{Published}
@@ -37,11 +37,11 @@ abbrev pub IdsTellContracts : List Entry → Type 0
 IdsTellContracts es =
     (id : List ℕ) (c d : Contract) (x y : List ℕ) → Publishes es id c x → Publishes es id d y → (contract_tree c ≡ contract_tree d) × (x ≡ y)
 
--- and an entry is answered that its id is in use only where another contract or currency is published under that
+-- and an entry is answered that its id is in use only where an earlier one published another contract or currency under that
 abbrev pub InUseByAnother : List Entry → Type 0
 InUseByAnother es =
     (n : ℕ) (e : Entry) (c : Contract) (x : List ℕ) → slice_get es n ≡ Some e → e.call ≡ on.Publish c x → e.reply ≡ answer.IdInUse →
-    (p : Published) × (publication c x ≡ Ok p) × (d : Contract) × (y : List ℕ) × Publishes es p.id d y × ((contract_tree c ≡ contract_tree d) × (x ≡ y) → ⊥)
+    (p : Published) × (publication c x ≡ Ok p) × (d : Contract) × (y : List ℕ) × Publishes (take n es) p.id d y × ((contract_tree c ≡ contract_tree d) × (x ≡ y) → ⊥)
 
 -- so of every legal history
 abbrev pub PublicationsAreEntries : Type 0

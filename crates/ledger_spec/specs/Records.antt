@@ -21,6 +21,10 @@ member_of t x =
 abbrev pub HoldsNumber : Link → StepRecord → Type 0
 HoldsNumber l x = (i : Instance) → contract_at l.tx 0 ≡ Some i → i.datum.cont ≡ x.number
 
+-- so each of them, transaction by transaction
+abbrev pub HoldNumbers : List Link → List StepRecord → Type 0
+HoldNumbers ls xs = (n : ℕ) (l : Link) (x : StepRecord) → slice_get ls n ≡ Some l → slice_get xs n ≡ Some x → HoldsNumber l x
+
 -- the run of what is published under the script, from the state in the start's datum; the thread carries it, transaction by
 -- transaction; each number is one of the table's and, where the thread goes on, the one that its next output holds
 pub record TellTheRun (published : List ℕ → Option Published) (past : Past) (r : OutputRef) (c : Instance) (xs : List StepRecord) : Type 0 where
@@ -29,7 +33,7 @@ pub record TellTheRun (published : List ℕ → Option Published) (past : Past) 
   pub run : Run ((terms_of object).tree object.root) c.datum.state (map (member_of (terms_of object)) xs)
   pub carried : Carries (terms_of object) c.script (thread past r) (map (member_of (terms_of object)) xs)
   pub numbers : All (λ x. (terms_of object).has x.number ≡ true) xs
-  pub held : (n : ℕ) (l : Link) (x : StepRecord) → slice_get (thread past r) n ≡ Some l → slice_get xs n ≡ Some x → HoldsNumber l x
+  pub held : HoldNumbers (thread past r) xs
 
 -- of a start output the records tell its run; where no thread starts, there are none
 pub record AreSteps (published : List ℕ → Option Published) (past : Past) (r : OutputRef) (xs : List StepRecord) : Type 0 where

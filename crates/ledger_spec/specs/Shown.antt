@@ -24,7 +24,7 @@ abbrev pub accepted_between : Course → ℕ → ℕ → List Tx
 accepted_between c n m = drop (length (world (before_entry c n)).replay.accepted) (world (before_entry c m)).replay.accepted
 
 -- a look shows an output whose lock it asks for; and where it asks for a thread that ended there after this past, as that thread's
-pub record IsShown (past : Past) (ask : Ask) (l : Look) (u : Unspent) : Type 0 where
+pub record ShowsOutput (past : Past) (ask : Ask) (l : Look) (u : Unspent) : Type 0 where
   pub key : is_key_of ask.keys u.output.lock ≡ true → Contains l.keys u
   pub payout : is_payout_of ask.payouts u.output.lock ≡ true → Contains l.payouts u
   pub thread : (r : OutputRef) → ask.thread ≡ Some r → end_of past r ≡ Some u.reference →
@@ -38,4 +38,4 @@ ShowsWhatWasMade c =
     slice_get c.entries n ≡ Some e → e.call ≡ on.Submit tx → e.reply ≡ answer.Accepted (id_of tx) →
     slice_get c.entries m ≡ Some f → f.call ≡ on.Look ask → f.reply ≡ answer.Look l →
     slice_get tx.outputs i ≡ Some o → is_spent (accepted_between c (n + 1) m) (Made (id_of tx) i) ≡ false →
-    IsShown (past_of (world (before_entry c (n + 1)))) ask l (record { reference = Made (id_of tx) i; output = o })
+    ShowsOutput (past_of (world (before_entry c (n + 1)))) ask l (record { reference = Made (id_of tx) i; output = o })

@@ -58,10 +58,10 @@ accepted_by es call r = []
 
 -- WHAT STANDS: the tick is the last that an entry advanced to, else the first; pending are the enqueued transactions that no round took, in
 -- order, with their tickets; accepted are, in order, the Submits answered Accepted and the accepted places of the rounds
-pub record Stands (c : Course) : Type 0 where
+pub record StandsAsTold (c : Course) : Type 0 where
   pub tick : (world c).replay.tick ≡ last_of c.first_tick (advances c.entries)
   pub pending : (world c).replay.pending ≡ filter (λ p. not (is_taken c.entries p.0)) (enqueued c.entries)
   pub accepted : (world c).replay.accepted ≡ flat_map (λ e. accepted_by c.entries e.call e.reply) c.entries
 
 abbrev pub LegalHistoriesStand : Type 0
-LegalHistoriesStand = (c : Course) → IsLegal c → Stands c
+LegalHistoriesStand = (c : Course) → IsLegal c → StandsAsTold c

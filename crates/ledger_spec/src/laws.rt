@@ -12,8 +12,8 @@ pub fn legal_histories_stand()
 {}
 
 /// What is published under an id after a legal history is what an entry published: a table whose root stands for the
-/// entry's contract, with its currency; and what an entry published stands under its id. One id is of one contract and currency, and an entry is answered that its id
-/// is in use only where another has it.
+/// entry's contract, with its currency; and what an entry published stands under its id. One id is of one contract and
+/// currency, and an entry is answered that its id is in use only where an earlier one published another under it.
 pub fn publications_are_entries()
     ensures published { PublicationsAreEntries }
     ensures stands { EntriesArePublished }

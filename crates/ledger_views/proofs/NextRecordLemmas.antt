@@ -19,8 +19,8 @@ use Rattle.ledger_laws.specs.Threads.{Link, Member, Run, LaidOutAfter, Carries}
 use Rattle.ledger_laws.proofs.JudgedLemmas.{mapped_none}
 use Rattle.ledger_laws.proofs.PlainLaws.{same_some}
 use Rattle.ledger_spec.specs.declared.step_record.StepRecord.{StepRecord}
-use Rattle.ledger_spec.specs.Records.{member_of, HoldsNumber}
-use Rattle.ledger_views.specs.RecordsSupport.{Point, stands_after, left_by, given, number_after, IsStepOf, IsRunOf, HoldNumbers, Goes}
+use Rattle.ledger_spec.specs.Records.{member_of, HoldsNumber, HoldNumbers}
+use Rattle.ledger_views.specs.RecordsSupport.{Point, stands_after, left_by, given, number_after, IsStepOf, IsRunOf, Goes}
 
 -- ---- where a thread stands
 

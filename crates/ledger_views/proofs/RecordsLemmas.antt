@@ -13,8 +13,8 @@ use Rattle.ledger_laws.specs.Laws.{AreTables, ThreadsAreRuns}
 use Rattle.ledger_laws.specs.Threads.{IsStart, Member, thread}
 use Rattle.ledger_laws.proofs.PlainLaws.{same_some}
 use Rattle.ledger_spec.specs.declared.step_record.StepRecord.{StepRecord}
-use Rattle.ledger_spec.specs.Records.{member_of, TellTheRun}
-use Rattle.ledger_views.specs.RecordsSupport.{point, IsRunOf, HoldNumbers}
+use Rattle.ledger_spec.specs.Records.{member_of, TellTheRun, HoldNumbers}
+use Rattle.ledger_views.specs.RecordsSupport.{point, IsRunOf}
 
 module _ (law : ThreadsAreRuns) (named : List ℕ → Option Published) (past : Past) (tables : AreTables named) (sound : IsSound marlowe named past) where
   module _ (r : OutputRef) (c : Instance) (start : IsStart past r c) where

@@ -14,7 +14,7 @@ use Rattle.roles.specs.Terms.{Terms}
 use Rattle.ledger_laws.specs.Threads.{Link, Member, next_of, Gives, Run, LaidOut, Carries}
 use Rattle.ledger_spec.specs.Views.{starts_in}
 use Rattle.ledger_spec.specs.declared.step_record.StepRecord.{StepRecord}
-use Rattle.ledger_spec.specs.Records.{member_of, HoldsNumber}
+use Rattle.ledger_spec.specs.Records.{member_of}
 
 -- ---- the start
 
@@ -73,10 +73,6 @@ pub record IsStepOf (t : Terms) (p : Point) (l : Link) (x : Member) : Type 0 whe
 pub record IsRunOf (t : Terms) (p : Point) (script : List ℕ) (ls : List Link) (run : List Member) : Type 0 where
   pub runs : Run (t.tree p.0) p.1 run
   pub carried : Carries t script ls run
-
--- each record's number is the one that the next output of its link holds
-abbrev pub HoldNumbers : List Link → List StepRecord → Type 0
-HoldNumbers ls xs = (n : ℕ) (l : Link) (x : StepRecord) → slice_get ls n ≡ Some l → slice_get xs n ≡ Some x → HoldsNumber l x
 
 -- of the links these are left, after these records
 pub record Goes (t : Terms) (p : Point) (script : List ℕ) (ls : List Link) (xs : List StepRecord) (left : List Link) : Type 0 where

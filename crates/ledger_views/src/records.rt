@@ -8,8 +8,8 @@ ghost use Rattle.ledger_laws.specs.Laws.{AreTables};
 ghost use Rattle.ledger_laws.specs.Sound.{IsSound};
 ghost use Rattle.ledger_laws.specs.Threads.{IsStart, Member, spine};
 ghost use Rattle.ledger_spec.specs.Replay.{past_of, published_at};
-ghost use Rattle.ledger_spec.specs.Records.{member_of, HoldsNumber, TellTheRun, AreSteps};
-ghost use Rattle.ledger_views.specs.RecordsSupport.{given, point, stands_after, number_after, IsStepOf, IsRunOf, HoldNumbers};
+ghost use Rattle.ledger_spec.specs.Records.{member_of, HoldsNumber, TellTheRun, AreSteps, HoldNumbers};
+ghost use Rattle.ledger_views.specs.RecordsSupport.{given, point, stands_after, number_after, IsStepOf, IsRunOf};
 
 use crate::links::{ThreadLink, thread};
 use crate::start::start_at;

@@ -1,5 +1,5 @@
 //! The spelling of a datum.
-ghost use Rattle.std.specs.Prelude.{◌≡◌, ◌<◌, ◌^◌, ◌++◌, OnOk};
+ghost use Rattle.std.specs.Prelude.{◌≡◌, ◌<◌, ◌^◌, ◌++◌, OnOk, OnErr};
 ghost use Rattle.machine.specs.Spelling.{cont_bytes, datum_bytes, DatumFits};
 
 use crate::datum::Datum;
@@ -10,6 +10,7 @@ use contract_bytes::Spell;
 fn put_cont(out: &mut Vec<u8>, number: u32) -> Result<(), Memory>
     ensures spelling { OnOk result (out.new.items ≡ out.old.items ++ cont_bytes number) }
     ensures fits { number < 2 ^ 32 }
+    ensures err { OnErr result (out.new.items ≡ out.old.items) }
 {
     let bytes = number.to_be_bytes();
     out.extend_from_slice(bytes.as_slice())?;

@@ -5,11 +5,9 @@ use chain::{Chain, Entry, Reply, StepRecord, Ticketed};
 use collections::Memory;
 use eutxo_types::Verdict;
 use marlowe_run::compile_fault_name;
-use nodes::ContNode;
 use plans::NamedThread;
 use std::alloc::Global;
 use std::fmt::Write;
-use table::Table;
 
 // The whole text. Each line ends in a line feed.
 pub(crate) fn played_text(
@@ -117,14 +115,9 @@ fn print_thread(
 // Whether the last of a thread's steps left Close.
 fn is_over(stage: &Stage<'_>, thread: &NamedThread, steps: &[StepRecord]) -> bool {
     match (stage.contracts.get(thread.contract), steps.last()) {
-        (Some(contract), Some(step)) => is_close(&contract.table, step.number.0),
+        (Some(contract), Some(step)) => {
+            contract.table.contains(step.number) && contract.table.is_close(step.number)
+        }
         _ => false,
-    }
-}
-
-fn is_close(table: &Table, number: u32) -> bool {
-    match table.conts().get(number as usize) {
-        Some(entry) => matches!(&entry.node, ContNode::Close),
-        None => false,
     }
 }

@@ -5,7 +5,9 @@ use Rattle.std.specs.Option.{option_and_then}
 use Rattle.std.proofs.lemmas.Bool.{and_parts}
 use Rattle.contract.specs.Tree.{ContractTree, close, pay, if_obs, when, let_be, assert, CaseTrees, no_cases, case_then}
 use Rattle.evaluation.specs.Path.{Turn, refund, next, then_branch, else_branch, timed_out, in_case, case_list, part, along}
-use Rattle.json_write_contracts.specs.Written.{value_fits, observation_fits, action_fits, time_fits, contract_fits, cases_fit}
+use Rattle.json_write_contracts.specs.WrittenNames.{time_fits}
+use Rattle.json_write_contracts.specs.WrittenValues.{value_fits, observation_fits}
+use Rattle.json_write_contracts.specs.WrittenContract.{action_fits, contract_fits, cases_fit}
 
 -- where there is a part, it can be written
 abbrev Fit : Option ContractTree → Type 0

@@ -3,7 +3,7 @@
 ghost use Rattle.std.specs.Prelude.{◌≡◌, List, true, Some};
 ghost use Rattle.contract.specs.Tree.{ContractTree};
 ghost use Rattle.evaluation.specs.Path.{Turn, along};
-ghost use Rattle.json_write_contracts.specs.Written.{contract_fits};
+ghost use Rattle.json_write_contracts.specs.WrittenContract.{contract_fits};
 
 /// A part of a contract that can be written can be written: JSON has all its numbers. So a contract that was read is
 /// written again wherever a transaction leaves it.

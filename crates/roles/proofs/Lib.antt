@@ -1,5 +1,6 @@
 pub mod LeftLemmas
 pub mod SumsLemmas
 pub mod OutputLemmas
+pub mod OwedLaws
 pub mod PublicationsLemmas
 mod WorkedLemmas

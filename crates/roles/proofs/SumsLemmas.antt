@@ -7,7 +7,7 @@ use Rattle.std.specs.Option.{unwrap_or}
 use Rattle.std.specs.Ordering.{is_eq, eq_by_cmp}
 use Rattle.std.specs.Cmp.{tied_itself}
 use Rattle.std.specs.declared.cmp.Ordering.TheVariants.{Less, Equal, Greater}
-use Rattle.std.specs.FinMap.{FinMap, empty, entries, insert, entries-insert, entries-from_sorted, get-empty, get-entries, entries_sorted}
+use Rattle.std.specs.FinMap.{FinMap, empty, entries, insert, from_sorted, same_entries_map, entries-insert, entries-from_sorted, get-empty, get-entries, entries_sorted}
 use Rattle.std.specs.FinMap.Entries.{put}
 use Rattle.collections.specs.Total.{total}
 use Rattle.collections.proofs.Maps.{no_entries}
@@ -33,6 +33,10 @@ entries-empty = ap entries (sym (no_entries token_cmp)) ∙ entries-from_sorted 
 
 pub entries-only : (t : Token) (n : ℤ) → entries (only t n) ≡ (t, n) ∷ []
 entries-only t n = entries-insert token_total empty t n ∙ ap (put token_cmp t n) entries-empty
+
+-- the map of one entry
+pub only_is : (t : Token) (n : ℤ) → from_sorted {R = token_cmp} ((t, n) ∷ []) ≡ only t n
+only_is t n = same_entries_map (from_sorted ((t, n) ∷ [])) (only t n) (entries-from_sorted token_cmp ((t, n) ∷ []) tt ∙ sym (entries-only t n))
 
 pub amount_of-empty : (t : Token) → amount_of empty t ≡ pos 0
 amount_of-empty t = ap (λ o. unwrap_or o (pos 0)) (get-empty token_cmp t)

@@ -11,7 +11,7 @@ ghost use Rattle.roles.specs.Sums.{sums_of};
 ghost use Rattle.roles.specs.Steps.{only, same_amounts};
 
 use bundle::Bundle;
-use collections::{Memory, Same};
+use collections::{Entries, Memory, Same};
 use contract::{Account, State};
 use names::{Token, compare_tokens};
 use std::alloc::Global;
@@ -83,6 +83,16 @@ pub fn is_sums(alloc: Global, amount: &Bundle, state: &State) -> Result<bool, Me
         }
     }
     Ok(are_zero(left.as_slice()))
+}
+
+/// Just this much of one token, above 0.
+pub fn only(alloc: Global, token: &Token, number: i128) -> Result<Bundle, Memory>
+    requires { pos 0 <ℤ number }
+    ensures { IfOk result (λ amount. amount ≡ only token.now number) }
+{
+    let mut entries = Entries::new(alloc);
+    entries.set(token, number)?;
+    Ok(Bundle::from_entries(entries))
 }
 
 /// Whether an amount is just this much of one token.

@@ -1,6 +1,7 @@
 //! What holds of every published contract: laws, each the contract of a function that does nothing.
 ghost use Rattle.roles.specs.Publications.{PublishedAreTables, PublishedTellApart};
 ghost use Rattle.roles.specs.Sums.{SumsAreTotals};
+ghost use Rattle.roles.specs.Owed.{GoesOnInContinuations, PaidInDueOutputs};
 ghost use Rattle.roles.specs.Worked.{EqualPaymentsAreTwo, NothingIsDue, PaidUnderLocks, TokensGrantInKeys, EmptyStartsHoldNothing};
 
 use crate::published::Published;
@@ -29,6 +30,13 @@ pub fn published_tell_contracts_apart()
 /// which the transaction function keeps money.
 pub fn sums_are_of_each_token()
     ensures { SumsAreTotals }
+{}
+
+/// What a step owes is recognised exactly where it stands as it is made: the output in which a contract goes on
+/// (rule 14), which `continuation` makes, and those that are due for payments (rule 15), which `put_due` makes.
+pub fn owed_as_made()
+    ensures continuation { GoesOnInContinuations }
+    ensures payments { PaidInDueOutputs }
 {}
 
 /// The definitions on small steps: two equal payments, payments that are due in no output, under which lock a party is

@@ -4,7 +4,7 @@ ghost use Rattle.roles.specs.Terms.{terms_of};
 ghost use Rattle.roles.specs.Steps.{outcome_answer, step_of};
 
 use crate::authorise::unauthorised;
-use crate::layout::{goes_on_in, unpaid_index};
+use crate::owing::{goes_on_in, unpaid_index};
 use crate::published::Published;
 use collections::{Bytes, Memory, TryClone};
 use contract::{Input, Outcome, SemFault};

@@ -4,13 +4,13 @@ ghost use Rattle.std.specs.List.{list_any};
 ghost use Rattle.std.specs.Option.{IfSome};
 ghost use Rattle.names.specs.Equal.{same_party, same_token, same_choice_id};
 ghost use Rattle.evaluation.specs.Numbers.{within};
-ghost use Rattle.collections.specs.Answers.{Aside, AsideBy};
-ghost use Rattle.semantics.specs.Walk.{standing, answer_of};
+ghost use Rattle.collections.specs.Answers.{Aside};
+ghost use Rattle.semantics.specs.Walk.{standing};
 ghost use Rattle.evaluation.specs.Path.{waits_for};
 ghost use Rattle.semantics.specs.Applying.{agrees, in_bound, matches, tried, taken, taken_numbers, taken_warnings};
 ghost use Rattle.semantics.specs.Computed.{first_match, first_match_index, tried_to_match, applied};
-ghost use Rattle.evaluation.specs.Parts.{Leads, IsEntered, StandsWait, wait_tree};
-ghost use Rattle.semantics.specs.Answer.{tree_of_next};
+ghost use Rattle.evaluation.specs.Parts.{IsEntered, StandsWait, wait_tree};
+ghost use Rattle.semantics.specs.Answer.{Continues, tree_of_next};
 
 use crate::accounts::deposit;
 use crate::log::Log;
@@ -29,14 +29,8 @@ pub fn apply<S: Parts>(
     log: &mut Log,
 ) -> Result<S::Place, SemFault>
     requires { S.contains parts.now place }
-    ensures reply { AsideBy SemFault.Memory (λ there. standing state.new (S.tree parts.now there)) result
-        (answer_of (applied interval input.now (standing state.old (S.tree parts.now place)))) }
-    ensures warnings { OnOk result (log.new.warnings
-        ≡ log.old.warnings ++ (applied interval input.now (standing state.old (S.tree parts.now place))).warnings) }
-    ensures payments { OnOk result (log.new.payments
-        ≡ log.old.payments ++ (applied interval input.now (standing state.old (S.tree parts.now place))).payments) }
-    ensures stands { IfOk result (λ there. S.contains parts.now there) }
-    ensures leads { IfOk result (λ there. Leads (S.enters parts.now) place (applied interval input.now (standing state.old (S.tree parts.now place))).turns there) }
+    ensures { Continues (S.tree parts.now) (S.contains parts.now) (S.enters parts.now) place log.old log.new state.new
+        (applied interval input.now (standing state.old (S.tree parts.now place))) result }
 {
     let Some(then) = matching_case(parts, input, place, state, interval)? else {
         return Err(SemFault::NoMatch);

@@ -21,7 +21,8 @@ use Rattle.nodes.specs.declared.case_node.CaseNode.TheVariants as cases
 use Rattle.nodes.specs.declared.cont_node.ContNode.{ContNode}
 use Rattle.nodes.specs.declared.cont_node.ContNode.TheVariants as conts
 use Rattle.table.specs.Flat.{Flat}
-use Rattle.json_write_contracts.specs.Written.{party_json, payee_json, token_json, choice_id_json, bound_json}
+use Rattle.json_write_contracts.specs.WrittenNames.{party_json, payee_json, token_json, choice_id_json}
+use Rattle.json_write_contracts.specs.WrittenContract.{bound_json}
 
 -- ---- words
 

@@ -9,6 +9,8 @@ mod counting;
 #[cfg(test)]
 mod deal;
 #[cfg(test)]
+mod full;
+#[cfg(test)]
 mod jobs;
 #[cfg(test)]
 mod many;

@@ -105,7 +105,7 @@ fn played<J: Session + Send + Sync, R: Threads + Wait + Sync>(
 }
 
 // Whether a receipt's entry says what the receipt says.
-fn agrees<J: Session>(closed: &Closed<J>, receipt: &Receipt<J>) -> bool {
+pub fn agrees<J: Session>(closed: &Closed<J>, receipt: &Receipt<J>) -> bool {
     let entry = closed.entry(receipt);
     entry.seat == receipt.seat()
         && entry.number == receipt.number()

@@ -1,5 +1,5 @@
 -- From what each call answered to what the callers promise.
-use Rattle.std.proofs.Common.{◌≡◌, ℕ, List, [], sym, ap, ◌∙◌, Some, Result, Ok, Err}
+use Rattle.std.proofs.Common.{◌≡◌, inr, OnErr, ℕ, List, [], sym, ap, ◌∙◌, Some, Result, Ok, Err}
 use Rattle.contract.specs.declared.input.Input.{Input}
 use Rattle.contract.specs.declared.interval.Interval.{Interval}
 use Rattle.eutxo_types.specs.declared.output_ref.OutputRef.{OutputRef}
@@ -19,8 +19,8 @@ use Rattle.builder_spec.specs.Requests.{StepRequest, ClaimRequest, request, clai
 use Rattle.builder_spec.specs.Built.{build_answer}
 use Rattle.builder_spec.specs.Steps.{hinders_step, layout_step}
 use Rattle.builder_spec.specs.Claims.{hinders_claim, layout_claim}
-use Rattle.uses.specs.Uses.{called, thread_ask, thread_look, at_tick, step_asked, IsStepped, after_step, claim_asked, IsClaimed}
-use Rattle.uses.proofs.SteppedLemmas.{stepped, after_stepped, claimed, not_built}
+use Rattle.uses.specs.Uses.{called, thread_ask, thread_look, at_tick, step_asked, IsStepped, after_step, OnlyLooked, claim_asked, IsClaimed, after_claim}
+use Rattle.uses.proofs.SteppedLemmas.{stepped, after_stepped, claimed, after_claimed, not_built}
 
 -- what a builder answers to a step
 abbrev pub step_answer : Look → StepRequest → Result Tx BuildFault
@@ -53,6 +53,12 @@ after_by c looked new seat start inputs signers offered change now ask l tx n o 
     after_stepped c new seat start (step_asked c inputs signers change) tx (as_asked c start inputs signers offered change now ask l (Ok tx) n o a k b)
     (h ∙ ap (λ (x : Course). called x seat (on.Submit tx)) (m ∙ ap (λ (x : Ask). called c seat (on.Look x)) a))
 
+-- where the step isn't submitted after the look, just the look is left
+pub only_looked : {T : Type 0} (r : Result T BuildFault) (c looked new : Course) (seat : ℕ) (start : OutputRef) (ask : Ask) →
+    ask ≡ thread_ask start → looked ≡ called c seat (on.Look ask) → new ≡ looked → OnErr r (OnlyLooked c new seat (thread_ask start))
+only_looked (Ok x) c looked new seat start ask a m h = tt
+only_looked (Err f) c looked new seat start ask a m h = inr (h ∙ m ∙ ap (λ (x : Ask). called c seat (on.Look x)) a)
+
 pub hindered_by : (c : Course) (start : OutputRef) (inputs : List Input) (signers : List (List ℕ)) (offered : List Unspent) (change : List ℕ) (now : Interval) (ask : Ask) (l : Look) (fault : BuildFault) →
     now ≡ at_tick c → offered ≡ [] → ask ≡ thread_ask start → l ≡ look (world c) ask → step_answer l (request now inputs signers offered change) ≡ Err fault →
     hinders_step (thread_look c start) (step_asked c inputs signers change) ≡ Some fault
@@ -67,6 +73,10 @@ claim_as_asked c payouts signers offered to now answer n b = sym (ap (λ (i : In
 pub claimed_by : (c : Course) (payouts : List Unspent) (signers : List (List ℕ)) (offered : List Unspent) (to : List ℕ) (now : Interval) (tx : Tx) (reply : Reply) →
     now ≡ at_tick c → SecondHalf c → claim_answer (claim_request payouts now signers offered to to) ≡ Ok tx → TxFits tx → reply ≡ reply_to (world c) (on.Submit tx) → IsClaimed c (claim_asked c payouts signers offered to) reply
 claimed_by c payouts signers offered to now tx reply n second b fits h = claimed c payouts signers offered to tx reply second (claim_as_asked c payouts signers offered to now (Ok tx) n b) fits h
+
+pub after_claimed_by : (c new : Course) (seat : ℕ) (payouts : List Unspent) (signers : List (List ℕ)) (offered : List Unspent) (to : List ℕ) (now : Interval) (tx : Tx) →
+    now ≡ at_tick c → claim_answer (claim_request payouts now signers offered to to) ≡ Ok tx → new ≡ called c seat (on.Submit tx) → new ≡ after_claim c seat (claim_asked c payouts signers offered to)
+after_claimed_by c new seat payouts signers offered to now tx n b h = after_claimed c new seat (claim_asked c payouts signers offered to) tx (claim_as_asked c payouts signers offered to now (Ok tx) n b) h
 
 pub claim_hindered_by : (c : Course) (payouts : List Unspent) (signers : List (List ℕ)) (offered : List Unspent) (to : List ℕ) (now : Interval) (fault : BuildFault) →
     now ≡ at_tick c → claim_answer (claim_request payouts now signers offered to to) ≡ Err fault → hinders_claim (claim_asked c payouts signers offered to) ≡ Some fault

@@ -31,12 +31,12 @@ use Rattle.ledger_spec.specs.Calls.{submit_reply, reply_to}
 use Rattle.ledger_spec.specs.Headline.{SecondHalf, IsOpenAfter}
 use Rattle.ledger_spec.proofs.ReplayLaws.{replay_after}
 use Rattle.builder_spec.specs.declared.fault.BuildFault.{BuildFault}
-use Rattle.builder_spec.specs.Requests.{StepRequest}
+use Rattle.builder_spec.specs.Requests.{StepRequest, ClaimRequest}
 use Rattle.builder_spec.specs.Built.{build_answer}
 use Rattle.builder_spec.specs.Steps.{Thread, is_current, thread_in, thread_of, look_thread, own_output, step_spent, hinders_on, hinders_step, layout_on, layout_step}
 use Rattle.builder_spec.specs.Closings.{Closes}
 use Rattle.builder_spec.specs.Claims.{hinders_claim, layout_claim}
-use Rattle.uses.specs.Uses.{called, thread_ask, thread_look, at_tick, step_asked, IsStepped, after_step, closing_asked, IsClosed, NeedNotClose, claim_asked, IsClaimed}
+use Rattle.uses.specs.Uses.{called, thread_ask, thread_look, at_tick, step_asked, IsStepped, after_step, closing_asked, IsThreadClosed, NeedNotClose, claim_asked, IsClaimed, after_claim}
 
 -- ---- a look changes nothing that a Submit reads
 
@@ -169,7 +169,7 @@ after_stepped c new seat start r tx b h =
 
 -- ---- closing
 
-pub closed : (c : Course) (start : OutputRef) (change : List ℕ) (reply : Reply) → SecondHalf c → IsStepped c start (closing_asked c change) reply → IsClosed c start change reply
+pub closed : (c : Course) (start : OutputRef) (change : List ℕ) (reply : Reply) → SecondHalf c → IsStepped c start (closing_asked c change) reply → IsThreadClosed c start change reply
 closed c start change reply second s =
     record {
       stepped = s;
@@ -196,3 +196,6 @@ claimed c payouts signers offered to tx reply second b fits h =
           λ unspent alone. h ∙ ap (λ (x : Tx). reply_to (world c) (on.Submit x)) clear.1
           ∙ second.claims r clear.0 (subst (λ (x : Tx). TxFits x) clear.1 fits, record { unspent = unspent; alone = alone; from = ≤ℤ_refl (world c).replay.tick; to = ≤ℤ_refl (world c).replay.tick });
     }
+
+pub after_claimed : (c new : Course) (seat : ℕ) (r : ClaimRequest) (tx : Tx) → build_answer (hinders_claim r) (layout_claim r) ≡ Ok tx → new ≡ called c seat (on.Submit tx) → new ≡ after_claim c seat r
+after_claimed c new seat r tx b h = h ∙ ap (λ (x : Tx). called c seat (on.Submit x)) (built (hinders_claim r) (layout_claim r) tx b).1

@@ -1,5 +1,5 @@
 -- What the callers are promised, over what a chain holds: its course, and what stands after it.
-use Rattle.std.specs.Prelude.{◌≡◌, ℕ, ◌≤ℤ◌, List, [], ◌++◌, All, Some, None}
+use Rattle.std.specs.Prelude.{◌≡◌, ◌⊎◌, ℕ, ◌≤ℤ◌, List, [], ◌++◌, All, Some, None}
 use Rattle.contract.specs.declared.input.Input.{Input}
 use Rattle.contract.specs.declared.interval.Interval.{Interval}
 use Rattle.contract.specs.declared.tree.Contract.{Contract}
@@ -37,6 +37,10 @@ use Rattle.builder_spec.specs.Claims.{claim_front, hinders_claim, layout_claim}
 -- after one call more
 abbrev pub called : Course → ℕ → Call → Course
 called c seat call = with_entry c (entry_of c seat call)
+
+-- the chain is as it was, or has one look more
+abbrev pub OnlyLooked : Course → Course → ℕ → Ask → Type 0
+OnlyLooked c new seat ask = (new ≡ c) ⊎ (new ≡ called c seat (on.Look ask))
 
 -- what asks for one thread
 abbrev pub thread_ask : OutputRef → Ask
@@ -83,7 +87,7 @@ pub record IsOver (c : Course) (e : Thread) : Type 0 where
   pub time : e.datum.state.min_time ≤ℤ (world c).replay.tick
 
 -- it is accepted; and where the contract is over, all that the output held is paid to parties, and Close without accounts remains
-pub record IsClosed (c : Course) (start : OutputRef) (change : List ℕ) (reply : Reply) : Type 0 where
+pub record IsThreadClosed (c : Course) (start : OutputRef) (change : List ℕ) (reply : Reply) : Type 0 where
   pub stepped : IsStepped c start (closing_asked c change) reply
   pub paid : IsOver c stepped.thread → Closes (closing_asked c change) stepped.thread None
 
@@ -143,3 +147,7 @@ AreUnspentAfter c us = All (λ u. unspent_at (past_of (world c)) u.reference ≡
 pub record IsClaimed (c : Course) (r : ClaimRequest) (reply : Reply) : Type 0 where
   pub clear : hinders_claim r ≡ None
   pub accepted : AreUnspentAfter c (r.payouts ++ claim_front r) → IsAccepted c (layout_claim r) reply
+
+-- after its Submit
+abbrev pub after_claim : Course → ℕ → ClaimRequest → Course
+after_claim c seat r = called c seat (on.Submit (layout_claim r))

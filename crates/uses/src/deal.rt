@@ -27,7 +27,8 @@ pub struct Deal<'a> {
 
 // Publishes the contract on the chain.
 fn publish_deal(alloc: Global, chain: &mut Chain, seat: u64, deal: Deal<'_>) -> Result<(), Memory>
-    ensures { OnOk result (chain.new ≡ called chain.old seat (on.Publish deal.entry.contract.now deal.entry.currency.now)) }
+    ensures { let call = on.Publish deal.entry.contract.now deal.entry.currency.now in
+        OnOk result (chain.new ≡ called chain.old seat call) }
 {
     let currency = deal.currency.try_clone()?;
     let contract = deal.contract.try_clone()?;

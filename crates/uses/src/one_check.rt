@@ -20,7 +20,8 @@ pub fn check_one(
     outputs: Items<Option<Output>>,
     published: Published,
 ) -> Result<Verdict, Memory>
-    ensures { IfOk result (λ verdict. verdict ≡ verdict_of (local marlowe tx.now (resolution_of outputs published.id published))) }
+    ensures { IfOk result (λ verdict. verdict
+        ≡ verdict_of (local marlowe tx.now (resolution_of outputs published.id published))) }
 {
     let id = published.id;
     let shared = Shared::new(Arc::new(alloc, published)?);

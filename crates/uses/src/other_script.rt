@@ -68,7 +68,8 @@ pub fn check_lock(
     id: [u8; 32],
     lock: TimeLock,
 ) -> Result<Verdict, Memory>
-    ensures verdict { IfOk result (λ verdict. verdict ≡ verdict_of (local time_locks tx.now (resolution_of outputs id lock))) }
+    ensures verdict { IfOk result (λ verdict. verdict
+        ≡ verdict_of (local time_locks tx.now (resolution_of outputs id lock))) }
     ensures keeps { IfOk result (λ verdict. KeepsTheLock id lock tx.now outputs verdict) }
 {
     let shared = Shared::new(Arc::new(alloc, lock)?);

@@ -1,11 +1,11 @@
 //! The calls of a chain, each with the reply that its kind has.
-ghost use Rattle.std.specs.Prelude.{◌≡◌, IfOk, OnOk};
+ghost use Rattle.std.specs.Prelude.{◌≡◌, IfOk, OnOk, OnErr};
 ghost use Rattle.ledger.specs.declared.call.Call.TheVariants as on;
 ghost use Rattle.ledger_spec.specs.Replay.{world};
 ghost use Rattle.ledger_spec.specs.Views.{look};
 ghost use Rattle.ledger_spec.specs.Calls.{reply_to};
 ghost use Rattle.ledger_spec.specs.Headline.{SecondHalf};
-ghost use Rattle.uses.specs.Uses.{thread_ask, at_tick, called};
+ghost use Rattle.uses.specs.Uses.{thread_ask, at_tick, called, OnlyLooked};
 
 use chain::{Call, Chain, Reply};
 use collections::{Items, Memory, TryClone};
@@ -46,6 +46,7 @@ pub(crate) fn thread_ask(alloc: Global, start: OutputRef) -> Ask
 pub(crate) fn look_at(alloc: Global, chain: &mut Chain, seat: u64, ask: Ask) -> Result<Look, Memory>
     ensures look { IfOk result (λ shown. shown ≡ look (world chain.old) ask) }
     ensures after { OnOk result (chain.new ≡ called chain.old seat (on.Look ask)) }
+    ensures err { OnErr result (OnlyLooked chain.old chain.new seat ask) }
     ensures second { SecondHalf chain.old }
 {
     let (reply, _copy) = chain.step(alloc, seat, Call::Look(ask), &[])?;
@@ -59,6 +60,7 @@ pub(crate) fn look_at(alloc: Global, chain: &mut Chain, seat: u64, ask: Ask) -> 
 pub(crate) fn submit(alloc: Global, chain: &mut Chain, seat: u64, tx: Tx) -> Result<Reply, Memory>
     ensures reply { IfOk result (λ reply. reply ≡ reply_to (world chain.old) (on.Submit tx)) }
     ensures after { OnOk result (chain.new ≡ called chain.old seat (on.Submit tx)) }
+    ensures err { OnErr result (chain.new ≡ chain.old) }
     ensures second { SecondHalf chain.old }
 {
     let (reply, _copy) = chain.step(alloc, seat, Call::Submit(tx), &[])?;

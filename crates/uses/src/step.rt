@@ -1,7 +1,7 @@
 //! A step of a thread, now.
-ghost use Rattle.std.specs.Prelude.{◌≡◌, ◌≢◌, Some, IfOk, IfErr, OnOk};
+ghost use Rattle.std.specs.Prelude.{◌≡◌, ◌≢◌, Some, IfOk, IfErr, OnOk, OnErr};
 ghost use Rattle.builder_spec.specs.Steps.{hinders_step};
-ghost use Rattle.uses.specs.Uses.{thread_look, step_asked, IsStepped, after_step};
+ghost use Rattle.uses.specs.Uses.{thread_ask, thread_look, step_asked, IsStepped, after_step, OnlyLooked};
 
 use crate::plain_calls::{at_tick, look_at, submit, thread_ask};
 use builder::{BuildFault, build_step};
@@ -14,7 +14,7 @@ use std::alloc::Global;
 
 /// Steps the thread from a start output at the present tick, with inputs of the contract that need signatures alone:
 /// it looks at the thread, builds the step with nothing offered, and submits that. Answers the reply to the Submit,
-/// or why there is no such step.
+/// or why there is no such step; then nothing is submitted, and the chain has at most the look more.
 ///
 /// The reply is that the step is accepted, whatever the chain has seen before, unless an accepted transaction of
 /// other bytes has the step's id: the SHA-256 of its bytes.
@@ -27,9 +27,13 @@ pub fn step_now(
     signers: &[Text],
     change: &Text,
 ) -> Result<Reply, BuildFault>
-    ensures stepped { IfOk result (λ reply. IsStepped chain.old start (step_asked chain.old inputs.now signers.now change.now) reply) }
-    ensures after { OnOk result (chain.new ≡ after_step chain.old seat start (step_asked chain.old inputs.now signers.now change.now)) }
-    ensures err { IfErr result (λ fault. fault ≢ BuildFault.Memory → hinders_step (thread_look chain.old start) (step_asked chain.old inputs.now signers.now change.now) ≡ Some fault) }
+    ensures stepped { let r = step_asked chain.old inputs.now signers.now change.now in
+        IfOk result (λ reply. IsStepped chain.old start r reply) }
+    ensures after { let r = step_asked chain.old inputs.now signers.now change.now in
+        OnOk result (chain.new ≡ after_step chain.old seat start r) }
+    ensures err { let r = step_asked chain.old inputs.now signers.now change.now in
+        IfErr result (λ fault. fault ≢ BuildFault.Memory → hinders_step (thread_look chain.old start) r ≡ Some fault) }
+    ensures looked { OnErr result (OnlyLooked chain.old chain.new seat (thread_ask start)) }
 {
     let offered: &[Unspent] = &[];
     let now = at_tick(chain);

@@ -1,7 +1,7 @@
 use Rattle.std.proofs.Common.{◌≡◌, true, take, map}
 use Rattle.std.specs.List.{list_all}
 use Rattle.json_write_contracts.specs.Tokens.{Adds}
-use Rattle.json_write_contracts.specs.Written.{bound_json, bound_fits}
+use Rattle.json_write_contracts.specs.WrittenContract.{bound_json, bound_fits}
 use Rattle.json_write_contracts.proofs.ListedLaws.{front}
 use Rattle.json_write_contracts.proofs.actions.put_bounds.Given as goal
 

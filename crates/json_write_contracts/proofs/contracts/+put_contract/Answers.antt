@@ -1,7 +1,7 @@
 use Rattle.std.proofs.Common.{◌&&◌}
 use Rattle.contract.specs.Tree.{case_tree}
-use Rattle.json_write_contracts.specs.Written.{case_json, case_fits}
-use Rattle.json_write_contracts.proofs.AddsLaws.{then, wrote}
+use Rattle.json_write_contracts.specs.WrittenContract.{case_json, case_fits}
+use Rattle.json_write_contracts.proofs.AddsLaws.{then, wrote, stopped, refused}
 use Rattle.json_write_contracts.proofs.ListedLaws.{listed, closed, all-more, all-over}
 use Rattle.json_write_contracts.proofs.SymbolsOf.{symbols-more, symbols-over}
 use Rattle.json_write_contracts.proofs.contracts.+put_contract.Goals as goal
@@ -9,8 +9,24 @@ use Rattle.json_write_contracts.proofs.contracts.+put_contract.Goals as goal
 pub put_pay-returns-clause-put : goal.put_pay-returns-clause-put
 put_pay-returns-clause-put t c = (
   λ j. c.in_ok-put_value.ensures.put.0 j && c.in_ok-put_boxed.ensures.put.0 j,
-  then (wrote c.in_ok-begin_object.ensures) (then (wrote c.in_ok-key.ensures) (then c.in_ok-put_party.ensures (then (wrote c.in_ok-key-2.ensures) (then c.in_ok-put_value.ensures.put.1 (then (wrote c.in_ok-key-3.ensures) (then c.in_ok-put_boxed.ensures.put.1 (then (wrote c.in_ok-key-4.ensures) (then c.in_ok-put_payee.ensures (then (wrote c.in_ok-key-5.ensures) (then c.in_ok-put_token.ensures.put (wrote c.in_ok-end_object.ensures))))))))))),
+  then (wrote c.in_ok-begin_object.ensures) (then (wrote c.in_ok-key.ensures) (then c.in_ok-put_party.ensures.put (then (wrote c.in_ok-key-2.ensures) (then c.in_ok-put_value.ensures.put.1 (then (wrote c.in_ok-key-3.ensures) (then c.in_ok-put_boxed.ensures.put.1 (then (wrote c.in_ok-key-4.ensures) (then c.in_ok-put_payee.ensures.put (then (wrote c.in_ok-key-5.ensures) (then c.in_ok-put_token.ensures.put (wrote c.in_ok-end_object.ensures))))))))))),
 )
+
+pub put_pay-returns-in_err-put_payee-clause-err : goal.put_pay-returns-in_err-put_payee-clause-err
+put_pay-returns-in_err-put_payee-clause-err t c =
+    stopped c.from_residual-in_err-put_payee.result (then (wrote c.in_ok-begin_object.ensures) (then (wrote c.in_ok-key.ensures) (then c.in_ok-put_party.ensures.put (then (wrote c.in_ok-key-2.ensures) (then c.in_ok-put_value.ensures.put.1 (then (wrote c.in_ok-key-3.ensures) (then c.in_ok-put_boxed.ensures.put.1 (wrote c.in_ok-key-4.ensures)))))))) c.in_err-put_payee.ensures.err
+
+pub put_pay-returns-in_err-key-5-clause-err : goal.put_pay-returns-in_err-key-5-clause-err
+put_pay-returns-in_err-key-5-clause-err t c =
+    stopped c.from_residual-in_err-key-5.result (then (wrote c.in_ok-begin_object.ensures) (then (wrote c.in_ok-key.ensures) (then c.in_ok-put_party.ensures.put (then (wrote c.in_ok-key-2.ensures) (then c.in_ok-put_value.ensures.put.1 (then (wrote c.in_ok-key-3.ensures) (then c.in_ok-put_boxed.ensures.put.1 (then (wrote c.in_ok-key-4.ensures) c.in_ok-put_payee.ensures.put)))))))) (refused c.in_err-key-5.ensures)
+
+pub put_pay-returns-in_err-put_token-clause-err : goal.put_pay-returns-in_err-put_token-clause-err
+put_pay-returns-in_err-put_token-clause-err t c =
+    stopped c.from_residual-in_err-put_token.result (then (wrote c.in_ok-begin_object.ensures) (then (wrote c.in_ok-key.ensures) (then c.in_ok-put_party.ensures.put (then (wrote c.in_ok-key-2.ensures) (then c.in_ok-put_value.ensures.put.1 (then (wrote c.in_ok-key-3.ensures) (then c.in_ok-put_boxed.ensures.put.1 (then (wrote c.in_ok-key-4.ensures) (then c.in_ok-put_payee.ensures.put (wrote c.in_ok-key-5.ensures)))))))))) c.in_err-put_token.ensures.err
+
+pub put_pay-returns-in_err-end_object-clause-err : goal.put_pay-returns-in_err-end_object-clause-err
+put_pay-returns-in_err-end_object-clause-err t c =
+    stopped c.from_residual-in_err-end_object.result (then (wrote c.in_ok-begin_object.ensures) (then (wrote c.in_ok-key.ensures) (then c.in_ok-put_party.ensures.put (then (wrote c.in_ok-key-2.ensures) (then c.in_ok-put_value.ensures.put.1 (then (wrote c.in_ok-key-3.ensures) (then c.in_ok-put_boxed.ensures.put.1 (then (wrote c.in_ok-key-4.ensures) (then c.in_ok-put_payee.ensures.put (then (wrote c.in_ok-key-5.ensures) c.in_ok-put_token.ensures.put)))))))))) (refused c.in_err-end_object.ensures)
 
 pub put_if-returns-clause-put : goal.put_if-returns-clause-put
 put_if-returns-clause-put t c = (
@@ -27,7 +43,7 @@ put_when-returns-clause-put t c = (
 pub put_let-returns-clause-put : goal.put_let-returns-clause-put
 put_let-returns-clause-put t c = (
   λ j. c.in_ok-put_value.ensures.put.0 j && c.in_ok-put_boxed.ensures.put.0 j,
-  then (wrote c.in_ok-begin_object.ensures) (then (wrote c.in_ok-key.ensures) (then c.in_ok-put_value.ensures.put.1 (then (wrote c.in_ok-key-2.ensures) (then c.in_ok-put_text.ensures (then (wrote c.in_ok-key-3.ensures) (then c.in_ok-put_boxed.ensures.put.1 (wrote c.in_ok-end_object.ensures))))))),
+  then (wrote c.in_ok-begin_object.ensures) (then (wrote c.in_ok-key.ensures) (then c.in_ok-put_value.ensures.put.1 (then (wrote c.in_ok-key-2.ensures) (then c.in_ok-put_text.ensures.put (then (wrote c.in_ok-key-3.ensures) (then c.in_ok-put_boxed.ensures.put.1 (wrote c.in_ok-end_object.ensures))))))),
 )
 
 pub put_assert-returns-clause-put : goal.put_assert-returns-clause-put

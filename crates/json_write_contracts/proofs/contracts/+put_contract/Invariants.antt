@@ -5,7 +5,7 @@ use Rattle.std.specs.List.{list_all}
 use Rattle.contract.specs.Tree.{case_tree}
 use Rattle.json_write_contracts.specs.Symbols.{ListSymbols}
 use Rattle.json_write_contracts.specs.Tokens.{Adds}
-use Rattle.json_write_contracts.specs.Written.{case_json, case_fits}
+use Rattle.json_write_contracts.specs.WrittenContract.{case_json, case_fits}
 use Rattle.json_write_contracts.proofs.ListedLaws.{front}
 use Rattle.json_write_contracts.proofs.contracts.+put_contract.Given as goal
 

@@ -4,4 +4,4 @@ use Rattle.json_write_contracts.proofs.name_forms.put_token.Goals as goal
 pub returns-clause-put : goal.returns-clause-put
 returns-clause-put c =
     then (wrote c.in_ok-begin_object.ensures) (then (wrote c.in_ok-key.ensures) (then c.in_ok-put_bytes.ensures.put
-    (then (wrote c.in_ok-key-2.ensures) (then c.in_ok-put_text.ensures (wrote c.in_ok-end_object.ensures)))))
+    (then (wrote c.in_ok-key-2.ensures) (then c.in_ok-put_text.ensures.put (wrote c.in_ok-end_object.ensures)))))

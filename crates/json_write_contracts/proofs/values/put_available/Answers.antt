@@ -4,4 +4,4 @@ use Rattle.json_write_contracts.proofs.values.put_available.Goals as goal
 pub returns-clause-put : goal.returns-clause-put
 returns-clause-put c =
     then (wrote c.in_ok-begin_object.ensures) (then (wrote c.in_ok-key.ensures) (then c.in_ok-put_token.ensures.put
-    (then (wrote c.in_ok-key-2.ensures) (then c.in_ok-put_party.ensures (wrote c.in_ok-end_object.ensures)))))
+    (then (wrote c.in_ok-key-2.ensures) (then c.in_ok-put_party.ensures.put (wrote c.in_ok-end_object.ensures)))))

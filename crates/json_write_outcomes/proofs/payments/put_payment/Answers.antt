@@ -1,5 +1,11 @@
-use Rattle.json_write_contracts.proofs.AddsLaws.{then, wrote}
+use Rattle.json_write_contracts.proofs.AddsLaws.{then, wrote, stopped, refused}
 use Rattle.json_write_outcomes.proofs.payments.put_payment.Goals as goal
 
-pub returns : goal.returns
-returns c = then (wrote c.in_ok-begin_object.ensures) (then (wrote c.in_ok-key.ensures) (then c.in_ok-put_amount.ensures (then (wrote c.in_ok-key-2.ensures) (then c.in_ok-put_party.ensures (then (wrote c.in_ok-key-3.ensures) (then c.in_ok-put_payee.ensures (then (wrote c.in_ok-key-4.ensures) (then c.in_ok-put_token.ensures.put (wrote c.in_ok-end_object.ensures)))))))))
+pub returns-clause-put : goal.returns-clause-put
+returns-clause-put c = then (wrote c.in_ok-begin_object.ensures) (then (wrote c.in_ok-key.ensures) (then c.in_ok-put_amount.ensures.put (then (wrote c.in_ok-key-2.ensures) (then c.in_ok-put_party.ensures.put (then (wrote c.in_ok-key-3.ensures) (then c.in_ok-put_payee.ensures.put (then (wrote c.in_ok-key-4.ensures) (then c.in_ok-put_token.ensures.put (wrote c.in_ok-end_object.ensures)))))))))
+
+pub returns-in_err-put_token-clause-err : goal.returns-in_err-put_token-clause-err
+returns-in_err-put_token-clause-err c = stopped c.from_residual-in_err-put_token.result (then (wrote c.in_ok-begin_object.ensures) (then (wrote c.in_ok-key.ensures) (then c.in_ok-put_amount.ensures.put (then (wrote c.in_ok-key-2.ensures) (then c.in_ok-put_party.ensures.put (then (wrote c.in_ok-key-3.ensures) (then c.in_ok-put_payee.ensures.put (wrote c.in_ok-key-4.ensures)))))))) c.in_err-put_token.ensures.err
+
+pub returns-in_err-end_object-clause-err : goal.returns-in_err-end_object-clause-err
+returns-in_err-end_object-clause-err c = stopped c.from_residual-in_err-end_object.result (then (wrote c.in_ok-begin_object.ensures) (then (wrote c.in_ok-key.ensures) (then c.in_ok-put_amount.ensures.put (then (wrote c.in_ok-key-2.ensures) (then c.in_ok-put_party.ensures.put (then (wrote c.in_ok-key-3.ensures) (then c.in_ok-put_payee.ensures.put (then (wrote c.in_ok-key-4.ensures) c.in_ok-put_token.ensures.put)))))))) (refused c.in_err-end_object.ensures)

@@ -1,7 +1,8 @@
 use Rattle.std.proofs.Common.{◌≡◌, true, drop, length}
 use Rattle.std.specs.List.{All}
 use Rattle.roles.specs.Terms.{terms_of}
-use Rattle.ledger_views.specs.RecordsSupport.{point, stands_after, HoldNumbers, Goes}
+use Rattle.ledger_spec.specs.Records.{HoldNumbers}
+use Rattle.ledger_views.specs.RecordsSupport.{point, stands_after, Goes}
 use Rattle.ledger_views.proofs.records.records_of.Given as goal
 
 abbrev pub invariant-loop-link : goal.invariant-loop-link

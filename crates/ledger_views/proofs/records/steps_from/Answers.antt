@@ -6,8 +6,8 @@ use Rattle.eutxo_types.specs.Parts.{Instance}
 use Rattle.roles.specs.Terms.{terms_of}
 use Rattle.ledger_laws.specs.Threads.{Link, Member, spine}
 use Rattle.ledger_spec.specs.Replay.{past_of, published_at}
-use Rattle.ledger_spec.specs.Records.{member_of, TellTheRun}
-use Rattle.ledger_views.specs.RecordsSupport.{point, IsRunOf, HoldNumbers}
+use Rattle.ledger_spec.specs.Records.{member_of, TellTheRun, HoldNumbers}
+use Rattle.ledger_views.specs.RecordsSupport.{point, IsRunOf}
 use Rattle.ledger_views.proofs.RecordsLemmas.{is_named, run_there, tells, all_ok}
 use Rattle.ledger_views.proofs.records.steps_from.Goals as goal
 

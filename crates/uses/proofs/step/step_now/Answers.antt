@@ -3,7 +3,7 @@ use Rattle.builder_spec.specs.declared.fault.BuildFault.{BuildFault}
 use Rattle.builder_spec.specs.Requests.{request}
 use Rattle.builder_spec.specs.Steps.{hinders_step}
 use Rattle.uses.specs.Uses.{thread_look, step_asked}
-use Rattle.uses.proofs.CallerLemmas.{step_answer, stepped_by, after_by, hindered_by}
+use Rattle.uses.proofs.CallerLemmas.{step_answer, stepped_by, after_by, only_looked, hindered_by}
 use Rattle.uses.proofs.step.step_now.Goals as goal
 
 pub returns-clause-stepped : goal.returns-clause-stepped
@@ -19,3 +19,7 @@ returns-in_err-tx-clause-err c =
     let hindered : (fault : BuildFault) → step_answer c.in_ok-look.look (request c.at_tick-now.result c.args.inputs.now c.args.signers.now [] c.args.change.now) ≡ Err fault → hinders_step (thread_look c.args.chain.now c.args.start) (step_asked c.args.chain.now c.args.inputs.now c.args.signers.now c.args.change.now) ≡ Some fault =
     λ fault h. hindered_by c.args.chain.now c.args.start c.args.inputs.now c.args.signers.now [] c.args.change.now _ _ _ fault c.at_tick-now.ensures refl c.thread_ask.ensures c.in_ok-look.ensures.look h in
     search (rules, hindered)
+
+pub returns-in_err-reply-clause-looked : goal.returns-in_err-reply-clause-looked
+returns-in_err-reply-clause-looked c =
+    only_looked c.from_residual-in_err-reply.result c.args.chain.now _ c.submit.new.chain c.args.seat c.args.start _ c.thread_ask.ensures c.in_ok-look.ensures.after c.in_err-reply.ensures.err

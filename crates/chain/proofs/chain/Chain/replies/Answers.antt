@@ -1,7 +1,8 @@
-use Rattle.std.proofs.Common.{◌∙◌, ap}
-use Rattle.ledger_spec.specs.Replay.{World, world}
+use Rattle.std.proofs.Common.{◌≡◌, ◌∙◌, ◌++◌, ap, sym, subst, map, List, ℕ, All}
+use Rattle.eutxo_types.specs.Fitting.{TxFits}
+use Rattle.eutxo_types.specs.Ids.{id_of}
+use Rattle.ledger_spec.specs.Replay.{World, world, after_call}
 use Rattle.ledger_spec.specs.Calls.{reply_to}
-use Rattle.chain.proofs.AcceptedLemmas.{ids_found, fits_found}
 use Rattle.chain.proofs.chain.Chain.replies.Goals as goal
 
 pub returns-clause-reply : goal.returns-clause-reply
@@ -15,10 +16,11 @@ returns-clause-told c = c.in_ok-found.ensures.told ∙ c.in_ok-reply.ensures.rep
 
 pub returns-clause-ids : goal.returns-clause-ids
 returns-clause-ids c =
-    ids_found c.in_ok-world.world (world c.args.self.now) c.answer.new.world c.args.call.now c.accepted-known.result.now c.in_ok-found.found.ids.items c.in_ok-world.ensures c.accepted-known.ensures
-    c.in_ok-reply.ensures.accepted c.in_ok-found.ensures.ids
+    subst (λ (w : World). map id_of w.replay.accepted ++ c.in_ok-found.found.ids.items ≡ map id_of (after_call w.replay c.args.call.now (reply_to w c.args.call.now)).accepted) c.in_ok-world.ensures
+    (ap (λ (l : List (List ℕ)). map id_of c.in_ok-world.world.replay.accepted ++ l) c.in_ok-found.ensures.ids ∙ c.in_ok-reply.ensures.ids)
 
 pub returns-clause-fits : goal.returns-clause-fits
 returns-clause-fits c =
-    fits_found c.in_ok-world.world (world c.args.self.now) c.answer.new.world c.args.call.now c.accepted-known.result.now c.in_ok-world.ensures c.accepted-known.ensures c.in_ok-reply.ensures.accepted
-    (rw (← c.self.view_is) c.self.invariant.fits) c.in_ok-found.ensures.fits
+    let fits : All TxFits (world c.args.self.now).replay.accepted = rw (← c.self.view_is) c.self.invariant.fits in
+    subst (λ (w : World). All TxFits (after_call w.replay c.args.call.now (reply_to w c.args.call.now)).accepted) c.in_ok-world.ensures
+    (c.in_ok-reply.ensures.fits (subst (λ (w : World). All TxFits w.replay.accepted) (sym c.in_ok-world.ensures) fits))

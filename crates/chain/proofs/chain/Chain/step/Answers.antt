@@ -24,7 +24,7 @@ invariant_of-self-2 c =
     let number : c.count_of-number.result ≡ count_of c.args.seat s.entries.items = search rules in
     let later = c.in_ok-add_found.ensures.object ∙ ap (λ (l : List _). l ++ option_to_list found.field-0.object) c.self.invariant.objects ∙ object in
     let kept =
-    kept_more c.accepting_is_sound.ensures c.publishing_is_sound.ensures c.published_are_tables.ensures s.published.items c.add_found.new.published.items s.ids.items found.field-0.ids.items course c.args.seat c.args.call c.self.invariant later ids fits in
+    kept_more c.accepting_is_sound.ensures c.publishing_is_sound.ensures s.published.items c.add_found.new.published.items s.ids.items found.field-0.ids.items course c.args.seat c.args.call c.self.invariant later ids fits in
     let entries = grown_by course c.args.seat c.count_of-number.result c.args.call found.field-0.reply _ c.push_reserved.new.self.items number reply c.in_ok-reserve.ensures.items c.push_reserved.ensures.items in
     subst (λ (l : List (List ℕ)). IsKept c.add_found.new.published.items l (let v : Course = record { genesis = s.genesis; first_tick = s.tick; entries = c.push_reserved.new.self.items } in v)) (sym c.in_ok-add_found.ensures.ids)
     (subst (λ (l : List Entry). IsKept c.add_found.new.published.items (s.ids.items ++ found.field-0.ids.items) (let v : Course = record { genesis = s.genesis; first_tick = s.tick; entries = l } in v)) entries kept)

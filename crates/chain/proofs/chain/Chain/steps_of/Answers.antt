@@ -7,14 +7,18 @@ use Rattle.ledger_spec.specs.Records.{AreSteps}
 use Rattle.chain.proofs.chain.Chain.steps_of.Goals as goal
 
 pub records-requires : goal.records-requires
-records-requires c = record {
-  sound =
-      subst (λ (w : World). IsSound marlowe (published_at w.published) (past_of w)) (sym c.in_ok-world.ensures)
-      (subst (λ (v : Course). IsSound marlowe (published_at (world v).published) (past_of (world v))) c.self.view_is c.self.invariant.sound);
-  tables =
-      subst (λ (w : World). AreTables (published_at w.published)) (sym c.in_ok-world.ensures)
-      (subst (λ (v : Course). AreTables (published_at (world v).published)) c.self.view_is c.self.invariant.tables);
-}
+records-requires c =
+    let s = c.self.inside in
+    let course : Course = record { genesis = s.genesis; first_tick = s.tick; entries = s.entries.items } in
+    let tables : AreTables (published_at (world course).published) = λ script p h. (c.publications_are_entries.ensures.published course c.self.invariant.legal script p h).table in
+    record {
+      sound =
+          subst (λ (w : World). IsSound marlowe (published_at w.published) (past_of w)) (sym c.in_ok-world.ensures)
+          (subst (λ (v : Course). IsSound marlowe (published_at (world v).published) (past_of (world v))) c.self.view_is c.self.invariant.sound);
+      tables =
+          subst (λ (w : World). AreTables (published_at w.published)) (sym c.in_ok-world.ensures)
+          (subst (λ (v : Course). AreTables (published_at (world v).published)) c.self.view_is tables);
+    }
 
 pub returns : goal.returns
 returns c =

@@ -1,5 +1,5 @@
 use Rattle.std.proofs.Common.{refl}
-use Rattle.json_write_contracts.specs.Written.{token_json}
+use Rattle.json_write_contracts.specs.WrittenNames.{token_json}
 use Rattle.contract_json.proofs.Hexes.{token-token_json}
 use Rattle.contract_json.proofs.puts.TokenPutJson.put.Goals as goal
 

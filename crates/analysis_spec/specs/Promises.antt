@@ -1,0 +1,46 @@
+-- What is promised of a contract and the state in which it starts. Each promise speaks of all runs from there.
+use Rattle.std.specs.Prelude.{◌≢◌, ℤ, pos, neg_ℤ, ◌^◌, ◌≤ℤ◌, ◌<ℤ◌, Option, IfSome, Err, List, ◌∷◌}
+use Rattle.std.specs.List.{AllByRecursion}
+use Rattle.names.specs.declared.party.Party.{Party}
+use Rattle.names.specs.declared.token.Token.{Token}
+use Rattle.contract.specs.declared.fault.SemFault.TheVariants as faults
+use Rattle.contract.specs.declared.transaction.Transaction.{Transaction}
+use Rattle.contract.specs.declared.warning.Warning.{Warning}
+use Rattle.contract.specs.declared.warning.Warning.TheVariants as warnings
+use Rattle.contract.specs.Tree.{ContractTree}
+use Rattle.states.specs.States.{StateMaps}
+use Rattle.semantics.specs.Walk.{standing, answer_of}
+use Rattle.semantics.specs.Closing.{IsSpent}
+use Rattle.analysis_spec.specs.declared.kind.AlarmKind.{AlarmKind}
+use Rattle.analysis_spec.specs.declared.kind.AlarmKind.TheVariants.{NonPositiveDeposit, NonPositivePay, PartialPay, Shadowing, AssertionFailed}
+use Rattle.analysis_spec.specs.Runs.{walk_from, stands_after, payments_of, paid_to}
+
+abbrev pub kind_of : Warning → AlarmKind
+kind_of (warnings.NonPositiveDeposit a p t n) = NonPositiveDeposit
+kind_of (warnings.NonPositivePay p y t n) = NonPositivePay
+kind_of (warnings.PartialPay p y t paid due) = PartialPay
+kind_of (warnings.Shadowing x old new) = Shadowing
+kind_of warnings.AssertionFailed = AssertionFailed
+
+-- whatever transactions came before, none gives a warning of this kind, not even one that is refused
+abbrev pub NeverWarns : AlarmKind → StateMaps → ContractTree → Type 0
+NeverWarns kind s c = (earlier : List Transaction) (t : Transaction) → AllByRecursion (λ w. kind_of w ≢ kind) (walk_from (stands_after (standing s c) earlier) t).warnings
+
+-- a time that JSON can write
+abbrev pub IsWritten : ℤ → Type 0
+IsWritten n = (neg_ℤ (pos (2 ^ 63)) ≤ℤ n) × (n <ℤ pos (2 ^ 63))
+
+abbrev pub HasWrittenTimes : Transaction → Type 0
+HasWrittenTimes t = IsWritten t.interval.from × IsWritten t.interval.to
+
+-- whatever transactions came before, none is refused because a number leaves 128 bits, as long as JSON can write their
+-- times; the numbers of their inputs may be any
+abbrev pub StaysWithin128 : StateMaps → ContractTree → Type 0
+StaysWithin128 s c =
+    (earlier : List Transaction) (t : Transaction) → AllByRecursion HasWrittenTimes (t ∷ earlier) → answer_of (walk_from (stands_after (standing s c) earlier) t) ≢ Err faults.Leaves128
+
+-- what a party is paid of a token is in no run above `most`, and in no run that closed the contract below `least`; a
+-- bound that is none says nothing
+pub record PaysBetween (party : Party) (token : Token) (least most : Option ℤ) (s : StateMaps) (c : ContractTree) : Type 0 where
+  pub always : (ts : List Transaction) → IfSome most (λ n. paid_to party token (payments_of (standing s c) ts) ≤ℤ n)
+  pub once_closed : (ts : List Transaction) → let a = stands_after (standing s c) ts in IsSpent a.state a.contract → IfSome least (λ n. n ≤ℤ paid_to party token (payments_of (standing s c) ts))

@@ -1,6 +1,0 @@
-use Rattle.std.proofs.Common.{◌≡◌, ◌++◌, drop}
-use Rattle.roles.specs.Steps.{due_outputs}
-use Rattle.builder.proofs.outputs.put_due.Given as goal
-
-abbrev pub invariant-loop-payment : goal.invariant-loop-payment
-invariant-loop-payment l = l.outputs ++ due_outputs l.currency (drop l.payment-index l.payments) ≡ l.fn.outputs ++ due_outputs l.currency l.payments

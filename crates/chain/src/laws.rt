@@ -1,0 +1,43 @@
+//! The headline, of every legal history.
+ghost use Rattle.ledger_spec.specs.Headline.{LegalHistoriesHaveBothHalves};
+
+use builder_laws::{
+    anyone_closes_after_the_last_timeout, bytes_tell_accepted_apart, change_is_the_rest,
+    claims_are_accepted, shown_threads_are_current, starts_are_accepted, steps_are_accepted,
+};
+use ledger_laws::{
+    accepting_is_sound, contracts_are_funded, contracts_end_threads, names_are_single,
+    outputs_are_spent_once, parties_are_authorised, publishing_is_sound, starting_is_sound,
+    steps_stand_on_threads, threads_are_runs, tokens_are_preserved,
+};
+use ledger_spec::{publications_are_entries, starts_are_told};
+use roles::{Published, sums_are_of_each_token};
+
+/// Both halves of the headline hold of every legal history that began with key outputs and whose accepted transactions
+/// fit their spelling: after the whole of it, and before each of its entries. So they hold of the history of a closed
+/// hub as they do of a `Chain`, at each moment of it. It does nothing.
+pub fn both_halves_hold_of_legal_histories()
+    ensures { LegalHistoriesHaveBothHalves }
+{
+    starting_is_sound::<Published>();
+    accepting_is_sound::<Published>();
+    publishing_is_sound::<Published>();
+    publications_are_entries();
+    threads_are_runs();
+    steps_stand_on_threads::<Published>();
+    contracts_end_threads::<Published>();
+    parties_are_authorised();
+    contracts_are_funded();
+    sums_are_of_each_token();
+    names_are_single::<Published>();
+    outputs_are_spent_once::<Published>();
+    tokens_are_preserved::<Published>();
+    steps_are_accepted();
+    starts_are_accepted();
+    claims_are_accepted();
+    bytes_tell_accepted_apart();
+    shown_threads_are_current();
+    starts_are_told();
+    anyone_closes_after_the_last_timeout();
+    change_is_the_rest();
+}

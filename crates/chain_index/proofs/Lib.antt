@@ -1,0 +1,11 @@
+pub mod RefLemmas
+pub mod LiveLemmas
+pub mod FrontLemmas
+pub mod OutputLemmas
+pub mod MoveLemmas
+pub mod StartLemmas
+pub mod ObjectLemmas
+pub mod ShownLemmas
+pub mod PartsLemmas
+pub mod PastLemmas
+pub mod ThreadLemmas

@@ -1,0 +1,189 @@
+-- What is indexed of a past.
+use Rattle.std.proofs.Common.{◌≡◌, ℕ, suc, ◌+◌, Bool, true, false, ◌||◌, ◌&&◌, not, filter, List, [], ◌∷◌, ◌++◌, refl, sym, ◌∙◌, ap, subst, append_assoc, length, map, arith, Option, Some, None}
+use Rattle.std.specs.Prelude.{is_some, is_none, if◌then◌else◌, ◌==◌}
+use Rattle.std.proofs.lemmas.Bool.{eq-eqb}
+use Rattle.std.specs.List.{list_any, slice_get, IsDistinct, AllByRecursion}
+use Rattle.std.specs.Map.{keys_of}
+use Rattle.std.proofs.Math.Seq.{take-append_seam}
+use Rattle.std.proofs.lemmas.List.{map-append, length-map}
+use Rattle.std.proofs.lemmas.List.Elements.{filter-append}
+use Rattle.std.proofs.lemmas.List.Folds.{list_any-append}
+use Rattle.std.proofs.lemmas.Map.Keys.{IsDistinct-cons}
+use Rattle.std.proofs.lemmas.Map.Made.{is_some-lookup}
+use Rattle.std.proofs.lemmas.Map.Views.{any-filter_same}
+use Rattle.eutxo_types.specs.declared.output.Output.{Output}
+use Rattle.eutxo_types.specs.declared.output_ref.OutputRef.{OutputRef}
+use Rattle.eutxo_types.specs.declared.output_ref.OutputRef.TheVariants.{Genesis, Made}
+use Rattle.eutxo_types.specs.declared.spend.Spend.{Spend}
+use Rattle.eutxo_types.specs.declared.tx.Tx.{Tx}
+use Rattle.eutxo_types.specs.Ids.{id_of}
+use Rattle.eutxo_types.specs.Parts.{same_bytes, same_ref, is_step, steps, contract_at}
+use Rattle.eutxo.specs.Asked.{Judges}
+use Rattle.eutxo.specs.Laws.{FoundIsEnough}
+use Rattle.roles.specs.declared.published.Published.{Published}
+use Rattle.ledger_laws.specs.Past.{Past, after, is_input_of, is_spent, created, created_by, unspent, unspent_at, has_id}
+use Rattle.ledger_laws.specs.Past as past_words
+use Rattle.ledger_laws.specs.Threads.{next_of}
+use Rattle.ledger_laws.proofs.PlainLaws.{EachFalse, and_true, or_false, both, both_false, not_both, is_there, each_at, no_more}
+use Rattle.ledger_laws.proofs.PartLaws.{output_so}
+use Rattle.ledger_laws.proofs.ReferenceLaws.{same_ref_so, created_grown, spent_more, unspent_so, at_place, and_never}
+use Rattle.ledger_laws.proofs.AcceptedLaws.{still_there}
+use Rattle.ledger_laws.proofs.FreshLemmas.{Fresh, fresh}
+use Rattle.ledger_laws.proofs.JudgedLemmas.{Passes, passes}
+use Rattle.ledger_laws.proofs.PairedLemmas.{named_at}
+use Rattle.ledger_laws.proofs.SoundLemmas.{after_is_sound}
+use Rattle.ledger_spec.specs.Replay.{published_at}
+use Rattle.ledger_spec.specs.Views.{starts_in}
+use Rattle.chain_index.specs.declared.moves.Move.{Move}
+use Rattle.chain_index.specs.Contents.{without, is_used, is_among}
+use Rattle.chain_index.specs.Laws.{ReadsAlike, AcceptsAlike, JudgedCanBeAdded}
+use Rattle.chain_index.specs.Moves.{move_to, moves_by, moves_in, moves_from, starts_by, starts_of}
+use Rattle.chain_index.proofs.PartsLemmas.{filtered_twice, all_stay}
+use Rattle.chain_index.proofs.RefLemmas.{flips, flip_or, or_left, or_elim}
+
+-- ---- read alike
+
+used_alike : (txs : List Tx) (id : List ℕ) → is_used (map id_of txs) id ≡ past_words.is_used txs id
+used_alike [] id = refl
+used_alike (tx ∷ txs) id = ap (λ b. same_bytes id (id_of tx) || b) (used_alike txs id)
+
+pub reads_alike : ReadsAlike
+reads_alike ps past tick = λ i. record { unspent = unspent_at past; published = published_at ps; is_used = λ id. used_alike past.accepted id i; tick = tick }
+
+-- ---- accepted alike
+
+at_end : {A : Type 0} (xs : List A) (x : A) → slice_get (xs ++ x ∷ []) (length xs) ≡ Some x
+at_end [] x = refl
+at_end (y ∷ xs) x = at_end xs x
+
+unspent_after : (past : Past) (tx : Tx) → ((i : ℕ) → is_spent (past.accepted ++ tx ∷ []) (Made (id_of tx) i) ≡ false) → without tx (unspent past) ++ created_by tx ≡ unspent (after past tx)
+unspent_after past tx new =
+    sym (ap (filter (λ e. not (is_spent (past.accepted ++ tx ∷ []) e.0))) (created_grown past past.accepted tx)
+    ∙ filter-append (λ e. not (is_spent (past.accepted ++ tx ∷ []) e.0)) (created past) (created_by tx)
+    ∙ (λ j. filter (λ e. not ((spent_more past.accepted tx e.0 ∙ flip_or (is_spent past.accepted e.0) (is_input_of e.0 tx)) j)) (created past) ++ all_stay (is_spent (past.accepted ++ tx ∷ [])) (id_of tx) 0 tx.outputs new j)
+    ∙ ap (λ (l : List (OutputRef × Output)). l ++ created_by tx) (filtered_twice (λ e. is_input_of e.0 tx) (λ e. is_spent past.accepted e.0) (created past)))
+
+moves_after : (n : ℕ) (txs : List Tx) (tx : Tx) → moves_from n (txs ++ tx ∷ []) ≡ moves_from n txs ++ moves_in (n + length txs) tx
+moves_after n [] tx = no_more (moves_in n tx) ∙ ap (λ k. moves_in k tx) (let e : n ≡ n + 0 = omega arith in e)
+moves_after n (t ∷ txs) tx =
+    let e : (n + 1) + length txs ≡ n + suc (length txs) = omega arith in
+    ap (λ (l : List (OutputRef × Move)). moves_in n t ++ l) (moves_after (n + 1) txs tx ∙ ap (λ k. moves_from (n + 1) txs ++ moves_in k tx) e)
+    ∙ sym (append_assoc (moves_in n t) (moves_from (n + 1) txs) (moves_in (n + suc (length txs)) tx))
+
+starts_after : (txs : List Tx) (tx : Tx) → starts_of (txs ++ tx ∷ []) ≡ starts_of txs ++ starts_by tx
+starts_after [] tx = no_more (starts_by tx)
+starts_after (t ∷ txs) tx = ap (λ (l : List OutputRef). starts_by t ++ l) (starts_after txs tx) ∙ sym (append_assoc (starts_by t) (starts_of txs) (starts_by tx))
+
+pub accepts_alike : (j : Judges Published) → FoundIsEnough j → AcceptsAlike j
+accepts_alike j enough published ps past tick tx sound h =
+    let later = after past tx in
+    let grown = after_is_sound j published past tick tx sound h in
+    let new = subst (λ (l : List Tx). (i : ℕ) → is_spent (l ++ tx ∷ []) (Made (id_of tx) i) ≡ false) (take-append_seam past.accepted (tx ∷ [])) (still_there j enough published later grown (length past.accepted) tx (at_end past.accepted tx)) in
+    let u = unspent_after past tx new in
+    let d = sym (map-append id_of past.accepted (tx ∷ [])) in
+    let z : length past.accepted ≡ 0 + length past.accepted = omega arith in
+    let m = ap (λ n. moves_from 0 past.accepted ++ moves_in n tx) (length-map past.accepted id_of ∙ z) ∙ sym (moves_after 0 past.accepted tx) in
+    let s = sym (starts_after past.accepted tx) in
+    λ i. record { unspent = u i; used = d i; published = ps; moves = m i; starts = s i }
+
+-- ---- what is judged without a fault can be added
+
+-- a move is under an output that its transaction spends
+pub moves_spend : (n : ℕ) (tx : Tx) (xs : List Spend) (r : OutputRef) → is_among (keys_of (moves_by n tx xs)) r ≡ true → list_any (λ x. same_ref x.reference r) xs ≡ true
+moves_spend n tx [] r h = h
+moves_spend n tx (x ∷ xs) r h = by (is_step x.redeemer) h (moves_spend n tx xs r)
+  where
+    m : OutputRef × Move
+    m = (x.reference, move_to n (next_of x.reference tx))
+
+    or_more : (a b c : Bool) → (b ≡ true → c ≡ true) → a || b ≡ true → a || c ≡ true
+    or_more true b c f k = refl
+    or_more false b c f k = f k
+
+    later : (a c : Bool) → c ≡ true → a || c ≡ true
+    later true c k = refl
+    later false c k = k
+
+    by : (b : Bool) → is_among (keys_of (if b then m ∷ moves_by n tx xs else moves_by n tx xs)) r ≡ true → (is_among (keys_of (moves_by n tx xs)) r ≡ true → list_any (λ y. same_ref y.reference r) xs ≡ true) →
+        same_ref x.reference r || list_any (λ y. same_ref y.reference r) xs ≡ true
+    by true k go =
+        or_more (same_ref x.reference r) (is_among (keys_of (moves_by n tx xs)) r) (list_any (λ y. same_ref y.reference r) xs) go (ap (λ b. b || is_among (keys_of (moves_by n tx xs)) r) (flips x.reference r) ∙ k)
+    by false k go = later (same_ref x.reference r) (list_any (λ y. same_ref y.reference r) xs) (go k)
+
+pub moved_spent : (n : ℕ) (txs : List Tx) (r : OutputRef) → is_among (keys_of (moves_from n txs)) r ≡ true → is_spent txs r ≡ true
+moved_spent n [] r h = h
+moved_spent n (tx ∷ txs) r h =
+    or_elim (is_among (keys_of (moves_in n tx)) r) (is_among (keys_of (moves_from (n + 1) txs)) r)
+    (sym (list_any-append (same_ref r) (keys_of (moves_in n tx)) (keys_of (moves_from (n + 1) txs))) ∙ sym (ap (λ (rs : List OutputRef). is_among rs r) (map-append (λ e. e.0) (moves_in n tx) (moves_from (n + 1) txs))) ∙ h)
+    (λ k. or_left (is_input_of r tx) (is_spent txs r) (moves_spend n tx tx.inputs r k))
+    (λ k. flip_or (is_input_of r tx) (is_spent txs r) ∙ or_left (is_spent txs r) (is_input_of r tx) (moved_spent (n + 1) txs r k))
+
+some_if : {A : Type 0} (o : Option A) → is_none o ≡ false → is_some o ≡ true
+some_if None h = cc
+some_if (Some x) h = refl
+
+pub false_if : (b : Bool) → (b ≡ true → ⊥) → b ≡ false
+false_if true h = absurd (h refl)
+false_if false h = refl
+
+none_apart : IsDistinct same_ref []
+unfolding IsDistinct
+none_apart = tt
+
+apart : (xs : List Spend) → Fresh xs → IsDistinct same_ref (map (λ x. x.reference) xs)
+apart [] f = none_apart
+apart (x ∷ xs) f = IsDistinct-cons same_ref x.reference (map (λ y. y.reference) xs) (all xs f.0) (apart xs f.1)
+  where
+    all : (ys : List Spend) → EachFalse (λ y. same_ref x.reference y.reference) ys → AllByRecursion (λ r. same_ref x.reference r ≡ false) (map (λ y. y.reference) ys)
+    all [] h = tt
+    all (y ∷ ys) h = (h.0, all ys h.1)
+
+-- ---- starts
+
+-- a start is one of the transaction's outputs
+start_made : (r : OutputRef) (tx : Tx) → starts_in r tx ≡ true → is_among (keys_of (created_by tx)) r ≡ true
+start_made (Genesis i) tx h = cc
+start_made (Made id i) tx h =
+    let a = and_true (has_id id tx) (not (steps tx) && is_some (contract_at tx i)) h in
+    let b = and_true (not (steps tx)) (is_some (contract_at tx i)) a.1 in
+    let c = is_there (contract_at tx i) b.1 in
+    let o = output_so tx i c.0 c.1 in
+    let name : Made (id_of tx) i ≡ Made id i = sym (same_ref_so (Made id i) (Made (id_of tx) i) (both (same_bytes id (id_of tx)) (i == i) a.0 (eq-eqb i i refl))) in
+    subst (λ (q : OutputRef). is_among (keys_of (created_by tx)) q ≡ true) name
+    (sym (is_some-lookup (same_ref (Made (id_of tx) i)) (created_by tx)) ∙ ap is_some (at_place (id_of tx) i tx.outputs ∙ o.1))
+
+starts_one : (tx : Tx) (r : OutputRef) → is_among (starts_by tx) r ≡ starts_in r tx
+starts_one tx r = any-filter_same (same_ref r) (λ q. starts_in q tx) (starts_in r tx) (λ q e. ap (λ (x : OutputRef). starts_in x tx) (sym (same_ref_so r q e))) (keys_of (created_by tx)) ∙ by (starts_in r tx) refl
+  where
+    by : (b : Bool) → starts_in r tx ≡ b → b && is_among (keys_of (created_by tx)) r ≡ b
+    by true e = start_made r tx e
+    by false e = refl
+
+pub starts_alike : (txs : List Tx) (r : OutputRef) → is_among (starts_of txs) r ≡ list_any (starts_in r) txs
+starts_alike [] r = refl
+starts_alike (tx ∷ txs) r = list_any-append (same_ref r) (starts_by tx) (starts_of txs) ∙ (λ i. starts_one tx r i || starts_alike txs r i)
+
+unstarted : (txs : List Tx) (id : List ℕ) (i : ℕ) → list_any (has_id id) txs ≡ false → list_any (starts_in (Made id i)) txs ≡ false
+unstarted [] id i h = refl
+unstarted (tx ∷ txs) id i h =
+    let q = or_false (has_id id tx) (list_any (has_id id) txs) h in
+    both_false (starts_in (Made id i) tx) (list_any (starts_in (Made id i)) txs) (and_never (has_id id tx) (not (steps tx) && is_some (contract_at tx i)) q.0) (unstarted txs id i q.1)
+
+pub can_be_added : (j : Judges Published) → FoundIsEnough j → JudgedCanBeAdded j
+can_be_added j enough published ps past tick tx h = record {
+  unused = used_alike past.accepted (id_of tx) ∙ p.fresh;
+  there = there;
+  once = apart tx.inputs (fresh tx.inputs p.alone);
+  unmoved = λ r n. false_if (is_among (keys_of (moves_from 0 past.accepted)) r) (λ k.
+      let o = is_there (unspent_at past r) (there r n) in
+      not_both (moved_spent 0 past.accepted r k) (unspent_so past r o.0 o.1).0);
+  unstarted = λ i. starts_alike past.accepted (Made (id_of tx) i) ∙ unstarted past.accepted (id_of tx) i p.fresh;
+}
+  where
+    p : Passes j published past tx
+    p = passes j enough published past tick tx h
+
+    there : (r : OutputRef) → is_input_of r tx ≡ true → is_some (unspent_at past r) ≡ true
+    there r n =
+        let m = named_at r tx.inputs n in
+        ap (λ (q : OutputRef). is_some (unspent_at past q)) (sym m.name) ∙ some_if (unspent_at past m.input.reference) (each_at (λ x. is_none (unspent_at past x.reference)) m.index tx.inputs m.input p.unspent m.at)

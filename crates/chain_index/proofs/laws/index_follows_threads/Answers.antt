@@ -1,0 +1,9 @@
+use Rattle.roles.specs.Steps.{marlowe}
+use Rattle.chain_index.proofs.ThreadLemmas.{threads_alike, ends_alike}
+use Rattle.chain_index.proofs.laws.index_follows_threads.Goals as goal
+
+pub returns-clause-threads : goal.returns-clause-threads
+returns-clause-threads c = threads_alike marlowe c.found_is_enough.ensures
+
+pub returns-clause-ends : goal.returns-clause-ends
+returns-clause-ends c = ends_alike marlowe c.found_is_enough.ensures

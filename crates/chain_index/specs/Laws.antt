@@ -1,0 +1,49 @@
+-- What is indexed of a past, and what the past is.
+use Rattle.std.specs.Prelude.{◌≡◌, ℕ, ℤ, List, map, slice_get, Option, Some, None}
+use Rattle.std.specs.Option.{option_map}
+use Rattle.eutxo_types.specs.declared.output_ref.OutputRef.{OutputRef}
+use Rattle.eutxo_types.specs.declared.tx.Tx.{Tx}
+use Rattle.eutxo_types.specs.Parts.{Instance}
+use Rattle.eutxo.specs.Asked.{Judges}
+use Rattle.eutxo.specs.Judgement.{judge}
+use Rattle.roles.specs.declared.published.Published.{Published}
+use Rattle.ledger_laws.specs.Past.{Past, after}
+use Rattle.ledger_laws.specs.Sound.{moment, IsSound}
+use Rattle.ledger_laws.specs.Threads.{Link, IsMade, thread, ends}
+use Rattle.ledger_spec.specs.Replay.{published_at}
+use Rattle.ledger_spec.specs.Views.{end_of}
+use Rattle.chain_index.specs.declared.moves.StepPlace.{StepPlace}
+use Rattle.chain_index.specs.Contents.{contents_of, accepting, moment_at, end_in, CanBeAdded}
+use Rattle.chain_index.specs.Moves.{moves_from, along, leads}
+
+-- READ ALIKE: the rules read the same of what is indexed of a past as of the past
+abbrev pub ReadsAlike : Type 0
+ReadsAlike = (ps : List Published) (past : Past) (tick : ℤ) → moment_at (contents_of past ps) tick ≡ moment (published_at ps) past tick
+
+-- ACCEPTED ALIKE: what is indexed after a transaction that no rule refuses is what is indexed of the past after it
+abbrev pub AcceptsAlike : Judges Published → Type 0
+AcceptsAlike j =
+    (published : List ℕ → Option Published) (ps : List Published) (past : Past) (tick : ℤ) (tx : Tx) → IsSound j published past → judge j (moment published past tick) tx ≡ None →
+    accepting (contents_of past ps) tx ≡ contents_of (after past tx) ps
+
+-- and such a transaction can be added
+abbrev pub JudgedCanBeAdded : Judges Published → Type 0
+JudgedCanBeAdded j =
+    (published : List ℕ → Option Published) (ps : List Published) (past : Past) (tick : ℤ) (tx : Tx) → judge j (moment published past tick) tx ≡ None → CanBeAdded (contents_of past ps) tx
+
+-- the transaction at a place, with the thread's output that it spends
+abbrev pub link_at : List Tx → StepPlace → Option Link
+link_at txs x = option_map (λ tx. let l : Link = record { spends = x.spends; tx = tx } in l) (slice_get txs x.number)
+
+-- THREADS ALIKE: from a contract output the moves lead along its thread, transaction by transaction, to its end
+pub record TellsThread (past : Past) (r : OutputRef) : Type 0 where
+  pub steps : map (link_at past.accepted) (along r (moves_from 0 past.accepted)) ≡ map (λ l. Some l) (thread past r)
+  pub end : leads r (moves_from 0 past.accepted) ≡ ends (Some r) (thread past r)
+
+abbrev pub ThreadsAlike : Judges Published → Type 0
+ThreadsAlike j = (published : List ℕ → Option Published) (past : Past) → IsSound j published past → (r : OutputRef) (c : Instance) → IsMade past r c → TellsThread past r
+
+-- and of each output they tell the end that a look follows its thread to, where it starts one
+abbrev pub EndsAlike : Judges Published → Type 0
+EndsAlike j =
+    (published : List ℕ → Option Published) (ps : List Published) (past : Past) → IsSound j published past → (r : OutputRef) → end_in (contents_of past ps) r ≡ end_of past r

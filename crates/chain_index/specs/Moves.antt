@@ -1,0 +1,80 @@
+-- Moves of contracts: for each contract output that was spent, which transaction spent it and where the thread goes on; and the outputs
+-- that start threads.
+use Rattle.std.specs.Prelude.{ℕ, zero, suc, ◌+◌, if◌then◌else◌, List, [], ◌∷◌, ◌++◌, filter, length, Option, Some, None}
+use Rattle.std.specs.Option.{option_map}
+use Rattle.std.specs.Map.{lookup, keys_of}
+use Rattle.eutxo_types.specs.declared.output_ref.OutputRef.{OutputRef}
+use Rattle.eutxo_types.specs.declared.spend.Spend.{Spend}
+use Rattle.eutxo_types.specs.declared.tx.Tx.{Tx}
+use Rattle.eutxo_types.specs.Parts.{same_ref, is_step}
+use Rattle.ledger_laws.specs.Past.{created_by}
+use Rattle.ledger_laws.specs.Threads.{next_of}
+use Rattle.ledger_spec.specs.Views.{starts_in}
+use Rattle.chain_index.specs.declared.moves.Move.{Move}
+use Rattle.chain_index.specs.declared.moves.StepPlace.{StepPlace}
+
+-- ---- moves
+
+-- the n-th accepted transaction moved a thread on
+abbrev pub move_to : ℕ → Option OutputRef → Move
+move_to n next = record { number = n; next = next }
+
+-- a move for each of these inputs that steps a contract, under the output that it spends
+abbrev pub moves_by : ℕ → Tx → List Spend → List (OutputRef × Move)
+moves_by n tx [] = []
+moves_by n tx (x ∷ xs) = if is_step x.redeemer then (x.reference, move_to n (next_of x.reference tx)) ∷ moves_by n tx xs else moves_by n tx xs
+
+-- the moves of the n-th accepted transaction
+abbrev pub moves_in : ℕ → Tx → List (OutputRef × Move)
+moves_in n tx = moves_by n tx tx.inputs
+
+-- the moves of accepted transactions, in order, the first of which is the n-th
+abbrev pub moves_from : ℕ → List Tx → List (OutputRef × Move)
+moves_from n [] = []
+moves_from n (tx ∷ txs) = moves_in n tx ++ moves_from (n + 1) txs
+
+-- ---- where they lead
+
+abbrev pub place_of : OutputRef → ℕ → StepPlace
+place_of r n = record { spends = r; number = n }
+
+-- the step of the thread that stands at an output, and where it stands then
+abbrev pub step_at : Option OutputRef → List (OutputRef × Move) → Option (StepPlace × Option OutputRef)
+step_at None ms = None
+step_at (Some r) ms = option_map (λ m. (place_of r m.number, m.next)) (lookup (same_ref r) ms)
+
+abbrev pub steps_after : Option (StepPlace × Option OutputRef) → (Option OutputRef → List StepPlace) → List StepPlace
+steps_after None later = []
+steps_after (Some x) later = x.0 ∷ later x.1
+
+-- the first n steps of the thread that stands at an output
+abbrev pub steps_within : ℕ → List (OutputRef × Move) → Option OutputRef → List StepPlace
+steps_within zero ms s = []
+steps_within (suc n) ms s = steps_after (step_at s ms) (λ next. steps_within n ms next)
+
+abbrev pub leads_after : Option OutputRef → Option (StepPlace × Option OutputRef) → (Option OutputRef → Option OutputRef) → Option OutputRef
+leads_after s None later = s
+leads_after s (Some x) later = later x.1
+
+-- where the thread stands after them
+abbrev pub leads_within : ℕ → List (OutputRef × Move) → Option OutputRef → Option OutputRef
+leads_within zero ms s = s
+leads_within (suc n) ms s = leads_after s (step_at s ms) (λ next. leads_within n ms next)
+
+-- the steps of the thread from an output, of which there are no more than moves
+abbrev pub along : OutputRef → List (OutputRef × Move) → List StepPlace
+along r ms = steps_within (length ms) ms (Some r)
+
+-- and where it ends
+abbrev pub leads : OutputRef → List (OutputRef × Move) → Option OutputRef
+leads r ms = leads_within (length ms) ms (Some r)
+
+-- ---- starts
+
+-- the outputs of a transaction that start threads, in order
+abbrev pub starts_by : Tx → List OutputRef
+starts_by tx = filter (λ r. starts_in r tx) (keys_of (created_by tx))
+
+abbrev pub starts_of : List Tx → List OutputRef
+starts_of [] = []
+starts_of (tx ∷ txs) = starts_by tx ++ starts_of txs

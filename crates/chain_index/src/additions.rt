@@ -1,0 +1,162 @@
+//! What accepted transactions add to the lists of an index. Where memory is refused, what came so far is there.
+ghost use Rattle.std.specs.Prelude.{◌≡◌, ◌++◌, ◌∷◌, [], ℕ, true, false, map, Some, OnOk, OnErr};
+ghost use Rattle.std.specs.List.{IsDistinct};
+ghost use Rattle.std.specs.Map.{keys_of};
+ghost use Rattle.eutxo_types.specs.declared.output_ref.OutputRef.{OutputRef};
+ghost use Rattle.eutxo_types.specs.declared.output_ref.OutputRef.TheVariants.{Made};
+ghost use Rattle.eutxo_types.specs.Ids.{id_of};
+ghost use Rattle.eutxo_types.specs.Parts.{same_ref, steps};
+ghost use Rattle.ledger_laws.specs.Past.{is_input_of};
+ghost use Rattle.ledger_spec.specs.Views.{starts_in};
+ghost use Rattle.chain_index.specs.Contents.{is_among};
+ghost use Rattle.chain_index.specs.HolesSupport.{known};
+ghost use Rattle.chain_index.specs.Moves.{moves_by, moves_in, starts_by};
+ghost use Rattle.chain_index.specs.NamingSupport.{naming, slots_of};
+ghost use Rattle.chain_index.specs.PartsSupport.{IsFront, LeaveWith, one_start};
+
+use crate::holes::{Slots, note, put};
+use crate::moves::{Move, next_of, put_move};
+use crate::naming::{Naming, name_at};
+use collections::{Memory, TryClone};
+use eutxo_types::{Output, OutputRef, Spend, Tx};
+use indexmap::{IndexMap, IndexSet};
+
+// ---- outputs
+
+// Puts a copy of an output under a new reference.
+fn put_one(
+    entries: &mut Slots<Output>,
+    whose: &Naming,
+    index: u64,
+    output: &Output,
+) -> Result<(), Memory>
+    requires { is_among (known entries.old.entries) (naming whose.now index) ≡ false }
+    ensures ok { OnOk result (entries.new.entries ≡ entries.old.entries
+        ++ (naming whose.now index, Some output.now) ∷ []) }
+    ensures err { OnErr result (entries.new.entries ≡ entries.old.entries) }
+{
+    let copy = output.try_clone()?;
+    put(entries, name_at(whose, index), copy)
+}
+
+/// Puts copies of outputs under their references.
+pub(crate) fn put_all(
+    entries: &mut Slots<Output>,
+    whose: &Naming,
+    made: &[Output],
+) -> Result<(), Memory>
+    requires { (i : ℕ) → is_among (known entries.old.entries) (naming whose.now i) ≡ false }
+    ensures ok { OnOk result (entries.new.entries ≡ entries.old.entries ++ slots_of whose.now made.now) }
+    ensures grown { IsFront entries.old.entries entries.new.entries }
+{
+    for (i, o) in made.iter().enumerate() {
+        put_one(entries, whose, i as u64, o)?;
+    }
+    Ok(())
+}
+
+// ---- what is spent
+
+/// Notes that what these inputs name leaves.
+pub(crate) fn leave_all(leaving: &mut IndexSet<OutputRef>, inputs: &[Spend]) -> Result<(), Memory>
+    ensures ok { OnOk result (LeaveWith inputs.now leaving.old.keys leaving.new.keys) }
+    ensures grown { IsFront leaving.old.keys leaving.new.keys }
+{
+    for x in inputs {
+        note(leaving, x.reference)?;
+    }
+    Ok(())
+}
+
+// ---- moves
+
+// Adds the move of an input, where it steps a contract.
+fn move_one(
+    moves: &mut IndexMap<OutputRef, Move>,
+    tx: &Tx,
+    id: &[u8; 32],
+    number: u64,
+    input: &Spend,
+) -> Result<(), Memory>
+    requires named { id.now ≡ id_of tx.now }
+    requires unmoved { is_among (keys_of moves.old.entries) input.now.reference ≡ false }
+    ensures ok { OnOk result (moves.new.entries ≡ moves.old.entries ++ moves_by number tx.now (input.now ∷ [])) }
+    ensures err { OnErr result (moves.new.entries ≡ moves.old.entries) }
+{
+    if input.redeemer.is_step() {
+        let spends = input.reference;
+        let next = next_of(tx, id, &spends);
+        put_move(moves, spends, Move { number, next })
+    } else {
+        Ok(())
+    }
+}
+
+/// Adds the moves of a transaction, which is the accepted one of this number.
+pub(crate) fn move_all(
+    moves: &mut IndexMap<OutputRef, Move>,
+    tx: &Tx,
+    id: &[u8; 32],
+    number: u64,
+) -> Result<(), Memory>
+    requires named { id.now ≡ id_of tx.now }
+    requires once { IsDistinct same_ref (map (λ x. x.reference) tx.now.inputs) }
+    requires unmoved { (r : OutputRef) → is_input_of r tx.now ≡ true → is_among (keys_of moves.old.entries) r ≡ false }
+    ensures ok { OnOk result (moves.new.entries ≡ moves.old.entries ++ moves_in number tx.now) }
+    ensures grown { IsFront moves.old.entries moves.new.entries }
+{
+    for x in tx.inputs.as_slice() {
+        move_one(moves, tx, id, number, x)?;
+    }
+    Ok(())
+}
+
+// ---- starts
+
+// Whether a transaction starts a thread in the output at a place, where it is told whether it steps a contract.
+fn starts_at(tx: &Tx, id: &[u8; 32], stepping: bool, index: u64) -> bool
+    requires named { id.now ≡ id_of tx.now }
+    requires stepping { stepping ≡ steps tx.now }
+    ensures { result ≡ starts_in (Made id.now index) tx.now }
+{
+    !stepping && tx.contract_at(index).is_some()
+}
+
+// Adds the output at a place, where it starts a thread.
+fn start_one(
+    starts: &mut IndexSet<OutputRef>,
+    tx: &Tx,
+    id: &[u8; 32],
+    stepping: bool,
+    index: u64,
+) -> Result<(), Memory>
+    requires named { id.now ≡ id_of tx.now }
+    requires stepping { stepping ≡ steps tx.now }
+    requires unstarted { is_among starts.old.keys (Made id.now index) ≡ false }
+    ensures ok { OnOk result (starts.new.keys ≡ starts.old.keys ++ one_start id.now tx.now index) }
+    ensures err { OnErr result (starts.new.keys ≡ starts.old.keys) }
+{
+    if starts_at(tx, id, stepping, index) {
+        note(starts, OutputRef::Made { id: *id, index })
+    } else {
+        Ok(())
+    }
+}
+
+/// Adds the outputs of a transaction that start threads.
+pub(crate) fn start_all(
+    starts: &mut IndexSet<OutputRef>,
+    tx: &Tx,
+    id: &[u8; 32],
+) -> Result<(), Memory>
+    requires named { id.now ≡ id_of tx.now }
+    requires unstarted { (i : ℕ) → is_among starts.old.keys (Made (id_of tx.now) i) ≡ false }
+    ensures ok { OnOk result (starts.new.keys ≡ starts.old.keys ++ starts_by tx.now) }
+    ensures grown { IsFront starts.old.keys starts.new.keys }
+{
+    let stepping = tx.steps();
+    for i in 0..tx.outputs.len() {
+        start_one(starts, tx, id, stepping, i as u64)?;
+    }
+    Ok(())
+}

@@ -1,0 +1,171 @@
+//! The index.
+ghost use Rattle.std.specs.Prelude.{◌≡◌, [], None, IfOk, OnOk, OnErr, position, option_copied};
+ghost use Rattle.std.specs.Map.{lookup};
+ghost use Rattle.eutxo_types.specs.Ids.{id_of};
+ghost use Rattle.eutxo_types.specs.Parts.{same_bytes, same_ref};
+ghost use Rattle.ledger_spec.specs.Replay.{published_at};
+ghost use Rattle.chain_index.specs.Contents.{beginning, accepting, publishing, CanBeAdded};
+ghost use Rattle.chain_index.specs.Contents.{is_used, is_among, end_in, under_locks_in};
+ghost use Rattle.chain_index.specs.Moves.{along};
+
+use crate::moves::StepPlace;
+use crate::parts::{Parts, Sizes};
+use crate::under_locks::LockFilter;
+use collections::{Items, Memory};
+use eutxo::Shared;
+use eutxo_types::{Output, OutputRef, Tx};
+use ledger::Unspent;
+use roles::Published;
+use std::alloc::Global;
+use std::marker::Model;
+
+/// What is unspent, which ids are in use, what is published, and how threads start and go on, after what was handed in.
+/// Clauses see what there was when it was last settled, and what there is now.
+///
+/// A look-up costs the same whatever there is, and takes no memory; but `steps` and `end_of` make one for each step of
+/// the thread, `under_locks` walks over all unspent outputs, and the answers of `steps` and `under_locks` take memory.
+/// Keys are found by their hashes, whose seed is fixed (docs/DECISIONS.md).
+#[derive(Drop)]
+pub struct Index {
+    parts: Parts,
+    settled: Sizes,
+}
+
+impl Model for Index {
+    ghost use Rattle.std.specs.Coded.{codes};
+    ghost use Rattle.eutxo_types.specs.contracts.output.Output as outputs;
+    ghost use Rattle.eutxo_types.specs.contracts.output_ref.OutputRef as references;
+    ghost use Rattle.roles.specs.contracts.published.Published as publications;
+    ghost use Rattle.chain_index.specs.contracts.moves.Move as move_rows;
+    ghost use Rattle.chain_index.specs.Contents.{Indexed};
+    ghost use Rattle.chain_index.specs.PartsSupport.{IsIndex, indexed};
+
+    ghost Value = { Indexed };
+
+    ghost coded = { Prim.hlevel
+        (codes, outputs.the_row.coded, references.the_row.coded, publications.the_row.coded, move_rows.the_row.coded) };
+
+    ghost view = { λ a. indexed a.parts a.settled };
+
+    ghost invariant = { λ a. IsIndex a.parts a.settled };
+}
+
+impl Index {
+    /// Nothing. Takes no memory.
+    pub fn empty(alloc: Global) -> Index
+        ensures { result ≡ beginning [] }
+    {
+        let parts = Parts::new(alloc);
+        let settled = parts.sizes();
+        Index { parts, settled }
+    }
+
+    /// What there is at the beginning: these outputs. Answers `Memory` only where a growth was refused.
+    pub fn new(alloc: Global, genesis: &[Output]) -> Result<Index, Memory>
+        ensures { IfOk result (λ index. index ≡ beginning genesis.now) }
+    {
+        let parts = Parts::of_genesis(alloc, genesis)?;
+        let settled = parts.sizes();
+        Ok(Index { parts, settled })
+    }
+
+    // ---- additions
+
+    /// Adds one accepted transaction, whose id is lent, or changes nothing. It costs what the transaction is long.
+    pub fn accept(&mut self, tx: &Tx, id: &[u8; 32]) -> Result<(), Memory>
+        requires named { id.now ≡ id_of tx.now }
+        requires can { CanBeAdded self.old.present tx.now }
+        ensures ok { OnOk result (self.new ≡ record self.old { present = accepting self.old.present tx.now }) }
+        ensures err { OnErr result (self.new ≡ self.old) }
+    {
+        self.parts.grow(tx, id)
+    }
+
+    /// Adds one publication, under whose id there is none yet, or changes nothing.
+    pub fn publish(&mut self, object: Shared<Published>) -> Result<(), Memory>
+        requires { published_at self.old.present.published object.id ≡ None }
+        ensures ok { OnOk result (self.new ≡ record self.old { present = publishing self.old.present object }) }
+        ensures err { OnErr result (self.new ≡ self.old) }
+    {
+        self.parts.publish(object)
+    }
+
+    /// Takes back all that was added since it was last settled. Takes no memory.
+    pub fn cut(&mut self)
+        ensures { self.new ≡ record self.old { present = self.old.settled } }
+    {
+        self.parts.back(&self.settled);
+    }
+
+    /// Keeps all that was added, and lets go of what was spent. Takes no memory. Once as many outputs were spent as are
+    /// left, it goes over all of them.
+    pub fn settle(&mut self)
+        ensures { self.new ≡ record self.old { settled = self.old.present } }
+    {
+        self.parts.settle();
+        self.settled = self.parts.sizes();
+    }
+
+    // ---- look-ups
+
+    /// The unspent output that a reference names.
+    pub fn unspent_at(&self, reference: &OutputRef) -> Option<&Output>
+        ensures { option_copied result ≡ lookup (same_ref reference.now) self.now.present.unspent }
+    {
+        self.parts.unspent_at(reference)
+    }
+
+    /// What is published under an id.
+    pub fn published_at(&self, script: &[u8; 32]) -> Option<&Shared<Published>>
+        ensures { option_copied result ≡ published_at self.now.present.published script.now }
+    {
+        self.parts.published_at(script)
+    }
+
+    /// Whether an accepted transaction has this id.
+    pub fn is_used(&self, id: &[u8; 32]) -> bool
+        ensures { result ≡ is_used self.now.present.used id.now }
+    {
+        self.parts.is_used(id)
+    }
+
+    /// The place of the accepted transaction that has this id, counted from 0.
+    pub fn number_of(&self, id: &[u8; 32]) -> Option<u64>
+        ensures { result ≡ position (same_bytes id.now) self.now.present.used }
+    {
+        self.parts.number_of(id)
+    }
+
+    /// Whether the output starts a thread.
+    pub fn is_start(&self, reference: &OutputRef) -> bool
+        ensures { result ≡ is_among self.now.present.starts reference.now }
+    {
+        self.parts.is_start(reference)
+    }
+
+    /// Where the thread from a start output ends; of another output, nowhere. Each step of the thread costs one
+    /// look-up.
+    pub fn end_of(&self, reference: &OutputRef) -> Option<OutputRef>
+        ensures { result ≡ end_in self.now.present reference.now }
+    {
+        self.parts.end_of(reference)
+    }
+
+    /// The steps of the thread from an output, in order. Each costs one look-up.
+    pub fn steps(&self, alloc: Global, start: &OutputRef) -> Result<Items<StepPlace>, Memory>
+        ensures { IfOk result (λ steps. steps ≡ along start.now self.now.present.moves) }
+    {
+        self.parts.steps(alloc, start)
+    }
+
+    /// The unspent outputs under the locks that are asked for, in order of creation: one walk over them all.
+    pub fn under_locks<F: LockFilter>(
+        &self,
+        alloc: Global,
+        asked: &F,
+    ) -> Result<Items<Unspent>, Memory>
+        ensures { IfOk result (λ shown. shown ≡ under_locks_in (F.asks asked.now) self.now.present) }
+    {
+        self.parts.under_locks(alloc, asked)
+    }
+}

@@ -1,0 +1,25 @@
+//! The ledger by indexes: what is unspent, which ids are in use, what is published, and where threads start and go on,
+//! after outputs, publications and accepted transactions that were handed in, in order.
+//!
+//! `specs/Moves.antt` says where the moves of contracts lead, `specs/Contents.antt` what is indexed of a past, and
+//! `specs/Laws.antt` that the rules and the threads read the same there as of the past. What is handed in is only added;
+//! `cut` takes back what came since the last `settle`, and `settle` lets go of what was spent. Each look-up answers by
+//! the definitions at every moment, also in between.
+#![tactic(auto)]
+
+mod additions;
+mod holes;
+mod index;
+mod index_at;
+mod laws;
+mod moves;
+mod naming;
+mod objects;
+mod parts;
+mod under_locks;
+
+pub use index::Index;
+pub use index_at::IndexAt;
+pub use laws::{index_accepts_alike, index_follows_threads, index_reads_alike};
+pub use moves::{Move, StepPlace};
+pub use under_locks::LockFilter;

@@ -1,0 +1,6 @@
+use Rattle.contract_bytes.specs.Numbers.{number_bytes}
+use Rattle.contract_bytes.proofs.Fronts.{on_any_err, front_first}
+use Rattle.contract_bytes.proofs.spell.Tuple2TokenI128Spell.put.Goals as goal
+
+pub returns-in_err-put_token-clause-err : goal.returns-in_err-put_token-clause-err
+returns-in_err-put_token-clause-err c = on_any_err c.from_residual.result (front_first (number_bytes c.args.self.now.1) c.in_err-put_token.ensures.err)

@@ -1,0 +1,8 @@
+use Rattle.roles.proofs.OwedLaws.{goes_on_in_continuations, paid_in_due_outputs}
+use Rattle.roles.proofs.laws.owed_as_made.Goals as goal
+
+pub returns-clause-continuation : goal.returns-clause-continuation
+returns-clause-continuation c = goes_on_in_continuations
+
+pub returns-clause-payments : goal.returns-clause-payments
+returns-clause-payments c = paid_in_due_outputs

@@ -1,9 +1,0 @@
-use Rattle.collections.proofs.SameLaws.{same_by_from}
-use Rattle.machine.specs.declared.datum.Datum.{Datum}
-use Rattle.machine.specs.contracts.datum.Datum as datums
-use Rattle.roles.proofs.layout.same_datum.Goals as goal
-
-pub returns : goal.returns
-returns c =
-    let there : Datum = record { cont = c.args.there; state = c.args.state.now } in
-    same_by_from datums.the_row.coded c.args.datum.now there c.is_datum.result c.is_datum.ensures
