@@ -47,7 +47,8 @@ fn same_record(x: &StepRecord, y: &StepRecord) -> bool {
         && x.state.same(&y.state)
 }
 
-/// Whether two chains have the same entries, tick and pending transactions, find the same of a transaction, and have the same records of a thread.
+/// Whether two chains have the same entries, tick and pending transactions, find the same of a transaction, and have
+/// the same records of a thread.
 pub fn stand_alike(alloc: Global, x: &Chain, y: &Chain, tx: &Tx, start: &OutputRef) -> bool {
     x.tick() == y.tick()
         && same_all(x.entries(), y.entries())

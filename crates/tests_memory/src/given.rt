@@ -27,9 +27,11 @@ pub const SOON: Interval = Interval { from: 0, to: 50 };
 /// A contract with the state that it starts from.
 #[derive(Clone, Copy, PartialEq, Eq)]
 pub enum Deal {
-    /// The role a has three ada. It pays one of them to the role b when it is notified, and closes when it is notified again.
+    /// The role a has three ada. It pays one of them to the role b when it is notified, and closes when it is notified
+    /// again.
     Short,
-    /// The role a has a hundred ada. It pays each of them into the account of the role b when it is notified, and then closes.
+    /// The role a has a hundred ada. It pays each of them into the account of the role b when it is notified, and then
+    /// closes.
     Long,
 }
 
@@ -150,7 +152,8 @@ pub fn notify(alloc: Global) -> Option<Items<Input>> {
     one(alloc, Some(Input::Notify))
 }
 
-/// The outputs that the ledger begins with: what ann has, the token of the role b among it, and one ada of the bank so often as it pays.
+/// The outputs that the ledger begins with: what ann has, the token of the role b among it, and one ada of the bank so
+/// often as it pays.
 pub fn outputs(alloc: Global) -> Option<Items<Output>> {
     let mut outputs = Items::new(alloc);
     outputs.push(output(alloc, "key ann ada 200")?).ok()?;

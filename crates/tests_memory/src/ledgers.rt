@@ -70,8 +70,9 @@ pub fn ledger_of(alloc: Global, deal: Deal) -> Option<Ledger> {
     Some(Ledger { chain, shown })
 }
 
-/// Makes the entries of a history. That of the short deal has entries of every kind, and three transactions are pending behind it; that of the long
-/// one has those that start it. The last entry of both shows the thread, what ann has, and the payouts to the role b.
+/// Makes the entries of a history. That of the short deal has entries of every kind, and three transactions are pending
+/// behind it; that of the long one has those that start it. The last entry of both shows the thread, what ann has, and
+/// the payouts to the role b.
 pub fn history<A: Answers>(alloc: Global, to: &mut A, deal: Deal) -> Option<Shown> {
     let start = started(alloc, to, deal)?;
     if deal == Deal::Short {
@@ -179,7 +180,8 @@ pub fn step(alloc: Global, look: &Look) -> Option<Tx> {
     .ok()
 }
 
-/// What names all that the ledger began with, and what that step names: what is found of it tells which of these outputs are unspent.
+/// What names all that the ledger began with, and what that step names: what is found of it tells which of these
+/// outputs are unspent.
 pub fn naming_all(alloc: Global, look: &Look) -> Option<Tx> {
     let mut tx = step(alloc, look)?;
     put_keys(&mut tx.inputs, 22).ok()?;

@@ -1,14 +1,15 @@
-//! `tests_memory`: each call that takes memory, made so that it can be refused any one request of it.
+//! `tests_memory`: each call that takes memory, made so that any one of its requests can be refused.
 //!
-//! The words of the command line name calls, and without any all are made, one after another. For each call the program makes what it is given,
-//! and keeps a second of all that the call is lent and of all that stands. Then it makes the call, between two marks on standard output: `[` stands
-//! before it and `called]` behind it. Where the call answers that memory was refused, all must be as before (else the program prints `CHANGED`), and it
-//! is made once more (`REFUSED AGAIN` where memory is refused then too); standard error has a line `again`. What is answered, and what stands then,
-//! must be as it is on a second ledger, which was never refused anything (`OTHER` where it isn't). So a call prints the same line, whether a request
-//! was refused or not, and the status is 0; on anything else it is 1.
+//! The words of the command line name calls; without any, all are made, one after another. For each call the program
+//! makes what it is given, and a copy of what it is lent, and a second ledger of the same history. Then it makes the
+//! call, between two marks on standard output: `[` stands before it and `called]` behind it. Where the call answers
+//! that memory was refused, all must be as before (else the program prints `CHANGED`), and it is made once more
+//! (`REFUSED AGAIN` where memory is refused then too); standard error has a line `again`. What is answered, and what
+//! stands then, must be as on the second ledger, which is refused nothing (`OTHER` where it isn't). So a call prints
+//! the same line, whether a request was refused or not, and the status is 0; on anything else it is 1.
 //!
-//! `checks/refused_memory.py` refuses the requests between the marks, one in each run, and counts them. The words that begin with `long_` are for these
-//! counts: they are calls on a contract that pays a hundred times.
+//! `checks/refused_memory.py` refuses the requests between the marks, one in each run, and counts them. The words that
+//! begin with `long_` are for these counts: they are calls on a contract that pays a hundred times.
 #![tactic(auto)]
 
 mod alike;

@@ -1,5 +1,5 @@
-//! A party that plays its plan. Where memory is refused, what it was answered before stays, and it can play again: so its calls are compared one by one
-//! with those of a party that was refused nothing.
+//! A party that plays its plan. Where memory is refused, what it was answered before stays, and it can play again: so
+//! its calls are compared one by one with those of a party that was refused nothing.
 ghost use Rattle.std.specs.Prelude.{◌≡◌};
 
 use crate::attempt::{fail, put, tell};
@@ -107,7 +107,8 @@ fn is_told(answer: &Answer, told: &Told) -> bool {
     answer.call.same(&told.call) && answer.reply.same(&told.reply)
 }
 
-// Plays between the marks. Where memory is refused, all that was answered must be the first of all calls, and it plays again.
+// Plays between the marks. Where memory is refused, all that was answered must be the first of all calls, and it plays
+// again.
 fn play<R: Print + Eprint + Threads + Wait + Sync, J: Session>(
     rt: &R,
     alloc: Global,

@@ -16,7 +16,8 @@ const STATE: &str = "{\"accounts\":[],\"boundValues\":[],\"choices\":[],\"minTim
 const TRANSACTION: &str =
     "{\"tx_interval\":{\"from\":0,\"to\":50},\"tx_inputs\":[{\"input_from_party\":{\"address\":\"ann\"},\"that_deposits\":3,\"of_token\":{\"currency_symbol\":\"\",\"token_name\":\"\"},\"into_account\":{\"role_token\":\"b\"}}]}";
 
-/// One plan: a step that waits for a round, the round, another step, a claim of what came to the role b, and an advance of the tick.
+/// One plan: a step that waits for a round, the round, another step, a claim of what came to the role b, and an advance
+/// of the tick.
 const SCENARIO: &str =
     "{\"tick\":0,\"genesis\":[{\"address\":\"ann\",\"amount\":[[{\"currency_symbol\":\"\",\"token_name\":\"\"},80],[{\"currency_symbol\":\"aa\",\"token_name\":\"b\"},1]]},{\"address\":\"bank\",\"amount\":[[{\"currency_symbol\":\"\",\"token_name\":\"\"},10]]}],\"contracts\":[{\"name\":\"deal\",\"currency\":\"aa\",\"contract\":{\"when\":[{\"case\":{\"notify_if\":true},\"then\":{\"pay\":1,\"token\":{\"currency_symbol\":\"\",\"token_name\":\"\"},\"from_account\":{\"role_token\":\"a\"},\"to\":{\"party\":{\"role_token\":\"b\"}},\"then\":{\"when\":[{\"case\":{\"notify_if\":true},\"then\":\"close\"}],\"timeout\":100,\"timeout_continuation\":\"close\"}}}],\"timeout\":100,\"timeout_continuation\":\"close\"}}],\"threads\":[{\"name\":\"deal\",\"contract\":\"deal\",\"by\":\"bank\",\"accounts\":[[[{\"role_token\":\"a\"},{\"currency_symbol\":\"\",\"token_name\":\"\"}],3]],\"minTime\":0}],\"plans\":[{\"name\":\"ann\",\"keys\":[\"ann\"],\"change\":\"ann\",\"intents\":[{\"step\":\"deal\",\"inputs\":[\"input_notify\"],\"from\":0,\"to\":50,\"pool\":true},{\"round\":1,\"workers\":2},{\"step\":\"deal\",\"inputs\":[\"input_notify\"],\"from\":0,\"to\":50},{\"claim\":\"deal\",\"role\":\"b\",\"from\":0,\"to\":50},{\"advance\":20}]}]}";
 
