@@ -1,11 +1,11 @@
 -- Views of states whose accounts change, and of what was paid.
-use Rattle.std.proofs.Common.{◌≡◌, ℕ, ℤ, pos, neg_ℤ, ◌+ℤ◌, ◌-ℤ◌, ◌*ℤ◌, ◌^◌, ◌≤ℤ◌, ◌<ℤ◌, int_lt, int_le, Bool, true, false, cond, ◌&&◌, List, [], ◌∷◌, ◌++◌, map, refl, sym, ap, ◌∙◌, subst, arith, Option, Some, None, IfSome}
+use Rattle.std.proofs.Common.{◌≡◌, ℕ, ℤ, pos, neg_ℤ, ◌+ℤ◌, ◌-ℤ◌, ◌*ℤ◌, ◌^◌, ◌≤ℤ◌, ◌<ℤ◌, int_lt, int_le, Bool, true, false, cond, List, [], ◌∷◌, ◌++◌, map, refl, sym, ap, ◌∙◌, subst, arith, Option, Some, IfSome}
 use Rattle.std.proofs.lemmas.Int.{ints}
-use Rattle.std.specs.Prelude.{not, option_map}
+use Rattle.std.specs.Prelude.{not}
 use Rattle.std.specs.Option.{unwrap_or}
 use Rattle.std.specs.Ordering.{eq_by_cmp}
 use Rattle.std.specs.FinMap.Entries.{find}
-use Rattle.std.specs.FinMap.{FinMap, get, entries, remove}
+use Rattle.std.specs.FinMap.{get, entries, remove}
 use Rattle.collections.specs.Total.{total}
 use Rattle.collections.proofs.Total.{by, total-remove, entries-remove}
 use Rattle.collections.specs.Keys.{without}
@@ -25,16 +25,16 @@ use Rattle.states.specs.States.{StateMaps, money_of, with_money, counted}
 use Rattle.states.proofs.Accounts.{money_of-with_money}
 use Rattle.evaluation.specs.Numbers.{fits}
 use Rattle.semantics.specs.Reduction.{account_of, balance, debited, credited, refund_of}
-use Rattle.linear.specs.Linear.{Linear, Valuation, number_at, IsBelow, number, plus, minus}
+use Rattle.linear.specs.Linear.{Linear, Valuation, number_at, number, plus, minus}
 use Rattle.linear.proofs.NumberLaws.{both, true_lt}
-use Rattle.linear.proofs.LinearLaws.{plus_at, minus_at, plus_below, minus_below}
+use Rattle.linear.proofs.LinearLaws.{plus_at, minus_at}
 use Rattle.linear.proofs.SymbolLaws.{minus_is}
 use Rattle.analysis_spec.specs.Runs.{reaches_party, paid_to}
 use Rattle.analysis_walk.specs.Limits.{Scope, any_runs, written_runs, Allowed}
 use Rattle.analysis_walk.proofs.PaidLemmas.{total_append}
-use Rattle.analysis_domain.specs.Known.{View, held, IsSeen, EntriesBelow, SeesBelow}
+use Rattle.analysis_domain.specs.Known.{View, held, IsSeen}
 use Rattle.analysis_domain.specs.Expressions.{with_amount, debit, grown, credit}
-use Rattle.analysis_domain.proofs.ViewLemmas.{found_below, fits_between}
+use Rattle.analysis_domain.proofs.ViewLemmas.{fits_between}
 
 -- ---- numbers
 

@@ -1,7 +1,7 @@
 -- The domain of linear expressions is lawful.
-use Rattle.std.proofs.Common.{◌≡◌, ℕ, suc, ◌<◌, ◌≤◌, ℤ, pos, neg_ℤ, ◌+ℤ◌, ◌-ℤ◌, ◌*ℤ◌, ◌^◌, ◌≤ℤ◌, ◌<ℤ◌, int_lt, int_le, Bool, true, false, cond, ◌&&◌, ◌||◌, List, [], ◌∷◌, ◌++◌, map, refl, sym, ap, ◌∙◌, subst, arith, Option, Some, None, IfSome, inl, inr, ◌⊎◌}
+use Rattle.std.proofs.Common.{◌≡◌, ℕ, suc, ◌<◌, ◌≤◌, ℤ, pos, neg_ℤ, ◌+ℤ◌, ◌-ℤ◌, ◌*ℤ◌, ◌^◌, ◌≤ℤ◌, ◌<ℤ◌, int_lt, int_le, Bool, true, false, cond, ◌&&◌, ◌||◌, List, [], ◌∷◌, ◌++◌, refl, sym, ap, ◌∙◌, subst, arith, Option, Some, None, IfSome, inl, inr}
 use Rattle.std.proofs.lemmas.Int.{ints}
-use Rattle.std.specs.Prelude.{option_map, is_some}
+use Rattle.std.specs.Prelude.{option_map}
 use Rattle.std.specs.Int.{int_min, int_max}
 use Rattle.std.specs.List.{list_any, AllByRecursion}
 use Rattle.std.specs.Option.{unwrap_or, is_none, IsSomeAnd}
@@ -16,11 +16,9 @@ use Rattle.names.specs.declared.token.Token.{Token}
 use Rattle.names.specs.Equal.{same_choice_id}
 use Rattle.names.specs.Orders.{account_cmp, choice_id_cmp, bytes_cmp}
 use Rattle.names.specs.Totals.{bytes_total, choice_id_total}
-use Rattle.contract.specs.declared.input.Input.{Input}
 use Rattle.contract.specs.declared.input.Input.TheVariants.{Deposit, Choice}
 use Rattle.contract.specs.declared.interval.Interval.{Interval}
 use Rattle.contract.specs.declared.payment.Payment.{Payment}
-use Rattle.contract.specs.declared.warning.Warning.{Warning}
 use Rattle.contract.specs.declared.warning.Warning.TheVariants as warnings
 use Rattle.contract.specs.Tree.{ValueTree, available_money, constant, neg_value, add_value, sub_value, mul_value, div_value, choice_value, time_interval_start, time_interval_end, use_value, cond_value}
 use Rattle.contract.specs.Tree.{ObservationTree, ActionTree, deposit, choice, notify, ContractTree}
@@ -32,8 +30,8 @@ use Rattle.semantics.specs.Reduction.{account_of, balance, binding, asserting, w
 use Rattle.semantics.specs.Applying.{in_bound, taken, taken_numbers, taken_warnings}
 use Rattle.semantics.specs.Computed.{refunds}
 use Rattle.linear.specs.Linear.{Linear, Valuation, number_at, IsBelow, number, symbol, plus, minus, IsFrom, IsUpTo, least_shown, greatest_shown}
-use Rattle.linear.specs.Symbols.{Symbols, IsValued, IsClosed, Knows, Leads, Gives, Possible, of_truth, fresh, shows, with_fact, joined, above_zero}
-use Rattle.linear.proofs.NumberLaws.{both, true_lt, false_lt, true_le, false_le, le_true, lt_true}
+use Rattle.linear.specs.Symbols.{Symbols, Knows, Leads, Gives, Possible, of_truth, fresh, shows, with_fact, joined, above_zero}
+use Rattle.linear.proofs.NumberLaws.{both, true_lt, false_lt, true_le, false_le, le_true}
 use Rattle.linear.proofs.LinearLaws.{plus_at, minus_at, minus_below, plus_below, symbol_at, least_shown_is, greatest_shown_is}
 use Rattle.linear.proofs.SymbolLaws.{with_value, agree_below, at_new, fresh_closed, fresh_valued, symbol_below, fact_known, then_some, some_weaker, map_some, joined_leads, knows_then}
 use Rattle.analysis_spec.specs.declared.kind.AlarmKind.{AlarmKind}
@@ -45,12 +43,12 @@ use Rattle.analysis_walk.specs.Covered.{NoneTakes}
 use Rattle.analysis_walk.specs.Domain.{IsAmong, Conclusion, Concludes, Lawful}
 use Rattle.analysis_walk.proofs.ListLemmas.{all_append, all_right}
 use Rattle.analysis_walk.proofs.PaidLemmas.{total_append}
-use Rattle.analysis_domain.specs.Known.{View, Known, held, AreTimes, IsSeen, EntriesBelow, SeesBelow, IsDescribed}
+use Rattle.analysis_domain.specs.Known.{View, Known, held, AreTimes, IsSeen, SeesBelow, IsDescribed}
 use Rattle.analysis_domain.specs.Evaluated.{evaluated, observed, stays_in, value_fits, truth_fits}
 use Rattle.analysis_domain.specs.Expressions.{known, unless, grown, added_of, least_bound, greatest_bound, raised_by, lowered_by, raised, lowered, without_empty, chosen_from, chosen_in, concluded_choice, concluded_let, known_with, concluded_assert, branches, concluded_deposit, with_facts, in_later, before, from, paid_in_all, expressions}
-use Rattle.analysis_domain.proofs.ViewLemmas.{found_below, entries_more, sees_more, same_seen, fits_between}
+use Rattle.analysis_domain.proofs.ViewLemmas.{found_below, sees_more, same_seen, fits_between}
 use Rattle.analysis_domain.proofs.EvaluatedLemmas.{Fitting, fitting_both, stays, Sees, after_gives, after_leads, gives, observes, value_allowed, truth_allowed}
-use Rattle.analysis_domain.proofs.AccountLemmas.{same_money_seen, grown_number, grown_seen, account_decides, sum_natural, refunded_is}
+use Rattle.analysis_domain.proofs.AccountLemmas.{same_money_seen, grown_number, grown_seen, account_decides, refunded_is}
 use Rattle.analysis_domain.proofs.StepLemmas.{among_unless, goes_right, goes_fitting, is_above, added_gives, pay_concludes}
 
 -- ---- numbers

@@ -1,7 +1,7 @@
 -- What is known of values and observations is true, and what is shown to fit does.
-use Rattle.std.proofs.Common.{◌≡◌, ℕ, ℤ, pos, neg_ℤ, ◌+ℤ◌, ◌-ℤ◌, ◌*ℤ◌, ◌^◌, ◌≤ℤ◌, ◌<ℤ◌, int_lt, int_le, Bool, true, false, not, cond, ◌&&◌, List, [], ◌∷◌, ◌++◌, refl, sym, ap, ◌∙◌, subst, arith, Option, Some, None}
+use Rattle.std.proofs.Common.{◌≡◌, ℤ, pos, neg_ℤ, ◌+ℤ◌, ◌-ℤ◌, ◌*ℤ◌, ◌^◌, ◌≤ℤ◌, ◌<ℤ◌, Bool, true, false, not, cond, ◌&&◌, List, [], ◌∷◌, ◌++◌, refl, sym, ap, ◌∙◌, subst, arith, Option, Some, None}
 use Rattle.std.proofs.lemmas.Int.{ints}
-use Rattle.std.specs.Prelude.{option_map, is_some}
+use Rattle.std.specs.Prelude.{is_some}
 use Rattle.std.specs.List.{AllByRecursion}
 use Rattle.std.specs.Option.{unwrap_or, IsSomeAnd}
 use Rattle.std.specs.FinMap.{get}
@@ -15,11 +15,11 @@ use Rattle.states.specs.States.{StateMaps, money_of}
 use Rattle.evaluation.specs.Evaluation.{quotient, eval, visited, holds, looked}
 use Rattle.evaluation.specs.Numbers.{fits}
 use Rattle.semantics.specs.Reduction.{account_of}
-use Rattle.linear.specs.Linear.{Linear, Valuation, number_at, IsBelow, number, plus, minus, AreInRange}
-use Rattle.linear.specs.Symbols.{Symbols, IsValued, IsClosed, Knows, Leads, Gives, Possible, Truths, of_truth, truths_in, less, negated, opposite, above_zero, with_fact, product_by, quotient_of}
+use Rattle.linear.specs.Linear.{Linear, Valuation, number_at, number, plus, minus}
+use Rattle.linear.specs.Symbols.{Symbols, IsValued, IsClosed, Leads, Gives, Possible, Truths, of_truth, less, negated, product_by, quotient_of}
 use Rattle.linear.proofs.NumberLaws.{both, true_lt, false_lt, true_le, false_le}
 use Rattle.linear.proofs.LinearLaws.{plus_at, minus_at, times_at, plus_below, times_below, shown_is}
-use Rattle.linear.proofs.SymbolLaws.{gives_here, gives_then, gives_both, gives_product, quotient_gives, cond_gives, less_gives, both_lead, one_leads, swapped_lead, only_leads, knows_leads, knows_itself, is_some_map, neg_is, plus_none, ge_known, lt_known, gt_known, le_known, equal_known, not_of}
+use Rattle.linear.proofs.SymbolLaws.{gives_here, gives_then, gives_both, gives_product, quotient_gives, cond_gives, less_gives, both_lead, one_leads, swapped_lead, only_leads, knows_leads, knows_itself, is_some_map, neg_is, plus_none, ge_known, lt_known, gt_known, le_known, equal_known}
 use Rattle.analysis_walk.specs.Limits.{Scope, any_runs, written_runs, Allowed}
 use Rattle.analysis_walk.proofs.ListLemmas.{all_append}
 use Rattle.analysis_domain.specs.Known.{View, held, AreTimes, IsSeen, SeesBelow}

@@ -1,5 +1,5 @@
 -- What is known at the start is so, and what is found from there.
-use Rattle.std.proofs.Common.{◌≡◌, ◌==◌, ℕ, ◌<◌, ℤ, pos, neg_ℤ, ◌+ℤ◌, ◌*ℤ◌, ◌≤ℤ◌, ◌<ℤ◌, Bool, true, false, cond, List, [], ◌∷◌, map, length, refl, sym, ap, ◌∙◌, subst, arith, Option, Some, None, IfSome}
+use Rattle.std.proofs.Common.{◌≡◌, ◌==◌, ℕ, ℤ, pos, neg_ℤ, ◌+ℤ◌, ◌*ℤ◌, ◌≤ℤ◌, Bool, true, false, cond, List, [], ◌∷◌, map, length, refl, sym, ap, ◌∙◌, subst, arith, Option, Some, IfSome}
 use Rattle.std.proofs.lemmas.Int.{ints}
 use Rattle.std.specs.Prelude.{option_map}
 use Rattle.std.specs.List.{AllByRecursion}
@@ -7,27 +7,23 @@ use Rattle.std.specs.Option.{unwrap_or}
 use Rattle.std.specs.Ordering.{eq_by_cmp}
 use Rattle.std.specs.declared.cmp.Ordering.{Ordering}
 use Rattle.std.specs.FinMap.Entries.{find}
-use Rattle.std.specs.FinMap.{FinMap, get, entries, empty, get-entries, len-empty, len-entries}
+use Rattle.std.specs.FinMap.{get, entries, empty, get-entries, len-empty, len-entries}
 use Rattle.collections.proofs.Positive.{AllPositive-find}
-use Rattle.names.specs.declared.account.Account.{Account}
-use Rattle.names.specs.declared.choice_id.ChoiceId.{ChoiceId}
 use Rattle.names.specs.declared.party.Party.{Party}
 use Rattle.names.specs.declared.token.Token.{Token}
 use Rattle.names.specs.Equal.{ada}
 use Rattle.names.specs.Orders.{account_cmp, choice_id_cmp, bytes_cmp}
 use Rattle.contract.specs.declared.interval.Interval.{Interval}
-use Rattle.contract.specs.Tree.{ContractTree}
-use Rattle.states.specs.States.{StateMaps, AllPositive, money_of}
+use Rattle.states.specs.States.{StateMaps, AllPositive}
 use Rattle.evaluation.specs.Evaluation.{quotient}
 use Rattle.evaluation.specs.Numbers.{fits}
 use Rattle.semantics.specs.Laws.{TimeGoesOn}
 use Rattle.semantics.specs.Naturals.{PaymentsAreNatural, AccountsStayPositive}
 use Rattle.semantics.specs.Rows.{party_b, nothing}
-use Rattle.linear.specs.Linear.{Linear, Valuation, number_at, number, symbol, minus}
+use Rattle.linear.specs.Linear.{Valuation, number_at, number, symbol, minus}
 use Rattle.linear.proofs.LinearLaws.{minus_at, minus_below, symbol_at}
-use Rattle.analysis_spec.specs.declared.kind.AlarmKind.{AlarmKind}
 use Rattle.analysis_spec.specs.declared.kind.AlarmKind.TheVariants.{Leaves128}
-use Rattle.analysis_spec.specs.Promises.{NeverWarns, StaysWithin128, PaysBetween}
+use Rattle.analysis_spec.specs.Promises.{PaysBetween}
 use Rattle.analysis_walk.specs.declared.paid.PaidRange.{PaidRange}
 use Rattle.analysis_walk.specs.Limits.{Scope, any_runs, written_runs, Admitted, Allowed}
 use Rattle.analysis_walk.specs.Domain.{DescribesStart}
@@ -35,11 +31,11 @@ use Rattle.analysis_walk.specs.Findings.{findings}
 use Rattle.analysis_walk.proofs.FindingsLaws.{never_warns, stays_within_128, found_from_start}
 use Rattle.analysis_walk.proofs.PaidLemmas.{payments_lie_in_ranges}
 use Rattle.analysis_walk.specs.Findings.{range_at_ends}
-use Rattle.analysis_domain.specs.Known.{held, AreTimes, EntriesBelow, IsSeen, IsDescribed}
+use Rattle.analysis_domain.specs.Known.{AreTimes, EntriesBelow, IsDescribed}
 use Rattle.analysis_domain.specs.Expressions.{expressions}
 use Rattle.analysis_domain.specs.Start.{in_numbers, starting_with, at_start, found_from, EntriesFit, NumbersFit}
 use Rattle.analysis_domain.specs.Laws.{FoundAlarmsNameWhatComes, NoAlarmStaysWithin128, FoundRangesHold, escrow, EscrowPaysBetween, sale, SaleHasNoAlarm, EscrowHasNoAlarm, SaleNeverWarns, EmptyPayHasAnAlarm, BothHaveAnAlarm, ZeroDepositHasAnAlarm, ShadowedCaseIsSilent, PassedTimeoutIsSilent, BoundNameHasAnAlarm, LeavingHasAnAlarm, EndAndOneIsSilent, ClampIsSilent, HalfMayBeZero, EscrowRanges}
-use Rattle.analysis_domain.proofs.ViewLemmas.{zero_allowed, unwrapped_allowed}
+use Rattle.analysis_domain.proofs.ViewLemmas.{unwrapped_allowed}
 use Rattle.analysis_domain.proofs.DomainLaws.{from_allowed, to_allowed, two_times, time_is, expressions_are_lawful}
 
 numbers_below : {K : Type 0} (n : ℕ) (es : List (K × ℤ)) → EntriesBelow n (in_numbers es)

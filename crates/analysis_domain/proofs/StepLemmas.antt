@@ -1,50 +1,44 @@
 -- What is concluded of a Pay, a Let, an Assert and a deposit is true.
-use Rattle.std.proofs.Common.{◌≡◌, ℕ, suc, ℤ, pos, neg_ℤ, ◌+ℤ◌, ◌-ℤ◌, ◌*ℤ◌, ◌≤ℤ◌, ◌<ℤ◌, int_lt, int_le, Bool, true, false, cond, ◌&&◌, List, [], ◌∷◌, ◌++◌, refl, sym, ap, ◌∙◌, subst, arith, Option, Some, None, IfSome, inl, inr, ◌⊎◌}
+use Rattle.std.proofs.Common.{◌≡◌, ℕ, ℤ, pos, neg_ℤ, ◌+ℤ◌, ◌-ℤ◌, ◌*ℤ◌, ◌≤ℤ◌, ◌<ℤ◌, int_lt, Bool, true, false, cond, ◌&&◌, List, [], ◌∷◌, ◌++◌, refl, sym, ap, ◌∙◌, subst, arith, Option, Some, None, inl, inr}
 use Rattle.std.proofs.lemmas.Int.{ints}
-use Rattle.std.proofs.lemmas.List.{append-nil}
-use Rattle.std.specs.Prelude.{option_map, is_some}
+use Rattle.std.specs.Prelude.{option_map}
 use Rattle.std.specs.Int.{int_min, int_max}
 use Rattle.std.specs.List.{AllByRecursion}
-use Rattle.std.specs.Option.{unwrap_or, is_none, IsSomeAnd}
+use Rattle.std.specs.Option.{unwrap_or}
 use Rattle.std.specs.Ordering.{eq_by_cmp}
 use Rattle.std.specs.FinMap.Entries.{find}
-use Rattle.std.specs.FinMap.{get, insert, get-insert}
 use Rattle.names.specs.declared.account.Account.{Account}
 use Rattle.names.specs.declared.party.Party.{Party}
 use Rattle.names.specs.declared.payee.Payee.{Payee}
 use Rattle.names.specs.declared.payee.Payee.TheVariants.{Account as ToAccount, Party as ToParty}
 use Rattle.names.specs.declared.token.Token.{Token}
-use Rattle.names.specs.Orders.{account_cmp, bytes_cmp}
-use Rattle.names.specs.Totals.{bytes_total}
-use Rattle.contract.specs.declared.input.Input.TheVariants.{Deposit}
+use Rattle.names.specs.Orders.{account_cmp}
 use Rattle.contract.specs.declared.interval.Interval.{Interval}
 use Rattle.contract.specs.declared.payment.Payment.{Payment}
-use Rattle.contract.specs.declared.warning.Warning.{Warning}
 use Rattle.contract.specs.declared.warning.Warning.TheVariants as warnings
-use Rattle.contract.specs.Tree.{ValueTree, ObservationTree, ContractTree}
+use Rattle.contract.specs.Tree.{ValueTree, ContractTree}
 use Rattle.states.specs.States.{StateMaps, money_of, with_money}
 use Rattle.states.proofs.Accounts.{money_of-with_money}
-use Rattle.evaluation.specs.Evaluation.{eval, visited, holds, looked}
-use Rattle.semantics.specs.Reduction.{Reduction, account_of, balance, debited, credited, account_sums, paying, not_paying, partial_pay, binding, asserting, with_bound, shadowing}
-use Rattle.semantics.specs.Applying.{taken, taken_numbers, taken_warnings}
+use Rattle.evaluation.specs.Evaluation.{eval, visited}
+use Rattle.semantics.specs.Reduction.{Reduction, account_of, balance, debited, credited, account_sums, paying, not_paying, partial_pay}
 use Rattle.semantics.specs.Computed.{pay_step}
-use Rattle.linear.specs.Linear.{Linear, Valuation, number_at, IsBelow, number, symbol, plus, minus, IsFrom, IsUpTo, greatest_shown}
-use Rattle.linear.specs.Symbols.{Symbols, IsValued, IsClosed, Knows, Leads, Gives, Possible, of_truth, fresh, shows, learned, learned_if, joined, above_zero}
-use Rattle.linear.proofs.NumberLaws.{both, true_lt, false_lt, lt_true}
-use Rattle.linear.proofs.LinearLaws.{minus_at, minus_below, plus_below, same_number, symbol_at, greatest_shown_is, shown_is}
-use Rattle.linear.proofs.SymbolLaws.{with_value, agree_below, at_new, fresh_closed, fresh_valued, symbol_below, learned_known, learned_if_known, knows_then, gives_here, new_gives, shown_natural, terms_up, to_gap, joined_leads, some_weaker}
+use Rattle.linear.specs.Linear.{Linear, Valuation, number_at, IsBelow, number, symbol, plus, minus, IsUpTo, greatest_shown}
+use Rattle.linear.specs.Symbols.{Symbols, Gives, fresh, shows, learned, learned_if, above_zero}
+use Rattle.linear.proofs.NumberLaws.{both, true_lt, false_lt}
+use Rattle.linear.proofs.LinearLaws.{minus_at, minus_below, plus_below, same_number, symbol_at, greatest_shown_is}
+use Rattle.linear.proofs.SymbolLaws.{with_value, agree_below, at_new, fresh_closed, fresh_valued, symbol_below, learned_known, learned_if_known, gives_here, new_gives, shown_natural, terms_up, to_gap}
 use Rattle.analysis_spec.specs.declared.kind.AlarmKind.{AlarmKind}
-use Rattle.analysis_spec.specs.declared.kind.AlarmKind.TheVariants.{NonPositiveDeposit, NonPositivePay, PartialPay, Shadowing, AssertionFailed, Leaves128}
+use Rattle.analysis_spec.specs.declared.kind.AlarmKind.TheVariants.{NonPositivePay, PartialPay, Leaves128}
 use Rattle.analysis_spec.specs.Promises.{kind_of}
 use Rattle.analysis_walk.specs.Limits.{Scope, any_runs, written_runs, Allowed, GoesOn}
-use Rattle.analysis_walk.specs.Domain.{IsAmong, Conclusion, Concludes}
+use Rattle.analysis_walk.specs.Domain.{IsAmong, Concludes}
 use Rattle.analysis_walk.proofs.ListLemmas.{all_append, all_right}
-use Rattle.analysis_domain.specs.Known.{View, Known, held, AreTimes, IsSeen, SeesBelow, IsDescribed}
-use Rattle.analysis_domain.specs.Evaluated.{evaluated, observed, stays_in, value_fits, truth_fits}
-use Rattle.analysis_domain.specs.Expressions.{known, unless, with_amount, debit, grown, credit, part_paid, paid_of, credit_fits, concluded_pay, concluded_let, known_with, concluded_assert, branches, part_added, added_of, concluded_deposit, expressions}
-use Rattle.analysis_domain.proofs.ViewLemmas.{found_below, sees_more}
-use Rattle.analysis_domain.proofs.EvaluatedLemmas.{Fitting, fitting_both, stays, Sees, after_gives, after_leads, gives, observes, value_allowed, truth_allowed}
-use Rattle.analysis_domain.proofs.AccountLemmas.{same_money_seen, debit_seen, grown_number, grown_seen, account_decides, Pays, pays_one, pays_none, credit_seen}
+use Rattle.analysis_domain.specs.Known.{View, Known, held, IsSeen, SeesBelow, IsDescribed}
+use Rattle.analysis_domain.specs.Evaluated.{evaluated, value_fits}
+use Rattle.analysis_domain.specs.Expressions.{known, unless, debit, credit, part_paid, paid_of, credit_fits, concluded_pay, part_added, added_of}
+use Rattle.analysis_domain.proofs.ViewLemmas.{found_below}
+use Rattle.analysis_domain.proofs.EvaluatedLemmas.{Fitting, fitting_both, stays, Sees, after_gives, gives, value_allowed}
+use Rattle.analysis_domain.proofs.AccountLemmas.{same_money_seen, debit_seen, grown_number, account_decides, Pays, pays_one, pays_none, credit_seen}
 
 -- ---- alarms
 

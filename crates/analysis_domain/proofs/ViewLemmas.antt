@@ -1,8 +1,7 @@
 -- A view, in other numbers for symbols.
-use Rattle.std.proofs.Common.{◌≡◌, ℕ, ◌<◌, ◌≤◌, ℤ, pos, neg_ℤ, ◌-ℤ◌, ◌^◌, ◌≤ℤ◌, ◌<ℤ◌, int_lt, int_le, Bool, true, false, cond, ◌&&◌, List, [], ◌∷◌, refl, sym, ap, ◌∙◌, subst, arith, Option, Some, None, IfSome}
+use Rattle.std.proofs.Common.{◌≡◌, ℕ, ◌≤◌, ℤ, pos, neg_ℤ, ◌-ℤ◌, ◌^◌, ◌≤ℤ◌, ◌<ℤ◌, int_lt, int_le, Bool, true, false, cond, ◌&&◌, List, [], ◌∷◌, refl, sym, ap, ◌∙◌, subst, arith, Option, Some, None, IfSome}
 use Rattle.std.proofs.lemmas.Int.{ints}
 use Rattle.std.specs.Prelude.{option_map}
-use Rattle.std.specs.List.{AllByRecursion}
 use Rattle.std.specs.Option.{unwrap_or}
 use Rattle.std.specs.Ordering.{eq_by_cmp}
 use Rattle.std.specs.declared.cmp.Ordering.{Ordering}
@@ -12,8 +11,8 @@ use Rattle.contract.specs.declared.interval.Interval.{Interval}
 use Rattle.contract.specs.declared.payment.Payment.{Payment}
 use Rattle.states.specs.States.{StateMaps}
 use Rattle.evaluation.specs.Numbers.{fits}
-use Rattle.linear.specs.Linear.{Linear, Valuation, number_at, IsBelow, number, Range, AreInRange, least_of, greatest_of, greater_of, lesser_of}
-use Rattle.linear.specs.Symbols.{Symbols, Agree, Leads, Gives}
+use Rattle.linear.specs.Linear.{Linear, Valuation, number_at, IsBelow, number, Range, AreInRange, least_of, greatest_of}
+use Rattle.linear.specs.Symbols.{Agree}
 use Rattle.linear.proofs.NumberLaws.{lt_true, le_true}
 use Rattle.linear.proofs.LinearLaws.{same_number, least_is, greatest_is, greater_is, lesser_is}
 use Rattle.linear.proofs.SymbolLaws.{terms_more, below_more}

@@ -1,5 +1,5 @@
 -- What is known after a value or an observation is evaluated, its number or truth, and whether its numbers fit 128 bits.
-use Rattle.std.specs.Prelude.{◌≡◌, ℕ, ◌^◌, ℤ, pos, neg_ℤ, ◌-ℤ◌, Bool, true, not, ◌&&◌, List, [], ◌∷◌, Option, Some, None, option_map, is_some}
+use Rattle.std.specs.Prelude.{ℕ, ◌^◌, pos, neg_ℤ, ◌-ℤ◌, Bool, true, not, ◌&&◌, List, [], ◌∷◌, Option, Some, None, option_map, is_some}
 use Rattle.std.specs.Option.{unwrap_or}
 use Rattle.std.specs.FinMap.Entries.{find}
 use Rattle.names.specs.Orders.{choice_id_cmp, bytes_cmp}
