@@ -24,7 +24,7 @@ TOP = Path(__file__).resolve().parent.parent
 CRATES = [line.split(":")[0].split()[0] for line in (TOP / "crates.txt").read_text().splitlines() if ":" in line and line[0] != "#"]
 ROWS = [crate for crate in CRATES if crate.startswith("rows_")]
 TESTS = ["tests", "tests_threads"]
-LIBRARIES = [crate for crate in CRATES if crate not in ROWS + TESTS + ["marlowe", "uses", "tests_memory"]]
+LIBRARIES = [crate for crate in CRATES if crate not in ROWS + TESTS + ["marlowe", "uses"]]
 # The crates whose calls a user makes.
 PUBLIC = """marlowe_run marlowe_play marlowe_cli marlowe_io contract_json json_read_scenarios evaluation semantics states compiler table machine contract_bytes
             bundle eutxo_types eutxo parallel_check roles ledger chain builder hub parties""".split()

@@ -1,8 +1,0 @@
-use Rattle.tests_memory.proofs.party.play_party.Given as goal
-
--- the session is what the opening made
-abbrev pub ghosts-calls_of_all : goal.ghosts-calls_of_all
-ghosts-calls_of_all g a = record { session = a.opening }
-
-abbrev pub ghosts-play_at : goal.ghosts-play_at
-ghosts-play_at g a = record { session = a.opening }
