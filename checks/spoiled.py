@@ -40,6 +40,10 @@ TEXT = re.compile(rb'"(?:[^"\\]|\\.)*"')
 KEY = re.compile(rb'"((?:[^"\\]|\\.)*)"\s*:')
 
 
+# Words of rows that make so many things: a row of millions takes what it is asked to take.
+COUNTED = re.compile(rb"(notifies|many|keys) \d{5,}")
+
+
 def one_of(chance, pattern, text):
     """A match of the pattern, any of them, or None."""
     found = list(pattern.finditer(text))
@@ -140,12 +144,21 @@ def fault_of_answer(status, out, err, took, kib):
     return f"status {status}"
 
 
-def fault_of_rows(status, out, err, took, kib):
+def is_utf8(text):
+    try:
+        text.decode()
+        return True
+    except UnicodeDecodeError:
+        return False
+
+
+def fault_of_rows(text, status, out, err, took, kib):
+    """What is wrong with an answer of the row program, or None. Of a file that is no text in UTF-8 it plays nothing, with status 2."""
     if took > MOST_SECONDS:
         return f"took {took:.1f} s"
     if kib > MOST_KIB:
         return f"took {kib} KiB"
-    return None if status in (0, 1) and not err else f"status {status}"
+    return None if status in ((0, 1) if is_utf8(text) else (2,)) and not err else f"status {status}"
 
 
 def kind_of(word, status, out, err):
@@ -195,6 +208,8 @@ def work(arguments):
             word, texts = chance.choice(examples)
             texts, place, words = list(texts), chance.randrange(len(texts)), [PROGRAM, word]
             texts[place] = spoiled(chance, texts[place], everything)
+        if given.rows and COUNTED.search(texts[0]):
+            continue
         for place, text in enumerate(texts):
             with open(f"{room}/{place}.txt", "wb") as it:
                 it.write(text)
@@ -202,11 +217,12 @@ def work(arguments):
         status, out, err, took, kib = ask([*words, *files, *(["--one"] if word == "play" else [])], room)
         ran += 1
         if given.rows:
-            fault = fault_of_rows(status, out, err, took, kib)
-            # (its lines are `= ANSWER`; names in an answer are the kinds)
-            for line in set(out.decode("utf-8", "replace").split("\n")):
-                words = [it for it in re.findall(r"[A-Za-z]{4,}", line)[:2]]
-                kinds["rows: " + " ".join(words)] += 1 if line.startswith("= ") or words else 0
+            fault = fault_of_rows(texts[0], status, out, err, took, kib)
+            # (the kind of an answer is its verdict, with the fault's name)
+            for line in out.decode("utf-8", "replace").split("\n"):
+                verdict = re.match(r"(accepted|refused [A-Z]\w+|no such row|done|same|other|TooLarge|Short)", line)
+                if verdict:
+                    kinds[f"rows: {verdict[1]}"] += 1
         else:
             fault = fault_of_answer(status, out, err, took, kib)
             kinds[kind_of(word, status, out, err)] += 1
