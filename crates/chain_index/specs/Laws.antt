@@ -1,5 +1,6 @@
 -- What is indexed of a past, and what the past is.
 use Rattle.std.specs.Prelude.{◌≡◌, ℕ, ℤ, List, map, slice_get, Option, Some, None}
+use Rattle.std.specs.List.{list_any}
 use Rattle.std.specs.Option.{option_map}
 use Rattle.eutxo_types.specs.declared.output_ref.OutputRef.{OutputRef}
 use Rattle.eutxo_types.specs.declared.tx.Tx.{Tx}
@@ -11,10 +12,10 @@ use Rattle.ledger_laws.specs.Past.{Past, after}
 use Rattle.ledger_laws.specs.Sound.{moment, IsSound}
 use Rattle.ledger_laws.specs.Threads.{Link, IsMade, thread, ends}
 use Rattle.ledger_spec.specs.Replay.{published_at}
-use Rattle.ledger_spec.specs.Views.{end_of}
+use Rattle.ledger_spec.specs.Views.{starts_in, end_of}
 use Rattle.chain_index.specs.declared.moves.StepPlace.{StepPlace}
-use Rattle.chain_index.specs.Contents.{contents_of, accepting, moment_at, end_in, CanBeAdded}
-use Rattle.chain_index.specs.Moves.{moves_from, along, leads}
+use Rattle.chain_index.specs.Contents.{contents_of, accepting, moment_at, is_among, end_in, CanBeAdded}
+use Rattle.chain_index.specs.Moves.{moves_from, along, leads, starts_of}
 
 -- READ ALIKE: the rules read the same of what is indexed of a past as of the past
 abbrev pub ReadsAlike : Type 0
@@ -47,3 +48,7 @@ ThreadsAlike j = (published : List ℕ → Option Published) (past : Past) → I
 abbrev pub EndsAlike : Judges Published → Type 0
 EndsAlike j =
     (published : List ℕ → Option Published) (ps : List Published) (past : Past) → IsSound j published past → (r : OutputRef) → end_in (contents_of past ps) r ≡ end_of past r
+
+-- and the outputs that start threads are told
+abbrev pub StartsAlike : Type 0
+StartsAlike = (past : Past) (r : OutputRef) → is_among (starts_of past.accepted) r ≡ list_any (starts_in r) past.accepted

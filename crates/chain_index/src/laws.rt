@@ -1,6 +1,6 @@
 //! Laws of what is indexed, each the contract of a function that does nothing.
 ghost use Rattle.roles.specs.Steps.{marlowe};
-ghost use Rattle.chain_index.specs.Laws.{ReadsAlike, AcceptsAlike, JudgedCanBeAdded, ThreadsAlike, EndsAlike};
+ghost use Rattle.chain_index.specs.Laws.{ReadsAlike, AcceptsAlike, JudgedCanBeAdded, ThreadsAlike, EndsAlike, StartsAlike};
 
 use eutxo::found_is_enough;
 use ledger_laws::accepting_is_sound;
@@ -22,10 +22,11 @@ pub fn index_accepts_alike()
 }
 
 /// On a sound past the moves lead along the thread of each contract output, transaction by transaction, to its end, and
-/// tell of each output the end of the thread that it starts.
+/// tell of each output the end of the thread that it starts; and the starts that are told are those of the past.
 pub fn index_follows_threads()
     ensures threads { ThreadsAlike marlowe }
     ensures ends { EndsAlike marlowe }
+    ensures starts { StartsAlike }
 {
     found_is_enough::<Published>();
 }

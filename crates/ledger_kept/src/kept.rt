@@ -1,0 +1,105 @@
+//! What a ledger keeps, lent to what answers a call.
+ghost use Rattle.std.specs.Prelude.{◌≡◌, ◌<◌, Some, length, slice_get, option_copied};
+ghost use Rattle.ledger_spec.specs.Replay.{pending_entry, world};
+ghost use Rattle.ledger_kept.specs.Kept.{IsTally};
+
+use crate::tally::Tally;
+use eutxo::Checked;
+use eutxo_types::{Output, Tx};
+use ledger::Entry;
+use roles::Published;
+use std::marker::Model;
+
+/// What a ledger keeps beside its index, lent: the outputs and the tick that it began with, its entries, and the tally
+/// of these. Clauses see the history. `cache` has checks that were made before, by which transactions are judged; which
+/// checks it has, clauses don't see.
+#[derive(Clone, Copy)]
+pub struct Kept<'a> {
+    genesis: &'a [Output],
+    first_tick: i64,
+    entries: &'a [Entry],
+    tally: &'a Tally,
+    cache: &'a [Checked<Published>],
+}
+
+impl<'a> Model for Kept<'a> {
+    ghost use Rattle.std.specs.Coded.{codes};
+    ghost use Rattle.contract.specs.contracts.tree.Contract as trees;
+    ghost use Rattle.eutxo_types.specs.contracts.output.Output as outputs;
+    ghost use Rattle.eutxo_types.specs.contracts.tx.Tx as txs;
+    ghost use Rattle.ledger.specs.contracts.ask.Ask as ask_rows;
+    ghost use Rattle.ledger.specs.contracts.look.Look as look_rows;
+    ghost use Rattle.ledger_spec.specs.Replay.{Course};
+    ghost use Rattle.ledger_kept.specs.Kept.{IsTally};
+
+    ghost Value = { Course };
+
+    ghost coded = { Prim.hlevel (codes, outputs.the_row.coded, txs.the_row.coded, trees.the_row.coded, ask_rows.the_row.coded, look_rows.the_row.coded) };
+
+    ghost view = { λ a. record { genesis = a.genesis.now; first_tick = a.first_tick; entries = a.entries.now } };
+
+    ghost invariant = { λ a. IsTally a.tally.now (record { genesis = a.genesis.now; first_tick = a.first_tick; entries = a.entries.now }) };
+}
+
+impl<'a> Kept<'a> {
+    /// Lends what a ledger keeps.
+    pub fn new(
+        genesis: &'a [Output],
+        first_tick: i64,
+        entries: &'a [Entry],
+        tally: &'a Tally,
+        cache: &'a [Checked<Published>],
+    ) -> Kept<'a>
+        requires { IsTally tally.now (record { genesis = genesis.now; first_tick = first_tick; entries = entries.now }) }
+        ensures { result ≡ record { genesis = genesis.now; first_tick = first_tick; entries = entries.now } }
+    {
+        Kept {
+            genesis,
+            first_tick,
+            entries,
+            tally,
+            cache,
+        }
+    }
+
+    /// The tick of the ledger, in POSIX milliseconds.
+    pub fn tick(&self) -> i64
+        ensures { result ≡ (world self.now).replay.tick }
+    {
+        self.tally.tick()
+    }
+
+    /// How many tickets were given so far: the next one's number.
+    pub fn tickets(&self) -> u64
+        ensures { result ≡ (world self.now).tickets }
+    {
+        self.tally.tickets()
+    }
+
+    /// How many transactions are pending.
+    pub fn waiting(&self) -> usize
+        ensures { result ≡ length (world self.now).replay.pending }
+    {
+        todo!()
+    }
+
+    /// The pending transaction at a place, with its ticket.
+    pub fn pending_at(&self, place: usize) -> (u64, &'a Tx)
+        requires { place < length (world self.now).replay.pending }
+        ensures { slice_get (world self.now).replay.pending place ≡ Some (pending_entry result.0 result.1.now) }
+    {
+        todo!()
+    }
+
+    /// The accepted transaction of a number, counted from 0.
+    pub fn accepted_at(&self, number: u64) -> Option<&'a Tx>
+        ensures { option_copied result ≡ slice_get (world self.now).replay.accepted number }
+    {
+        todo!()
+    }
+
+    /// The checks that were made before.
+    pub fn cache(&self) -> &'a [Checked<Published>] {
+        self.cache
+    }
+}

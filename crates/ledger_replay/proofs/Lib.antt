@@ -1,4 +1,0 @@
-mod ListLemmas
-pub mod ReplayLemmas
-mod CreatedLemmas
-mod GenesisLemmas

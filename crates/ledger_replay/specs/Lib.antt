@@ -1,2 +1,0 @@
-pub mod GenesisSupport
-pub mod ReplaySupport
