@@ -18,12 +18,13 @@ use Rattle.ledger.specs.declared.call.Call.TheVariants as on
 use Rattle.ledger.specs.declared.call.Reply.{Reply}
 use Rattle.ledger.specs.declared.call.Reply.TheVariants as answer
 use Rattle.ledger.specs.declared.call.Entry.{Entry}
-use Rattle.eutxo_types.specs.Ids.{id_of}
 use Rattle.ledger_spec.specs.Replay.{Replay, World, Course, after_call, count_of, world, past_of, published_at, publication, with_object, published_after, published}
 use Rattle.ledger.specs.Replies.{is_published}
 use Rattle.ledger_spec.specs.Calls.{same_publication, publish_reply_beside, publish_reply, reply_to, published_with}
 use Rattle.ledger_spec.specs.Genesis.{SumsFit}
 use Rattle.ledger_spec.specs.Legal.{Follows, IsLegal, before_entry, with_entry, entry_of}
+use Rattle.chain_index.specs.Contents.{Contents, Indexed, contents_of, beginning}
+use Rattle.ledger_kept.specs.Kept.{Tally, IsTally, IsIndexOf, world_with}
 use Rattle.chain.specs.ChainSupport.{IsKept}
 use Rattle.ledger_spec.proofs.CallsLaws.{accepted_before}
 use Rattle.ledger_spec.proofs.ReplayLaws.{replay_after}
@@ -78,26 +79,40 @@ legal_more c seat call legal n e h =
       | inr p ↦ subst (λ (l : List Entry). Follows (record c { entries = l }) e) (sym p.1) (subst (λ (x : Entry). Follows c x) p.0 (record { number = refl; reply = refl }))
     ]
 
--- a chain that kept one more entry
-pub kept_more : AfterIsSound marlowe → LaterIsSound marlowe → (ps later : List Published) (ids more : List (List ℕ)) (c : Course) (seat : ℕ) (call : Call) → IsKept ps ids c → later ≡ published_with (published c.entries) call →
-    map id_of (world c).replay.accepted ++ more ≡ map id_of (after_call (world c).replay call (reply_to (world c) call)).accepted →
-    All TxFits (after_call (world c).replay call (reply_to (world c) call)).accepted → IsKept later (ids ++ more) (with_entry c (entry_of c seat call))
-kept_more law law_later ps later ids more c seat call kept h k fits =
-    let e = entry_of c seat call in
-    let all : published (c.entries ++ e ∷ []) ≡ published_with (published c.entries) call = published_after_one c seat call in
-    let grown = sym (replay_after (record { tick = c.first_tick; accepted = []; pending = [] }) c.entries e) in
+-- an index of what stands after a call is one of what stands after its entry
+pub index_more : (p : Contents) (c : Course) (seat : ℕ) (call : Call) → IsIndexOf p (world_with (world c) call) → IsIndexOf p (world (with_entry c (entry_of c seat call)))
+index_more p c seat call h =
+    let d = with_entry c (entry_of c seat call) in
+    let grown : after_call (world c).replay call (reply_to (world c) call) ≡ (world d).replay = sym (replay_after (record { tick = c.first_tick; accepted = []; pending = [] }) c.entries (entry_of c seat call)) in
+    let all : published_with (published c.entries) call ≡ published d.entries = sym (published_after_one c seat call) in
     record {
-      objects = h ∙ sym all;
-      used = ap (λ (l : List (List ℕ)). l ++ more) kept.used ∙ k ∙ ap (λ (s : Replay). map id_of s.accepted) grown;
-      legal = legal_more c seat call kept.legal;
-      sound = course_so law law_later c (published (c.entries ++ e ∷ [])) kept.sound seat call all;
-      sums = kept.sums;
-      fits = subst (λ (s : Replay). All TxFits s.accepted) grown fits;
+      contents =
+          subst (λ (s : Replay). p ≡ contents_of (record { genesis = c.genesis; accepted = s.accepted }) (published d.entries)) grown
+          (subst (λ (l : List Published). p ≡ contents_of (past_of (world_with (world c) call)) l) all h.contents);
+      sound =
+          subst (λ (s : Replay). IsSound marlowe (published_at (published d.entries)) (record { genesis = c.genesis; accepted = s.accepted })) grown
+          (subst (λ (l : List Published). IsSound marlowe (published_at l) (past_of (world_with (world c) call))) all h.sound);
+      fits = subst (λ (s : Replay). All TxFits s.accepted) grown h.fits;
     }
 
-pub kept_start : StartIsSound marlowe → (genesis : List Output) (tick : ℤ) → AreKeys genesis → SumsFit genesis → IsKept [] [] (record { genesis = genesis; first_tick = tick; entries = [] })
-kept_start law genesis tick keys sums =
-    record { objects = refl; used = refl; legal = λ n e h. cc; sound = law (published_at []) genesis keys; sums = sums; fits = λ n tx h. absurd (omega arith) }
+-- what is kept after one entry more, which is settled
+pub kept_more : (t : Tally) (index : Indexed) (c : Course) (seat : ℕ) (call : Call) → IsTally t (with_entry c (entry_of c seat call)) → IsIndexOf index.present (world_with (world c) call) → index.settled ≡ index.present →
+    IsLegal c → SumsFit c.genesis → IsKept t index (with_entry c (entry_of c seat call))
+kept_more t index c seat call tally present settled legal sums =
+    record { tally = tally; present = index_more index.present c seat call present; settled = settled; legal = legal_more c seat call legal; sums = sums }
+
+pub kept_start : StartIsSound marlowe → (t : Tally) (index : Indexed) (c : Course) → c.entries ≡ [] → IsTally t c → index ≡ beginning c.genesis → AreKeys c.genesis → SumsFit c.genesis → IsKept t index c
+kept_start law t index c none tally begun keys sums =
+    let whole : record c { entries = [] } ≡ c = λ i. record c { entries = sym none i } in
+    record {
+      tally = tally;
+      present =
+          subst (λ (d : Course). IsIndexOf index.present (world d)) whole
+          (record { contents = ap (λ (x : Indexed). x.present) begun; sound = law (published_at []) c.genesis keys; fits = λ n tx h. absurd (omega arith) });
+      settled = ap (λ (x : Indexed). x.settled) begun ∙ sym (ap (λ (x : Indexed). x.present) begun);
+      legal = subst (λ (d : Course). IsLegal d) whole (λ n e h. cc);
+      sums = sums;
+    }
 
 pub same_entry : (a b : Entry) → a.seat ≡ b.seat → a.number ≡ b.number → a.call ≡ b.call → a.reply ≡ b.reply → a ≡ b
 same_entry a b p q r s = λ i. record { seat = p i; number = q i; call = r i; reply = s i }

@@ -1,64 +1,46 @@
 //! The ledger of one thread.
-ghost use Rattle.std.specs.Prelude.{◌≡◌, ℕ, ◌++◌, [], All, IfOk, IfErr, OnErr, OnOk, map, option_to_list};
+ghost use Rattle.std.specs.Prelude.{◌≡◌, ℕ, ◌++◌, ◌∷◌, [], All, IfOk, IfErr, OnErr, OnOk};
 ghost use Rattle.ledger_laws.specs.Sound.{AreKeys, IsMore};
 ghost use Rattle.eutxo.specs.Judgement.{found};
 ghost use Rattle.ledger_spec.specs.Genesis.{SumsFit, RefusesGenesis};
 ghost use Rattle.eutxo_types.specs.Fitting.{TxFits};
-ghost use Rattle.eutxo_types.specs.Ids.{id_of};
-ghost use Rattle.ledger_spec.specs.Replay.{after_call, past_of, world, replay, published, published_at, moment_of};
+ghost use Rattle.ledger_spec.specs.Replay.{Course, past_of, world, published, published_at, moment_of};
 ghost use Rattle.ledger_spec.specs.Headline.{FirstHalf, SecondHalf, BothHalves};
-ghost use Rattle.ledger_spec.specs.Calls.{reply_to, published_with};
+ghost use Rattle.ledger_spec.specs.Calls.{reply_to};
 ghost use Rattle.ledger_spec.specs.Legal.{entry_of, with_entry, before_entry, IsLegal};
 ghost use Rattle.ledger_spec.specs.Records.{AreSteps};
 ghost use Rattle.ledger_spec.specs.Publishing.{InUseByAnother};
 ghost use Rattle.ledger_spec.specs.Standing.{StandsAsTold};
 ghost use Rattle.ledger_spec.specs.Shown.{ShowsWhatWasMade};
 ghost use Rattle.ledger_spec.specs.Views.{pool_front};
+ghost use Rattle.ledger_kept.specs.Kept.{IsTally, IsIndexOf, world_with};
 
 use crate::laws::both_halves_hold_of_legal_histories;
+use chain_index::Index;
 use collections::{Items, Memory, TryClone};
-use eutxo::{Checked, Resolved, Shared, found_is_enough};
+use eutxo::{Checked, Resolved, found_is_enough};
 use eutxo_types::{Output, OutputRef, Tx};
 use ledger::{Call, Entry, Reply};
-use ledger_dispatch::{answer, front, records, resolution};
+use ledger_dispatch::{answer, front, resolution};
 use ledger_laws::{
     accepting_is_sound, contracts_end_threads, publishing_is_sound, starting_is_sound,
 };
-use ledger_replay::{World, check_genesis, count_of, last_tick, world_after};
+use ledger_kept::{Kept, Tally, check_genesis};
 use ledger_spec::{GenesisFault, StepRecord, legal_histories_stand, publications_are_entries};
+use ledger_views::steps_of;
 use roles::Published;
 use std::alloc::Global;
 use std::marker::Model;
 
-// Adds what one call published, and the ids of what it accepted, or neither.
-fn add_found(
-    published: &mut Vec<Shared<Published>>,
-    object: Option<Shared<Published>>,
-    ids: &mut Vec<[u8; 32]>,
-    mut more: Vec<[u8; 32]>,
-) -> Result<(), Memory>
-    ensures object { OnOk result (published.new.items ≡ published.old.items ++ option_to_list object) }
-    ensures ids { OnOk result (ids.new.items ≡ ids.old.items ++ more.items) }
-    ensures err { OnErr result ((published.new.items ≡ published.old.items) × (ids.new.items ≡ ids.old.items)) }
-{
-    published.reserve(1)?;
-    ids.append(&mut more)?;
-    if let Some(object) = object {
-        published.push_reserved(object);
-    }
-    Ok(())
-}
-
-/// The ledger of one thread: what it began with, what was published, its history, and the ids of what was
-/// accepted, each of which is computed once. It finds everything else by walking over the entries. Clauses
-/// see the outputs and the tick that it began with, and the entries.
+/// The ledger of one thread: what it began with, its history, and beside these an index and a tally of what stands, so
+/// that a call costs what it asks and not what the history is long. Clauses see the outputs and the tick that it began
+/// with, and the entries.
 pub struct Chain {
     genesis: Items<Output>,
-    tick: i64,
-    published: Vec<Shared<Published>>,
-    // Of the accepted transactions, in order.
-    ids: Vec<[u8; 32]>,
+    first_tick: i64,
     entries: Vec<Entry>,
+    index: Index,
+    tally: Tally,
 }
 
 impl Model for Chain {
@@ -75,9 +57,9 @@ impl Model for Chain {
 
     ghost coded = { Prim.hlevel (codes, outputs.the_row.coded, txs.the_row.coded, trees.the_row.coded, ask_rows.the_row.coded, look_rows.the_row.coded) };
 
-    ghost view = { λ a. record { genesis = a.genesis; first_tick = a.tick; entries = a.entries.items } };
+    ghost view = { λ a. record { genesis = a.genesis; first_tick = a.first_tick; entries = a.entries.items } };
 
-    ghost invariant = { λ a. IsKept a.published.items a.ids.items (record { genesis = a.genesis; first_tick = a.tick; entries = a.entries.items }) };
+    ghost invariant = { λ a. IsKept a.tally a.index (record { genesis = a.genesis; first_tick = a.first_tick; entries = a.entries.items }) };
 }
 
 // Dropped once: the drop is written, not derived, so that no crate above proves it again.
@@ -85,102 +67,125 @@ impl Drop for Chain {
     fn drop(self) {
         let Chain {
             genesis: _,
-            tick: _,
-            published: _,
-            ids: _,
+            first_tick: _,
             entries: _,
+            index: _,
+            tally: _,
         } = self;
     }
 }
 
-// What is found for one call: its reply, that reply in two copies, what it publishes, and the ids of the
-// transactions that it accepts.
+// The reply to one call, in three copies.
 #[derive(Drop)]
-struct Answered<R, O> {
+struct Answered<R> {
     reply: R,
     copies: (R, R),
-    object: O,
-    ids: Vec<[u8; 32]>,
 }
 
-// With two copies of the reply; all of it is carried generically.
-fn with_copies<R: TryClone + Drop, O: Drop>(
-    reply: R,
-    object: O,
-    ids: Vec<[u8; 32]>,
-) -> Result<Answered<R, O>, Memory>
+// With two copies of the reply, which is carried generically.
+fn with_copies<R: TryClone + Drop>(reply: R) -> Result<Answered<R>, Memory>
     ensures reply { IfOk result (λ r. r.reply ≡ reply) }
     ensures mine { IfOk result (λ r. r.copies.0 ≡ reply) }
     ensures told { IfOk result (λ r. r.copies.1 ≡ reply) }
-    ensures object { IfOk result (λ r. r.object ≡ object) }
-    ensures ids { IfOk result (λ r. r.ids.items ≡ ids.items) }
 {
     let mine = reply.try_clone()?;
     let told = reply.try_clone()?;
     Ok(Answered {
         reply,
         copies: (mine, told),
-        object,
-        ids,
     })
+}
+
+// What a call is answered. Where memory is refused the index may have grown.
+fn answer_in_copies(
+    alloc: Global,
+    kept: &Kept<'_>,
+    index: &mut Index,
+    call: &Call,
+) -> Result<Answered<Reply>, Memory>
+    requires tied { IsIndexOf index.old.present (world kept.now) }
+    ensures reply { IfOk result (λ r. r.reply ≡ reply_to (world kept.now) call.now) }
+    ensures mine { IfOk result (λ r. r.copies.0 ≡ reply_to (world kept.now) call.now) }
+    ensures told { IfOk result (λ r. r.copies.1 ≡ reply_to (world kept.now) call.now) }
+    ensures tied { OnOk result (IsIndexOf index.new.present (world_with (world kept.now) call.now)) }
+    ensures settled { index.new.settled ≡ index.old.settled }
+{
+    let reply = answer(alloc, kept, index, call)?;
+    with_copies(reply)
+}
+
+// What a call is answered. Where memory is refused the index is cut, so nothing is changed.
+fn answer_or_cut(
+    alloc: Global,
+    kept: &Kept<'_>,
+    index: &mut Index,
+    call: &Call,
+) -> Result<Answered<Reply>, Memory>
+    requires tied { IsIndexOf index.old.present (world kept.now) }
+    requires settled { index.old.settled ≡ index.old.present }
+    ensures reply { IfOk result (λ r. r.reply ≡ reply_to (world kept.now) call.now) }
+    ensures mine { IfOk result (λ r. r.copies.0 ≡ reply_to (world kept.now) call.now) }
+    ensures told { IfOk result (λ r. r.copies.1 ≡ reply_to (world kept.now) call.now) }
+    ensures tied { OnOk result (IsIndexOf index.new.present (world_with (world kept.now) call.now)) }
+    ensures settled { index.new.settled ≡ index.old.settled }
+    ensures err { OnErr result (index.new ≡ index.old) }
+{
+    match answer_in_copies(alloc, kept, index, call) {
+        Ok(found) => Ok(found),
+        Err(refused) => {
+            index.cut();
+            Err(refused)
+        }
+    }
+}
+
+// Adds an entry to the history and to its tally, or leaves both of the same history.
+fn add_entry(entries: &mut Vec<Entry>, tally: &mut Tally, entry: Entry) -> Result<(), Memory>
+    requires { (c : Course) × (c.entries ≡ entries.old.items) × IsTally tally.old c }
+    ensures entries { OnOk result (entries.new.items ≡ entries.old.items ++ entry ∷ []) }
+    ensures tally { OnOk result ((c : Course) → c.entries ≡ entries.old.items → IsTally tally.old c → IsTally tally.new (with_entry c entry)) }
+    ensures err { OnErr result (entries.new.items ≡ entries.old.items) }
+    ensures still { OnErr result ((c : Course) → IsTally tally.old c → IsTally tally.new c) }
+{
+    entries.reserve(1)?;
+    tally.keep(entries.len(), &entry)?;
+    entries.push_reserved(entry);
+    Ok(())
 }
 
 impl Chain {
     // A chain without entries.
-    fn starting(alloc: Global, outputs: Items<Output>, tick: i64) -> Chain
+    fn starting(
+        alloc: Global,
+        outputs: Items<Output>,
+        first_tick: i64,
+    ) -> Result<Chain, Memory>
         requires keys { AreKeys outputs }
         requires sums { SumsFit outputs }
-        ensures { result ≡ record { genesis = outputs; first_tick = tick; entries = [] } }
+        ensures { IfOk result (λ chain. chain ≡ record { genesis = outputs; first_tick = first_tick; entries = [] }) }
     {
         starting_is_sound::<Published>();
-        Chain {
+        let index = Index::new(alloc, outputs.as_slice())?;
+        Ok(Chain {
             genesis: outputs,
-            tick,
-            published: Vec::new(alloc),
-            ids: Vec::new(alloc),
+            first_tick,
             entries: Vec::new(alloc),
-        }
+            index,
+            tally: Tally::new(alloc, first_tick),
+        })
     }
 
-    // What stands, and by which checks it judges.
-    fn world<'a>(
-        &'a self,
-        alloc: Global,
-        cache: &'a [Checked<Published>],
-    ) -> Result<World<'a>, Memory>
-        ensures { IfOk result (λ w. w ≡ world self.now) }
+    // What is kept beside the index, lent.
+    fn kept<'a>(&'a self, cache: &'a [Checked<Published>]) -> Kept<'a>
+        ensures { result ≡ self.now }
     {
-        world_after(
-            alloc,
+        Kept::new(
             self.genesis.as_slice(),
-            self.tick,
-            &self.published,
+            self.first_tick,
             &self.entries,
-            &self.ids,
+            &self.tally,
             cache,
         )
-    }
-
-    // What a call is answered, what it publishes, and the ids of what it accepts.
-    fn replies(
-        &self,
-        alloc: Global,
-        call: &Call,
-        cache: &[Checked<Published>],
-    ) -> Result<Answered<Reply, Option<Shared<Published>>>, Memory>
-        ensures reply { IfOk result (λ r. r.reply ≡ reply_to (world self.now) call.now) }
-        ensures mine { IfOk result (λ r. r.copies.0 ≡ reply_to (world self.now) call.now) }
-        ensures told { IfOk result (λ r. r.copies.1 ≡ reply_to (world self.now) call.now) }
-        ensures object { IfOk result (λ r. published self.now.entries ++ option_to_list r.object ≡ published_with (published self.now.entries) call.now) }
-        ensures fits { IfOk result (λ r. All TxFits (after_call (world self.now).replay call.now (reply_to (world self.now) call.now)).accepted) }
-        ensures ids { IfOk result (λ r. map id_of (world self.now).replay.accepted ++ r.ids.items ≡ map id_of (after_call (world self.now).replay call.now (reply_to (world self.now) call.now)).accepted) }
-    {
-        // touch: brings the invariant
-        let _tick = self.tick;
-        let world = self.world(alloc, cache)?;
-        let (reply, object, ids) = answer(alloc, world, call)?;
-        let found = with_copies(reply, object, ids)?;
-        Ok(found)
     }
 
     // The headline's second half, of this history. It does nothing.
@@ -189,7 +194,7 @@ impl Chain {
     {
         both_halves_hold_of_legal_histories();
         // touch: brings the invariant
-        let _tick = self.tick;
+        let _tick = self.first_tick;
     }
 
     /// Makes the entry of one call, and answers its reply in two equal copies. The entry's number counts the earlier
@@ -220,33 +225,39 @@ impl Chain {
         ensures stays { IsMore (published_at (published self.old.entries)) (published_at (published self.new.entries)) }
         ensures second { SecondHalf self.old }
     {
-        // touch: the laws that keep it sound
+        // touch: the law of what stands now
         self.layouts_are_accepted();
-        accepting_is_sound::<Published>();
-        publishing_is_sound::<Published>();
-        let Answered {
-            reply,
-            copies,
-            object,
-            ids,
-        } = self.replies(alloc, &call, cache)?;
-        let number = count_of(&self.entries, seat);
-        self.entries.reserve(1)?;
-        add_found(&mut self.published, object, &mut self.ids, ids)?;
-        self.entries.push_reserved(Entry {
+        let kept = Kept::new(
+            self.genesis.as_slice(),
+            self.first_tick,
+            &self.entries,
+            &self.tally,
+            cache,
+        );
+        let Answered { reply, copies } = answer_or_cut(alloc, &kept, &mut self.index, &call)?;
+        let entry = Entry {
             seat,
-            number,
+            number: self.tally.count_of(seat),
             call,
             reply,
-        });
-        Ok(copies)
+        };
+        match add_entry(&mut self.entries, &mut self.tally, entry) {
+            Ok(()) => {
+                self.index.settle();
+                Ok(copies)
+            }
+            Err(refused) => {
+                self.index.cut();
+                Err(refused)
+            }
+        }
     }
 
     /// The tick: the last that it was advanced to, else the first, in POSIX milliseconds. Takes no memory.
     pub fn tick(&self) -> i64
         ensures { result ≡ (world self.now).replay.tick }
     {
-        last_tick(self.tick, &self.entries)
+        self.tally.tick()
     }
 
     /// The entries, in order. Takes no memory. What holds of them, `history` says.
@@ -306,8 +317,7 @@ impl Chain {
     pub fn resolve(&self, alloc: Global, tx: &Tx) -> Result<Resolved<Published>, Memory>
         ensures { IfOk result (λ resolved. resolved ≡ found (moment_of (world self.now)) tx.now) }
     {
-        let world = self.world(alloc, &[])?;
-        resolution(alloc, &world, tx)
+        resolution(alloc, &self.kept(&[]), &self.index, tx)
     }
 
     /// The first so many of the pending transactions, or all where there are fewer, in order, each with what is found
@@ -316,8 +326,7 @@ impl Chain {
     pub fn front(&self, alloc: Global, count: u64) -> Result<Vec<(Tx, Resolved<Published>)>, Memory>
         ensures { IfOk result (λ jobs. jobs.items ≡ pool_front (world self.now) count) }
     {
-        let world = self.world(alloc, &[])?;
-        front(alloc, &world, count)
+        front(alloc, &self.kept(&[]), &self.index, count)
     }
 
     /// The records of the thread that starts at an output, in order: the thread's one run (`history`), with as many
@@ -333,9 +342,8 @@ impl Chain {
     {
         publications_are_entries();
         // touch: brings the invariant
-        let _tick = self.tick;
-        let world = self.world(alloc, &[])?;
-        records(alloc, &world, reference)
+        let _tick = self.first_tick;
+        steps_of(alloc, &self.kept(&[]), &self.index, reference)
     }
 
     /// A chain without entries, whose tick is the one given, in POSIX milliseconds. Refused are outputs of which
@@ -346,6 +354,7 @@ impl Chain {
         ensures err { IfErr result (λ fault. RefusesGenesis outputs fault) }
     {
         check_genesis(alloc, outputs.as_slice())?;
-        Ok(Chain::starting(alloc, outputs, tick))
+        let chain = Chain::starting(alloc, outputs, tick)?;
+        Ok(chain)
     }
 }
