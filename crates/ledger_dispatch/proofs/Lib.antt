@@ -1,4 +1,3 @@
+mod TiedLemmas
 mod RoundLemmas
-mod AcceptedLemmas
-pub mod CallsLemmas
 mod PublishLemmas

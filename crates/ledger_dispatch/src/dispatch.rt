@@ -1,20 +1,25 @@
 //! What a call is answered.
-ghost use Rattle.std.specs.Prelude.{◌≡◌, ◌<◌, ◌≤◌, ◌++◌, ◌⊎◌, All, IfOk, IfErr, OnOk, Ok, Err, Some, None, if◌then◌else◌, length, take, drop, map, slice_get, option_to_list};
+ghost use Rattle.std.specs.Prelude.{◌≡◌, ◌≤◌, ◌⊎◌, IfOk, IfErr, OnOk, Ok, Err, None, length, take, is_none};
 ghost use Rattle.compiler.specs.declared.fault.CompileFault.TheVariants as faults;
 ghost use Rattle.eutxo_types.specs.Fitting.{TxFits};
 ghost use Rattle.eutxo_types.specs.Ids.{id_of};
 ghost use Rattle.eutxo.specs.Local.{verdict_of};
 ghost use Rattle.ledger.specs.declared.call.Reply.TheVariants as replies;
-ghost use Rattle.ledger_spec.specs.Replay.{pending_entry, accepted_among, after_call, published_at, publication, with_object};
+ghost use Rattle.ledger_spec.specs.Replay.{published_at, publication, with_object, world};
 ghost use Rattle.ledger_spec.specs.Views.{look};
-ghost use Rattle.ledger_spec.specs.Calls.{publish_reply, fault_on, submit_reply, with_accepted_unless, round_verdicts, advance_reply, enqueue_reply, reply_to, published_with};
+ghost use Rattle.ledger_spec.specs.Calls.{publish_reply_beside, publish_reply, fault_on, submit_reply, with_accepted_unless, round_verdicts, advance_reply, enqueue_reply, reply_to};
+ghost use Rattle.chain_index.specs.Contents.{CanBeAdded};
+ghost use Rattle.ledger_kept.specs.Kept.{IsIndexOf, world_with};
+ghost use Rattle.ledger_dispatch.specs.DispatchSupport.{fault_in, accepting_unless, EachIsJudgedAlike, with_places};
 
+use chain_index::{Index, IndexAt, index_accepts_alike, index_reads_alike};
 use collections::{Bytes, Items, Memory, TryClone};
 use contract::Contract;
-use eutxo::{Shared, verdict_of};
+use eutxo::{Checked, Shared, verdict_of};
 use eutxo_types::{Tx, TxFault, tx_id};
-use ledger::{Ask, Call, Reply, Resolves, Ticketed};
-use ledger_replay::{PendingTx, World, ids_of};
+use ledger::{Ask, Call, Reply, Ticketed, judge};
+use ledger_kept::Kept;
+use ledger_laws::{accepting_is_sound, publishing_is_sound};
 use ledger_views::show;
 use roles::{CompileFault, Published, publish};
 use std::alloc::{AllocError, Global};
@@ -25,118 +30,165 @@ const MOST_PENDING: usize = 1024;
 
 // ---- transactions
 
-// Accepts a transaction where no fault of it was found. Answers the fault, carried generically.
-fn accept_unless<'a, F: Drop>(
-    world: &mut World<'a>,
-    tx: &'a Tx,
-    id: [u8; 32],
-    fault: Option<F>,
-) -> Result<Option<F>, Memory>
-    requires id { id ≡ id_of tx.now }
-    requires fits { TxFits tx.now }
-    ensures fault { IfOk result (λ f. f ≡ fault) }
-    ensures world { OnOk result (world.new ≡ with_accepted_unless world.old tx.now fault) }
+// What an index is of, the rules read alike, and it stays so where it adds what no rule refuses. It does nothing.
+fn each_is_judged_alike()
+    ensures { EachIsJudgedAlike }
 {
-    if fault.is_none() {
-        world.accept(tx, id)?;
-    }
-    Ok(fault)
+    index_reads_alike();
+    index_accepts_alike();
+    accepting_is_sound::<Published>();
 }
 
-// Judges a transaction, and accepts it where no rule refuses it. Answers the fault and the transaction's id,
-// which is computed here alone.
-fn judge_and_accept<'a>(
+// instance below: the judgement on a ledger, at an index.
+// The fault of the first rule that refuses a transaction by what is indexed at a tick, or none. Its id is lent.
+fn judged(
     alloc: Global,
-    world: &mut World<'a>,
-    tx: &'a Tx,
+    index: &Index,
+    tick: &i64,
+    tx: &Tx,
+    id: &[u8; 32],
+    cache: &[Checked<Published>],
+) -> Result<Option<TxFault>, Memory>
+    requires { id.now ≡ id_of tx.now }
+    ensures { IfOk result (λ fault. fault ≡ fault_in index.now.present tick.now tx.now) }
+{
+    judge(alloc, &IndexAt { index, tick: *tick }, tx, id, cache)
+}
+
+// Adds a transaction, whose id is lent, where no fault of it was found.
+fn accept_unless(
+    index: &mut Index,
+    tx: &Tx,
+    id: &[u8; 32],
+    fault: &Option<TxFault>,
+) -> Result<(), Memory>
+    requires id { id.now ≡ id_of tx.now }
+    requires can { fault.now ≡ None → CanBeAdded index.old.present tx.now }
+    ensures present { OnOk result (index.new.present ≡ accepting_unless index.old.present tx.now fault.now) }
+    ensures settled { index.new.settled ≡ index.old.settled }
+{
+    if fault.is_none() {
+        index.accept(tx, id)?;
+    }
+    Ok(())
+}
+
+// Judges a transaction at a tick, and adds it where no rule refuses it. Answers the fault and the transaction's id,
+// which is computed here alone.
+fn judge_and_accept(
+    alloc: Global,
+    index: &mut Index,
+    tick: &i64,
+    tx: &Tx,
+    cache: &[Checked<Published>],
 ) -> Result<(Option<TxFault>, [u8; 32]), Memory>
-    ensures fault { IfOk result (λ r. r.0 ≡ fault_on world.old tx.now) }
+    requires can { fault_in index.old.present tick.now tx.now ≡ None → CanBeAdded index.old.present tx.now }
+    ensures fault { IfOk result (λ r. r.0 ≡ fault_in index.old.present tick.now tx.now) }
     ensures id { IfOk result (λ r. r.1 ≡ id_of tx.now) }
-    ensures world { OnOk result (world.new ≡ with_accepted_unless world.old tx.now (fault_on world.old tx.now)) }
+    ensures fits { IfOk result (λ r. TxFits tx.now) }
+    ensures present { OnOk result (index.new.present ≡ accepting_unless index.old.present tx.now (fault_in index.old.present tick.now tx.now)) }
+    ensures settled { index.new.settled ≡ index.old.settled }
 {
     let id = tx_id(alloc, tx)?;
-    let fault = world.judge(alloc, tx, &id)?;
-    let fault = accept_unless(world, tx, id, fault)?;
+    let fault = judged(alloc, index, tick, tx, &id, cache)?;
+    accept_unless(index, tx, &id, &fault)?;
     Ok((fault, id))
 }
 
-fn submit<'a>(alloc: Global, world: &mut World<'a>, tx: &'a Tx) -> Result<Reply, Memory>
-    ensures reply { IfOk result (λ reply. reply ≡ submit_reply tx.now (fault_on world.old tx.now)) }
-    ensures world { OnOk result (world.new ≡ with_accepted_unless world.old tx.now (fault_on world.old tx.now)) }
+fn submit(
+    alloc: Global,
+    kept: &Kept<'_>,
+    index: &mut Index,
+    tx: &Tx,
+) -> Result<Reply, Memory>
+    requires tied { IsIndexOf index.old.present (world kept.now) }
+    ensures reply { IfOk result (λ reply. reply ≡ submit_reply tx.now (fault_on (world kept.now) tx.now)) }
+    ensures tied { OnOk result (IsIndexOf index.new.present (with_accepted_unless (world kept.now) tx.now (fault_on (world kept.now) tx.now))) }
+    ensures settled { index.new.settled ≡ index.old.settled }
 {
-    let (fault, id) = judge_and_accept(alloc, world, tx)?;
+    each_is_judged_alike();
+    let tick = kept.tick();
+    let (fault, id) = judge_and_accept(alloc, index, &tick, tx, kept.cache())?;
     match fault {
         Some(fault) => Ok(Reply::Refused(fault)),
         None => Ok(Reply::Accepted(id)),
     }
 }
 
-// Judges one pending transaction, and accepts it where no rule refuses it.
-fn judge_one<'a>(
+// Judges one pending transaction at a tick, and adds it where no rule refuses it.
+fn judge_one(
     alloc: Global,
-    world: &mut World<'a>,
+    index: &mut Index,
+    tick: &i64,
     ticket: u64,
-    tx: &'a Tx,
+    tx: &Tx,
+    cache: &[Checked<Published>],
 ) -> Result<Ticketed, Memory>
-    ensures verdict { IfOk result (λ t. t ≡ record { ticket = ticket; verdict = verdict_of (fault_on world.old tx.now) }) }
-    ensures world { OnOk result (world.new ≡ with_accepted_unless world.old tx.now (fault_on world.old tx.now)) }
+    requires can { fault_in index.old.present tick.now tx.now ≡ None → CanBeAdded index.old.present tx.now }
+    ensures verdict { IfOk result (λ t. t ≡ record { ticket = ticket; verdict = verdict_of (fault_in index.old.present tick.now tx.now) }) }
+    ensures fits { IfOk result (λ t. TxFits tx.now) }
+    ensures present { OnOk result (index.new.present ≡ accepting_unless index.old.present tx.now (fault_in index.old.present tick.now tx.now)) }
+    ensures settled { index.new.settled ≡ index.old.settled }
 {
-    let (fault, _) = judge_and_accept(alloc, world, tx)?;
+    let (fault, _) = judge_and_accept(alloc, index, tick, tx, cache)?;
     Ok(Ticketed {
         ticket,
         verdict: verdict_of(fault),
     })
 }
 
-pub(crate) fn first_of(pending: &[PendingTx<'_>], count: u64) -> usize
-    ensures most { result ≤ length pending.now }
-    ensures same { take result pending.now ≡ take count pending.now }
+pub(crate) fn first_of(kept: &Kept<'_>, count: u64) -> usize
+    ensures most { result ≤ length (world kept.now).replay.pending }
+    ensures same { take result (world kept.now).replay.pending ≡ take count (world kept.now).replay.pending }
 {
-    if count < pending.len() as u64 {
+    let waiting = kept.waiting();
+    if count < waiting as u64 {
         count as usize
     } else {
-        pending.len()
+        waiting
     }
 }
 
-fn pending_at<'a>(world: &World<'a>, place: usize) -> (u64, &'a Tx)
-    requires { place < length world.now.replay.pending }
-    ensures { slice_get world.now.replay.pending place ≡ Some (pending_entry result.0 result.1.now) }
+// Judges the first pending transactions, each after those before, and adds those that no rule refuses.
+fn round(
+    alloc: Global,
+    kept: &Kept<'_>,
+    index: &mut Index,
+    count: u64,
+) -> Result<Items<Ticketed>, Memory>
+    requires tied { IsIndexOf index.old.present (world kept.now) }
+    ensures places { IfOk result (λ places. places ≡ round_verdicts (world kept.now) (take count (world kept.now).replay.pending)) }
+    ensures tied { OnOk result (IsIndexOf index.new.present (with_places (world kept.now) (round_verdicts (world kept.now) (take count (world kept.now).replay.pending)))) }
+    ensures settled { index.new.settled ≡ index.old.settled }
 {
-    let waiting = &world.pending()[place];
-    (waiting.ticket(), waiting.tx())
-}
-
-// Judges the first pending transactions, each after those before, and accepts those that no rule refuses.
-fn round(alloc: Global, world: &mut World<'_>, count: u64) -> Result<Items<Ticketed>, Memory>
-    ensures places { IfOk result (λ places. places ≡ round_verdicts world.old (take count world.old.replay.pending)) }
-    ensures accepted { OnOk result (world.new.replay.accepted ≡ world.old.replay.accepted ++ accepted_among world.old.replay.pending (round_verdicts world.old (take count world.old.replay.pending))) }
-{
+    each_is_judged_alike();
+    let tick = kept.tick();
     let mut places = Items::new(alloc);
-    for i in 0..first_of(world.pending(), count) {
-        let (ticket, tx) = pending_at(world, i);
-        places.push(judge_one(alloc, world, ticket, tx)?)?;
+    for i in 0..first_of(kept, count) {
+        let (ticket, tx) = kept.pending_at(i);
+        let place = judge_one(alloc, index, &tick, ticket, tx, kept.cache())?;
+        places.push(place)?;
     }
     Ok(places)
 }
 
 // ---- tick and tickets
 
-fn advance(world: &World<'_>, tick: i64) -> Reply
-    ensures { result ≡ advance_reply world.now.replay.tick tick }
+fn advance(kept: &Kept<'_>, tick: i64) -> Reply
+    ensures { result ≡ advance_reply (world kept.now).replay.tick tick }
 {
-    if world.now() <= tick {
+    if kept.tick() <= tick {
         Reply::Advanced
     } else {
         Reply::Backward
     }
 }
 
-fn enqueue(world: &World<'_>) -> Reply
-    ensures { result ≡ enqueue_reply world.now }
+fn enqueue(kept: &Kept<'_>) -> Reply
+    ensures { result ≡ enqueue_reply (world kept.now) }
 {
-    if world.pending().len() < MOST_PENDING {
-        Reply::Ticket(world.tickets())
+    if kept.waiting() < MOST_PENDING {
+        Reply::Ticket(kept.tickets())
     } else {
         Reply::Full
     }
@@ -157,11 +209,11 @@ fn publication(
 }
 
 // With what a publication is answered, and whether it is new.
-fn publish_reply(world: &World<'_>, object: &Published) -> (Reply, bool)
-    ensures reply { result.0 ≡ publish_reply world.now (Ok object.now) }
-    ensures object { world.now.published ++ option_to_list (if result.1 then Some object.now else None) ≡ with_object world.now.published (Ok object.now) }
+fn publish_reply(index: &Index, object: &Published) -> (Reply, bool)
+    ensures reply { result.0 ≡ publish_reply_beside object.now (published_at index.now.present.published object.now.id) }
+    ensures new { result.1 ≡ is_none (published_at index.now.present.published object.now.id) }
 {
-    match world.published_at(&object.id) {
+    match index.published_at(&object.id) {
         Some(known) => {
             if *known.get() == *object {
                 (Reply::Published(object.id), false)
@@ -173,114 +225,87 @@ fn publish_reply(world: &World<'_>, object: &Published) -> (Reply, bool)
     }
 }
 
-// Shares an object that is new, beside the reply: both carried generically.
-fn shared<R: Drop, T: Drop>(
-    alloc: Global,
-    reply: R,
-    object: T,
-    is_new: bool,
-) -> Result<(R, Option<Shared<T>>), Memory>
-    ensures reply { IfOk result (λ r. r.0 ≡ reply) }
-    ensures object { IfOk result (λ r. r.1 ≡ (if is_new then Some object else None)) }
+// Shares an object, which is carried generically.
+fn shared<T: Drop>(alloc: Global, object: T) -> Result<Shared<T>, Memory>
+    ensures { IfOk result (λ shared. shared ≡ object) }
 {
-    if !is_new {
-        return Ok((reply, None));
-    }
     match Arc::new(alloc, object) {
-        Ok(arc) => Ok((reply, Some(Shared::new(arc)))),
+        Ok(arc) => Ok(Shared::new(arc)),
         Err(_) => Err(AllocError),
     }
 }
 
+// Adds an object where it is new, and answers the reply.
+fn publish_object(alloc: Global, index: &mut Index, object: Published) -> Result<Reply, Memory>
+    ensures reply { IfOk result (λ reply. reply ≡ publish_reply_beside object (published_at index.old.present.published object.id)) }
+    ensures present { OnOk result (index.new.present ≡ record index.old.present { published = with_object index.old.present.published (Ok object) }) }
+    ensures settled { index.new.settled ≡ index.old.settled }
+{
+    let (reply, is_new) = publish_reply(index, &object);
+    if !is_new {
+        return Ok(reply);
+    }
+    index.publish(shared(alloc, object)?)?;
+    Ok(reply)
+}
+
 fn publish_as(
     alloc: Global,
-    world: &World<'_>,
+    kept: &Kept<'_>,
+    index: &mut Index,
     contract: &Contract,
     currency: &Bytes,
-) -> Result<(Reply, Option<Shared<Published>>), Memory>
-    ensures reply { IfOk result (λ r. r.0 ≡ publish_reply world.now (publication contract.now currency.now)) }
-    ensures object { IfOk result (λ r. world.now.published ++ option_to_list r.1 ≡ with_object world.now.published (publication contract.now currency.now)) }
+) -> Result<Reply, Memory>
+    requires tied { IsIndexOf index.old.present (world kept.now) }
+    ensures reply { IfOk result (λ reply. reply ≡ publish_reply (world kept.now) (publication contract.now currency.now)) }
+    ensures tied { OnOk result (IsIndexOf index.new.present (record (world kept.now) { published = with_object (world kept.now).published (publication contract.now currency.now) })) }
+    ensures settled { index.new.settled ≡ index.old.settled }
 {
+    publishing_is_sound::<Published>();
     let currency = currency.try_clone()?;
     match publication(alloc, contract, currency) {
-        Ok(object) => {
-            let (reply, is_new) = publish_reply(world, &object);
-            shared(alloc, reply, object, is_new)
-        }
+        Ok(object) => publish_object(alloc, index, object),
         Err(CompileFault::Memory) => Err(AllocError),
-        Err(fault) => Ok((Reply::NotCompiled(fault), None)),
+        Err(fault) => Ok(Reply::NotCompiled(fault)),
     }
 }
 
 // ---- looks
 
-fn look(alloc: Global, world: &World<'_>, ask: &Ask) -> Result<Reply, Memory>
-    ensures { IfOk result (λ reply. reply ≡ replies.Look (look world.now ask.now)) }
+fn look(alloc: Global, kept: &Kept<'_>, index: &Index, ask: &Ask) -> Result<Reply, Memory>
+    requires tied { IsIndexOf index.now.present (world kept.now) }
+    ensures { IfOk result (λ reply. reply ≡ replies.Look (look (world kept.now) ask.now)) }
 {
-    Ok(Reply::Look(show(alloc, world, ask)?))
+    Ok(Reply::Look(show(alloc, kept, index, ask)?))
 }
 
 // ---- a call
 
-// What a call is answered, and what it publishes. The world that is lent accepts what the call accepts; where memory
-// is refused it may have accepted a beginning of a round.
-fn answer_in<'a>(
+/// What a call is answered after what stands, by the table of calls (`reply_to`). What a ledger keeps is lent, and the
+/// index beside it, which is of what stands, is brought on: it is then of what stands after the call (`world_with`). So
+/// what the call accepts and publishes is only added, and whoever keeps the entries reads the rest off call and reply.
+/// It costs what the call asks, not what the history is long. Answers `Memory` only where a growth was refused.
+///
+/// Nothing settles the index here, and a refusal may leave it grown: a Round that runs out of memory at a later place
+/// has added what its first places accepted. So whoever called cuts it then, back to where it was settled, and settles
+/// it once the entry stands.
+pub fn answer(
     alloc: Global,
-    world: &mut World<'a>,
-    call: &'a Call,
-) -> Result<(Reply, Option<Shared<Published>>), Memory>
-    ensures reply { IfOk result (λ r. r.0 ≡ reply_to world.old call.now) }
-    ensures object { IfOk result (λ r. world.old.published ++ option_to_list r.1 ≡ published_with world.old.published call.now) }
-    ensures accepted { OnOk result (world.new.replay.accepted ≡ (after_call world.old.replay call.now (reply_to world.old call.now)).accepted) }
+    kept: &Kept<'_>,
+    index: &mut Index,
+    call: &Call,
+) -> Result<Reply, Memory>
+    requires tied { IsIndexOf index.old.present (world kept.now) }
+    ensures reply { IfOk result (λ reply. reply ≡ reply_to (world kept.now) call.now) }
+    ensures tied { OnOk result (IsIndexOf index.new.present (world_with (world kept.now) call.now)) }
+    ensures settled { index.new.settled ≡ index.old.settled }
 {
     match call {
-        Call::Publish { contract, currency } => publish_as(alloc, world, contract, currency),
-        Call::Advance(tick) => Ok((advance(world, *tick), None)),
-        Call::Look(ask) => Ok((look(alloc, world, ask)?, None)),
-        Call::Submit(tx) => Ok((submit(alloc, world, tx)?, None)),
-        Call::Enqueue(_) => Ok((enqueue(world), None)),
-        Call::Round(count) => Ok((Reply::Round(round(alloc, world, *count)?), None)),
+        Call::Publish { contract, currency } => publish_as(alloc, kept, index, contract, currency),
+        Call::Advance(tick) => Ok(advance(kept, *tick)),
+        Call::Look(ask) => look(alloc, kept, index, ask),
+        Call::Submit(tx) => submit(alloc, kept, index, tx),
+        Call::Enqueue(_) => Ok(enqueue(kept)),
+        Call::Round(count) => Ok(Reply::Round(round(alloc, kept, index, *count)?)),
     }
-}
-
-// With the ids of what was accepted after the first so many. The rest is carried generically.
-fn with_ids<R: Drop, O: Drop>(
-    alloc: Global,
-    world: &World<'_>,
-    known: usize,
-    reply: R,
-    object: O,
-) -> Result<(R, O, Vec<[u8; 32]>), Memory>
-    requires { known ≤ length world.now.replay.accepted }
-    ensures reply { IfOk result (λ r. r.0 ≡ reply) }
-    ensures object { IfOk result (λ r. r.1 ≡ object) }
-    ensures ids { IfOk result (λ r. r.2.items ≡ map id_of (drop known world.now.replay.accepted)) }
-    ensures fits { IfOk result (λ r. All TxFits (drop known world.now.replay.accepted)) }
-{
-    let ids = ids_of(alloc, &world.accepted()[known..])?;
-    Ok((reply, object, ids))
-}
-
-/// What a call is answered after what stands, by the table of calls (`reply_to`); what it adds to what is published;
-/// and the ids of the transactions that it accepts, in order, each of which fits its spelling. Of the tick and the
-/// pending transactions nothing is told, since whoever keeps the entries reads them off calls and replies. Answers
-/// `Memory` only where a growth was refused.
-///
-/// The world is handed in, and is gone with the answer. So a refusal leaves nothing: a Round that runs out of memory at
-/// a later place has accepted nothing that its caller could keep.
-#[tactic(auto, using(crate::proofs::AcceptedLemmas::enough_found))]
-pub fn answer<'a>(
-    alloc: Global,
-    mut world: World<'a>,
-    call: &'a Call,
-) -> Result<(Reply, Option<Shared<Published>>, Vec<[u8; 32]>), Memory>
-    ensures reply { IfOk result (λ r. r.0 ≡ reply_to world.entry call.now) }
-    ensures object { IfOk result (λ r. world.entry.published ++ option_to_list r.1 ≡ published_with world.entry.published call.now) }
-    ensures ids { IfOk result (λ r. map id_of world.entry.replay.accepted ++ r.2.items ≡ map id_of (after_call world.entry.replay call.now (reply_to world.entry call.now)).accepted) }
-    ensures fits { IfOk result (λ r. All TxFits world.entry.replay.accepted → All TxFits (after_call world.entry.replay call.now (reply_to world.entry call.now)).accepted) }
-{
-    let known = world.accepted().len();
-    let (reply, object) = answer_in(alloc, &mut world, call)?;
-    let found = with_ids(alloc, &world, known, reply, object)?;
-    Ok(found)
 }

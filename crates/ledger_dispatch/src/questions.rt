@@ -1,80 +1,80 @@
 //! What a question is answered.
 ghost use Rattle.std.specs.Prelude.{◌≡◌, IfOk, map};
 ghost use Rattle.eutxo.specs.Judgement.{found};
-ghost use Rattle.roles.specs.Steps.{marlowe};
-ghost use Rattle.ledger_laws.specs.Laws.{AreTables};
-ghost use Rattle.ledger_laws.specs.Sound.{IsSound};
-ghost use Rattle.ledger_spec.specs.Replay.{past_of, published_at, moment_of};
-ghost use Rattle.ledger_spec.specs.Records.{AreSteps};
+ghost use Rattle.ledger_spec.specs.Replay.{world, moment_of};
 ghost use Rattle.ledger_spec.specs.Views.{with_found, pool_front};
+ghost use Rattle.chain_index.specs.Contents.{moment_at};
+ghost use Rattle.ledger_kept.specs.Kept.{IsIndexOf};
 
 use crate::dispatch::first_of;
-use collections::{Items, Memory, TryClone};
+use chain_index::{Index, IndexAt, index_reads_alike};
+use collections::{Memory, TryClone};
 use eutxo::Resolved;
-use eutxo_types::{OutputRef, Tx};
+use eutxo_types::Tx;
 use ledger::resolve;
-use ledger_replay::{PendingTx, World};
-use ledger_spec::StepRecord;
-use ledger_views::steps_of;
+use ledger_kept::Kept;
 use roles::Published;
 use std::alloc::Global;
 
-// instance below: of a world
-/// What is found of what a transaction names, by what stands: the unspent outputs of its inputs, and of the scripts
-/// that its outputs and those name the ones that are published. Answers `Memory` only where a growth was refused.
-pub fn resolution(alloc: Global, world: &World<'_>, tx: &Tx) -> Result<Resolved<Published>, Memory>
-    ensures { IfOk result (λ resolved. resolved ≡ found (moment_of world.now) tx.now) }
+// What is found of what a transaction names, by what is indexed at a tick.
+fn found_at(
+    alloc: Global,
+    index: &Index,
+    tick: &i64,
+    tx: &Tx,
+) -> Result<Resolved<Published>, Memory>
+    ensures { IfOk result (λ resolved. resolved ≡ found (moment_at index.now.present tick.now) tx.now) }
 {
-    resolve(alloc, world, tx)
+    resolve(alloc, &IndexAt { index, tick: *tick }, tx)
+}
+
+/// What is found of what a transaction names, by what stands: the unspent outputs of its inputs, and of the scripts
+/// that its outputs and those name the ones that are published. What stands is lent, with the index that is of it.
+/// Answers `Memory` only where a growth was refused.
+pub fn resolution(
+    alloc: Global,
+    kept: &Kept<'_>,
+    index: &Index,
+    tx: &Tx,
+) -> Result<Resolved<Published>, Memory>
+    requires tied { IsIndexOf index.now.present (world kept.now) }
+    ensures { IfOk result (λ resolved. resolved ≡ found (moment_of (world kept.now)) tx.now) }
+{
+    index_reads_alike();
+    found_at(alloc, index, &kept.tick(), tx)
 }
 
 // A transaction with what is found of what it names.
-fn job_of(alloc: Global, world: &World<'_>, tx: &Tx) -> Result<(Tx, Resolved<Published>), Memory>
-    ensures { IfOk result (λ found. found ≡ with_found world.now tx.now) }
+fn job_of(
+    alloc: Global,
+    kept: &Kept<'_>,
+    index: &Index,
+    tx: &Tx,
+) -> Result<(Tx, Resolved<Published>), Memory>
+    requires tied { IsIndexOf index.now.present (world kept.now) }
+    ensures { IfOk result (λ found. found ≡ with_found (world kept.now) tx.now) }
 {
-    let found = resolution(alloc, world, tx)?;
+    let found = resolution(alloc, kept, index, tx)?;
     Ok((tx.try_clone()?, found))
 }
 
-fn jobs_of(
-    alloc: Global,
-    world: &World<'_>,
-    pending: &[PendingTx<'_>],
-) -> Result<Vec<(Tx, Resolved<Published>)>, Memory>
-    ensures { IfOk result (λ jobs. jobs.items ≡ map (λ p. with_found world.now p.1) pending.now) }
-{
-    let mut jobs = Vec::with_capacity(alloc, pending.len())?;
-    for waiting in pending {
-        jobs.push(job_of(alloc, world, waiting.tx())?)?;
-    }
-    Ok(jobs)
-}
-
 /// The first so many of the pending transactions, or all where there are fewer, in order, each with what is found of
-/// what it names, at this one moment. Answers `Memory` only where a growth was refused.
+/// what it names, at this one moment. What stands is lent, with the index that is of it. Answers `Memory` only where a
+/// growth was refused.
 pub fn front(
     alloc: Global,
-    world: &World<'_>,
+    kept: &Kept<'_>,
+    index: &Index,
     count: u64,
 ) -> Result<Vec<(Tx, Resolved<Published>)>, Memory>
-    ensures { IfOk result (λ jobs. jobs.items ≡ pool_front world.now count) }
+    requires tied { IsIndexOf index.now.present (world kept.now) }
+    ensures { IfOk result (λ jobs. jobs.items ≡ pool_front (world kept.now) count) }
 {
-    let pending = world.pending();
-    jobs_of(alloc, world, &pending[..first_of(pending, count)])
-}
-
-// instance below: of a world
-/// The records of the thread that starts at an output, in order: the thread's one run, with as many records as the
-/// thread has transactions. Where no thread starts there are none. Answers `Memory` only where a growth was
-/// refused.
-pub fn records(
-    alloc: Global,
-    world: &World<'_>,
-    start: &OutputRef,
-) -> Result<Items<StepRecord>, Memory>
-    requires sound { IsSound marlowe (published_at world.now.published) (past_of world.now) }
-    requires tables { AreTables (published_at world.now.published) }
-    ensures { IfOk result (λ records. AreSteps (published_at world.now.published) (past_of world.now) start.now records) }
-{
-    steps_of(alloc, world, start)
+    let first = first_of(kept, count);
+    let mut jobs = Vec::with_capacity(alloc, first)?;
+    for i in 0..first {
+        let (_, tx) = kept.pending_at(i);
+        jobs.push(job_of(alloc, kept, index, tx)?)?;
+    }
+    Ok(jobs)
 }

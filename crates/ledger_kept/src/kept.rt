@@ -4,6 +4,7 @@ ghost use Rattle.ledger_spec.specs.Replay.{pending_entry, world};
 ghost use Rattle.ledger_kept.specs.Kept.{IsTally};
 
 use crate::tally::Tally;
+use crate::texts::text_at;
 use eutxo::Checked;
 use eutxo_types::{Output, Tx};
 use ledger::Entry;
@@ -80,7 +81,7 @@ impl<'a> Kept<'a> {
     pub fn waiting(&self) -> usize
         ensures { result ≡ length (world self.now).replay.pending }
     {
-        todo!()
+        self.tally.pending().len()
     }
 
     /// The pending transaction at a place, with its ticket.
@@ -88,14 +89,18 @@ impl<'a> Kept<'a> {
         requires { place < length (world self.now).replay.pending }
         ensures { slice_get (world self.now).replay.pending place ≡ Some (pending_entry result.0 result.1.now) }
     {
-        todo!()
+        let waiting = self.tally.pending()[place];
+        (waiting.ticket, text_at(self.entries, waiting.entry))
     }
 
     /// The accepted transaction of a number, counted from 0.
     pub fn accepted_at(&self, number: u64) -> Option<&'a Tx>
         ensures { option_copied result ≡ slice_get (world self.now).replay.accepted number }
     {
-        todo!()
+        match self.tally.places().get(number as usize) {
+            Some(place) => Some(text_at(self.entries, *place)),
+            None => None,
+        }
     }
 
     /// The checks that were made before.

@@ -7,9 +7,12 @@
 //! stands. `check_genesis` says with which outputs a history may begin.
 #![tactic(auto)]
 
+mod counts;
 mod genesis;
 mod kept;
+mod rounds;
 mod tally;
+mod texts;
 
 pub use genesis::check_genesis;
 pub use kept::Kept;

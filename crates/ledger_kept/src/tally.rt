@@ -1,12 +1,16 @@
 //! What is counted and kept of the entries of a history.
-ghost use Rattle.std.specs.Prelude.{◌≡◌, ◌+◌, ◌<◌, ◌^◌, ℕ, [], OnOk, OnErr, length};
+ghost use Rattle.std.specs.Prelude.{◌≡◌, ◌+◌, ◌<◌, ◌^◌, ℕ, [], OnOk, OnErr, IsSome, length, nat_eq};
+ghost use Rattle.std.specs.Map.{lookup};
 ghost use Rattle.ledger_spec.specs.Replay.{Course};
 ghost use Rattle.ledger_spec.specs.Legal.{with_entry};
 ghost use Rattle.ledger_kept.specs.Kept.{IsTally, counted};
+ghost use Rattle.ledger_kept.specs.TallySupport.{tally_after, IsCounted};
 
+use crate::counts::{SeatCounts, add_one, count_at, make_room};
+use crate::rounds::{accept, accept_among, take_out, wait};
 use collections::Memory;
 use indexmap::IndexMap;
-use ledger::Entry;
+use ledger::{Call, Entry, Reply, is_accepted, is_advanced, ticket_in, verdicts_in};
 use std::alloc::Global;
 use std::marker::Model;
 
@@ -20,13 +24,12 @@ pub struct Waiting {
 
 /// The tick, the count of tickets, what is pending, where the texts of accepted transactions stand, and each seat's
 /// count of entries, after the entries of a history. Which history it is, `IsTally` says.
-#[derive(Drop)]
 pub struct Tally {
     tick: i64,
     tickets: u64,
     pending: Vec<Waiting>,
     places: Vec<usize>,
-    counts: IndexMap<u64, u64>,
+    counts: SeatCounts,
 }
 
 impl Model for Tally {
@@ -39,6 +42,19 @@ impl Model for Tally {
     ghost coded = { Prim.hlevel (codes, waiting_rows.the_row.coded) };
 
     ghost view = { λ a. record { tick = a.tick; tickets = a.tickets; pending = a.pending.items; places = a.places.items; counts = a.counts.entries } };
+}
+
+// Dropped once: the drop is written, not derived, so that no crate above proves it again.
+impl Drop for Tally {
+    fn drop(self) {
+        let Tally {
+            tick: _,
+            tickets: _,
+            pending: _,
+            places: _,
+            counts: _,
+        } = self;
+    }
 }
 
 impl Tally {
@@ -73,10 +89,69 @@ impl Tally {
     pub fn count_of(&self, seat: u64) -> u64
         ensures { result ≡ counted self.now.counts seat }
     {
-        match self.counts.get(&seat) {
-            Some(count) => *count,
-            None => 0,
+        count_at(&self.counts, seat)
+    }
+
+    /// What is pending.
+    pub(crate) fn pending(&self) -> &[Waiting]
+        ensures { result.now ≡ self.now.pending }
+    {
+        self.pending.as_slice()
+    }
+
+    /// Where the texts of the accepted transactions stand.
+    pub(crate) fn places(&self) -> &[usize]
+        ensures { result.now ≡ self.now.places }
+    {
+        self.places.as_slice()
+    }
+
+    // Keeps what the call and the reply of the entry at a place change, but for what is counted. A refusal for memory
+    // changes nothing.
+    fn follow(&mut self, place: usize, call: &Call, reply: &Reply) -> Result<(), Memory>
+        ensures ok { OnOk result (self.new ≡ tally_after self.old place call.now reply.now) }
+        ensures err { OnErr result (self.new ≡ self.old) }
+    {
+        match call {
+            Call::Publish { .. } => Ok(()),
+            Call::Advance(tick) => {
+                if is_advanced(reply) {
+                    self.tick = *tick;
+                }
+                Ok(())
+            }
+            Call::Look(_) => Ok(()),
+            Call::Submit(_) => {
+                if is_accepted(reply) {
+                    accept(&mut self.places, place)?;
+                }
+                Ok(())
+            }
+            Call::Enqueue(_) => {
+                if let Some(ticket) = ticket_in(reply) {
+                    wait(&mut self.pending, ticket, place)?;
+                }
+                Ok(())
+            }
+            Call::Round(count) => {
+                accept_among(&mut self.places, &self.pending, verdicts_in(reply))?;
+                take_out(&mut self.pending, *count);
+                Ok(())
+            }
         }
+    }
+
+    // Counts an entry, and the ticket that it gave. There is room for its seat. Takes no memory.
+    fn count(&mut self, entry: &Entry)
+        requires room { IsSome (lookup (nat_eq entry.now.seat) self.old.counts) }
+        requires count { counted self.old.counts entry.now.seat + 1 < 2 ^ 64 }
+        requires tickets { self.old.tickets + 1 < 2 ^ 64 }
+        ensures { IsCounted self.old entry.now self.new }
+    {
+        if ticket_in(&entry.reply).is_some() {
+            self.tickets += 1;
+        }
+        add_one(&mut self.counts, entry.seat);
     }
 
     /// Keeps what one entry more changes, which is the one at this place: its tick, its ticket, what a round took and
@@ -88,6 +163,9 @@ impl Tally {
         ensures ok { OnOk result ((c : Course) → length c.entries ≡ place → IsTally self.old c → IsTally self.new (with_entry c entry.now)) }
         ensures err { OnErr result ((c : Course) → IsTally self.old c → IsTally self.new c) }
     {
-        todo!()
+        make_room(&mut self.counts, entry.seat)?;
+        self.follow(place, &entry.call, &entry.reply)?;
+        self.count(entry);
+        Ok(())
     }
 }

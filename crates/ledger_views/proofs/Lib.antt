@@ -1,7 +1,5 @@
-mod SpineLemmas
-mod ViewsLemmas
-mod EndLemmas
-mod SpentLemmas
+mod LookLemmas
+mod LinkLemmas
 mod StartLemmas
 mod NextRecordLemmas
 mod RecordsLemmas

@@ -1,102 +1,95 @@
--- Where a thread starts.
-use Rattle.std.proofs.Common.{◌≡◌, ℕ, zero, suc, Bool, true, false, not, ◌&&◌, cond, List, [], ◌∷◌, refl, sym, ◌∙◌, ap, subst, Option, Some, None}
-use Rattle.std.specs.Prelude.{find, is_some}
-use Rattle.std.specs.List.{slice_get}
+-- Where a thread starts, as it is read off an index.
+use Rattle.std.proofs.Common.{◌≡◌, ℕ, ◌<◌, ◌≤◌, Bool, true, false, List, [], refl, sym, ◌∙◌, ap, subst, arith, Option, Some, None, map, length, get_or}
+use Rattle.std.specs.Prelude.{if◌then◌else◌, position}
+use Rattle.std.specs.List.{slice_get, list_any, position_or_len}
+use Rattle.std.specs.Option.{option_map}
 use Rattle.std.specs.Cmp.Lexicographic.{bytes_decides}
+use Rattle.std.proofs.lemmas.Bool.Decides.{nat_tests}
+use Rattle.std.proofs.lemmas.List.{length-map}
+use Rattle.std.proofs.lemmas.List.Quantifiers.{position-Some}
+use Rattle.std.proofs.lemmas.List.Sums.{fails_before_first}
+use Rattle.std.proofs.lemmas.Option.{slice_get-map, slice_get-get_or, slice_get_within, get_or_from_slice_get}
 use Rattle.eutxo_types.specs.declared.output_ref.OutputRef.{OutputRef}
-use Rattle.eutxo_types.specs.declared.output_ref.OutputRef.TheVariants.{Genesis, Made}
+use Rattle.eutxo_types.specs.declared.output_ref.OutputRef.TheVariants.{Made}
 use Rattle.eutxo_types.specs.declared.tx.Tx.{Tx}
 use Rattle.eutxo_types.specs.Ids.{id_of}
-use Rattle.eutxo.specs.Laws.{FoundIsEnough}
-use Rattle.eutxo_types.specs.Parts.{Instance, contract_at, steps}
+use Rattle.eutxo_types.specs.Parts.{Instance, same_bytes}
 use Rattle.roles.specs.declared.published.Published.{Published}
-use Rattle.ledger_laws.specs.Past.{Past, has_id}
-use Rattle.ledger_laws.specs.Sound.{IsSound}
-use Rattle.roles.specs.Steps.{marlowe}
-use Rattle.ledger_laws.specs.Threads.{IsStart}
-use Rattle.ledger_laws.proofs.PlainLaws.{and_true, both, same_some}
+use Rattle.ledger_laws.specs.Past.{Past}
+use Rattle.ledger_laws.specs.Laws.{IdsAreSingle}
+use Rattle.ledger_laws.specs.Threads.{IsMade, IsStart, StartsThread}
+use Rattle.ledger_laws.proofs.PlainLaws.{not_both, same_some}
 use Rattle.ledger_laws.proofs.ReferenceLaws.{itself}
-use Rattle.ledger_laws.proofs.AcceptedLaws.{one_place}
 use Rattle.ledger_spec.specs.Views.{starts_in}
 use Rattle.ledger_spec.specs.declared.step_record.StepRecord.{StepRecord}
 use Rattle.ledger_spec.specs.Records.{TellTheRun, AreSteps}
-use Rattle.ledger_views.specs.RecordsSupport.{contract_named, contract_by, start_at}
+use Rattle.ledger_spec.proofs.StartsLaws.{told_start, start_told}
+use Rattle.chain_index.specs.Contents.{contents_of, is_among}
+use Rattle.chain_index.specs.Laws.{StartsAlike}
+use Rattle.chain_index.specs.Moves.{starts_of}
+use Rattle.ledger_views.specs.RecordsSupport.{numbered, contract_by, contract_named, start_at}
 
--- ---- the first that passes a test
+-- ---- a transaction by its id
 
-found_so : {X : Type 0} (p : X → Bool) (xs : List X) (x : X) → find p xs ≡ Some x → (n : ℕ) × (slice_get xs n ≡ Some x) × (p x ≡ true)
-found_so p [] x h = cc
-found_so {X} p (y ∷ ys) x h = by (p y) refl h (found_so p ys x)
-  where
-    by : (b : Bool) → p y ≡ b → cond b (Some y) (find p ys) ≡ Some x → (find p ys ≡ Some x → (n : ℕ) × (slice_get ys n ≡ Some x) × (p x ≡ true)) →
-        (n : ℕ) × (slice_get (y ∷ ys) n ≡ Some x) × (p x ≡ true)
-    by true e h go = (0, h, subst (λ (z : X). p z ≡ true) (same_some y x h) e)
-    by false e h go = let q = go h in (suc q.0, q.1, q.2)
+id_at : (txs : List Tx) (n : ℕ) (tx : Tx) (d : List ℕ) → slice_get txs n ≡ Some tx → get_or (map id_of txs) n d ≡ id_of tx
+id_at txs n tx d at = get_or_from_slice_get (map id_of txs) n (id_of tx) d (slice_get-map id_of txs n ∙ ap (option_map id_of) at)
 
-is_found : {X : Type 0} (p : X → Bool) (xs : List X) (n : ℕ) (x : X) → slice_get xs n ≡ Some x → p x ≡ true → (y : X) × (find p xs ≡ Some y)
-is_found p [] n x at h = cc
-is_found p (y ∷ ys) zero x at h = (y, ap (λ (b : Bool). cond b (Some y) (find p ys)) (ap p (same_some y x at) ∙ h))
-is_found p (y ∷ ys) (suc n) x at h = by (p y) (is_found p ys n x at h)
-  where
-    by : (b : Bool) → (z : _) × (find p ys ≡ Some z) → (z : _) × (cond b (Some y) (find p ys) ≡ Some z)
-    by true go = (y, refl)
-    by false go = go
+-- where none is found, none has the id
+none_named : (id : List ℕ) (ids : List (List ℕ)) (n : ℕ) (d : List ℕ) → position (same_bytes id) ids ≡ None → n < length ids → same_bytes id (get_or ids n d) ≡ false
+none_named id ids n d h l =
+    let far : length ids ≤ position_or_len (same_bytes id) ids = grind (arith, nat_tests) in
+    fails_before_first (same_bytes id) ids n d (omega (arith, l, far))
 
--- ---- a start
+module _ (past : Past) (single : IdsAreSingle past) where
+  abbrev ids : List (List ℕ)
+  ids = map id_of past.accepted
 
-not_true : (b : Bool) → not b ≡ true → b ≡ false
-not_true true h = cc
-not_true false h = refl
+  -- since no two have one id, it is the one that is found
+  found : (n : ℕ) (tx : Tx) → slice_get past.accepted n ≡ Some tx → numbered past.accepted (position (same_bytes (id_of tx)) ids) ≡ Some tx
+  found n tx at = by (position (same_bytes (id_of tx)) ids) refl
+    where
+      by : (o : Option ℕ) → position (same_bytes (id_of tx)) ids ≡ o → numbered past.accepted o ≡ Some tx
+      by None h =
+          let l = slice_get_within past.accepted n tx at in
+          let long = length-map past.accepted id_of in
+          let other = none_named (id_of tx) ids n [] h (omega (arith, l, long)) in
+          absurd (not_both (ap (same_bytes (id_of tx)) (id_at past.accepted n tx [] at) ∙ itself (id_of tx)) other)
+      by (Some m) h =
+          let p = position-Some (same_bytes (id_of tx)) ids m [] h in
+          let l = p.0 in
+          let long = length-map past.accepted id_of in
+          let t = get_or past.accepted m tx in
+          let there : slice_get past.accepted m ≡ Some t = slice_get-get_or past.accepted m tx (omega (arith, l, long)) in
+          let same = (bytes_decides (id_of tx) (id_of t)).0 (ap (same_bytes (id_of tx)) (sym (id_at past.accepted m t [] there)) ∙ p.1.0) in
+          ap (slice_get past.accepted) (single m n t tx there at (sym same)) ∙ at
 
--- a transaction makes a start output of this name
-record Starts (r : OutputRef) (tx : Tx) (c : Instance) : Type 0 where
-  pub index : ℕ
-  pub name : r ≡ Made (id_of tx) index
-  pub bare : steps tx ≡ false
-  pub contract : contract_at tx index ≡ Some c
+  named : (r : OutputRef) (c : Instance) → IsMade past r c → contract_named ids past.accepted r ≡ Some c
+  named r c m = ap (contract_named ids past.accepted) m.name ∙ ap (contract_by m.index) (found m.number m.tx m.accepted) ∙ m.contract
 
-starts_so : (r : OutputRef) (tx : Tx) (c : Instance) → starts_in r tx ≡ true → contract_named r tx ≡ Some c → Starts r tx c
-starts_so (Genesis i) tx c h k = cc
-starts_so (Made id i) tx c h k =
-    let p = and_true (has_id id tx) (not (steps tx) && is_some (contract_at tx i)) h in
-    let q = and_true (not (steps tx)) (is_some (contract_at tx i)) p.1 in
-    record { index = i; name = ap (λ (n : List ℕ). Made n i) ((bytes_decides id (id_of tx)).0 p.0); bare = not_true (steps tx) q.0; contract = k }
+  -- ---- a start
 
-starts_here : (tx : Tx) (i : ℕ) (c : Instance) → steps tx ≡ false → contract_at tx i ≡ Some c → starts_in (Made (id_of tx) i) tx ≡ true
-starts_here tx i c bare k =
-    both (has_id (id_of tx) tx) (not (steps tx) && is_some (contract_at tx i)) (itself (id_of tx)) (both (not (steps tx)) (is_some (contract_at tx i)) (ap not bare) (ap is_some k))
+  module _ (alike : StartsAlike) (ps : List Published) where
+    start_known : (r : OutputRef) (c : Instance) → IsStart past r c → start_at (contents_of past ps) past.accepted r ≡ Some c
+    start_known r c s = ap (λ b. if b then contract_named ids past.accepted r else None) (alike past r ∙ told_start past r (c, s)) ∙ named r c s.made
 
-pub start_so : (past : Past) (r : OutputRef) (c : Instance) → start_at r past.accepted ≡ Some c → IsStart past r c
-start_so past r c h = by (find (starts_in r) past.accepted) refl h
-  where
-    by : (o : Option Tx) → find (starts_in r) past.accepted ≡ o → contract_by r o ≡ Some c → IsStart past r c
-    by None e k = cc
-    by (Some tx) e k =
-        let f = found_so (starts_in r) past.accepted tx e in
-        let s = starts_so r tx c f.2 k in
-        record { made = record { number = f.0; tx = tx; accepted = f.1; index = s.index; name = s.name; contract = s.contract }; bare = s.bare }
+    pub start_so : (r : OutputRef) (c : Instance) → start_at (contents_of past ps) past.accepted r ≡ Some c → IsStart past r c
+    start_so r c h = by (is_among (starts_of past.accepted) r) refl h
+      where
+        by : (b : Bool) → is_among (starts_of past.accepted) r ≡ b → (if b then contract_named ids past.accepted r else None) ≡ Some c → IsStart past r c
+        by true e k =
+            let s = start_told past r (sym (alike past r) ∙ e) in
+            subst (IsStart past r) (same_some s.0 c (sym (named r s.0 s.1.made) ∙ k)) s.1
+        by false e k = cc
 
-module _ (enough : FoundIsEnough marlowe) (named : List ℕ → Option Published) (past : Past) (sound : IsSound marlowe named past) where
-  -- ids are used once
-  start_known : (r : OutputRef) (c : Instance) → IsStart past r c → start_at r past.accepted ≡ Some c
-  start_known r c s =
-      let m = s.made in
-      let here : starts_in r m.tx ≡ true = ap (λ (q : OutputRef). starts_in q m.tx) m.name ∙ starts_here m.tx m.index c s.bare m.contract in
-      let f = is_found (starts_in r) past.accepted m.number m.tx m.accepted here in
-      let g = found_so (starts_in r) past.accepted f.0 f.1 in
-      let id = and_true (has_id (id_of m.tx) f.0) (not (steps f.0) && is_some (contract_at f.0 m.index)) (subst (λ (q : OutputRef). starts_in q f.0 ≡ true) m.name g.2) in
-      let place : g.0 ≡ m.number = one_place marlowe enough named past sound g.0 m.number f.0 m.tx g.1 m.accepted (sym ((bytes_decides (id_of m.tx) (id_of f.0)).0 id.0)) in
-      let same : f.0 ≡ m.tx = same_some f.0 m.tx (sym g.1 ∙ ap (λ (n : ℕ). slice_get past.accepted n) place ∙ m.accepted) in
-      ap (contract_by r) (f.1 ∙ ap Some same) ∙ ap (λ (q : OutputRef). contract_named q m.tx) m.name ∙ m.contract
+    module _ (published : List ℕ → Option Published) where
+      pub of_start : (r : OutputRef) (c : Instance) (xs : List StepRecord) → start_at (contents_of past ps) past.accepted r ≡ Some c → TellTheRun published past r c xs → AreSteps published past r xs
+      of_start r c xs h told = record {
+        thread = λ other z. subst (λ (e : Instance). TellTheRun published past r e xs) (same_some c other (sym h ∙ start_known r other z)) told;
+        none = λ no. absurd (no (c, start_so r c h));
+      }
 
-  pub of_start : (r : OutputRef) (c : Instance) (xs : List StepRecord) → IsStart past r c → TellTheRun named past r c xs → AreSteps named past r xs
-  of_start r c xs s told = record {
-    thread = λ other z. subst (λ (e : Instance). TellTheRun named past r e xs) (same_some c other (sym (start_known r c s) ∙ start_known r other z)) told;
-    none = λ no. absurd (no (c, s));
-  }
-
-  pub of_none : (r : OutputRef) → start_at r past.accepted ≡ None → AreSteps named past r []
-  of_none r h = record {
-    thread = λ c s. let f : (let q : Option Instance = None in q) ≡ Some c = sym h ∙ start_known r c s in cc;
-    none = λ no. refl;
-  }
+      pub of_none : (r : OutputRef) → start_at (contents_of past ps) past.accepted r ≡ None → AreSteps published past r []
+      of_none r h = record {
+        thread = λ c s. let f : (let q : Option Instance = None in q) ≡ Some c = sym h ∙ start_known r c s in cc;
+        none = λ no. refl;
+      }

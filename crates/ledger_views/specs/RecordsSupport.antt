@@ -1,5 +1,5 @@
 -- No reader needs this file: walks along a thread, which lead to what the records say.
-use Rattle.std.specs.Prelude.{◌≡◌, ℕ, ◌-◌, List, [], ◌++◌, map, length, find, slice_get, Option, Some, None}
+use Rattle.std.specs.Prelude.{◌≡◌, ℕ, ◌-◌, if◌then◌else◌, List, [], ◌++◌, map, length, position, slice_get, Option, Some, None}
 use Rattle.std.specs.Option.{unwrap_or}
 use Rattle.contract.specs.declared.input.Input.{Input}
 use Rattle.contract.specs.Tree.{close}
@@ -9,27 +9,32 @@ use Rattle.eutxo_types.specs.declared.output_ref.OutputRef.{OutputRef}
 use Rattle.eutxo_types.specs.declared.output_ref.OutputRef.TheVariants.{Genesis, Made}
 use Rattle.eutxo_types.specs.declared.spend.Spend.{Spend}
 use Rattle.eutxo_types.specs.declared.tx.Tx.{Tx}
-use Rattle.eutxo_types.specs.Parts.{Instance, contract_at, given_to}
+use Rattle.eutxo_types.specs.Parts.{Instance, same_bytes, contract_at, given_to}
 use Rattle.roles.specs.Terms.{Terms}
 use Rattle.ledger_laws.specs.Threads.{Link, Member, next_of, Gives, Run, LaidOut, Carries}
-use Rattle.ledger_spec.specs.Views.{starts_in}
 use Rattle.ledger_spec.specs.declared.step_record.StepRecord.{StepRecord}
 use Rattle.ledger_spec.specs.Records.{member_of}
+use Rattle.chain_index.specs.Contents.{Contents, is_among}
 
 -- ---- the start
 
--- the contract that a transaction makes under a name
-abbrev pub contract_named : OutputRef → Tx → Option Instance
-contract_named (Genesis i) tx = None
-contract_named (Made id i) tx = contract_at tx i
+-- the transaction of a number, where there is a number
+abbrev pub numbered : List Tx → Option ℕ → Option Tx
+numbered txs None = None
+numbered txs (Some n) = slice_get txs n
 
-abbrev pub contract_by : OutputRef → Option Tx → Option Instance
-contract_by r None = None
-contract_by r (Some tx) = contract_named r tx
+abbrev pub contract_by : ℕ → Option Tx → Option Instance
+contract_by i None = None
+contract_by i (Some tx) = contract_at tx i
 
--- the contract of a start output
-abbrev pub start_at : OutputRef → List Tx → Option Instance
-start_at r txs = contract_by r (find (starts_in r) txs)
+-- the contract that a transaction makes under a name, where these are the transactions' ids
+abbrev pub contract_named : List (List ℕ) → List Tx → OutputRef → Option Instance
+contract_named ids txs (Genesis i) = None
+contract_named ids txs (Made id i) = contract_by i (numbered txs (position (same_bytes id) ids))
+
+-- the contract of a start output, as it is read off an index
+abbrev pub start_at : Contents → List Tx → OutputRef → Option Instance
+start_at c txs r = if is_among c.starts r then contract_named c.used txs r else None
 
 -- ---- a step
 

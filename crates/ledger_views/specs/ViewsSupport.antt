@@ -1,25 +1,22 @@
--- No reader needs this file: walks that gather what a look shows, which are `is_spent` and `under_locks` from a place on.
-use Rattle.std.specs.Prelude.{ℕ, Bool, not, List, map, filter}
-use Rattle.std.specs.List.{list_any}
+-- No reader needs this file: what a look shows, as it is read off an index.
+use Rattle.std.specs.Prelude.{ℤ, Option, Some, None}
+use Rattle.std.specs.Map.{lookup}
 use Rattle.eutxo_types.specs.Parts.{same_ref}
-use Rattle.eutxo_types.specs.declared.lock.Lock.{Lock}
-use Rattle.eutxo_types.specs.declared.output.Output.{Output}
 use Rattle.eutxo_types.specs.declared.output_ref.OutputRef.{OutputRef}
-use Rattle.eutxo_types.specs.declared.output_ref.OutputRef.TheVariants as ref
-use Rattle.ledger.specs.declared.look.Unspent.{Unspent}
-use Rattle.ledger_views.specs.declared.views.Naming.{Naming}
-use Rattle.ledger_views.specs.declared.views.Naming.TheVariants.{Genesis, Made}
-use Rattle.ledger_spec.specs.Views.{unspent_of}
+use Rattle.ledger.specs.declared.ask.Ask.{Ask}
+use Rattle.ledger.specs.declared.look.Look.{Look}
+use Rattle.ledger.specs.declared.look.ThreadOutput.{ThreadOutput}
+use Rattle.ledger_spec.specs.Views.{is_key_of, is_payout_of, thread_output_in}
+use Rattle.chain_index.specs.Contents.{Contents, end_in, under_locks_in}
 
--- whose outputs are walked over
-abbrev pub naming : Naming → ℕ → OutputRef
-naming Genesis i = ref.Genesis i
-naming (Made id) i = ref.Made id i
+-- the unspent output of a thread, with what is published under its script
+abbrev pub output_shown_in : Contents → Option OutputRef → Option ThreadOutput
+output_shown_in c None = None
+output_shown_in c (Some q) = thread_output_in c.published q (lookup (same_ref q) c.unspent)
 
--- whether one of these references names the output
-abbrev pub is_among : List OutputRef → OutputRef → Bool
-is_among rs r = list_any (same_ref r) rs
+abbrev pub thread_shown_in : Contents → Option OutputRef → Option ThreadOutput
+thread_shown_in c None = None
+thread_shown_in c (Some r) = output_shown_in c (end_in c r)
 
--- of these outputs, those that aren't spent and are asked for
-abbrev pub under : (Lock → Bool) → (OutputRef → Bool) → List (OutputRef × Output) → List Unspent
-under asked spent es = map unspent_of (filter (λ e. asked e.1.lock) (filter (λ e. not (spent e.0)) es))
+abbrev pub look_in : Contents → ℤ → Ask → Look
+look_in c tick ask = record { tick = tick; thread = thread_shown_in c ask.thread; keys = under_locks_in (is_key_of ask.keys) c; payouts = under_locks_in (is_payout_of ask.payouts) c }

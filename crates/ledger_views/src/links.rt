@@ -1,22 +1,26 @@
 //! The transactions of a thread.
-ghost use Rattle.std.specs.Prelude.{◌≡◌, ◌++◌, ◌∷◌, [], IfOk, List, Some};
-ghost use Rattle.eutxo_types.specs.declared.tx.Tx.{Tx};
-ghost use Rattle.ledger_laws.specs.Threads.{next_of, spine, ends};
+ghost use Rattle.std.specs.Prelude.{◌≡◌, true, All, IfOk, List, Some, is_some, map};
+ghost use Rattle.eutxo_types.specs.Parts.{Instance};
+ghost use Rattle.ledger_laws.specs.Threads.{IsMade, thread};
+ghost use Rattle.ledger_spec.specs.Replay.{past_of, world};
+ghost use Rattle.chain_index.specs.Laws.{link_at};
+ghost use Rattle.ledger_kept.specs.Kept.{IsIndexOf};
 
+use chain_index::{Index, StepPlace, index_follows_threads};
 use collections::Memory;
 use eutxo_types::{OutputRef, Tx};
-use ledger_replay::{AcceptedTx, is_input_of, next_in};
+use ledger_kept::Kept;
 use std::alloc::Global;
 use std::marker::Model;
 
 /// A transaction of a thread, with the thread's output that it spends. Clauses see the two.
 #[derive(Drop)]
-pub struct ThreadLink<'k, 'a> {
+pub struct ThreadLink<'a> {
     spends: OutputRef,
-    kept: &'k AcceptedTx<'a>,
+    tx: &'a Tx,
 }
 
-impl<'k, 'a> Model for ThreadLink<'k, 'a> {
+impl<'a> Model for ThreadLink<'a> {
     ghost use Rattle.std.specs.Coded.{codes};
     ghost use Rattle.eutxo_types.specs.contracts.tx.Tx as txs;
     ghost use Rattle.ledger_laws.specs.Threads.{Link};
@@ -25,14 +29,14 @@ impl<'k, 'a> Model for ThreadLink<'k, 'a> {
 
     ghost coded = { Prim.hlevel (codes, txs.the_row.coded) };
 
-    ghost view = { λ a. record { spends = a.spends; tx = a.kept.now } };
+    ghost view = { λ a. record { spends = a.spends; tx = a.tx.now } };
 }
 
-impl<'k, 'a> ThreadLink<'k, 'a> {
-    fn new(spends: OutputRef, kept: &'k AcceptedTx<'a>) -> ThreadLink<'k, 'a>
-        ensures { result ≡ record { spends = spends; tx = kept.now } }
+impl<'a> ThreadLink<'a> {
+    fn new(spends: OutputRef, tx: &'a Tx) -> ThreadLink<'a>
+        ensures { result ≡ record { spends = spends; tx = tx.now } }
     {
-        ThreadLink { spends, kept }
+        ThreadLink { spends, tx }
     }
 
     /// The thread's output that the transaction spends.
@@ -46,65 +50,50 @@ impl<'k, 'a> ThreadLink<'k, 'a> {
     pub fn tx(&self) -> &'a Tx
         ensures { result.now ≡ self.now.tx }
     {
-        self.kept.tx()
-    }
-
-    /// Where the thread stands after the transaction: at its output 0, where that is a contract's.
-    pub fn next(&self) -> Option<OutputRef>
-        ensures { result ≡ next_of self.now.spends self.now.tx }
-    {
-        next_in(self.kept, 0)
+        self.tx
     }
 }
 
-// Adds a transaction where it belongs to the thread that stands at an output, and answers where it stands then.
-#[tactic(auto, using(crate::proofs::SpineLemmas::here, crate::proofs::SpineLemmas::elsewhere))]
-fn follow<'k, 'a>(
-    kept: &'k AcceptedTx<'a>,
-    at: Option<OutputRef>,
-    links: &mut Vec<ThreadLink<'k, 'a>>,
-) -> Result<Option<OutputRef>, Memory>
-    ensures { IfOk result (λ next. (txs : List Tx) → links.new.items ++ spine next txs ≡ links.old.items ++ spine at (kept.now ∷ txs)) }
+// The step at a place, with its transaction.
+fn link_at<'a>(kept: &Kept<'a>, step: &StepPlace) -> ThreadLink<'a>
+    requires { is_some (link_at (world kept.now).replay.accepted step.now) ≡ true }
+    ensures { link_at (world kept.now).replay.accepted step.now ≡ Some result }
 {
-    match at {
-        Some(spends) => {
-            if is_input_of(kept.tx(), &spends) {
-                let link = ThreadLink::new(spends, kept);
-                let next = link.next();
-                links.push(link)?;
-                Ok(next)
-            } else {
-                Ok(Some(spends))
-            }
-        }
-        None => Ok(None),
+    match kept.accepted_at(step.number) {
+        Some(tx) => ThreadLink::new(step.spends, tx),
+        None => unreachable!(),
     }
 }
 
-/// The transactions of the thread from an output, in order.
-pub fn thread<'k, 'a>(
+// The steps at these places, each with its transaction.
+fn links_at<'a>(
     alloc: Global,
-    accepted: &'k [AcceptedTx<'a>],
-    start: OutputRef,
-) -> Result<Vec<ThreadLink<'k, 'a>>, Memory>
-    ensures { IfOk result (λ links. links.items ≡ spine (Some start) accepted.now) }
+    kept: &Kept<'a>,
+    steps: &[StepPlace],
+) -> Result<Vec<ThreadLink<'a>>, Memory>
+    requires { All (λ x. is_some (link_at (world kept.now).replay.accepted x) ≡ true) steps.now }
+    ensures { IfOk result (λ links. map (λ l. Some l) links.items ≡ map (link_at (world kept.now).replay.accepted) steps.now) }
 {
     let mut links = Vec::new(alloc);
-    let mut at = Some(start);
-    for k in accepted {
-        at = follow(k, at, &mut links)?;
+    for step in steps {
+        links.push(link_at(kept, step))?;
     }
     Ok(links)
 }
 
-/// Where the thread from an output ends, of which these are the transactions: at that output, or at the next output of
-/// the last.
-#[tactic(auto, using(crate::proofs::EndLemmas::after_last, crate::proofs::EndLemmas::after_none))]
-pub fn end(start: OutputRef, links: &[ThreadLink<'_, '_>]) -> Option<OutputRef>
-    ensures { result ≡ ends (Some start) links.now }
+/// The transactions of the thread from a contract output, in order. Each costs two look-ups.
+pub fn thread<'a>(
+    alloc: Global,
+    kept: &Kept<'a>,
+    index: &Index,
+    start: &OutputRef,
+) -> Result<Vec<ThreadLink<'a>>, Memory>
+    requires tied { IsIndexOf index.now.present (world kept.now) }
+    requires made { (c : Instance) × IsMade (past_of (world kept.now)) start.now c }
+    ensures { IfOk result (λ links. links.items ≡ thread (past_of (world kept.now)) start.now) }
 {
-    match links.last() {
-        Some(last) => last.next(),
-        None => Some(start),
-    }
+    // touch: the moves lead along the thread
+    index_follows_threads();
+    let steps = index.steps(alloc, start)?;
+    links_at(alloc, kept, steps.as_slice())
 }

@@ -3,23 +3,21 @@ ghost use Rattle.std.specs.Prelude.{◌≡◌, true, All, List, Some, IfOk, map,
 ghost use Rattle.std.specs.Option.{IfSome};
 ghost use Rattle.eutxo_types.specs.Parts.{contract_at};
 ghost use Rattle.roles.specs.Terms.{terms_of};
-ghost use Rattle.roles.specs.Steps.{marlowe};
 ghost use Rattle.ledger_laws.specs.Laws.{AreTables};
-ghost use Rattle.ledger_laws.specs.Sound.{IsSound};
-ghost use Rattle.ledger_laws.specs.Threads.{IsStart, Member, spine};
-ghost use Rattle.ledger_spec.specs.Replay.{past_of, published_at};
+ghost use Rattle.ledger_laws.specs.Threads.{IsStart, Member};
+ghost use Rattle.ledger_spec.specs.Replay.{past_of, published_at, world};
 ghost use Rattle.ledger_spec.specs.Records.{member_of, HoldsNumber, TellTheRun, AreSteps, HoldNumbers};
+ghost use Rattle.ledger_kept.specs.Kept.{IsIndexOf};
 ghost use Rattle.ledger_views.specs.RecordsSupport.{given, point, stands_after, number_after, IsStepOf, IsRunOf};
 
 use crate::links::{ThreadLink, thread};
 use crate::start::start_at;
+use chain_index::{Index, index_follows_threads};
 use collections::{Items, Memory, TryClone};
 use contract::{Input, SemFault, State};
-use eutxo::found_is_enough;
 use eutxo_types::{Cont, Instance, OutputRef, Spend, Tx};
-use ledger::Resolves;
-use ledger_laws::threads_are_runs;
-use ledger_replay::World;
+use ledger_kept::Kept;
+use ledger_laws::{names_are_single, threads_are_runs};
 use ledger_spec::StepRecord;
 use roles::Published;
 use semantics::Steps;
@@ -76,7 +74,7 @@ fn recorded(
     alloc: Global,
     published: &Published,
     at: (Cont, &State),
-    link: &ThreadLink<'_, '_>,
+    link: &ThreadLink<'_>,
 ) -> Result<StepRecord, Memory>
     requires has { (terms_of published.now).has at.0 ≡ true }
     requires step { (x : Member) × IsStepOf (terms_of published.now) (point at.0 at.1.now) link.now x }
@@ -111,7 +109,7 @@ fn records_of(
     alloc: Global,
     published: &Published,
     start: &Instance<'_>,
-    links: &[ThreadLink<'_, '_>],
+    links: &[ThreadLink<'_>],
 ) -> Result<Items<StepRecord>, Memory>
     requires root { (terms_of published.now).has published.now.root ≡ true }
     requires run { (run : List Member) × IsRunOf (terms_of published.now) (point published.now.root start.now.datum.state) start.now.script links.now run }
@@ -131,42 +129,45 @@ fn records_of(
 // The records of what starts here.
 fn steps_from(
     alloc: Global,
-    world: &World<'_>,
-    reference: OutputRef,
+    kept: &Kept<'_>,
+    index: &Index,
+    reference: &OutputRef,
     start: &Instance<'_>,
 ) -> Result<Items<StepRecord>, Memory>
-    requires sound { IsSound marlowe (published_at world.now.published) (past_of world.now) }
-    requires tables { AreTables (published_at world.now.published) }
-    requires start { IsStart (past_of world.now) reference start.now }
-    ensures { IfOk result (λ xs. TellTheRun (published_at world.now.published) (past_of world.now) reference start.now xs) }
+    requires tied { IsIndexOf index.now.present (world kept.now) }
+    requires tables { AreTables (published_at (world kept.now).published) }
+    requires start { IsStart (past_of (world kept.now)) reference.now start.now }
+    ensures { IfOk result (λ xs. TellTheRun (published_at (world kept.now).published) (past_of (world kept.now)) reference.now start.now xs) }
 {
     // touch: the thread is a run
     threads_are_runs();
-    match world.published_at(start.script) {
+    match index.published_at(start.script) {
         Some(object) => {
-            let links = thread(alloc, world.accepted(), reference)?;
+            let links = thread(alloc, kept, index, reference)?;
             records_of(alloc, object.get(), start, &links)
         }
         None => unreachable!(),
     }
 }
 
-/// The records of the thread that starts at an output, in order: the thread's one run, with as many records as
-/// the thread has transactions. Where no thread starts there are none. Answers `Memory` only where a growth
-/// was refused.
+/// The records of the thread that starts at an output, in order: the thread's one run, with as many records as the
+/// thread has transactions. Where no thread starts there are none. Each record costs two look-ups, and its step computed
+/// anew. Answers `Memory` only where a growth was refused.
 pub fn steps_of(
     alloc: Global,
-    world: &World<'_>,
+    kept: &Kept<'_>,
+    index: &Index,
     start: &OutputRef,
 ) -> Result<Items<StepRecord>, Memory>
-    requires sound { IsSound marlowe (published_at world.now.published) (past_of world.now) }
-    requires tables { AreTables (published_at world.now.published) }
-    ensures { IfOk result (λ xs. AreSteps (published_at world.now.published) (past_of world.now) start.now xs) }
+    requires tied { IsIndexOf index.now.present (world kept.now) }
+    requires tables { AreTables (published_at (world kept.now).published) }
+    ensures { IfOk result (λ xs. AreSteps (published_at (world kept.now).published) (past_of (world kept.now)) start.now xs) }
 {
-    // touch: what is found is enough
-    found_is_enough::<Published>();
-    match start_at(world.accepted(), start) {
-        Some(found) => steps_from(alloc, world, *start, &found),
+    // touch: the starts that are told are those of the past, and ids are single
+    index_follows_threads();
+    names_are_single::<Published>();
+    match start_at(kept, index, start) {
+        Some(found) => steps_from(alloc, kept, index, start, &found),
         None => Ok(Items::new(alloc)),
     }
 }

@@ -1,37 +1,51 @@
 //! Where a thread starts.
-ghost use Rattle.std.specs.Prelude.{◌≡◌, find, option_copied};
-ghost use Rattle.ledger_spec.specs.Views.{starts_in};
-ghost use Rattle.ledger_views.specs.RecordsSupport.{contract_named, start_at};
+ghost use Rattle.std.specs.Prelude.{◌≡◌, option_copied, position};
+ghost use Rattle.eutxo_types.specs.Parts.{same_bytes};
+ghost use Rattle.ledger_spec.specs.Replay.{world};
+ghost use Rattle.ledger_views.specs.RecordsSupport.{numbered, contract_by, contract_named, start_at};
 
+use chain_index::Index;
 use eutxo_types::{Instance, OutputRef, Tx};
-use ledger_replay::{AcceptedTx, starts_in};
+use ledger_kept::Kept;
 
-// The contract that a transaction makes under this name.
-fn contract_named<'a>(tx: &'a Tx, reference: &OutputRef) -> Option<Instance<'a>>
-    ensures { result ≡ contract_named reference.now tx.now }
+// The accepted transaction that has this id.
+fn maker<'a>(kept: &Kept<'a>, index: &Index, id: &[u8; 32]) -> Option<&'a Tx>
+    ensures { option_copied result
+        ≡ numbered (world kept.now).replay.accepted (position (same_bytes id.now) index.now.present.used) }
 {
-    match reference {
-        OutputRef::Genesis { .. } => None,
-        OutputRef::Made { index, .. } => tx.contract_at(*index),
+    match index.number_of(id) {
+        Some(number) => kept.accepted_at(number),
+        None => None,
     }
 }
 
-// The transaction that makes the start output.
-fn maker<'k, 'a>(
-    accepted: &'k [AcceptedTx<'a>],
-    reference: &OutputRef,
-) -> Option<&'k AcceptedTx<'a>>
-    ensures { option_copied result ≡ find (starts_in reference.now) accepted.now }
+fn contract_by<'a>(maker: Option<&'a Tx>, place: u64) -> Option<Instance<'a>>
+    ensures { result ≡ contract_by place (option_copied maker.entry) }
 {
-    accepted.iter().find(|k| starts_in(k, reference))
+    match maker {
+        Some(tx) => tx.contract_at(place),
+        None => None,
+    }
 }
 
-/// The contract of the start output of this name, where there is one.
-pub fn start_at<'a>(accepted: &[AcceptedTx<'a>], reference: &OutputRef) -> Option<Instance<'a>>
-    ensures { result ≡ start_at reference.now accepted.now }
+// The contract that an accepted transaction makes under this name.
+fn contract_named<'a>(kept: &Kept<'a>, index: &Index, reference: &OutputRef) -> Option<Instance<'a>>
+    ensures { result
+        ≡ contract_named index.now.present.used (world kept.now).replay.accepted reference.now }
 {
-    match maker(accepted, reference) {
-        Some(kept) => contract_named(kept.tx(), reference),
-        None => None,
+    match reference {
+        OutputRef::Genesis { .. } => None,
+        OutputRef::Made { id, index: place } => contract_by(maker(kept, index, id), *place),
+    }
+}
+
+/// The contract of the start output of this name, where there is one: a look-up of the output, and one of its maker.
+pub fn start_at<'a>(kept: &Kept<'a>, index: &Index, reference: &OutputRef) -> Option<Instance<'a>>
+    ensures { result ≡ start_at index.now.present (world kept.now).replay.accepted reference.now }
+{
+    if index.is_start(reference) {
+        contract_named(kept, index, reference)
+    } else {
+        None
     }
 }

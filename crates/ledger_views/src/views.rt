@@ -1,30 +1,23 @@
 //! What a look shows.
-ghost use Rattle.std.specs.Prelude.{◌≡◌, ◌&&◌, ◌++◌, [], ◌∷◌, Bool, Option, Some, None, IfOk, OnOk, map, filter, slice_get, option_copied};
+ghost use Rattle.std.specs.Prelude.{◌≡◌, ◌&&◌, Some, None, IfOk, option_copied};
 ghost use Rattle.std.specs.List.{list_any};
-ghost use Rattle.eutxo_types.specs.declared.lock.Lock.{Lock};
 ghost use Rattle.eutxo_types.specs.Parts.{same_bytes, script_in};
-ghost use Rattle.ledger_laws.specs.Past.{with_references, created_by, created};
-ghost use Rattle.ledger_spec.specs.Replay.{past_of, published_at};
-ghost use Rattle.ledger_spec.specs.Views.{starts_in, is_key_of, is_among_payouts, is_payout_of, under_locks, end_of, thread_output, object_under, thread_output_in, thread_output_at, thread_shown, look};
-ghost use Rattle.ledger_views.specs.ViewsSupport.{naming, is_among, under};
+ghost use Rattle.ledger_spec.specs.Replay.{world};
+ghost use Rattle.ledger_spec.specs.Views.{is_key_of, is_among_payouts, is_payout_of, object_under, thread_output, thread_output_in, look};
+ghost use Rattle.chain_index.specs.Contents.{under_locks_in};
+ghost use Rattle.ledger_kept.specs.Kept.{IsIndexOf};
+ghost use Rattle.ledger_views.specs.ViewsSupport.{output_shown_in, thread_shown_in, look_in};
 
-use crate::links::{end, thread};
-use crate::spent::SpentSet;
+use chain_index::{Index, LockFilter, index_follows_threads};
 use collections::{Items, Memory, Text, TryClone};
 use eutxo::Shared;
 use eutxo_types::{Lock, Output, OutputRef, PayoutRole};
-use ledger::{Ask, Look, PayoutLock, Resolves, ThreadOutput, Unspent};
-use ledger_replay::{AcceptedTx, World, starts_in};
+use ledger::{Ask, Look, PayoutLock, ThreadOutput, Unspent};
+use ledger_kept::Kept;
 use roles::Published;
 use std::alloc::Global;
 
-/// Which locks are asked for.
-pub trait LockFilter {
-    ghost asks: { Self → Lock → Bool };
-
-    fn asks(&self, lock: &Lock) -> bool
-        ensures { result ≡ asks self.now lock.now };
-}
+// ---- the locks that are asked for
 
 /// Keys of these addresses.
 #[derive(Clone, Copy)]
@@ -79,113 +72,13 @@ impl LockFilter for Payouts<'_> {
     }
 }
 
-/// Whose outputs are walked over.
-#[derive(Clone, Copy)]
-pub enum Naming {
-    Genesis,
-    Made([u8; 32]),
-}
+// ---- a thread
 
-fn name_at(whose: &Naming, index: u64) -> OutputRef
-    ensures { result ≡ naming whose.now index }
-{
-    match whose {
-        Naming::Genesis => OutputRef::Genesis { index },
-        Naming::Made(id) => OutputRef::Made { id: *id, index },
-    }
-}
-
-fn add_one<A: LockFilter>(
-    spent: &SpentSet,
-    asked: &A,
-    reference: OutputRef,
-    output: &Output,
-    found: &mut Items<Unspent>,
-) -> Result<(), Memory>
-    ensures { OnOk result (found.new ≡ found.old ++ under (A.asks asked.now) (is_among spent.now) ((reference, output.now) ∷ [])) }
-{
-    if asked.asks(&output.lock) && !spent.holds(&reference) {
-        let output = output.try_clone()?;
-        found.push(Unspent { reference, output })?;
-    }
-    Ok(())
-}
-
-fn add_all<A: LockFilter>(
-    spent: &SpentSet,
-    asked: &A,
-    whose: &Naming,
-    outputs: &[Output],
-    found: &mut Items<Unspent>,
-) -> Result<(), Memory>
-    ensures { OnOk result (found.new ≡ found.old ++ under (A.asks asked.now) (is_among spent.now) (with_references (naming whose.now) 0 outputs.now)) }
-{
-    for (i, o) in outputs.iter().enumerate() {
-        add_one(spent, asked, name_at(whose, i as u64), o, found)?;
-    }
-    Ok(())
-}
-
-fn add_made<A: LockFilter>(
-    spent: &SpentSet,
-    asked: &A,
-    kept: &AcceptedTx<'_>,
-    found: &mut Items<Unspent>,
-) -> Result<(), Memory>
-    ensures { OnOk result (found.new ≡ found.old ++ under (A.asks asked.now) (is_among spent.now) (created_by kept.now)) }
-{
-    let naming = Naming::Made(*kept.id());
-    add_all(spent, asked, &naming, kept.tx().outputs.as_slice(), found)
-}
-
-// The outputs under the asked locks that aren't spent.
-fn outputs_under<A: LockFilter>(
-    alloc: Global,
-    world: &World<'_>,
-    spent: &SpentSet,
-    asked: &A,
-) -> Result<Items<Unspent>, Memory>
-    ensures { IfOk result (λ outputs. outputs ≡ under (A.asks asked.now) (is_among spent.now) (created (past_of world.now))) }
-{
-    let accepted = world.accepted();
-    let mut found = Items::new(alloc);
-    add_all(spent, asked, &Naming::Genesis, world.genesis(), &mut found)?;
-    for k in accepted {
-        add_made(spent, asked, k, &mut found)?;
-    }
-    Ok(found)
-}
-
-// ---- threads
-
-fn starts(accepted: &[AcceptedTx<'_>], reference: &OutputRef) -> bool
-    ensures { result ≡ list_any (starts_in reference.now) accepted.now }
-{
-    accepted.iter().any(|k| starts_in(k, reference))
-}
-
-// Where the thread from a start output ends; of another output, nowhere.
-fn end_of(
-    alloc: Global,
-    world: &World<'_>,
-    reference: OutputRef,
-) -> Result<Option<OutputRef>, Memory>
-    ensures { IfOk result (λ at. at ≡ end_of (past_of world.now) reference) }
-{
-    let accepted = world.accepted();
-    if starts(accepted, &reference) {
-        let links = thread(alloc, accepted, reference)?;
-        Ok(end(reference, &links))
-    } else {
-        Ok(None)
-    }
-}
-
-fn object_under<'a>(world: &'a World<'_>, lock: &Lock) -> Option<&'a Shared<Published>>
-    ensures { option_copied result ≡ object_under world.now.published (script_in lock.now) }
+fn object_under<'a>(index: &'a Index, lock: &Lock) -> Option<&'a Shared<Published>>
+    ensures { option_copied result ≡ object_under index.now.present.published (script_in lock.now) }
 {
     match lock.contract() {
-        Some(contract) => world.published_at(contract.script),
+        Some(contract) => index.published_at(contract.script),
         None => None,
     }
 }
@@ -212,92 +105,77 @@ fn thread_output(
 }
 
 fn thread_output_in(
-    world: &World<'_>,
+    index: &Index,
     reference: OutputRef,
     output: Option<&Output>,
 ) -> Result<Option<ThreadOutput>, Memory>
-    ensures { IfOk result (λ x. x ≡ thread_output_in world.now.published reference (option_copied output.entry)) }
+    ensures { IfOk result (λ x. x ≡ thread_output_in index.now.present.published reference (option_copied output.entry)) }
 {
     match output {
-        Some(output) => thread_output(reference, output, object_under(world, &output.lock)),
+        Some(output) => thread_output(reference, output, object_under(index, &output.lock)),
         None => Ok(None),
     }
 }
 
-fn thread_output_at(
-    world: &World<'_>,
-    at: Option<OutputRef>,
-) -> Result<Option<ThreadOutput>, Memory>
-    ensures { IfOk result (λ x. x ≡ thread_output_at world.now at) }
+// The unspent output that a thread has here, with what is published under its script.
+fn output_shown(index: &Index, at: Option<OutputRef>) -> Result<Option<ThreadOutput>, Memory>
+    ensures { IfOk result (λ x. x ≡ output_shown_in index.now.present at) }
 {
     match at {
-        Some(reference) => thread_output_in(world, reference, world.unspent_at(&reference)),
+        Some(reference) => thread_output_in(index, reference, index.unspent_at(&reference)),
         None => Ok(None),
     }
 }
 
-fn thread_shown(
-    alloc: Global,
-    world: &World<'_>,
-    asked: Option<OutputRef>,
-) -> Result<Option<ThreadOutput>, Memory>
-    ensures { IfOk result (λ x. x ≡ thread_shown world.now asked) }
+fn thread_shown(index: &Index, asked: Option<OutputRef>) -> Result<Option<ThreadOutput>, Memory>
+    ensures { IfOk result (λ x. x ≡ thread_shown_in index.now.present asked) }
 {
     match asked {
-        Some(reference) => thread_output_at(world, end_of(alloc, world, reference)?),
+        Some(reference) => output_shown(index, index.end_of(&reference)),
         None => Ok(None),
     }
 }
 
 // ---- a look
 
-fn keys_shown(
-    alloc: Global,
-    world: &World<'_>,
-    spent: &SpentSet,
-    known: &[Text],
-) -> Result<Items<Unspent>, Memory>
-    ensures { IfOk result (λ outputs. outputs ≡ under (is_key_of known.now) (is_among spent.now) (created (past_of world.now))) }
+fn keys_shown(alloc: Global, index: &Index, known: &[Text]) -> Result<Items<Unspent>, Memory>
+    ensures { IfOk result (λ outputs. outputs ≡ under_locks_in (is_key_of known.now) index.now.present) }
 {
-    outputs_under(alloc, world, spent, &Keys { known })
+    index.under_locks(alloc, &Keys { known })
 }
 
 fn payouts_shown(
     alloc: Global,
-    world: &World<'_>,
-    spent: &SpentSet,
+    index: &Index,
     known: &[PayoutLock],
 ) -> Result<Items<Unspent>, Memory>
-    ensures { IfOk result (λ outputs. outputs ≡ under (is_payout_of known.now) (is_among spent.now) (created (past_of world.now))) }
+    ensures { IfOk result (λ outputs. outputs ≡ under_locks_in (is_payout_of known.now) index.now.present) }
 {
-    outputs_under(alloc, world, spent, &Payouts { known })
+    index.under_locks(alloc, &Payouts { known })
 }
 
-// The outputs that are asked for: those of keys, and payouts.
-fn outputs_shown(
-    alloc: Global,
-    world: &World<'_>,
-    ask: &Ask,
-) -> Result<(Items<Unspent>, Items<Unspent>), Memory>
-    ensures keys { IfOk result (λ r. r.0 ≡ under_locks (is_key_of ask.now.keys) (past_of world.now)) }
-    ensures payouts { IfOk result (λ r. r.1 ≡ under_locks (is_payout_of ask.now.payouts) (past_of world.now)) }
+// What is shown of what is indexed, at a tick.
+fn look_at(alloc: Global, index: &Index, tick: i64, ask: &Ask) -> Result<Look, Memory>
+    ensures { IfOk result (λ shown. shown ≡ look_in index.now.present tick ask.now) }
 {
-    let spent = SpentSet::of(alloc, world.accepted())?;
-    let keys = keys_shown(alloc, world, &spent, ask.keys.as_slice())?;
-    let payouts = payouts_shown(alloc, world, &spent, ask.payouts.as_slice())?;
-    Ok((keys, payouts))
-}
-
-/// What a look shows.
-pub fn show(alloc: Global, world: &World<'_>, ask: &Ask) -> Result<Look, Memory>
-    ensures { IfOk result (λ shown. shown ≡ look world.now ask.now) }
-{
-    let (keys, payouts) = outputs_shown(alloc, world, ask)?;
-    let thread = thread_shown(alloc, world, ask.thread)?;
+    let keys = keys_shown(alloc, index, ask.keys.as_slice())?;
+    let payouts = payouts_shown(alloc, index, ask.payouts.as_slice())?;
+    let thread = thread_shown(index, ask.thread)?;
     Ok(Look {
-        tick: world.now(),
+        tick,
         thread,
         keys,
         payouts,
     })
+}
+
+/// What a look shows. The asked thread costs one look-up for each of its steps; the outputs under locks cost one walk over
+/// the unspent outputs for keys and one for payouts. Answers `Memory` only where a growth was refused.
+pub fn show(alloc: Global, kept: &Kept<'_>, index: &Index, ask: &Ask) -> Result<Look, Memory>
+    requires tied { IsIndexOf index.now.present (world kept.now) }
+    ensures { IfOk result (λ shown. shown ≡ look (world kept.now) ask.now) }
+{
+    // touch: where threads end
+    index_follows_threads();
+    look_at(alloc, index, kept.tick(), ask)
 }

@@ -1,11 +1,16 @@
-use Rattle.std.proofs.Common.{◌≡◌, ◌++◌, take, drop}
+use Rattle.std.proofs.Common.{◌≡◌, ◌++◌, length, take, drop}
+use Rattle.ledger_spec.specs.Replay.{world}
 use Rattle.ledger_spec.specs.Calls.{round_verdicts}
-use Rattle.ledger_dispatch.proofs.CallsLemmas.{AfterRest}
+use Rattle.ledger_kept.specs.Kept.{IsIndexOf}
+use Rattle.ledger_dispatch.specs.DispatchSupport.{with_places}
 use Rattle.ledger_dispatch.proofs.dispatch.round.Given as goal
 
 abbrev pub invariant-loop-i : goal.invariant-loop-i
 invariant-loop-i l = record {
-  places : round_verdicts l.fn.world (take l.count l.fn.world.replay.pending) ≡ l.places ++ round_verdicts l.world (drop l.i (take l.count l.fn.world.replay.pending));
-  accepted : AfterRest l.world (drop l.i (take l.count l.fn.world.replay.pending)) ≡ AfterRest l.fn.world (take l.count l.fn.world.replay.pending);
-  pending : l.world.replay.pending ≡ l.fn.world.replay.pending;
+  tied : IsIndexOf l.index.present (with_places (world l.kept) l.places);
+  settled : l.index.settled ≡ l.fn.index.settled;
+  told : length l.places ≡ l.i;
+  places :
+      round_verdicts (world l.kept) (take l.count (world l.kept).replay.pending)
+      ≡ l.places ++ round_verdicts (with_places (world l.kept) l.places) (drop l.i (take l.count (world l.kept).replay.pending));
 }

@@ -1,0 +1,39 @@
+-- No reader needs this file: how an index is judged by and added to, call by call, and what stands in the middle of a round.
+use Rattle.std.specs.Prelude.{◌≡◌, ℤ, List, ◌++◌, Option, Some, None}
+use Rattle.eutxo_types.specs.declared.fault.TxFault.{TxFault}
+use Rattle.eutxo_types.specs.declared.tx.Tx.{Tx}
+use Rattle.eutxo_types.specs.Fitting.{TxFits}
+use Rattle.eutxo.specs.Judgement.{judge}
+use Rattle.roles.specs.Steps.{marlowe}
+use Rattle.ledger.specs.declared.call.Ticketed.{Ticketed}
+use Rattle.ledger_spec.specs.Replay.{World, accepted_among}
+use Rattle.ledger_spec.specs.Calls.{fault_on, with_accepted_unless}
+use Rattle.chain_index.specs.Contents.{Contents, accepting, moment_at, CanBeAdded}
+use Rattle.ledger_kept.specs.Kept.{IsIndexOf}
+
+-- ---- transactions
+
+-- no rule refuses it by what is indexed at a tick, or the first that does answers
+abbrev pub fault_in : Contents → ℤ → Tx → Option TxFault
+fault_in c tick tx = judge marlowe (moment_at c tick) tx
+
+-- what is indexed after a transaction of which this fault was found, or none
+abbrev pub accepting_unless : Contents → Tx → Option TxFault → Contents
+accepting_unless c tx None = accepting c tx
+accepting_unless c tx (Some fault) = c
+
+-- a transaction is judged by what is indexed as by what stands; where no rule refuses it, it can be added, and the index is then of what
+-- stands after it
+pub record IsJudgedAlike (present : Contents) (w : World) (tx : Tx) : Type 0 where
+  pub fault : fault_in present w.replay.tick tx ≡ fault_on w tx
+  pub can : fault_on w tx ≡ None → CanBeAdded present tx
+  pub tied : TxFits tx → IsIndexOf (accepting_unless present tx (fault_on w tx)) (with_accepted_unless w tx (fault_on w tx))
+
+abbrev pub EachIsJudgedAlike : Type 0
+EachIsJudgedAlike = (present : Contents) (w : World) (tx : Tx) → IsIndexOf present w → IsJudgedAlike present w tx
+
+-- ---- rounds
+
+-- what stands once the first places of a round have these verdicts
+abbrev pub with_places : World → List Ticketed → World
+with_places w vs = record w { replay = record w.replay { accepted = w.replay.accepted ++ accepted_among w.replay.pending vs } }

@@ -1,0 +1,31 @@
+//! Where the texts of transactions stand.
+ghost use Rattle.std.specs.Prelude.{◌≡◌, Some, IsSome, option_copied};
+ghost use Rattle.ledger_kept.specs.Kept.{text_in, text_at};
+
+use eutxo_types::Tx;
+use ledger::{Call, Entry};
+
+// The transaction that a call submits or enqueues.
+fn text_in(call: &Call) -> Option<&Tx>
+    ensures { option_copied result ≡ text_in call.now }
+{
+    match call {
+        Call::Submit(tx) => Some(tx),
+        Call::Enqueue(tx) => Some(tx),
+        _ => None,
+    }
+}
+
+/// The transaction that the entry at a place submits or enqueues.
+pub(crate) fn text_at(entries: &[Entry], place: usize) -> &Tx
+    requires { IsSome (text_at entries.now place) }
+    ensures { text_at entries.now place ≡ Some result.now }
+{
+    match entries.get(place) {
+        Some(entry) => match text_in(&entry.call) {
+            Some(tx) => tx,
+            None => unreachable!(),
+        },
+        None => unreachable!(),
+    }
+}

@@ -1,0 +1,27 @@
+-- What is read off an index of what stands is what a look shows of it.
+use Rattle.std.proofs.Common.{◌≡◌, List, refl, sym, ◌∙◌, ap, Option, Some, None}
+use Rattle.eutxo_types.specs.declared.output_ref.OutputRef.{OutputRef}
+use Rattle.roles.specs.Steps.{marlowe}
+use Rattle.ledger.specs.declared.ask.Ask.{Ask}
+use Rattle.ledger_spec.specs.Replay.{World, past_of, published_at}
+use Rattle.ledger_spec.specs.Views.{thread_output_at, thread_shown, look}
+use Rattle.chain_index.specs.Contents.{Contents, contents_of}
+use Rattle.chain_index.specs.Laws.{EndsAlike}
+use Rattle.ledger_kept.specs.Kept.{IsIndexOf}
+use Rattle.ledger_views.specs.ViewsSupport.{output_shown_in, thread_shown_in, look_in}
+
+same_output : (w : World) (at : Option OutputRef) → output_shown_in (contents_of (past_of w) w.published) at ≡ thread_output_at w at
+same_output w None = refl
+same_output w (Some q) = refl
+
+module _ (ends : EndsAlike marlowe) (present : Contents) (w : World) (tied : IsIndexOf present w) where
+  same_thread : (asked : Option OutputRef) → thread_shown_in (contents_of (past_of w) w.published) asked ≡ thread_shown w asked
+  same_thread None = refl
+  same_thread (Some r) =
+      ap (output_shown_in (contents_of (past_of w) w.published)) (ends (published_at w.published) w.published (past_of w) tied.sound r)
+      ∙ same_output w _
+
+  pub same_look : (ask : Ask) → look_in present w.replay.tick ask ≡ look w ask
+  same_look ask =
+      ap (λ (c : Contents). look_in c w.replay.tick ask) tied.contents
+      ∙ (λ i. record (look w ask) { thread = same_thread ask.thread i })
