@@ -1,2 +1,4 @@
 mod ListLemmas
+mod RoundLemmas
+mod KeepLemmas
 mod GenesisLemmas

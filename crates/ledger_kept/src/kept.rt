@@ -14,7 +14,7 @@ use std::marker::Model;
 /// What a ledger keeps beside its index, lent: the outputs and the tick that it began with, its entries, and the tally
 /// of these. Clauses see the history. `cache` has checks that were made before, by which transactions are judged; which
 /// checks it has, clauses don't see.
-#[derive(Clone, Copy)]
+#[derive(Drop)]
 pub struct Kept<'a> {
     genesis: &'a [Output],
     first_tick: i64,

@@ -1,5 +1,5 @@
 //! What waits for a round, and what a round changes.
-ghost use Rattle.std.specs.Prelude.{◌≡◌, ◌++◌, ◌∷◌, ◌+◌, ◌<◌, ◌≤◌, [], OnOk, OnErr, drop, option_copied, vec_len, vec_capacity};
+ghost use Rattle.std.specs.Prelude.{◌≡◌, ◌++◌, ◌∷◌, ◌+◌, ◌<◌, ◌≤◌, [], OnOk, OnErr, drop, slice_get, option_copied, vec_len, vec_capacity};
 ghost use Rattle.ledger_kept.specs.TallySupport.{entry_at, entries_among, waiting_at};
 
 use crate::tally::Waiting;
@@ -29,6 +29,12 @@ pub(crate) fn wait(pending: &mut Vec<Waiting>, ticket: u64, entry: usize) -> Res
     }
 }
 
+fn pending_at(pending: &[Waiting], i: usize) -> Option<&Waiting>
+    ensures { option_copied result ≡ slice_get pending.now i }
+{
+    pending.get(i)
+}
+
 // Keeps where the text of a pending transaction stands, where its place in a round accepted it.
 fn accept_at(places: &mut Vec<usize>, waiting: Option<&Waiting>, place: &Ticketed)
     requires { vec_len places.old < vec_capacity places.old }
@@ -55,7 +61,7 @@ pub(crate) fn accept_among(
 {
     places.reserve(verdicts.len())?;
     for (i, place) in verdicts.iter().enumerate() {
-        accept_at(places, pending.get(i), place);
+        accept_at(places, pending_at(pending, i), place);
     }
     Ok(())
 }
