@@ -1,6 +1,6 @@
 -- One entry more of a history, and of its tally.
-use Rattle.std.proofs.Common.{◌≡◌, ℕ, zero, suc, ℤ, ◌+◌, ◌<◌, ◌≤◌, ◌^◌, Bool, true, false, List, [], ◌∷◌, ◌++◌, map, drop, length, refl, sym, ◌∙◌, ap, subst, arith, Option, Some, None}
-use Rattle.std.specs.Prelude.{if◌then◌else◌, is_some, nat_eq, count_by}
+use Rattle.std.proofs.Common.{◌≡◌, ℕ, zero, suc, ℤ, ◌+◌, ◌<◌, ◌≤◌, ◌^◌, Bool, true, false, List, [], ◌∷◌, ◌++◌, map, drop, length, refl, sym, ◌∙◌, ap, subst, arith, Option, Some, None, Result, Ok, Err}
+use Rattle.std.specs.Prelude.{if◌then◌else◌, is_some, nat_eq, OnErr}
 use Rattle.std.proofs.lemmas.List.{map-append, drop-map}
 use Rattle.std.proofs.lemmas.List.Sums.{sum_by-append, count_by-le-length}
 use Rattle.eutxo_types.specs.declared.tx.Tx.{Tx}
@@ -17,13 +17,13 @@ use Rattle.ledger_kept.specs.declared.tally.Waiting.{Waiting}
 use Rattle.ledger_kept.specs.Kept.{text_in, text_at, Tally, counted, with_text, pending_text, IsTally}
 use Rattle.ledger_kept.specs.TallySupport.{entries_among, waiting_at, with_waiting, tally_after, tickets_with, HasOneMore, IsCounted}
 
-abbrev there : Tx → Option Tx
+abbrev pub there : Tx → Option Tx
 there tx = Some tx
 
-same_head : {A : Type 0} (x y : A) (xs ys : List A) → x ∷ xs ≡ y ∷ ys → x ≡ y
+pub same_head : {A : Type 0} (x y : A) (xs ys : List A) → x ∷ xs ≡ y ∷ ys → x ≡ y
 same_head x y xs ys h = cc
 
-same_tail : {A : Type 0} (x y : A) (xs ys : List A) → x ∷ xs ≡ y ∷ ys → xs ≡ ys
+pub same_tail : {A : Type 0} (x y : A) (xs ys : List A) → x ∷ xs ≡ y ∷ ys → xs ≡ ys
 same_tail x y xs ys h = cc
 
 -- ---- texts
@@ -164,6 +164,10 @@ kept_counts t n (on.Enqueue tx) r = by (ticket_in r)
 kept_counts t n (on.Round k) r = refl
 
 -- ---- an entry
+
+pub on_err : {T E P : Type 0} (r : Result T E) → P → OnErr r P
+on_err (Ok x) p = tt
+on_err (Err x) p = p
 
 -- with other counts of which each seat's is the same
 pub counts_alike : (t : Tally) (cs : List (ℕ × ℕ)) (c : Course) → ((seat : ℕ) → counted cs seat ≡ counted t.counts seat) → IsTally t c → IsTally (record t { counts = cs }) c

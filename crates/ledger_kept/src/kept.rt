@@ -42,6 +42,15 @@ impl<'a> Model for Kept<'a> {
     ghost invariant = { λ a. IsTally a.tally.now (record { genesis = a.genesis.now; first_tick = a.first_tick; entries = a.entries.now }) };
 }
 
+fn place_at(places: &[usize], number: usize) -> Option<usize>
+    ensures { result ≡ slice_get places.now number }
+{
+    match places.get(number) {
+        Some(place) => Some(*place),
+        None => None,
+    }
+}
+
 impl<'a> Kept<'a> {
     /// Lends what a ledger keeps.
     pub fn new(
@@ -97,8 +106,8 @@ impl<'a> Kept<'a> {
     pub fn accepted_at(&self, number: u64) -> Option<&'a Tx>
         ensures { option_copied result ≡ slice_get (world self.now).replay.accepted number }
     {
-        match self.tally.places().get(number as usize) {
-            Some(place) => Some(text_at(self.entries, *place)),
+        match place_at(self.tally.places(), number as usize) {
+            Some(place) => Some(text_at(self.entries, place)),
             None => None,
         }
     }

@@ -1,0 +1,33 @@
+use Rattle.std.proofs.Common.{◌≡◌, ℕ, ◌∙◌, sym, ap, subst, arith}
+use Rattle.ledger.specs.declared.call.Entry.{Entry}
+use Rattle.ledger_kept.specs.Kept.{Tally, counted, IsTally}
+use Rattle.ledger_kept.specs.TallySupport.{tally_after, IsCounted}
+use Rattle.ledger_spec.specs.Replay.{Course}
+use Rattle.ledger_kept.proofs.KeepLemmas.{on_err, counts_alike, tickets_fit, counts_fit, kept}
+use Rattle.ledger_kept.proofs.tally.Tally.keep.Goals as goal
+
+pub returns-in_err-make_room-clause-err : goal.returns-in_err-make_room-clause-err
+returns-in_err-make_room-clause-err c =
+    let s = c.self.inside in
+    let was : Tally = record { tick = s.tick; tickets = s.tickets; pending = s.pending.items; places = s.places.items; counts = s.counts.entries } in
+    on_err c.from_residual.result (λ (d : Course) (is : IsTally c.args.self.now d). counts_alike was c.make_room.new.counts.entries d c.make_room.ensures.counts (subst (λ (t : Tally). IsTally t d) (sym c.self.view_is) is))
+
+pub returns-in_err-follow-clause-err : goal.returns-in_err-follow-clause-err
+returns-in_err-follow-clause-err c =
+    let s = c.self.inside in
+    let was : Tally = record { tick = s.tick; tickets = s.tickets; pending = s.pending.items; places = s.places.items; counts = s.counts.entries } in
+    on_err c.from_residual-in_err-follow.result (λ (d : Course) (is : IsTally c.args.self.now d).
+        subst (λ (t : Tally). IsTally t d) (sym c.in_err-follow.ensures.err)
+        (counts_alike was c.make_room.new.counts.entries d c.make_room.ensures.counts (subst (λ (t : Tally). IsTally t d) (sym c.self.view_is) is)))
+
+pub count-requires : goal.count-requires
+count-requires c = ?
+
+pub returns-clause-ok : goal.returns-clause-ok
+returns-clause-ok c d l is =
+    let s = c.self.inside in
+    let was : Tally = record { tick = s.tick; tickets = s.tickets; pending = s.pending.items; places = s.places.items; counts = s.counts.entries } in
+    let now : Tally = record { tick = s.tick; tickets = s.tickets; pending = s.pending.items; places = s.places.items; counts = c.make_room.new.counts.entries } in
+    kept now c.count.new.self d c.args.place c.args.entry.now l
+    (counts_alike was c.make_room.new.counts.entries d c.make_room.ensures.counts (subst (λ (t : Tally). IsTally t d) (sym c.self.view_is) is))
+    (subst (λ (t : Tally). IsCounted t c.args.entry.now c.count.new.self) c.in_ok-follow.ensures.ok c.count.ensures)
