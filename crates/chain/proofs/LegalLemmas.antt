@@ -101,6 +101,35 @@ pub kept_more : (t : Tally) (index : Indexed) (c : Course) (seat : ℕ) (call : 
 kept_more t index c seat call tally present settled legal sums =
     record { tally = tally; present = index_more index.present c seat call present; settled = settled; legal = legal_more c seat call legal; sums = sums }
 
+-- after a cut all is as it was, with a tally of the same history
+pub kept_cut : (old t : Tally) (index grown cut : Indexed) (c : Course) → IsKept old index c → IsTally t c → grown.settled ≡ index.settled → cut ≡ record grown { present = grown.settled } → IsKept t cut c
+kept_cut old t index grown cut c kept tally same back =
+    let present : cut.present ≡ index.present = ap (λ (x : Indexed). x.present) back ∙ same ∙ kept.settled in
+    record {
+      tally = tally;
+      present = subst (λ (p : Contents). IsIndexOf p (world c)) (sym present) kept.present;
+      settled = ap (λ (x : Indexed). x.settled) back ∙ same ∙ kept.settled ∙ sym present;
+      legal = kept.legal;
+      sums = kept.sums;
+    }
+
+-- the entry that was made of a call is the one of its reply
+pub made_entry : (c : Course) (seat number : ℕ) (call : Call) (reply : Reply) → number ≡ count_of seat c.entries → reply ≡ reply_to (world c) call →
+    (let e : Entry = record { seat = seat; number = number; call = call; reply = reply } in e) ≡ entry_of c seat call
+made_entry c seat number call reply n r = λ i. record { seat = seat; number = n i; call = call; reply = r i }
+
+-- after an entry more, once it is settled
+pub kept_settled : (t : Tally) (grown index : Indexed) (c : Course) (seat number : ℕ) (call : Call) (reply : Reply) (entries : List Entry) → number ≡ count_of seat c.entries → reply ≡ reply_to (world c) call →
+    entries ≡ c.entries ++ (let e : Entry = record { seat = seat; number = number; call = call; reply = reply } in e) ∷ [] →
+    IsTally t (with_entry c (record { seat = seat; number = number; call = call; reply = reply })) → IsIndexOf grown.present (world_with (world c) call) → index ≡ record grown { settled = grown.present } →
+    IsLegal c → SumsFit c.genesis → IsKept t index (record c { entries = entries })
+kept_settled t grown index c seat number call reply entries n r es tally present now legal sums =
+    let made = made_entry c seat number call reply n r in
+    let here : index.present ≡ grown.present = ap (λ (x : Indexed). x.present) now in
+    subst (λ (l : List Entry). IsKept t index (record c { entries = l })) (sym (es ∙ ap (λ (e : Entry). c.entries ++ e ∷ []) made))
+    (kept_more t index c seat call (subst (λ (e : Entry). IsTally t (with_entry c e)) made tally) (subst (λ (p : Contents). IsIndexOf p (world_with (world c) call)) (sym here) present)
+    (ap (λ (x : Indexed). x.settled) now ∙ sym here) legal sums)
+
 pub kept_start : StartIsSound marlowe → (t : Tally) (index : Indexed) (c : Course) → c.entries ≡ [] → IsTally t c → index ≡ beginning c.genesis → AreKeys c.genesis → SumsFit c.genesis → IsKept t index c
 kept_start law t index c none tally begun keys sums =
     let whole : record c { entries = [] } ≡ c = λ i. record c { entries = sym none i } in
