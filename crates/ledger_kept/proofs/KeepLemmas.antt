@@ -1,6 +1,6 @@
 -- One entry more of a history, and of its tally.
-use Rattle.std.proofs.Common.{◌≡◌, ℕ, zero, suc, ℤ, ◌+◌, ◌<◌, ◌≤◌, ◌^◌, Bool, true, false, List, [], ◌∷◌, ◌++◌, map, drop, length, refl, sym, ◌∙◌, ap, subst, arith, Option, Some, None, Result, Ok, Err}
-use Rattle.std.specs.Prelude.{if◌then◌else◌, is_some, nat_eq, OnErr}
+use Rattle.std.proofs.Common.{◌≡◌, ℕ, zero, suc, ◌+◌, ◌≤◌, Bool, true, false, List, [], ◌∷◌, ◌++◌, map, drop, length, refl, sym, ◌∙◌, ap, arith, Option, Some, None, Result, Ok, Err}
+use Rattle.std.specs.Prelude.{if◌then◌else◌, nat_eq, OnErr}
 use Rattle.std.proofs.lemmas.List.{map-append, drop-map}
 use Rattle.std.proofs.lemmas.List.Sums.{sum_by-append, count_by-le-length}
 use Rattle.eutxo_types.specs.declared.tx.Tx.{Tx}
@@ -15,7 +15,7 @@ use Rattle.ledger_spec.specs.Replay.{Pending, Replay, Course, pending_entry, acc
 use Rattle.ledger_spec.proofs.ReplayLaws.{replay_after}
 use Rattle.ledger_kept.specs.declared.tally.Waiting.{Waiting}
 use Rattle.ledger_kept.specs.Kept.{text_in, text_at, Tally, counted, with_text, pending_text, IsTally}
-use Rattle.ledger_kept.specs.TallySupport.{entries_among, waiting_at, with_waiting, tally_after, tickets_with, HasOneMore, IsCounted}
+use Rattle.ledger_kept.specs.TallySupport.{entries_among, waiting_at, with_waiting, tally_after, tickets_with, IsCounted}
 
 abbrev pub there : Tx → Option Tx
 there tx = Some tx

@@ -1,4 +1,4 @@
-use Rattle.std.proofs.Common.{◌≡◌, ◌∙◌, sym, ap, subst, map, Option, Some, None}
+use Rattle.std.proofs.Common.{◌≡◌, ◌∙◌, ap, subst, map, Option, Some, None}
 use Rattle.std.specs.List.{slice_get}
 use Rattle.eutxo_types.specs.declared.tx.Tx.{Tx}
 use Rattle.ledger_spec.specs.Replay.{Course, world}
