@@ -1,6 +1,6 @@
 -- One entry more of a history, and of its tally.
-use Rattle.std.proofs.Common.{◌≡◌, ℕ, zero, suc, ℤ, ◌+◌, ◌<◌, ◌≤◌, ◌^◌, Bool, true, false, List, [], ◌∷◌, ◌++◌, map, drop, length, refl, sym, ◌∙◌, ap, subst, arith, Option, Some, None, Result, Ok, Err}
-use Rattle.std.specs.Prelude.{if◌then◌else◌, is_some, nat_eq, OnErr}
+use Rattle.std.proofs.Common.{◌≡◌, ℕ, zero, suc, ◌+◌, ◌≤◌, Bool, true, false, List, [], ◌∷◌, ◌++◌, map, drop, length, refl, sym, ◌∙◌, ap, arith, Option, Some, None, Result, Ok, Err}
+use Rattle.std.specs.Prelude.{if◌then◌else◌, nat_eq, OnErr}
 use Rattle.std.proofs.lemmas.List.{map-append, drop-map}
 use Rattle.std.proofs.lemmas.List.Sums.{sum_by-append, count_by-le-length}
 use Rattle.eutxo_types.specs.declared.tx.Tx.{Tx}
@@ -15,7 +15,7 @@ use Rattle.ledger_spec.specs.Replay.{Pending, Replay, Course, pending_entry, acc
 use Rattle.ledger_spec.proofs.ReplayLaws.{replay_after}
 use Rattle.ledger_kept.specs.declared.tally.Waiting.{Waiting}
 use Rattle.ledger_kept.specs.Kept.{text_in, text_at, Tally, counted, with_text, pending_text, IsTally}
-use Rattle.ledger_kept.specs.TallySupport.{entries_among, waiting_at, with_waiting, tally_after, tickets_with, HasOneMore, IsCounted}
+use Rattle.ledger_kept.specs.TallySupport.{entries_among, waiting_at, with_waiting, tally_after, tickets_with, IsCounted}
 
 abbrev pub there : Tx → Option Tx
 there tx = Some tx
@@ -123,45 +123,29 @@ tickets_more es e = sum_by-append (λ x. if gives_ticket x then 1 else 0) es (e 
 count_more : (seat : ℕ) (es : List Entry) (e : Entry) → count_of seat (es ++ e ∷ []) ≡ count_of seat es + (if nat_eq e.seat seat then 1 else 0)
 count_more seat es e = sum_by-append (λ x. if nat_eq x.seat seat then 1 else 0) es (e ∷ []) ∙ omega arith
 
-kept_tickets : (t : Tally) (n : ℕ) (call : Call) (r : Reply) → (tally_after t n call r).tickets ≡ t.tickets
-kept_tickets t n (on.Publish contract currency) r = refl
-kept_tickets t n (on.Advance tick) r = by (is_advanced r)
+-- tickets and counts stay
+uncounted : (t : Tally) (n : ℕ) (call : Call) (r : Reply) → ((tally_after t n call r).tickets ≡ t.tickets) × ((tally_after t n call r).counts ≡ t.counts)
+uncounted t n (on.Publish contract currency) r = (refl, refl)
+uncounted t n (on.Advance tick) r = by (is_advanced r)
   where
-    by : (b : Bool) → (if b then record t { tick = tick } else t).tickets ≡ t.tickets
-    by true = refl
-    by false = refl
-kept_tickets t n (on.Look ask) r = refl
-kept_tickets t n (on.Submit tx) r = by (is_accepted r)
+    by : (b : Bool) → ((if b then record t { tick = tick } else t).tickets ≡ t.tickets) × ((if b then record t { tick = tick } else t).counts ≡ t.counts)
+    by true = (refl, refl)
+    by false = (refl, refl)
+uncounted t n (on.Look ask) r = (refl, refl)
+uncounted t n (on.Submit tx) r = by (is_accepted r)
   where
-    by : (b : Bool) → (if b then record t { places = t.places ++ n ∷ [] } else t).tickets ≡ t.tickets
-    by true = refl
-    by false = refl
-kept_tickets t n (on.Enqueue tx) r = by (ticket_in r)
+    by : (b : Bool) → ((if b then record t { places = t.places ++ n ∷ [] } else t).tickets ≡ t.tickets) × ((if b then record t { places = t.places ++ n ∷ [] } else t).counts ≡ t.counts)
+    by true = (refl, refl)
+    by false = (refl, refl)
+uncounted t n (on.Enqueue tx) r = by (ticket_in r)
   where
-    by : (o : Option ℕ) → (with_waiting t n o).tickets ≡ t.tickets
-    by None = refl
-    by (Some k) = refl
-kept_tickets t n (on.Round k) r = refl
+    by : (o : Option ℕ) → ((with_waiting t n o).tickets ≡ t.tickets) × ((with_waiting t n o).counts ≡ t.counts)
+    by None = (refl, refl)
+    by (Some k) = (refl, refl)
+uncounted t n (on.Round k) r = (refl, refl)
 
 pub kept_counts : (t : Tally) (n : ℕ) (call : Call) (r : Reply) → (tally_after t n call r).counts ≡ t.counts
-kept_counts t n (on.Publish contract currency) r = refl
-kept_counts t n (on.Advance tick) r = by (is_advanced r)
-  where
-    by : (b : Bool) → (if b then record t { tick = tick } else t).counts ≡ t.counts
-    by true = refl
-    by false = refl
-kept_counts t n (on.Look ask) r = refl
-kept_counts t n (on.Submit tx) r = by (is_accepted r)
-  where
-    by : (b : Bool) → (if b then record t { places = t.places ++ n ∷ [] } else t).counts ≡ t.counts
-    by true = refl
-    by false = refl
-kept_counts t n (on.Enqueue tx) r = by (ticket_in r)
-  where
-    by : (o : Option ℕ) → (with_waiting t n o).counts ≡ t.counts
-    by None = refl
-    by (Some k) = refl
-kept_counts t n (on.Round k) r = refl
+kept_counts t n call r = (uncounted t n call r).1
 
 -- ---- an entry
 
@@ -175,7 +159,7 @@ counts_alike t cs c same is = record { tick = is.tick; tickets = is.tickets; pen
 
 -- no count is above the number of entries
 pub tickets_fit : (t : Tally) (c : Course) (n : ℕ) (call : Call) (r : Reply) → length c.entries ≡ n → IsTally t c → (tally_after t n call r).tickets ≤ n
-tickets_fit t c n call r l is = omega (arith, kept_tickets t n call r, is.tickets, count_by-le-length gives_ticket c.entries, l)
+tickets_fit t c n call r l is = omega (arith, (uncounted t n call r).0, is.tickets, count_by-le-length gives_ticket c.entries, l)
 
 pub counts_fit : (t : Tally) (c : Course) (n seat : ℕ) (call : Call) (r : Reply) → length c.entries ≡ n → IsTally t c → counted (tally_after t n call r).counts seat ≤ n
 counts_fit t c n seat call r l is =
@@ -192,7 +176,7 @@ kept t new c n e l is counted_so =
     let a = after t es s n e.call e.reply old text in
     record {
       tick = counted_so.tick ∙ a.tick ∙ ap (λ (x : Replay). x.tick) (sym more);
-      tickets = counted_so.tickets ∙ ap (λ k. tickets_with k e.reply) (kept_tickets t n e.call e.reply ∙ is.tickets) ∙ sym (tickets_more c.entries e);
+      tickets = counted_so.tickets ∙ ap (λ k. tickets_with k e.reply) ((uncounted t n e.call e.reply).0 ∙ is.tickets) ∙ sym (tickets_more c.entries e);
       pending = ap (map (with_text es)) counted_so.pending ∙ a.pending ∙ ap (λ (x : Replay). map pending_text x.pending) (sym more);
       places = ap (map (text_at es)) counted_so.places ∙ a.places ∙ ap (λ (x : Replay). map there x.accepted) (sym more);
       counts = λ seat.

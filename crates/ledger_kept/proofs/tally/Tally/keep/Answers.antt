@@ -1,9 +1,10 @@
-use Rattle.std.proofs.Common.{◌≡◌, ℕ, ◌∙◌, sym, ap, subst, arith}
-use Rattle.ledger.specs.declared.call.Entry.{Entry}
+use Rattle.std.proofs.Common.{◌≤◌, sym, subst, arith}
+use Rattle.std.specs.Prelude.{IsSome, nat_eq}
+use Rattle.std.specs.Map.{lookup}
 use Rattle.ledger_kept.specs.Kept.{Tally, counted, IsTally}
-use Rattle.ledger_kept.specs.TallySupport.{tally_after, IsCounted}
+use Rattle.ledger_kept.specs.TallySupport.{IsCounted}
 use Rattle.ledger_spec.specs.Replay.{Course}
-use Rattle.ledger_kept.proofs.KeepLemmas.{on_err, counts_alike, tickets_fit, counts_fit, kept}
+use Rattle.ledger_kept.proofs.KeepLemmas.{on_err, counts_alike, kept_counts, tickets_fit, counts_fit, kept}
 use Rattle.ledger_kept.proofs.tally.Tally.keep.Goals as goal
 
 pub returns-in_err-make_room-clause-err : goal.returns-in_err-make_room-clause-err
@@ -17,11 +18,26 @@ returns-in_err-follow-clause-err c =
     let s = c.self.inside in
     let was : Tally = record { tick = s.tick; tickets = s.tickets; pending = s.pending.items; places = s.places.items; counts = s.counts.entries } in
     on_err c.from_residual-in_err-follow.result (λ (d : Course) (is : IsTally c.args.self.now d).
-        subst (λ (t : Tally). IsTally t d) (sym c.in_err-follow.ensures.err)
-        (counts_alike was c.make_room.new.counts.entries d c.make_room.ensures.counts (subst (λ (t : Tally). IsTally t d) (sym c.self.view_is) is)))
+    subst (λ (t : Tally). IsTally t d) (sym c.in_err-follow.ensures.err)
+    (counts_alike was c.make_room.new.counts.entries d c.make_room.ensures.counts (subst (λ (t : Tally). IsTally t d) (sym c.self.view_is) is)))
 
 pub count-requires : goal.count-requires
-count-requires c = ?
+count-requires c =
+    let s = c.self.inside in
+    let e = c.args.entry.now in
+    let n = c.args.place in
+    let was : Tally = record { tick = s.tick; tickets = s.tickets; pending = s.pending.items; places = s.places.items; counts = s.counts.entries } in
+    let now : Tally = record { tick = s.tick; tickets = s.tickets; pending = s.pending.items; places = s.places.items; counts = c.make_room.new.counts.entries } in
+    let so = c.requires.so in
+    let is = counts_alike was c.make_room.new.counts.entries so.0 c.make_room.ensures.counts (subst (λ (t : Tally). IsTally t so.0) (sym c.self.view_is) so.2) in
+    let after = sym c.in_ok-follow.ensures.ok in
+    let count = subst (λ (t : Tally). counted t.counts e.seat ≤ n) after (counts_fit now so.0 n e.seat e.call e.reply so.1 is) in
+    let tickets = subst (λ (t : Tally). t.tickets ≤ n) after (tickets_fit now so.0 n e.call e.reply so.1 is) in
+    record {
+      room = subst (λ (t : Tally). IsSome (lookup (nat_eq e.seat) t.counts)) after (subst (λ cs. IsSome (lookup (nat_eq e.seat) cs)) (sym (kept_counts now n e.call e.reply)) c.in_ok-make_room.ensures.there);
+      count = omega (arith, count);
+      tickets = omega (arith, tickets);
+    }
 
 pub returns-clause-ok : goal.returns-clause-ok
 returns-clause-ok c d l is =
