@@ -234,7 +234,9 @@ impl Chain {
             &self.tally,
             cache,
         );
-        let Answered { reply, copies } = answer_or_cut(alloc, &kept, &mut self.index, &call)?;
+        let found = answer_or_cut(alloc, &kept, &mut self.index, &call);
+        drop(kept);
+        let Answered { reply, copies } = found?;
         let entry = Entry {
             seat,
             number: self.tally.count_of(seat),
