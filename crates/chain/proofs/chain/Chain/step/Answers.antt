@@ -17,15 +17,15 @@ invariant_of-self-in-Ok c =
     let found = c.in_ok-reply in
     let number : c.count_of.result ≡ count_of c.args.seat s.entries.items = c.count_of.ensures ∙ c.self.invariant.tally.counts c.args.seat in
     let reply = found.ensures.reply ∙ ap (λ (v : Course). reply_to (world v) c.args.call) lent in
-    let present = subst (λ (v : Course). IsIndexOf c.answer_or_cut.new.index.present (world_with (world v) c.args.call)) lent found.ensures.tied in
-    kept_settled _ c.answer_or_cut.new.index _ course c.args.seat c.count_of.result c.args.call found.field-0.reply _ number reply c.in-Ok.ensures.entries (c.in-Ok.ensures.tally course refl c.self.invariant.tally) present
+    let present = subst (λ (v : Course). IsIndexOf c.answer_or_cut-found.new.index.present (world_with (world v) c.args.call)) lent found.ensures.tied in
+    kept_settled _ c.answer_or_cut-found.new.index _ course c.args.seat c.count_of.result c.args.call found.field-0.reply _ number reply c.in-Ok.ensures.entries (c.in-Ok.ensures.tally course refl c.self.invariant.tally) present
     c.settle.ensures c.self.invariant.legal c.self.invariant.sums
 
 pub invariant_of-self-in-Err-1 : goal.invariant_of-self-in-Err-1
 invariant_of-self-in-Err-1 c =
     let s = c.self.inside in
     let course : Course = record { genesis = s.genesis; first_tick = s.first_tick; entries = s.entries.items } in
-    let cut = kept_cut _ _ s.index c.answer_or_cut.new.index _ course c.self.invariant (c.in-Err.ensures.still course c.self.invariant.tally) c.in_ok-reply.ensures.settled c.cut.ensures in
+    let cut = kept_cut _ _ s.index c.answer_or_cut-found.new.index _ course c.self.invariant (c.in-Err.ensures.still course c.self.invariant.tally) c.in_ok-reply.ensures.settled c.cut.ensures in
     subst (λ (l : List Entry). IsKept c.add_entry.new.tally c.cut.new.self (let v : Course = record { genesis = s.genesis; first_tick = s.first_tick; entries = l } in v)) (sym c.in-Err.ensures.err) cut
 
 pub returns-in-Ok-clause-entry : goal.returns-in-Ok-clause-entry
