@@ -1,5 +1,5 @@
 -- One entry more of a history, and of its tally.
-use Rattle.std.proofs.Common.{◌≡◌, ℕ, zero, suc, ◌+◌, ◌≤◌, Bool, true, false, List, [], ◌∷◌, ◌++◌, map, drop, length, refl, sym, ◌∙◌, ap, arith, Option, Some, None, Result, Ok, Err}
+use Rattle.std.proofs.Common.{◌≡◌, ℕ, zero, suc, ◌+◌, ◌≤◌, Bool, true, false, List, [], ◌∷◌, ◌++◌, map, drop, length, refl, sym, ◌∙◌, ap, subst, arith, Option, Some, None, Result, Ok, Err}
 use Rattle.std.specs.Prelude.{if◌then◌else◌, nat_eq, OnErr}
 use Rattle.std.proofs.lemmas.List.{map-append, drop-map}
 use Rattle.std.proofs.lemmas.List.Sums.{sum_by-append, count_by-le-length}
@@ -20,6 +20,14 @@ use Rattle.ledger_kept.specs.TallySupport.{entries_among, waiting_at, with_waiti
 abbrev pub there : Tx → Option Tx
 there tx = Some tx
 
+-- what waits, by the texts of these entries
+abbrev pub AreWaiting : List Entry → List Waiting → List Pending → Type 0
+AreWaiting es ws ps = map (with_text es) ws ≡ map pending_text ps
+
+-- these places have these texts
+abbrev pub AreTexts : List Entry → List ℕ → List Tx → Type 0
+AreTexts es ns txs = map (text_at es) ns ≡ map there txs
+
 pub same_head : {A : Type 0} (x y : A) (xs ys : List A) → x ∷ xs ≡ y ∷ ys → x ≡ y
 same_head x y xs ys h = cc
 
@@ -38,7 +46,7 @@ text_last : (es : List Entry) (e : Entry) → text_at (es ++ e ∷ []) (length e
 text_last [] e = refl
 text_last (x ∷ es) e = text_last es e
 
-pending_more : (es : List Entry) (e : Entry) (ws : List Waiting) (ps : List Pending) → map (with_text es) ws ≡ map pending_text ps → map (with_text (es ++ e ∷ [])) ws ≡ map pending_text ps
+pending_more : (es : List Entry) (e : Entry) (ws : List Waiting) (ps : List Pending) → AreWaiting es ws ps → AreWaiting (es ++ e ∷ []) ws ps
 pending_more es e [] ps h = h
 pending_more es e (w ∷ ws) [] h = cc
 pending_more es e (w ∷ ws) (p ∷ ps) h =
@@ -47,7 +55,7 @@ pending_more es e (w ∷ ws) (p ∷ ps) h =
     let tx = text_more es e w.entry p.1 (λ i. (at i).1) in
     λ i. ((at i).0, tx i) ∷ rest i
 
-places_more : (es : List Entry) (e : Entry) (ns : List ℕ) (txs : List Tx) → map (text_at es) ns ≡ map there txs → map (text_at (es ++ e ∷ [])) ns ≡ map there txs
+places_more : (es : List Entry) (e : Entry) (ns : List ℕ) (txs : List Tx) → AreTexts es ns txs → AreTexts (es ++ e ∷ []) ns txs
 places_more es e [] txs h = h
 places_more es e (n ∷ ns) [] h = cc
 places_more es e (n ∷ ns) (tx ∷ txs) h =
@@ -56,7 +64,7 @@ places_more es e (n ∷ ns) (tx ∷ txs) h =
     λ i. at i ∷ rest i
 
 -- what a round accepts
-among_alike : (es : List Entry) (ws : List Waiting) (ps : List Pending) (vs : List Ticketed) → map (with_text es) ws ≡ map pending_text ps → map (text_at es) (entries_among ws vs) ≡ map there (accepted_among ps vs)
+among_alike : (es : List Entry) (ws : List Waiting) (ps : List Pending) (vs : List Ticketed) → AreWaiting es ws ps → AreTexts es (entries_among ws vs) (accepted_among ps vs)
 among_alike es [] [] vs h = refl
 among_alike es [] (p ∷ ps) vs h = cc
 among_alike es (w ∷ ws) [] vs h = cc
@@ -66,8 +74,8 @@ among_alike es (w ∷ ws) (p ∷ ps) (v ∷ vs) h =
     (λ i. (same_head (with_text es w) (pending_text p) (map (with_text es) ws) (map pending_text ps) h i).1)
     (among_alike es ws ps vs (same_tail (with_text es w) (pending_text p) (map (with_text es) ws) (map pending_text ps) h))
   where
-    by : (b : Bool) → text_at es w.entry ≡ Some p.1 → map (text_at es) (entries_among ws vs) ≡ map there (accepted_among ps vs) →
-        map (text_at es) ((if b then w.entry ∷ [] else []) ++ entries_among ws vs) ≡ map there ((if b then p.1 ∷ [] else []) ++ accepted_among ps vs)
+    by : (b : Bool) → text_at es w.entry ≡ Some p.1 → AreTexts es (entries_among ws vs) (accepted_among ps vs) →
+        AreTexts es ((if b then w.entry ∷ [] else []) ++ entries_among ws vs) ((if b then p.1 ∷ [] else []) ++ accepted_among ps vs)
     by true at rest = λ i. at i ∷ rest i
     by false at rest = rest
 
@@ -83,8 +91,8 @@ more_alike f g xs ms ys ns h k = map-append f xs ms ∙ (λ i. h i ++ k i) ∙ s
 -- the tick, what is pending and what was accepted, by the texts of these entries
 record Agrees (t : Tally) (es : List Entry) (s : Replay) : Type 0 where
   tick : t.tick ≡ s.tick
-  pending : map (with_text es) t.pending ≡ map pending_text s.pending
-  places : map (text_at es) t.places ≡ map there s.accepted
+  pending : AreWaiting es t.pending s.pending
+  places : AreTexts es t.places s.accepted
 
 after : (t : Tally) (es : List Entry) (s : Replay) (n : ℕ) (call : Call) (r : Reply) → Agrees t es s → text_at es n ≡ text_in call → Agrees (tally_after t n call r) es (after_call s call r)
 after t es s n (on.Publish contract currency) r a text = a
@@ -108,11 +116,13 @@ after t es s n (on.Enqueue tx) r a text = by (ticket_in r)
       pending = more_alike (with_text es) pending_text t.pending (waiting_at n k ∷ []) s.pending (pending_entry k tx ∷ []) a.pending (λ i. (k, text i) ∷ []);
       places = a.places;
     }
-after t es s n (on.Round k) r a text = record {
-  tick = a.tick;
-  pending = drop_alike (with_text es) pending_text k t.pending s.pending a.pending;
-  places = more_alike (text_at es) there t.places (entries_among t.pending (verdicts_in r)) s.accepted (accepted_among s.pending (verdicts_in r)) a.places (among_alike es t.pending s.pending (verdicts_in r) a.pending);
-}
+after t es s n (on.Round k) r a text =
+    let vs = verdicts_in r in
+    record {
+      tick = a.tick;
+      pending = drop_alike (with_text es) pending_text k t.pending s.pending a.pending;
+      places = more_alike (text_at es) there t.places (entries_among t.pending vs) s.accepted (accepted_among s.pending vs) a.places (among_alike es t.pending s.pending vs a.pending);
+    }
 
 -- ---- what is counted
 
@@ -153,9 +163,15 @@ pub on_err : {T E P : Type 0} (r : Result T E) → P → OnErr r P
 on_err (Ok x) p = tt
 on_err (Err x) p = p
 
--- with other counts of which each seat's is the same
-pub counts_alike : (t : Tally) (cs : List (ℕ × ℕ)) (c : Course) → ((seat : ℕ) → counted cs seat ≡ counted t.counts seat) → IsTally t c → IsTally (record t { counts = cs }) c
-counts_alike t cs c same is = record { tick = is.tick; tickets = is.tickets; pending = is.pending; places = is.places; counts = λ seat. same seat ∙ is.counts seat }
+-- with other counts, of which each seat's is the same
+pub counts_alike : (old t : Tally) (cs : List (ℕ × ℕ)) → t ≡ old → ((seat : ℕ) → counted cs seat ≡ counted t.counts seat) → (c : Course) → IsTally old c → IsTally (record t { counts = cs }) c
+counts_alike old t cs e same c is = let of : IsTally t c = subst (λ (x : Tally). IsTally x c) (sym e) is in record {
+  tick = of.tick;
+  tickets = of.tickets;
+  pending = of.pending;
+  places = of.places;
+  counts = λ seat. same seat ∙ of.counts seat;
+}
 
 -- no count is above the number of entries
 pub tickets_fit : (t : Tally) (c : Course) (n : ℕ) (call : Call) (r : Reply) → length c.entries ≡ n → IsTally t c → (tally_after t n call r).tickets ≤ n

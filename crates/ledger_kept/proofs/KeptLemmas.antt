@@ -7,9 +7,9 @@ use Rattle.ledger.specs.declared.call.Entry.{Entry}
 use Rattle.ledger_spec.specs.Replay.{Pending, pending_entry}
 use Rattle.ledger_kept.specs.declared.tally.Waiting.{Waiting}
 use Rattle.ledger_kept.specs.Kept.{text_at, with_text, pending_text}
-use Rattle.ledger_kept.proofs.KeepLemmas.{there, same_head, same_tail}
+use Rattle.ledger_kept.proofs.KeepLemmas.{there, AreWaiting, AreTexts, same_head, same_tail}
 
-pub pending_there : (es : List Entry) (ws : List Waiting) (ps : List Pending) (i : ℕ) (d : Waiting) → map (with_text es) ws ≡ map pending_text ps → i < length ps → IsSome (text_at es (get_or ws i d).entry)
+pub pending_there : (es : List Entry) (ws : List Waiting) (ps : List Pending) (i : ℕ) (d : Waiting) → AreWaiting es ws ps → i < length ps → IsSome (text_at es (get_or ws i d).entry)
 pending_there es [] [] i d h l = absurd (omega arith)
 pending_there es [] (p ∷ ps) i d h l = cc
 pending_there es (w ∷ ws) [] i d h l = cc
@@ -17,7 +17,7 @@ pending_there es (w ∷ ws) (p ∷ ps) zero d h l = λ i. is_some ((same_head (w
 pending_there es (w ∷ ws) (p ∷ ps) (suc i) d h l =
     pending_there es ws ps i d (same_tail (with_text es w) (pending_text p) (map (with_text es) ws) (map pending_text ps) h) (omega (arith, l))
 
-pub pending_is : (es : List Entry) (ws : List Waiting) (ps : List Pending) (i : ℕ) (d : Waiting) (tx : Tx) → map (with_text es) ws ≡ map pending_text ps → i < length ps →
+pub pending_is : (es : List Entry) (ws : List Waiting) (ps : List Pending) (i : ℕ) (d : Waiting) (tx : Tx) → AreWaiting es ws ps → i < length ps →
     text_at es (get_or ws i d).entry ≡ Some tx → slice_get ps i ≡ Some (pending_entry (get_or ws i d).ticket tx)
 pending_is es [] [] i d tx h l t = absurd (omega arith)
 pending_is es [] (p ∷ ps) i d tx h l t = cc
@@ -33,7 +33,7 @@ pending_is es (w ∷ ws) (p ∷ ps) zero d tx h l t =
 pending_is es (w ∷ ws) (p ∷ ps) (suc i) d tx h l t =
     pending_is es ws ps i d tx (same_tail (with_text es w) (pending_text p) (map (with_text es) ws) (map pending_text ps) h) (omega (arith, l)) t
 
-pub accepted_there : (es : List Entry) (ns : List ℕ) (txs : List Tx) (i n : ℕ) → map (text_at es) ns ≡ map there txs → Some n ≡ slice_get ns i → IsSome (text_at es n)
+pub accepted_there : (es : List Entry) (ns : List ℕ) (txs : List Tx) (i n : ℕ) → AreTexts es ns txs → Some n ≡ slice_get ns i → IsSome (text_at es n)
 accepted_there es [] txs i n h a = cc
 accepted_there es (m ∷ ns) [] i n h a = cc
 accepted_there es (m ∷ ns) (tx ∷ txs) zero n h a = ap (λ o. is_some (read o)) a ∙ ap is_some (same_head (text_at es m) (Some tx) (map (text_at es) ns) (map there txs) h)
@@ -43,7 +43,7 @@ accepted_there es (m ∷ ns) (tx ∷ txs) zero n h a = ap (λ o. is_some (read o
     read (Some k) = text_at es k
 accepted_there es (m ∷ ns) (tx ∷ txs) (suc i) n h a = accepted_there es ns txs i n (same_tail (text_at es m) (Some tx) (map (text_at es) ns) (map there txs) h) a
 
-pub accepted_is : (es : List Entry) (ns : List ℕ) (txs : List Tx) (i n : ℕ) (x : Tx) → map (text_at es) ns ≡ map there txs → Some n ≡ slice_get ns i → text_at es n ≡ Some x → Some x ≡ slice_get txs i
+pub accepted_is : (es : List Entry) (ns : List ℕ) (txs : List Tx) (i n : ℕ) (x : Tx) → AreTexts es ns txs → Some n ≡ slice_get ns i → text_at es n ≡ Some x → Some x ≡ slice_get txs i
 accepted_is es [] txs i n x h a t = cc
 accepted_is es (m ∷ ns) [] i n x h a t = cc
 accepted_is es (m ∷ ns) (tx ∷ txs) zero n x h a t = sym t ∙ ap read a ∙ same_head (text_at es m) (Some tx) (map (text_at es) ns) (map there txs) h
@@ -53,7 +53,7 @@ accepted_is es (m ∷ ns) (tx ∷ txs) zero n x h a t = sym t ∙ ap read a ∙ 
     read (Some k) = text_at es k
 accepted_is es (m ∷ ns) (tx ∷ txs) (suc i) n x h a t = accepted_is es ns txs i n x (same_tail (text_at es m) (Some tx) (map (text_at es) ns) (map there txs) h) a t
 
-pub accepted_none : (es : List Entry) (ns : List ℕ) (txs : List Tx) (i : ℕ) → map (text_at es) ns ≡ map there txs → None ≡ slice_get ns i → None ≡ slice_get txs i
+pub accepted_none : (es : List Entry) (ns : List ℕ) (txs : List Tx) (i : ℕ) → AreTexts es ns txs → None ≡ slice_get ns i → None ≡ slice_get txs i
 accepted_none es [] [] i h a = refl
 accepted_none es [] (tx ∷ txs) i h a = cc
 accepted_none es (m ∷ ns) [] i h a = cc

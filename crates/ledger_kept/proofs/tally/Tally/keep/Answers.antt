@@ -11,30 +11,30 @@ pub returns-in_err-make_room-clause-err : goal.returns-in_err-make_room-clause-e
 returns-in_err-make_room-clause-err c =
     let s = c.self.inside in
     let was : Tally = record { tick = s.tick; tickets = s.tickets; pending = s.pending.items; places = s.places.items; counts = s.counts.entries } in
-    on_err c.from_residual.result (λ (d : Course) (is : IsTally c.args.self.now d). counts_alike was c.make_room.new.counts.entries d c.make_room.ensures.counts (subst (λ (t : Tally). IsTally t d) (sym c.self.view_is) is))
+    on_err c.from_residual.result (counts_alike c.args.self.now was c.make_room.new.counts.entries c.self.view_is c.make_room.ensures.counts)
 
 pub returns-in_err-follow-clause-err : goal.returns-in_err-follow-clause-err
 returns-in_err-follow-clause-err c =
     let s = c.self.inside in
     let was : Tally = record { tick = s.tick; tickets = s.tickets; pending = s.pending.items; places = s.places.items; counts = s.counts.entries } in
-    on_err c.from_residual-in_err-follow.result (λ (d : Course) (is : IsTally c.args.self.now d).
-    subst (λ (t : Tally). IsTally t d) (sym c.in_err-follow.ensures.err)
-    (counts_alike was c.make_room.new.counts.entries d c.make_room.ensures.counts (subst (λ (t : Tally). IsTally t d) (sym c.self.view_is) is)))
+    let stays = counts_alike c.args.self.now was c.make_room.new.counts.entries c.self.view_is c.make_room.ensures.counts in
+    on_err c.from_residual-in_err-follow.result (λ (d : Course) (is : IsTally c.args.self.now d). subst (λ (t : Tally). IsTally t d) (sym c.in_err-follow.ensures.err) (stays d is))
 
 pub count-requires : goal.count-requires
 count-requires c =
     let s = c.self.inside in
     let e = c.args.entry.now in
     let n = c.args.place in
-    let was : Tally = record { tick = s.tick; tickets = s.tickets; pending = s.pending.items; places = s.places.items; counts = s.counts.entries } in
-    let now : Tally = record { tick = s.tick; tickets = s.tickets; pending = s.pending.items; places = s.places.items; counts = c.make_room.new.counts.entries } in
     let so = c.requires.so in
-    let is = counts_alike was c.make_room.new.counts.entries so.0 c.make_room.ensures.counts (subst (λ (t : Tally). IsTally t so.0) (sym c.self.view_is) so.2) in
+    let was : Tally = record { tick = s.tick; tickets = s.tickets; pending = s.pending.items; places = s.places.items; counts = s.counts.entries } in
+    let now : Tally = record was { counts = c.make_room.new.counts.entries } in
+    let is = counts_alike c.args.self.now was c.make_room.new.counts.entries c.self.view_is c.make_room.ensures.counts so.0 so.2 in
     let after = sym c.in_ok-follow.ensures.ok in
+    let room = subst (λ cs. IsSome (lookup (nat_eq e.seat) cs)) (sym (kept_counts now n e.call e.reply)) c.in_ok-make_room.ensures.there in
     let count = subst (λ (t : Tally). counted t.counts e.seat ≤ n) after (counts_fit now so.0 n e.seat e.call e.reply so.1 is) in
     let tickets = subst (λ (t : Tally). t.tickets ≤ n) after (tickets_fit now so.0 n e.call e.reply so.1 is) in
     record {
-      room = subst (λ (t : Tally). IsSome (lookup (nat_eq e.seat) t.counts)) after (subst (λ cs. IsSome (lookup (nat_eq e.seat) cs)) (sym (kept_counts now n e.call e.reply)) c.in_ok-make_room.ensures.there);
+      room = subst (λ (t : Tally). IsSome (lookup (nat_eq e.seat) t.counts)) after room;
       count = omega (arith, count);
       tickets = omega (arith, tickets);
     }
@@ -42,8 +42,9 @@ count-requires c =
 pub returns-clause-ok : goal.returns-clause-ok
 returns-clause-ok c d l is =
     let s = c.self.inside in
+    let e = c.args.entry.now in
     let was : Tally = record { tick = s.tick; tickets = s.tickets; pending = s.pending.items; places = s.places.items; counts = s.counts.entries } in
-    let now : Tally = record { tick = s.tick; tickets = s.tickets; pending = s.pending.items; places = s.places.items; counts = c.make_room.new.counts.entries } in
-    kept now c.count.new.self d c.args.place c.args.entry.now l
-    (counts_alike was c.make_room.new.counts.entries d c.make_room.ensures.counts (subst (λ (t : Tally). IsTally t d) (sym c.self.view_is) is))
-    (subst (λ (t : Tally). IsCounted t c.args.entry.now c.count.new.self) c.in_ok-follow.ensures.ok c.count.ensures)
+    let now : Tally = record was { counts = c.make_room.new.counts.entries } in
+    kept now c.count.new.self d c.args.place e l
+    (counts_alike c.args.self.now was c.make_room.new.counts.entries c.self.view_is c.make_room.ensures.counts d is)
+    (subst (λ (t : Tally). IsCounted t e c.count.new.self) c.in_ok-follow.ensures.ok c.count.ensures)
