@@ -69,9 +69,6 @@ call_is_more ps (on.Round k) = λ script v h. h
 pub stays_published : (c : Course) (seat : ℕ) (call : Call) → IsMore (published_at (published c.entries)) (published_at (published (with_entry c (entry_of c seat call)).entries))
 stays_published c seat call = subst (λ (l : List Published). IsMore (published_at (published c.entries)) (published_at l)) (sym (published_after_one c seat call)) (call_is_more (published c.entries) call)
 
-pub stays_same : (new old : Course) → new ≡ old → IsMore (published_at (published old.entries)) (published_at (published new.entries))
-stays_same new old e = subst (λ (v : Course). IsMore (published_at (published old.entries)) (published_at (published v.entries))) (sym e) (λ script v h. h)
-
 legal_more : (c : Course) (seat : ℕ) (call : Call) → IsLegal c → IsLegal (with_entry c (entry_of c seat call))
 legal_more c seat call legal n e h =
     elim (get_grown c.entries (entry_of c seat call) n e h) [
@@ -145,18 +142,6 @@ kept_start law t index c none tally begun keys sums =
 
 pub same_entry : (a b : Entry) → a.seat ≡ b.seat → a.number ≡ b.number → a.call ≡ b.call → a.reply ≡ b.reply → a ≡ b
 same_entry a b p q r s = λ i. record { seat = p i; number = q i; call = r i; reply = s i }
-
--- the entries after one more, that has the number and the reply of its call
-pub grown_by : (c : Course) (seat number : ℕ) (call : Call) (reply : Reply) (entries grown : List Entry) → number ≡ count_of seat c.entries → reply ≡ reply_to (world c) call → entries ≡ c.entries →
-    grown ≡ entries ++ (let e : Entry = record { seat = seat; number = number; call = call; reply = reply } in e) ∷ [] → (with_entry c (entry_of c seat call)).entries ≡ grown
-grown_by c seat number call reply entries grown n r same g =
-    let made : Entry = record { seat = seat; number = number; call = call; reply = reply } in
-    sym (g ∙ ap (λ (l : List Entry). l ++ made ∷ []) same ∙ ap (λ (x : Entry). c.entries ++ x ∷ []) (same_entry made (entry_of c seat call) refl n refl r))
-
--- what holds, holds where there is an error
-pub on_err : {T E P : Type 0} (r : Result T E) → P → OnErr r P
-on_err (Ok v) p = tt
-on_err (Err e) p = p
 
 -- ---- a legal course is sound
 

@@ -201,7 +201,8 @@ impl Chain {
     /// entries of its seat, and its reply is that of the table of calls (`reply_to`). `cache` has checks that were
     /// made before: a transaction of which one has a resolution equal to what is found now isn't judged again, in a
     /// Submit and in each place of a Round. No clause names them, so the reply is the same for every cache. Answers
-    /// `Memory` only where a growth was refused: then no entry is made, and nothing is changed.
+    /// `Memory` only where a growth was refused: then no entry is made, and nothing is changed. It costs what the call
+    /// asks, whatever the history is long (docs/ledger.md).
     ///
     /// So a Submit of what a builder answers to a request that nothing hinders (`builder`) is accepted, whatever other
     /// entries there are: where what it spends is unspent as it was handed in, no accepted transaction of other bytes
