@@ -157,7 +157,7 @@ fn steps_from(
 
 /// The records of the thread that starts at an output, in order: the thread's one run, with as many records as the
 /// thread has transactions. Where no thread starts there are none. Each record costs two look-ups and one step that is
-/// computed anew, whatever the history is long. Answers `Memory` only where a growth was refused.
+/// computed anew, however long the history is. Answers `Memory` only where a growth was refused.
 pub fn steps_of(
     alloc: Global,
     kept: &Kept<'_>,
