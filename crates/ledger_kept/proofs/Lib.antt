@@ -1,4 +1,5 @@
 mod ListLemmas
 mod RoundLemmas
 mod KeepLemmas
+mod KeptLemmas
 mod GenesisLemmas

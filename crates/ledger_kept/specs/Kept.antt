@@ -1,5 +1,5 @@
 -- What a ledger keeps beside its entries, so that no call goes over them again, and what that has to do with them.
-use Rattle.std.specs.Prelude.{◌≡◌, ℕ, ℤ, List, ◌++◌, map, All, slice_get, Option, Some, None, nat_eq}
+use Rattle.std.specs.Prelude.{◌≡◌, ℕ, ℤ, List, map, All, slice_get, Option, Some, None, nat_eq}
 use Rattle.std.specs.Map.{lookup}
 use Rattle.std.specs.Option.{unwrap_or}
 use Rattle.eutxo_types.specs.declared.tx.Tx.{Tx}

@@ -1,5 +1,5 @@
 -- No reader needs this file: it serves how a tally is brought on by an entry.
-use Rattle.std.specs.Prelude.{◌≡◌, ℕ, ℤ, ◌+◌, List, [], ◌∷◌, ◌++◌, drop, if◌then◌else◌, nat_eq, is_some, Option, Some, None}
+use Rattle.std.specs.Prelude.{◌≡◌, ℕ, ◌+◌, List, [], ◌∷◌, ◌++◌, drop, if◌then◌else◌, nat_eq, is_some, Option, Some, None}
 use Rattle.ledger.specs.declared.call.Call.{Call}
 use Rattle.ledger.specs.declared.call.Call.TheVariants as on
 use Rattle.ledger.specs.declared.call.Entry.{Entry}

@@ -14,7 +14,6 @@ use std::marker::Model;
 /// What a ledger keeps beside its index, lent: the outputs and the tick that it began with, its entries, and the tally
 /// of these. Clauses see the history. `cache` has checks that were made before, by which transactions are judged; which
 /// checks it has, clauses don't see.
-#[derive(Drop)]
 pub struct Kept<'a> {
     genesis: &'a [Output],
     first_tick: i64,
@@ -40,6 +39,28 @@ impl<'a> Model for Kept<'a> {
     ghost view = { λ a. record { genesis = a.genesis.now; first_tick = a.first_tick; entries = a.entries.now } };
 
     ghost invariant = { λ a. IsTally a.tally.now (record { genesis = a.genesis.now; first_tick = a.first_tick; entries = a.entries.now }) };
+}
+
+// Dropped once: the drop is written, not derived, so that no crate above proves it again.
+impl<'a> Drop for Kept<'a> {
+    fn drop(self) {
+        let Kept {
+            genesis: _,
+            first_tick: _,
+            entries: _,
+            tally: _,
+            cache: _,
+        } = self;
+    }
+}
+
+fn place_at(places: &[usize], number: usize) -> Option<usize>
+    ensures { result ≡ slice_get places.now number }
+{
+    match places.get(number) {
+        Some(place) => Some(*place),
+        None => None,
+    }
 }
 
 impl<'a> Kept<'a> {
@@ -97,8 +118,8 @@ impl<'a> Kept<'a> {
     pub fn accepted_at(&self, number: u64) -> Option<&'a Tx>
         ensures { option_copied result ≡ slice_get (world self.now).replay.accepted number }
     {
-        match self.tally.places().get(number as usize) {
-            Some(place) => Some(text_at(self.entries, *place)),
+        match place_at(self.tally.places(), number as usize) {
+            Some(place) => Some(text_at(self.entries, place)),
             None => None,
         }
     }

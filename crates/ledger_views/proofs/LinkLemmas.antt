@@ -1,11 +1,11 @@
 -- The transactions of a thread, found by their places.
-use Rattle.std.proofs.Common.{◌≡◌, ℕ, zero, suc, ◌<◌, true, List, [], ◌∷◌, refl, sym, ◌∙◌, ap, arith, Option, Some, map}
+use Rattle.std.proofs.Common.{◌≡◌, zero, suc, true, List, [], ◌∷◌, refl, ◌∙◌, ap, arith, Option, Some, map}
 use Rattle.std.specs.Prelude.{is_some}
 use Rattle.std.specs.List.{All}
 use Rattle.eutxo_types.specs.declared.output_ref.OutputRef.{OutputRef}
 use Rattle.eutxo_types.specs.Parts.{Instance}
 use Rattle.roles.specs.Steps.{marlowe}
-use Rattle.ledger_laws.specs.Threads.{Link, IsMade, thread}
+use Rattle.ledger_laws.specs.Threads.{IsMade, thread}
 use Rattle.ledger_laws.proofs.PlainLaws.{same_some}
 use Rattle.ledger_spec.specs.Replay.{World, past_of, published_at}
 use Rattle.chain_index.specs.declared.moves.StepPlace.{StepPlace}
@@ -20,7 +20,7 @@ some_head o os y ys h = (cc, cc)
 -- where all are there, each is
 pub each_there : {A B : Type 0} (f : A → Option B) (xs : List A) (ys : List B) → map f xs ≡ map (λ y. Some y) ys → All (λ x. is_some (f x) ≡ true) xs
 each_there f [] ys h k d l = absurd (omega (arith, l))
-each_there f (x ∷ xs) [] h = cc
+each_there f (x ∷ xs) [] h k d l = cc
 each_there f (x ∷ xs) (y ∷ ys) h zero d l = ap is_some (some_head (f x) (map f xs) y ys h).0
 each_there f (x ∷ xs) (y ∷ ys) h (suc k) d l = each_there f xs ys (some_head (f x) (map f xs) y ys h).1 k d (omega (arith, l))
 

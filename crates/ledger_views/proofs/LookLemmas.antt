@@ -1,5 +1,5 @@
 -- What is read off an index of what stands is what a look shows of it.
-use Rattle.std.proofs.Common.{◌≡◌, List, refl, sym, ◌∙◌, ap, Option, Some, None}
+use Rattle.std.proofs.Common.{◌≡◌, refl, ◌∙◌, ap, Option, Some, None}
 use Rattle.eutxo_types.specs.declared.output_ref.OutputRef.{OutputRef}
 use Rattle.roles.specs.Steps.{marlowe}
 use Rattle.ledger.specs.declared.ask.Ask.{Ask}

@@ -38,7 +38,3 @@ module _ (law : ThreadsAreRuns) (named : List ℕ → Option Published) (past : 
 pub all_ok : {A E : Type 0} (r : Result A E) (F G H K : A → Type 0) → ((a : A) → F a → G a → H a → K a) → IfOk r F → IfOk r G → IfOk r H → IfOk r K
 all_ok (Ok a) F G H K f x y z = f a x y z
 all_ok (Err e) F G H K f x y z = tt
-
-pub to_ok : {A E : Type 0} (r : Result A E) (F G : A → Type 0) → ((a : A) → F a → G a) → IfOk r F → IfOk r G
-to_ok (Ok a) F G f h = f a h
-to_ok (Err e) F G f h = tt

@@ -10,23 +10,23 @@ use Rattle.std.proofs.lemmas.List.Quantifiers.{position-Some}
 use Rattle.std.proofs.lemmas.List.Sums.{fails_before_first}
 use Rattle.std.proofs.lemmas.Option.{slice_get-map, slice_get-get_or, slice_get_within, get_or_from_slice_get}
 use Rattle.eutxo_types.specs.declared.output_ref.OutputRef.{OutputRef}
-use Rattle.eutxo_types.specs.declared.output_ref.OutputRef.TheVariants.{Made}
 use Rattle.eutxo_types.specs.declared.tx.Tx.{Tx}
 use Rattle.eutxo_types.specs.Ids.{id_of}
 use Rattle.eutxo_types.specs.Parts.{Instance, same_bytes}
-use Rattle.roles.specs.declared.published.Published.{Published}
+use Rattle.roles.specs.Steps.{marlowe}
 use Rattle.ledger_laws.specs.Past.{Past}
-use Rattle.ledger_laws.specs.Laws.{IdsAreSingle}
-use Rattle.ledger_laws.specs.Threads.{IsMade, IsStart, StartsThread}
+use Rattle.ledger_laws.specs.Laws.{NamesAreSingle}
+use Rattle.ledger_laws.specs.Threads.{IsMade, IsStart}
 use Rattle.ledger_laws.proofs.PlainLaws.{not_both, same_some}
 use Rattle.ledger_laws.proofs.ReferenceLaws.{itself}
+use Rattle.ledger_spec.specs.Replay.{World, past_of, published_at}
 use Rattle.ledger_spec.specs.Views.{starts_in}
 use Rattle.ledger_spec.specs.declared.step_record.StepRecord.{StepRecord}
 use Rattle.ledger_spec.specs.Records.{TellTheRun, AreSteps}
 use Rattle.ledger_spec.proofs.StartsLaws.{told_start, start_told}
-use Rattle.chain_index.specs.Contents.{contents_of, is_among}
+use Rattle.chain_index.specs.Contents.{Contents}
 use Rattle.chain_index.specs.Laws.{StartsAlike}
-use Rattle.chain_index.specs.Moves.{starts_of}
+use Rattle.ledger_kept.specs.Kept.{IsIndexOf}
 use Rattle.ledger_views.specs.RecordsSupport.{numbered, contract_by, contract_named, start_at}
 
 -- ---- a transaction by its id
@@ -40,7 +40,10 @@ none_named id ids n d h l =
     let far : length ids ≤ position_or_len (same_bytes id) ids = grind (arith, nat_tests) in
     fails_before_first (same_bytes id) ids n d (omega (arith, l, far))
 
-module _ (past : Past) (single : IdsAreSingle past) where
+module _ (singles : NamesAreSingle marlowe) (alike : StartsAlike) (present : Contents) (w : World) (tied : IsIndexOf present w) where
+  abbrev past : Past
+  past = past_of w
+
   abbrev ids : List (List ℕ)
   ids = map id_of past.accepted
 
@@ -48,48 +51,51 @@ module _ (past : Past) (single : IdsAreSingle past) where
   found : (n : ℕ) (tx : Tx) → slice_get past.accepted n ≡ Some tx → numbered past.accepted (position (same_bytes (id_of tx)) ids) ≡ Some tx
   found n tx at = by (position (same_bytes (id_of tx)) ids) refl
     where
+      long : length ids ≡ length past.accepted
+      long = length-map past.accepted id_of
+
       by : (o : Option ℕ) → position (same_bytes (id_of tx)) ids ≡ o → numbered past.accepted o ≡ Some tx
       by None h =
           let l = slice_get_within past.accepted n tx at in
-          let long = length-map past.accepted id_of in
           let other = none_named (id_of tx) ids n [] h (omega (arith, l, long)) in
           absurd (not_both (ap (same_bytes (id_of tx)) (id_at past.accepted n tx [] at) ∙ itself (id_of tx)) other)
       by (Some m) h =
           let p = position-Some (same_bytes (id_of tx)) ids m [] h in
           let l = p.0 in
-          let long = length-map past.accepted id_of in
           let t = get_or past.accepted m tx in
           let there : slice_get past.accepted m ≡ Some t = slice_get-get_or past.accepted m tx (omega (arith, l, long)) in
-          let same = (bytes_decides (id_of tx) (id_of t)).0 (ap (same_bytes (id_of tx)) (sym (id_at past.accepted m t [] there)) ∙ p.1.0) in
-          ap (slice_get past.accepted) (single m n t tx there at (sym same)) ∙ at
+          let same = (bytes_decides (id_of tx) (id_of t)).0 (ap (same_bytes (id_of tx)) (sym (id_at past.accepted m t [] there)) ∙ p.1) in
+          let place = (singles (published_at w.published) past tied.sound).1 m n t tx there at (sym same) in
+          ap (slice_get past.accepted) place ∙ at
 
   named : (r : OutputRef) (c : Instance) → IsMade past r c → contract_named ids past.accepted r ≡ Some c
   named r c m = ap (contract_named ids past.accepted) m.name ∙ ap (contract_by m.index) (found m.number m.tx m.accepted) ∙ m.contract
 
   -- ---- a start
 
-  module _ (alike : StartsAlike) (ps : List Published) where
-    start_known : (r : OutputRef) (c : Instance) → IsStart past r c → start_at (contents_of past ps) past.accepted r ≡ Some c
-    start_known r c s = ap (λ b. if b then contract_named ids past.accepted r else None) (alike past r ∙ told_start past r (c, s)) ∙ named r c s.made
+  here : (r : OutputRef) → start_at present past.accepted r ≡ (if list_any (starts_in r) past.accepted then contract_named ids past.accepted r else None)
+  here r =
+      ap (λ (c : Contents). start_at c past.accepted r) tied.contents
+      ∙ ap (λ b. if b then contract_named ids past.accepted r else None) (alike past r)
 
-    pub start_so : (r : OutputRef) (c : Instance) → start_at (contents_of past ps) past.accepted r ≡ Some c → IsStart past r c
-    start_so r c h = by (is_among (starts_of past.accepted) r) refl h
-      where
-        by : (b : Bool) → is_among (starts_of past.accepted) r ≡ b → (if b then contract_named ids past.accepted r else None) ≡ Some c → IsStart past r c
-        by true e k =
-            let s = start_told past r (sym (alike past r) ∙ e) in
-            subst (IsStart past r) (same_some s.0 c (sym (named r s.0 s.1.made) ∙ k)) s.1
-        by false e k = cc
+  start_known : (r : OutputRef) (c : Instance) → IsStart past r c → start_at present past.accepted r ≡ Some c
+  start_known r c s = here r ∙ ap (λ b. if b then contract_named ids past.accepted r else None) (told_start past r (c, s)) ∙ named r c s.made
 
-    module _ (published : List ℕ → Option Published) where
-      pub of_start : (r : OutputRef) (c : Instance) (xs : List StepRecord) → start_at (contents_of past ps) past.accepted r ≡ Some c → TellTheRun published past r c xs → AreSteps published past r xs
-      of_start r c xs h told = record {
-        thread = λ other z. subst (λ (e : Instance). TellTheRun published past r e xs) (same_some c other (sym h ∙ start_known r other z)) told;
-        none = λ no. absurd (no (c, start_so r c h));
-      }
+  pub start_so : (r : OutputRef) (c : Instance) → start_at present past.accepted r ≡ Some c → IsStart past r c
+  start_so r c h = by (list_any (starts_in r) past.accepted) refl (sym (here r) ∙ h)
+    where
+      by : (b : Bool) → list_any (starts_in r) past.accepted ≡ b → (if b then contract_named ids past.accepted r else None) ≡ Some c → IsStart past r c
+      by true e k = let s = start_told past r e in subst (IsStart past r) (same_some s.0 c (sym (named r s.0 s.1.made) ∙ k)) s.1
+      by false e k = cc
 
-      pub of_none : (r : OutputRef) → start_at (contents_of past ps) past.accepted r ≡ None → AreSteps published past r []
-      of_none r h = record {
-        thread = λ c s. let f : (let q : Option Instance = None in q) ≡ Some c = sym h ∙ start_known r c s in cc;
-        none = λ no. refl;
-      }
+  pub of_start : (r : OutputRef) (c : Instance) (xs : List StepRecord) → start_at present past.accepted r ≡ Some c → TellTheRun (published_at w.published) past r c xs → AreSteps (published_at w.published) past r xs
+  of_start r c xs h told = record {
+    thread = λ other z. subst (λ (e : Instance). TellTheRun (published_at w.published) past r e xs) (same_some c other (sym h ∙ start_known r other z)) told;
+    none = λ no. absurd (no (c, start_so r c h));
+  }
+
+  pub of_none : (r : OutputRef) → start_at present past.accepted r ≡ None → AreSteps (published_at w.published) past r []
+  of_none r h = record {
+    thread = λ c s. let f : (let q : Option Instance = None in q) ≡ Some c = sym h ∙ start_known r c s in cc;
+    none = λ no. refl;
+  }

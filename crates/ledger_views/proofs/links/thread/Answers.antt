@@ -1,11 +1,9 @@
-use Rattle.std.proofs.Common.{◌≡◌, true, List, sym, ◌∙◌, ap, subst, map, Some}
-use Rattle.std.specs.Prelude.{is_some}
-use Rattle.std.specs.List.{All}
-use Rattle.ledger_laws.specs.Threads.{Link, thread}
+use Rattle.std.proofs.Common.{◌∙◌}
+use Rattle.std.proofs.lemmas.Result.{IfOk-weaker}
+use Rattle.ledger_laws.specs.Threads.{thread}
 use Rattle.ledger_spec.specs.Replay.{past_of, world}
 use Rattle.chain_index.specs.Laws.{link_at}
 use Rattle.ledger_views.proofs.LinkLemmas.{each_there, all_same, along_thread}
-use Rattle.ledger_views.proofs.RecordsLemmas.{to_ok}
 use Rattle.ledger_views.proofs.links.thread.Goals as goal
 
 pub links_at-requires : goal.links_at-requires
@@ -18,8 +16,4 @@ pub returns : goal.returns
 returns c =
     let w = world c.args.kept.now in
     let along = along_thread c.index_follows_threads.ensures.threads c.args.index.now.present w c.requires.tied c.args.start.now c.requires.made c.as_slice.result.now (c.as_slice.ensures ∙ c.in_ok-steps.ensures) in
-    to_ok c.links_at.result
-    (λ links. map (λ (l : Link). Some l) links.items ≡ map (link_at w.replay.accepted) c.as_slice.result.now)
-    (λ links. links.items ≡ thread (past_of w) c.args.start.now)
-    (λ links is. all_same links.items (thread (past_of w) c.args.start.now) (is ∙ along))
-    c.links_at.ensures
+    IfOk-weaker c.links_at.result _ _ (λ links is. all_same links.items (thread (past_of w) c.args.start.now) (is ∙ along)) c.links_at.ensures
