@@ -1,6 +1,5 @@
 -- Of what an index is, transaction by transaction and call by call.
-use Rattle.std.proofs.Common.{◌≡◌, ℤ, List, [], ◌∷◌, sym, ◌∙◌, ap, subst, refl, Bool, true, false, Option, Some, None, Result, All}
-use Rattle.std.specs.Prelude.{if◌then◌else◌, int_le, nat_lt, length}
+use Rattle.std.proofs.Common.{◌≡◌, ℤ, List, [], ◌∷◌, sym, ◌∙◌, ap, subst, refl, Option, Some, None, Result, All}
 use Rattle.std.proofs.lemmas.List.Elements.{All-nil, All-cons, All-append}
 use Rattle.compiler.specs.declared.fault.CompileFault.{CompileFault}
 use Rattle.eutxo_types.specs.declared.fault.TxFault.{TxFault}
@@ -43,17 +42,13 @@ judged_alike reads alike added after present w tx h = record {
   tied = λ fits. tied_by alike after present w tx h fits (fault_on w tx) refl;
 }
 
-pub fault_alike : EachIsJudgedAlike → (present : Contents) (w : World) (tick : ℤ) (tx : Tx) → IsIndexOf present w → tick ≡ w.replay.tick → fault_in present tick tx ≡ fault_on w tx
-fault_alike law present w tick tx h e = ap (λ (t : ℤ). fault_in present t tx) e ∙ (law present w tx h).fault
+pub can_be_added : EachIsJudgedAlike → (present : Contents) (w : World) (tx : Tx) → IsIndexOf present w → fault_in present w.replay.tick tx ≡ None → CanBeAdded present tx
+can_be_added law present w tx h none = (law present w tx h).can (sym (law present w tx h).fault ∙ none)
 
-pub can_be_added : EachIsJudgedAlike → (present : Contents) (w : World) (tick : ℤ) (tx : Tx) → IsIndexOf present w → tick ≡ w.replay.tick → fault_in present tick tx ≡ None → CanBeAdded present tx
-can_be_added law present w tick tx h e none = (law present w tx h).can (sym (fault_alike law present w tick tx h e) ∙ none)
-
-pub tied_after : EachIsJudgedAlike → (present next : Contents) (w : World) (tick : ℤ) (tx : Tx) → IsIndexOf present w → tick ≡ w.replay.tick → TxFits tx →
-    next ≡ accepting_unless present tx (fault_in present tick tx) → IsIndexOf next (with_accepted_unless w tx (fault_on w tx))
-tied_after law present next w tick tx h e fits n =
-    subst (λ (c : Contents). IsIndexOf c (with_accepted_unless w tx (fault_on w tx))) (sym (n ∙ ap (λ (f : Option TxFault). accepting_unless present tx f) (fault_alike law present w tick tx h e)))
-    ((law present w tx h).tied fits)
+pub tied_after : EachIsJudgedAlike → (present next : Contents) (w : World) (tx : Tx) → IsIndexOf present w → TxFits tx → next ≡ accepting_unless present tx (fault_in present w.replay.tick tx) →
+    IsIndexOf next (with_accepted_unless w tx (fault_on w tx))
+tied_after law present next w tx h fits n =
+    subst (λ (c : Contents). IsIndexOf c (with_accepted_unless w tx (fault_on w tx))) (sym (n ∙ ap (λ (f : Option TxFault). accepting_unless present tx f) (law present w tx h).fault)) ((law present w tx h).tied fits)
 
 -- ---- calls
 

@@ -1,12 +1,11 @@
-use Rattle.std.proofs.Common.{◌≡◌, ℤ, to_z, of_z, w64, ◌+◌, ◌++◌, ◌∷◌, [], length, List, sym, ◌∙◌, ap, subst, refl, arith, take, drop, Some, length-append}
+use Rattle.std.proofs.Common.{◌≡◌, ◌+◌, ◌++◌, ◌∷◌, [], length, List, sym, ◌∙◌, ap, subst, refl, take, drop, Some, length-append}
 use Rattle.std.specs.List.{slice_get}
-use Rattle.std.proofs.lemmas.Int.{ints}
 use Rattle.ledger.specs.declared.call.Ticketed.{Ticketed}
 use Rattle.ledger_spec.specs.Replay.{Pending, World, pending_entry, world}
 use Rattle.ledger_spec.specs.Calls.{fault_on, round_verdicts}
 use Rattle.ledger_kept.specs.Kept.{IsIndexOf}
 use Rattle.ledger_dispatch.specs.DispatchSupport.{with_places}
-use Rattle.ledger_dispatch.proofs.TiedLemmas.{fault_alike, can_be_added, tied_after}
+use Rattle.ledger_dispatch.proofs.TiedLemmas.{can_be_added, tied_after}
 use Rattle.ledger_dispatch.proofs.RoundLemmas.{at_taken, begun, ticketed, stands_on, told_more}
 use Rattle.ledger_dispatch.proofs.dispatch.round.Goals as goal
 
@@ -26,11 +25,7 @@ loop-i-init c =
     }
 
 pub judge_one-requires : goal.judge_one-requires
-judge_one-requires c =
-    let here = with_places (world c.args.kept.now) c.loop-i.places in
-    let tick : ℤ = to_z w64 (of_z w64 c.tick-tick.result) in
-    let same : to_z w64 (of_z w64 c.tick-tick.result) ≡ c.tick-tick.result = omega (arith, ints) in
-    record { can = can_be_added c.each_is_judged_alike.ensures c.loop-i.index.present here tick c.pending_at-ticket.result.1.now c.loop-i.invariant.tied (same ∙ c.tick-tick.ensures) }
+judge_one-requires c = can_be_added c.each_is_judged_alike.ensures c.loop-i.index.present (with_places (world c.args.kept.now) c.loop-i.places) c.pending_at-ticket.result.1.now c.loop-i.invariant.tied
 
 pub loop-i-preserved : goal.loop-i-preserved
 loop-i-preserved c =
@@ -39,9 +34,6 @@ loop-i-preserved c =
     let vs = c.loop-i.places in
     let here = with_places w vs in
     let ps = take c.args.count w.replay.pending in
-    let tick : ℤ = to_z w64 (of_z w64 c.tick-tick.result) in
-    let same : to_z w64 (of_z w64 c.tick-tick.result) ≡ c.tick-tick.result = omega (arith, ints) in
-    let now = same ∙ c.tick-tick.ensures in
     let tx = c.pending_at-ticket.result.1.now in
     let p : Pending = pending_entry c.pending_at-ticket.result.0 tx in
     let t = c.in_ok-place.place in
@@ -50,8 +42,8 @@ loop-i-preserved c =
     let there : slice_get w.replay.pending i ≡ Some p = c.pending_at-ticket.ensures in
     let taken : slice_get ps i ≡ Some p =
     ap (λ (l : List Pending). slice_get l i) (sym c.first_of-i-end.ensures.same) ∙ at_taken w.replay.pending c.first_of-i-end.result i c.loop-i-test.true ∙ there in
-    let told : t ≡ ticketed p (fault_on here tx) = c.in_ok-place.ensures.verdict ∙ ap (ticketed p) (fault_alike law c.loop-i.index.present here tick tx tied now) in
-    let next = tied_after law c.loop-i.index.present c.judge_one.new.index.present here tick tx tied now c.in_ok-place.ensures.fits c.in_ok-place.ensures.present in
+    let told : t ≡ ticketed p (fault_on here tx) = c.in_ok-place.ensures.verdict ∙ ap (ticketed p) (law c.loop-i.index.present here tx tied).fault in
+    let next = tied_after law c.loop-i.index.present c.judge_one.new.index.present here tx tied c.in_ok-place.ensures.fits c.in_ok-place.ensures.present in
     let added = c.in_ok-push.ensures.added in
     let long = c.loop-i.invariant.told in
     record {

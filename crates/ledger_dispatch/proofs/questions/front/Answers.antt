@@ -1,4 +1,4 @@
-use Rattle.std.proofs.Common.{◌+◌, List, ◌∷◌, ◌++◌, [], sym, ◌∙◌, ap, map, take}
+use Rattle.std.proofs.Common.{List, ◌∷◌, ◌++◌, [], sym, ◌∙◌, ap, map, take}
 use Rattle.ledger_spec.specs.Replay.{Pending, pending_entry, world}
 use Rattle.ledger_spec.specs.Views.{with_found}
 use Rattle.ledger_dispatch.proofs.RoundLemmas.{mapped_more}
