@@ -48,9 +48,18 @@ record Next (t : Terms) (p : Point) (script : List ℕ) (l : Link) (left : List 
 next_of : (t : Terms) (p : Point) (script : List ℕ) (l : Link) (left : List Link) (run : List Member) → IsRunOf t p script (l ∷ left) run → Next t p script l left run
 next_of t p script l left [] h = absurd h.carried
 next_of t p script l left (x ∷ xs) h =
-    record { first = x; later = xs; is = refl; step = record { script = script; interval = h.carried.0.interval; inputs = h.carried.0.inputs; gives = h.runs.0; outputs = h.carried.0.outputs; gone = h.carried.0.gone }; runs = h.runs.1; carried = h.carried.1 }
+    let here = h.carried.0 in
+    record {
+      first = x;
+      later = xs;
+      is = refl;
+      step = record { script = script; interval = here.interval; inputs = here.inputs; gives = h.runs.0; outputs = here.outputs; gone = here.gone };
+      runs = h.runs.1;
+      carried = h.carried.1;
+    }
 
-step_there : (t : Terms) (p : Point) (script : List ℕ) (ls : List Link) (xs : List StepRecord) (l : Link) (left : List Link) → Goes t p script ls xs (l ∷ left) → (x : Member) × IsStepOf t (stands_after p xs) l x
+step_there : (t : Terms) (p : Point) (script : List ℕ) (ls : List Link) (xs : List StepRecord) (l : Link) (left : List Link) → Goes t p script ls xs (l ∷ left) →
+    (x : Member) × IsStepOf t (stands_after p xs) l x
 step_there t p script ls xs l left g = let n = next_of t (stands_after p xs) script l left g.rest g.here in (n.first, n.step)
 
 goes_on : (t : Terms) (p : Point) (script : List ℕ) (ls : List Link) (xs : List StepRecord) (l : Link) (left : List Link) (r : StepRecord) → Goes t p script ls xs (l ∷ left) →
@@ -81,8 +90,8 @@ pub step_next : (t : Terms) (p q : Point) (script : List ℕ) (ls : List Link) (
 step_next t p q script ls xs i l h e is g =
     subst (λ (r : Point). (x : Member) × IsStepOf t r l x) (sym is) (step_there t p script ls xs l (drop (i + 1) ls) (subst (λ (m : List Link). Goes t p script ls xs m) (next_left ls i l h e) g))
 
-pub goes_next : (t : Terms) (p q : Point) (script : List ℕ) (ls : List Link) (xs more : List StepRecord) (i : ℕ) (l : Link) (r : StepRecord) → i < length ls → l ≡ get_or ls i l → q ≡ stands_after p xs →
-    Goes t p script ls xs (drop i ls) → ((x : Member) → IsStepOf t q l x → member_of t r ≡ x) → more ≡ xs ++ r ∷ [] → Goes t p script ls more (drop (i + 1) ls)
+pub goes_next : (t : Terms) (p q : Point) (script : List ℕ) (ls : List Link) (xs more : List StepRecord) (i : ℕ) (l : Link) (r : StepRecord) → i < length ls → l ≡ get_or ls i l →
+    q ≡ stands_after p xs → Goes t p script ls xs (drop i ls) → ((x : Member) → IsStepOf t q l x → member_of t r ≡ x) → more ≡ xs ++ r ∷ [] → Goes t p script ls more (drop (i + 1) ls)
 goes_next t p q script ls xs more i l r h e is g tells added =
     subst (λ (m : List StepRecord). Goes t p script ls m (drop (i + 1) ls)) (sym added)
     (goes_on t p script ls xs l (drop (i + 1) ls) r (subst (λ (m : List Link). Goes t p script ls xs m) (next_left ls i l h e) g)
@@ -106,8 +115,8 @@ last_or_before [] x (suc n) y h = cc
 last_or_before (z ∷ xs) x zero y h = inl h
 last_or_before (z ∷ xs) x (suc n) y h = elim (last_or_before xs x n y h) [ inl e ↦ inl e | inr p ↦ inr (ap suc p.0, p.1) ]
 
-pub hold_next : (ls : List Link) (xs more : List StepRecord) (i : ℕ) (l : Link) (r : StepRecord) → i < length ls → l ≡ get_or ls i l → length xs ≡ i → more ≡ xs ++ r ∷ [] → HoldNumbers ls xs → HoldsNumber l r →
-    HoldNumbers ls more
+pub hold_next : (ls : List Link) (xs more : List StepRecord) (i : ℕ) (l : Link) (r : StepRecord) → i < length ls → l ≡ get_or ls i l → length xs ≡ i → more ≡ xs ++ r ∷ [] →
+    HoldNumbers ls xs → HoldsNumber l r → HoldNumbers ls more
 hold_next ls xs more i l r h e count added old new = subst (λ (m : List StepRecord). HoldNumbers ls m) (sym added) (λ n k x at is. by n k x at (last_or_before xs r n x is))
   where
     here : slice_get ls i ≡ Some l

@@ -88,7 +88,8 @@ module _ (singles : NamesAreSingle marlowe) (alike : StartsAlike) (present : Con
       by true e k = let s = start_told past r e in subst (IsStart past r) (same_some s.0 c (sym (named r s.0 s.1.made) ∙ k)) s.1
       by false e k = cc
 
-  pub of_start : (r : OutputRef) (c : Instance) (xs : List StepRecord) → start_at present past.accepted r ≡ Some c → TellTheRun (published_at w.published) past r c xs → AreSteps (published_at w.published) past r xs
+  pub of_start : (r : OutputRef) (c : Instance) (xs : List StepRecord) → start_at present past.accepted r ≡ Some c → TellTheRun (published_at w.published) past r c xs →
+      AreSteps (published_at w.published) past r xs
   of_start r c xs h told = record {
     thread = λ other z. subst (λ (e : Instance). TellTheRun (published_at w.published) past r e xs) (same_some c other (sym h ∙ start_known r other z)) told;
     none = λ no. absurd (no (c, start_so r c h));

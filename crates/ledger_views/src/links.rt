@@ -1,5 +1,5 @@
 //! The transactions of a thread.
-ghost use Rattle.std.specs.Prelude.{◌≡◌, true, All, IfOk, List, Some, is_some, map};
+ghost use Rattle.std.specs.Prelude.{◌≡◌, true, All, IfOk, Some, is_some, map};
 ghost use Rattle.eutxo_types.specs.Parts.{Instance};
 ghost use Rattle.ledger_laws.specs.Threads.{IsMade, thread};
 ghost use Rattle.ledger_spec.specs.Replay.{past_of, world};
@@ -72,7 +72,8 @@ fn links_at<'a>(
     steps: &[StepPlace],
 ) -> Result<Vec<ThreadLink<'a>>, Memory>
     requires { All (λ x. is_some (link_at (world kept.now).replay.accepted x) ≡ true) steps.now }
-    ensures { IfOk result (λ links. map (λ l. Some l) links.items ≡ map (link_at (world kept.now).replay.accepted) steps.now) }
+    ensures { IfOk result (λ links. map (λ l. Some l) links.items
+        ≡ map (link_at (world kept.now).replay.accepted) steps.now) }
 {
     let mut links = Vec::new(alloc);
     for step in steps {

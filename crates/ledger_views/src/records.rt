@@ -1,6 +1,5 @@
 //! The records of a thread.
-ghost use Rattle.std.specs.Prelude.{◌≡◌, true, All, List, Some, IfOk, map, drop, unwrap_or};
-ghost use Rattle.std.specs.Option.{IfSome};
+ghost use Rattle.std.specs.Prelude.{◌≡◌, true, All, List, IfOk, map};
 ghost use Rattle.eutxo_types.specs.Parts.{contract_at};
 ghost use Rattle.roles.specs.Terms.{terms_of};
 ghost use Rattle.ledger_laws.specs.Laws.{AreTables};
@@ -78,7 +77,9 @@ fn recorded(
 ) -> Result<StepRecord, Memory>
     requires has { (terms_of published.now).has at.0 ≡ true }
     requires step { (x : Member) × IsStepOf (terms_of published.now) (point at.0 at.1.now) link.now x }
-    ensures record { IfOk result (λ r. (x : Member) → IsStepOf (terms_of published.now) (point at.entry.0 at.entry.1.now) link.now x → member_of (terms_of published.now) r ≡ x) }
+    ensures record { IfOk result (λ r. (x : Member) →
+        IsStepOf (terms_of published.now) (point at.entry.0 at.entry.1.now) link.now x →
+        member_of (terms_of published.now) r ≡ x) }
     ensures number { IfOk result (λ r. (terms_of published.now).has r.number ≡ true) }
     ensures held { IfOk result (λ r. HoldsNumber link.now r) }
 {
@@ -112,8 +113,11 @@ fn records_of(
     links: &[ThreadLink<'_>],
 ) -> Result<Items<StepRecord>, Memory>
     requires root { (terms_of published.now).has published.now.root ≡ true }
-    requires run { (run : List Member) × IsRunOf (terms_of published.now) (point published.now.root start.now.datum.state) start.now.script links.now run }
-    ensures run { IfOk result (λ xs. IsRunOf (terms_of published.now) (point published.now.root start.now.datum.state) start.now.script links.now (map (member_of (terms_of published.now)) xs)) }
+    requires run { (run : List Member) × IsRunOf (terms_of published.now)
+        (point published.now.root start.now.datum.state) start.now.script links.now run }
+    ensures run { IfOk result (λ xs. IsRunOf (terms_of published.now)
+        (point published.now.root start.now.datum.state) start.now.script links.now
+        (map (member_of (terms_of published.now)) xs)) }
     ensures numbers { IfOk result (λ xs. All (λ x. (terms_of published.now).has x.number ≡ true) xs) }
     ensures held { IfOk result (λ xs. HoldNumbers links.now xs) }
 {
@@ -137,7 +141,8 @@ fn steps_from(
     requires tied { IsIndexOf index.now.present (world kept.now) }
     requires tables { AreTables (published_at (world kept.now).published) }
     requires start { IsStart (past_of (world kept.now)) reference.now start.now }
-    ensures { IfOk result (λ xs. TellTheRun (published_at (world kept.now).published) (past_of (world kept.now)) reference.now start.now xs) }
+    ensures { IfOk result (λ xs. TellTheRun (published_at (world kept.now).published) (past_of (world kept.now))
+        reference.now start.now xs) }
 {
     // touch: the thread is a run
     threads_are_runs();
@@ -151,8 +156,8 @@ fn steps_from(
 }
 
 /// The records of the thread that starts at an output, in order: the thread's one run, with as many records as the
-/// thread has transactions. Where no thread starts there are none. Each record costs two look-ups, and its step computed
-/// anew. Answers `Memory` only where a growth was refused.
+/// thread has transactions. Where no thread starts there are none. Each record costs two look-ups and one step that is
+/// computed anew, however long the history is. Answers `Memory` only where a growth was refused.
 pub fn steps_of(
     alloc: Global,
     kept: &Kept<'_>,
@@ -161,7 +166,8 @@ pub fn steps_of(
 ) -> Result<Items<StepRecord>, Memory>
     requires tied { IsIndexOf index.now.present (world kept.now) }
     requires tables { AreTables (published_at (world kept.now).published) }
-    ensures { IfOk result (λ xs. AreSteps (published_at (world kept.now).published) (past_of (world kept.now)) start.now xs) }
+    ensures { IfOk result (λ xs. AreSteps (published_at (world kept.now).published) (past_of (world kept.now))
+        start.now xs) }
 {
     // touch: the starts that are told are those of the past, and ids are single
     index_follows_threads();

@@ -39,7 +39,7 @@ fn contract_named<'a>(kept: &Kept<'a>, index: &Index, reference: &OutputRef) -> 
     }
 }
 
-/// The contract of the start output of this name, where there is one: a look-up of the output, and one of its maker.
+/// The contract of the start output of this name, where there is one. It costs three look-ups.
 pub fn start_at<'a>(kept: &Kept<'a>, index: &Index, reference: &OutputRef) -> Option<Instance<'a>>
     ensures { result ≡ start_at index.now.present (world kept.now).replay.accepted reference.now }
 {

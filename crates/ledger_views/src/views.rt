@@ -1,5 +1,5 @@
 //! What a look shows.
-ghost use Rattle.std.specs.Prelude.{◌≡◌, ◌&&◌, Some, None, IfOk, option_copied};
+ghost use Rattle.std.specs.Prelude.{◌≡◌, ◌&&◌, Some, IfOk, option_copied};
 ghost use Rattle.std.specs.List.{list_any};
 ghost use Rattle.eutxo_types.specs.Parts.{same_bytes, script_in};
 ghost use Rattle.ledger_spec.specs.Replay.{world};
@@ -109,7 +109,8 @@ fn thread_output_in(
     reference: OutputRef,
     output: Option<&Output>,
 ) -> Result<Option<ThreadOutput>, Memory>
-    ensures { IfOk result (λ x. x ≡ thread_output_in index.now.present.published reference (option_copied output.entry)) }
+    ensures { IfOk result (λ x. x
+        ≡ thread_output_in index.now.present.published reference (option_copied output.entry)) }
 {
     match output {
         Some(output) => thread_output(reference, output, object_under(index, &output.lock)),
@@ -169,8 +170,8 @@ fn look_at(alloc: Global, index: &Index, tick: i64, ask: &Ask) -> Result<Look, M
     })
 }
 
-/// What a look shows. The asked thread costs one look-up for each of its steps; the outputs under locks cost one walk over
-/// the unspent outputs for keys and one for payouts. Answers `Memory` only where a growth was refused.
+/// What a look shows. The asked thread costs one look-up for each of its steps; the outputs under locks cost one walk
+/// over the unspent outputs for keys and one for payouts. Answers `Memory` only where a growth was refused.
 pub fn show(alloc: Global, kept: &Kept<'_>, index: &Index, ask: &Ask) -> Result<Look, Memory>
     requires tied { IsIndexOf index.now.present (world kept.now) }
     ensures { IfOk result (λ shown. shown ≡ look (world kept.now) ask.now) }

@@ -19,8 +19,9 @@ unreachable-requires c =
     let w = world c.args.kept.now in
     let start = c.args.start.now in
     let kept = ap (λ (x : Contents). published_at x.published start.script) (sym c.requires.tied.contents) in
+    let here = ap (λ (s : Instance). published_at c.args.index.now.present.published s.script) (sym c.start.view_is) in
     is_named c.threads_are_runs.ensures.run (published_at w.published) (past_of w) c.requires.tables c.requires.tied.sound c.args.reference.now start c.requires.start
-    (kept ∙ ap (λ (s : Instance). published_at c.args.index.now.present.published s.script) (sym c.start.view_is) ∙ sym c.published_at.ensures ∙ ap option_copied c.in-None.is)
+    (kept ∙ here ∙ sym c.published_at.ensures ∙ ap option_copied c.in-None.is)
 
 pub records_of-requires-clause-run : goal.records_of-requires-clause-run
 records_of-requires-clause-run c =
@@ -28,7 +29,8 @@ records_of-requires-clause-run c =
     let start = c.args.start.now in
     let p = c.get.result.now in
     let kept = ap (λ (x : Contents). published_at x.published start.script) (sym c.requires.tied.contents) in
-    let known = kept ∙ ap (λ (s : Instance). published_at c.args.index.now.present.published s.script) (sym c.start.view_is) ∙ sym c.published_at.ensures ∙ ap option_copied c.in-Some.is ∙ ap Some (sym c.get.ensures) in
+    let here = ap (λ (s : Instance). published_at c.args.index.now.present.published s.script) (sym c.start.view_is) in
+    let known = kept ∙ here ∙ sym c.published_at.ensures ∙ ap option_copied c.in-Some.is ∙ ap Some (sym c.get.ensures) in
     let links = c.deref.ensures.value ∙ c.in_ok-links-in-Some.ensures in
     subst (λ (ls : List Link). (run : List Member) × IsRunOf (terms_of p) (point p.root start.datum.state) start.script ls run) (sym links)
     (run_there c.threads_are_runs.ensures.run (published_at w.published) (past_of w) c.requires.tables c.requires.tied.sound c.args.reference.now start c.requires.start p known)
@@ -39,7 +41,8 @@ returns c =
     let start = c.args.start.now in
     let p = c.get.result.now in
     let kept = ap (λ (x : Contents). published_at x.published start.script) (sym c.requires.tied.contents) in
-    let known = kept ∙ ap (λ (s : Instance). published_at c.args.index.now.present.published s.script) (sym c.start.view_is) ∙ sym c.published_at.ensures ∙ ap option_copied c.in-Some.is ∙ ap Some (sym c.get.ensures) in
+    let here = ap (λ (s : Instance). published_at c.args.index.now.present.published s.script) (sym c.start.view_is) in
+    let known = kept ∙ here ∙ sym c.published_at.ensures ∙ ap option_copied c.in-Some.is ∙ ap Some (sym c.get.ensures) in
     let links = c.deref.ensures.value ∙ c.in_ok-links-in-Some.ensures in
     all_ok c.records_of.result
     (λ xs. IsRunOf (terms_of p) (point p.root start.datum.state) start.script c.deref.result.now (map (member_of (terms_of p)) xs))
