@@ -54,7 +54,7 @@ accepted_by : (w : World) (tx : Tx) (p : Pending) (f : Option TxFault) → tx �
 accepted_by w tx p None e = ap (λ (x : Tx). with_these w (w.replay.accepted ++ x ∷ [])) e
 accepted_by w tx p (Some f) e = ap (with_these w) (sym (no_more w.replay.accepted))
 
-pub place_told : (w : World) (vs : List Ticketed) (i : ℕ) (p : Pending) (f : Option TxFault) → length vs ≡ i → slice_get w.replay.pending i ≡ Some p →
+place_told : (w : World) (vs : List Ticketed) (i : ℕ) (p : Pending) (f : Option TxFault) → length vs ≡ i → slice_get w.replay.pending i ≡ Some p →
     with_accepted_unless (with_places w vs) p.1 f ≡ with_places w (vs ++ ticketed p f ∷ [])
 place_told w vs i p f long at =
     accepted_by (with_places w vs) p.1 p f refl

@@ -23,7 +23,7 @@ use Rattle.ledger_dispatch.specs.DispatchSupport.{fault_in, accepting_unless, Ea
 
 -- ---- transactions
 
-pub moment_alike : ReadsAlike → (present : Contents) (w : World) → IsIndexOf present w → moment_at present w.replay.tick ≡ moment_of w
+moment_alike : ReadsAlike → (present : Contents) (w : World) → IsIndexOf present w → moment_at present w.replay.tick ≡ moment_of w
 moment_alike reads present w h = ap (λ (c : Contents). moment_at c w.replay.tick) h.contents ∙ reads w.published (past_of w) w.replay.tick
 
 tied_by : AcceptsAlike marlowe → AfterIsSound marlowe → (present : Contents) (w : World) (tx : Tx) → IsIndexOf present w → TxFits tx → (f : Option TxFault) → fault_on w tx ≡ f →
@@ -66,9 +66,6 @@ none_accepted present w txs h = ap (λ (l : List Tx). let p : Past = record { ge
 
 pub advanced : (present : Contents) (w : World) (t : ℤ) → IsIndexOf present w → IsIndexOf present (world_with w (on.Advance t))
 advanced present w t h = tied_as present w (world_with w (on.Advance t)) (none_accepted present w (after_call w.replay (on.Advance t) (advance_reply w.replay.tick t)).accepted (after_advance w.replay t)) refl h
-
-pub enqueued : (present : Contents) (w : World) (tx : Tx) → IsIndexOf present w → IsIndexOf present (world_with w (on.Enqueue tx))
-enqueued present w tx h = tied_as present w (world_with w (on.Enqueue tx)) (none_accepted present w (after_call w.replay (on.Enqueue tx) (enqueue_reply w)).accepted (after_enqueue w tx)) refl h
 
 submitted_by : (present : Contents) (w : World) (tx : Tx) (f : Option TxFault) → IsIndexOf present (with_accepted_unless w tx f) →
     IsIndexOf present (let v : World = record w { replay = after_call w.replay (on.Submit tx) (submit_reply tx f) } in v)

@@ -5,7 +5,7 @@ ghost use Rattle.eutxo_types.specs.Fitting.{TxFits};
 ghost use Rattle.eutxo_types.specs.Ids.{id_of};
 ghost use Rattle.eutxo.specs.Local.{verdict_of};
 ghost use Rattle.ledger.specs.declared.call.Reply.TheVariants as replies;
-ghost use Rattle.ledger_spec.specs.Replay.{published_at, publication, with_object, world};
+ghost use Rattle.ledger_spec.specs.Replay.{published_at, publication, with_object, World, world};
 ghost use Rattle.ledger_spec.specs.Views.{look};
 ghost use Rattle.ledger_spec.specs.Calls.{publish_reply_beside, publish_reply, fault_on, submit_reply, with_accepted_unless, round_verdicts, advance_reply, enqueue_reply, reply_to};
 ghost use Rattle.chain_index.specs.Contents.{CanBeAdded};
@@ -257,14 +257,12 @@ fn publish_object(alloc: Global, index: &mut Index, object: Published) -> Result
 
 fn publish_as(
     alloc: Global,
-    kept: &Kept<'_>,
     index: &mut Index,
     contract: &Contract,
     currency: &Bytes,
 ) -> Result<Reply, Memory>
-    requires tied { IsIndexOf index.old.present (world kept.now) }
-    ensures reply { IfOk result (λ reply. reply ≡ publish_reply (world kept.now) (publication contract.now currency.now)) }
-    ensures tied { OnOk result (IsIndexOf index.new.present (record (world kept.now) { published = with_object (world kept.now).published (publication contract.now currency.now) })) }
+    ensures reply { IfOk result (λ reply. (w : World) → IsIndexOf index.old.present w → reply ≡ publish_reply w (publication contract.now currency.now)) }
+    ensures tied { OnOk result ((w : World) → IsIndexOf index.old.present w → IsIndexOf index.new.present (record w { published = with_object w.published (publication contract.now currency.now) })) }
     ensures settled { index.new.settled ≡ index.old.settled }
 {
     publishing_is_sound::<Published>();
@@ -307,7 +305,7 @@ pub fn answer(
     ensures settled { index.new.settled ≡ index.old.settled }
 {
     match call {
-        Call::Publish { contract, currency } => publish_as(alloc, kept, index, contract, currency),
+        Call::Publish { contract, currency } => publish_as(alloc, index, contract, currency),
         Call::Advance(tick) => Ok(advance(kept, *tick)),
         Call::Look(ask) => look(alloc, kept, index, ask),
         Call::Submit(tx) => submit(alloc, kept, index, tx),

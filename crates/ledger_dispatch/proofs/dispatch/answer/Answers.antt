@@ -6,6 +6,12 @@ use Rattle.ledger_kept.specs.Kept.{IsIndexOf, world_with}
 use Rattle.ledger_dispatch.proofs.TiedLemmas.{advanced, submitted}
 use Rattle.ledger_dispatch.proofs.dispatch.answer.Goals as goal
 
+pub returns-in-Publish-clause-tied : goal.returns-in-Publish-clause-tied
+returns-in-Publish-clause-tied c =
+    let w = world c.args.kept.now in
+    let next = c.publish_as.new.index.present in
+    on_ok_weaker c.publish_as.result (λ tied. subst (λ (k : Call). IsIndexOf next (world_with w k)) (sym c.in-Publish.is) (tied w c.requires.tied)) c.publish_as.ensures.tied
+
 pub returns-in-Advance-clause-tied : goal.returns-in-Advance-clause-tied
 returns-in-Advance-clause-tied c =
     let w = world c.args.kept.now in
@@ -15,4 +21,4 @@ pub returns-in-Submit-clause-tied : goal.returns-in-Submit-clause-tied
 returns-in-Submit-clause-tied c =
     let w = world c.args.kept.now in
     let next = c.submit.new.index.present in
-    on_ok_weaker c.submit.result (λ h. subst (λ (k : Call). IsIndexOf next (world_with w k)) (sym c.in-Submit.is) (submitted next w c.in-Submit.tx h)) c.submit.ensures.tied
+    on_ok_weaker c.submit.result (λ tied. subst (λ (k : Call). IsIndexOf next (world_with w k)) (sym c.in-Submit.is) (submitted next w c.in-Submit.tx tied)) c.submit.ensures.tied
