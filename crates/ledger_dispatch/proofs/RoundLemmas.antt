@@ -1,12 +1,12 @@
 -- One more place of a round.
-use Rattle.std.proofs.Common.{◌≡◌, ℕ, zero, suc, ◌+◌, ◌<◌, ◌≤◌, List, [], ◌∷◌, ◌++◌, refl, sym, ◌∙◌, ap, append_assoc, arith, Option, Some, None, take, drop, length}
+use Rattle.std.proofs.Common.{◌≡◌, ℕ, zero, suc, ◌+◌, ◌<◌, List, [], ◌∷◌, ◌++◌, refl, sym, ◌∙◌, ap, append_assoc, arith, Option, Some, None, take, drop, length, map}
 use Rattle.std.specs.List.{slice_get}
-use Rattle.std.proofs.lemmas.List.{drop_all, length-take-le}
+use Rattle.std.proofs.lemmas.List.{map-append}
 use Rattle.eutxo_types.specs.declared.tx.Tx.{Tx}
 use Rattle.eutxo_types.specs.declared.fault.TxFault.{TxFault}
 use Rattle.eutxo.specs.Local.{verdict_of}
 use Rattle.ledger.specs.declared.call.Ticketed.{Ticketed}
-use Rattle.ledger_laws.proofs.PlainLaws.{drop_some, no_more, same_some}
+use Rattle.ledger_laws.proofs.PlainLaws.{take_some, drop_some, no_more, same_some}
 use Rattle.ledger_spec.specs.Replay.{Pending, World, accepted_at, accepted_among}
 use Rattle.ledger_spec.specs.Calls.{with_accepted_unless, fault_on, round_verdicts}
 use Rattle.ledger_dispatch.specs.DispatchSupport.{with_places}
@@ -21,11 +21,9 @@ at_taken (x ∷ xs) zero i h = absurd (omega arith)
 at_taken (x ∷ xs) (suc n) zero h = refl
 at_taken (x ∷ xs) (suc n) (suc i) h = at_taken xs n i (omega arith)
 
--- after as many as were taken none is left
-pub none_left : {A : Type 0} (xs : List A) (n i : ℕ) → n ≤ length xs → n ≤ i → drop i (take n xs) ≡ []
-none_left xs n i h over =
-    let long = length-take-le n xs h in
-    drop_all i (take n xs) (omega (arith, long, over))
+-- the first ones mapped, and one more
+pub mapped_more : {A B : Type 0} (f : A → B) (xs : List A) (i : ℕ) (x : A) → slice_get xs i ≡ Some x → map f (take (i + 1) xs) ≡ map f (take i xs) ++ f x ∷ []
+mapped_more f xs i x at = ap (λ (n : ℕ). map f (take n xs)) (sym (one_more i)) ∙ ap (map f) (take_some i xs x at) ∙ map-append f (take i xs) (x ∷ [])
 
 -- ---- what stands in the middle
 
@@ -56,7 +54,7 @@ accepted_by : (w : World) (tx : Tx) (p : Pending) (f : Option TxFault) → tx �
 accepted_by w tx p None e = ap (λ (x : Tx). with_these w (w.replay.accepted ++ x ∷ [])) e
 accepted_by w tx p (Some f) e = ap (with_these w) (sym (no_more w.replay.accepted))
 
-pub place_told : (w : World) (vs : List Ticketed) (i : ℕ) (p : Pending) (f : Option TxFault) → length vs ≡ i → slice_get w.replay.pending i ≡ Some p →
+place_told : (w : World) (vs : List Ticketed) (i : ℕ) (p : Pending) (f : Option TxFault) → length vs ≡ i → slice_get w.replay.pending i ≡ Some p →
     with_accepted_unless (with_places w vs) p.1 f ≡ with_places w (vs ++ ticketed p f ∷ [])
 place_told w vs i p f long at =
     accepted_by (with_places w vs) p.1 p f refl
@@ -84,7 +82,3 @@ pub told_more : (w : World) (ps : List Pending) (vs : List Ticketed) (i : ℕ) (
     slice_get ps i ≡ Some p → slice_get w.replay.pending i ≡ Some p → t ≡ ticketed p (fault_on (with_places w vs) p.1) →
     all ≡ (vs ++ t ∷ []) ++ round_verdicts (with_places w (vs ++ t ∷ [])) (drop (i + 1) ps)
 told_more w ps vs i p t all h long here at e = place_more (with_places w vs) (with_places w (vs ++ t ∷ [])) ps i p vs t all h here e (stands_on w vs i p t long at e)
-
--- all is told
-pub all_told : (w : World) (ps : List Pending) (vs : List Ticketed) (i : ℕ) → drop i ps ≡ [] → round_verdicts w ps ≡ vs ++ round_verdicts (with_places w vs) (drop i ps) → vs ≡ round_verdicts w ps
-all_told w ps vs i none h = sym (h ∙ ap (λ (l : List Pending). vs ++ round_verdicts (with_places w vs) l) none ∙ no_more vs)

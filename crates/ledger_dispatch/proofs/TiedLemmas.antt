@@ -1,6 +1,5 @@
 -- Of what an index is, transaction by transaction and call by call.
-use Rattle.std.proofs.Common.{◌≡◌, ℤ, List, [], ◌∷◌, sym, ◌∙◌, ap, subst, refl, Bool, true, false, Option, Some, None, Result, All}
-use Rattle.std.specs.Prelude.{if◌then◌else◌, int_le, nat_lt, length}
+use Rattle.std.proofs.Common.{◌≡◌, ℤ, List, [], ◌∷◌, sym, ◌∙◌, ap, subst, refl, Option, Some, None, Result, All}
 use Rattle.std.proofs.lemmas.List.Elements.{All-nil, All-cons, All-append}
 use Rattle.compiler.specs.declared.fault.CompileFault.{CompileFault}
 use Rattle.eutxo_types.specs.declared.fault.TxFault.{TxFault}
@@ -24,7 +23,7 @@ use Rattle.ledger_dispatch.specs.DispatchSupport.{fault_in, accepting_unless, Ea
 
 -- ---- transactions
 
-pub moment_alike : ReadsAlike → (present : Contents) (w : World) → IsIndexOf present w → moment_at present w.replay.tick ≡ moment_of w
+moment_alike : ReadsAlike → (present : Contents) (w : World) → IsIndexOf present w → moment_at present w.replay.tick ≡ moment_of w
 moment_alike reads present w h = ap (λ (c : Contents). moment_at c w.replay.tick) h.contents ∙ reads w.published (past_of w) w.replay.tick
 
 tied_by : AcceptsAlike marlowe → AfterIsSound marlowe → (present : Contents) (w : World) (tx : Tx) → IsIndexOf present w → TxFits tx → (f : Option TxFault) → fault_on w tx ≡ f →
@@ -43,17 +42,13 @@ judged_alike reads alike added after present w tx h = record {
   tied = λ fits. tied_by alike after present w tx h fits (fault_on w tx) refl;
 }
 
-pub fault_alike : EachIsJudgedAlike → (present : Contents) (w : World) (tick : ℤ) (tx : Tx) → IsIndexOf present w → tick ≡ w.replay.tick → fault_in present tick tx ≡ fault_on w tx
-fault_alike law present w tick tx h e = ap (λ (t : ℤ). fault_in present t tx) e ∙ (law present w tx h).fault
+pub can_be_added : EachIsJudgedAlike → (present : Contents) (w : World) (tx : Tx) → IsIndexOf present w → fault_in present w.replay.tick tx ≡ None → CanBeAdded present tx
+can_be_added law present w tx h none = (law present w tx h).can (sym (law present w tx h).fault ∙ none)
 
-pub can_be_added : EachIsJudgedAlike → (present : Contents) (w : World) (tick : ℤ) (tx : Tx) → IsIndexOf present w → tick ≡ w.replay.tick → fault_in present tick tx ≡ None → CanBeAdded present tx
-can_be_added law present w tick tx h e none = (law present w tx h).can (sym (fault_alike law present w tick tx h e) ∙ none)
-
-pub tied_after : EachIsJudgedAlike → (present next : Contents) (w : World) (tick : ℤ) (tx : Tx) → IsIndexOf present w → tick ≡ w.replay.tick → TxFits tx →
-    next ≡ accepting_unless present tx (fault_in present tick tx) → IsIndexOf next (with_accepted_unless w tx (fault_on w tx))
-tied_after law present next w tick tx h e fits n =
-    subst (λ (c : Contents). IsIndexOf c (with_accepted_unless w tx (fault_on w tx))) (sym (n ∙ ap (λ (f : Option TxFault). accepting_unless present tx f) (fault_alike law present w tick tx h e)))
-    ((law present w tx h).tied fits)
+pub tied_after : EachIsJudgedAlike → (present next : Contents) (w : World) (tx : Tx) → IsIndexOf present w → TxFits tx → next ≡ accepting_unless present tx (fault_in present w.replay.tick tx) →
+    IsIndexOf next (with_accepted_unless w tx (fault_on w tx))
+tied_after law present next w tx h fits n =
+    subst (λ (c : Contents). IsIndexOf c (with_accepted_unless w tx (fault_on w tx))) (sym (n ∙ ap (λ (f : Option TxFault). accepting_unless present tx f) (law present w tx h).fault)) ((law present w tx h).tied fits)
 
 -- ---- calls
 
@@ -71,9 +66,6 @@ none_accepted present w txs h = ap (λ (l : List Tx). let p : Past = record { ge
 
 pub advanced : (present : Contents) (w : World) (t : ℤ) → IsIndexOf present w → IsIndexOf present (world_with w (on.Advance t))
 advanced present w t h = tied_as present w (world_with w (on.Advance t)) (none_accepted present w (after_call w.replay (on.Advance t) (advance_reply w.replay.tick t)).accepted (after_advance w.replay t)) refl h
-
-pub enqueued : (present : Contents) (w : World) (tx : Tx) → IsIndexOf present w → IsIndexOf present (world_with w (on.Enqueue tx))
-enqueued present w tx h = tied_as present w (world_with w (on.Enqueue tx)) (none_accepted present w (after_call w.replay (on.Enqueue tx) (enqueue_reply w)).accepted (after_enqueue w tx)) refl h
 
 submitted_by : (present : Contents) (w : World) (tx : Tx) (f : Option TxFault) → IsIndexOf present (with_accepted_unless w tx f) →
     IsIndexOf present (let v : World = record w { replay = after_call w.replay (on.Submit tx) (submit_reply tx f) } in v)

@@ -5,7 +5,7 @@ ghost use Rattle.eutxo_types.specs.Fitting.{TxFits};
 ghost use Rattle.eutxo_types.specs.Ids.{id_of};
 ghost use Rattle.eutxo.specs.Local.{verdict_of};
 ghost use Rattle.ledger.specs.declared.call.Reply.TheVariants as replies;
-ghost use Rattle.ledger_spec.specs.Replay.{published_at, publication, with_object, world};
+ghost use Rattle.ledger_spec.specs.Replay.{published_at, publication, with_object, World, world};
 ghost use Rattle.ledger_spec.specs.Views.{look};
 ghost use Rattle.ledger_spec.specs.Calls.{publish_reply_beside, publish_reply, fault_on, submit_reply, with_accepted_unless, round_verdicts, advance_reply, enqueue_reply, reply_to};
 ghost use Rattle.chain_index.specs.Contents.{CanBeAdded};
@@ -41,7 +41,7 @@ fn each_is_judged_alike()
 
 // instance below: the judgement on a ledger, at an index.
 // The fault of the first rule that refuses a transaction by what is indexed at a tick, or none. Its id is lent.
-fn judged(
+fn judged_at(
     alloc: Global,
     index: &Index,
     tick: &i64,
@@ -53,6 +53,21 @@ fn judged(
     ensures { IfOk result (λ fault. fault ≡ fault_in index.now.present tick.now tx.now) }
 {
     judge(alloc, &IndexAt { index, tick: *tick }, tx, id, cache)
+}
+
+// .. at the ledger's tick.
+fn judged(
+    alloc: Global,
+    kept: &Kept<'_>,
+    index: &Index,
+    tx: &Tx,
+    id: &[u8; 32],
+) -> Result<Option<TxFault>, Memory>
+    requires { id.now ≡ id_of tx.now }
+    ensures { IfOk result (λ fault. fault ≡ fault_in index.now.present (world kept.now).replay.tick tx.now) }
+{
+    let tick = kept.tick();
+    judged_at(alloc, index, &tick, tx, id, kept.cache())
 }
 
 // Adds a transaction, whose id is lent, where no fault of it was found.
@@ -73,64 +88,56 @@ fn accept_unless(
     Ok(())
 }
 
-// Judges a transaction at a tick, and adds it where no rule refuses it. Answers the fault and the transaction's id,
-// which is computed here alone.
+// Judges a transaction by what is indexed, and adds it where no rule refuses it. Answers the fault and the transaction's
+// id, which is computed here alone.
 fn judge_and_accept(
-    alloc: Global,
-    index: &mut Index,
-    tick: &i64,
-    tx: &Tx,
-    cache: &[Checked<Published>],
-) -> Result<(Option<TxFault>, [u8; 32]), Memory>
-    requires can { fault_in index.old.present tick.now tx.now ≡ None → CanBeAdded index.old.present tx.now }
-    ensures fault { IfOk result (λ r. r.0 ≡ fault_in index.old.present tick.now tx.now) }
-    ensures id { IfOk result (λ r. r.1 ≡ id_of tx.now) }
-    ensures fits { IfOk result (λ r. TxFits tx.now) }
-    ensures present { OnOk result (index.new.present ≡ accepting_unless index.old.present tx.now (fault_in index.old.present tick.now tx.now)) }
-    ensures settled { index.new.settled ≡ index.old.settled }
-{
-    let id = tx_id(alloc, tx)?;
-    let fault = judged(alloc, index, tick, tx, &id, cache)?;
-    accept_unless(index, tx, &id, &fault)?;
-    Ok((fault, id))
-}
-
-fn submit(
     alloc: Global,
     kept: &Kept<'_>,
     index: &mut Index,
     tx: &Tx,
-) -> Result<Reply, Memory>
+) -> Result<(Option<TxFault>, [u8; 32]), Memory>
+    requires { fault_in index.old.present (world kept.now).replay.tick tx.now ≡ None → CanBeAdded index.old.present tx.now }
+    ensures fault { IfOk result (λ r. r.0 ≡ fault_in index.old.present (world kept.now).replay.tick tx.now) }
+    ensures id { IfOk result (λ r. r.1 ≡ id_of tx.now) }
+    ensures fits { IfOk result (λ r. TxFits tx.now) }
+    ensures present { OnOk result (index.new.present ≡ accepting_unless index.old.present tx.now (fault_in index.old.present (world kept.now).replay.tick tx.now)) }
+    ensures settled { index.new.settled ≡ index.old.settled }
+{
+    let id = tx_id(alloc, tx)?;
+    let fault = judged(alloc, kept, index, tx, &id)?;
+    accept_unless(index, tx, &id, &fault)?;
+    Ok((fault, id))
+}
+
+fn submit(alloc: Global, kept: &Kept<'_>, index: &mut Index, tx: &Tx) -> Result<Reply, Memory>
     requires tied { IsIndexOf index.old.present (world kept.now) }
     ensures reply { IfOk result (λ reply. reply ≡ submit_reply tx.now (fault_on (world kept.now) tx.now)) }
     ensures tied { OnOk result (IsIndexOf index.new.present (with_accepted_unless (world kept.now) tx.now (fault_on (world kept.now) tx.now))) }
     ensures settled { index.new.settled ≡ index.old.settled }
 {
     each_is_judged_alike();
-    let tick = kept.tick();
-    let (fault, id) = judge_and_accept(alloc, index, &tick, tx, kept.cache())?;
+    let (fault, id) = judge_and_accept(alloc, kept, index, tx)?;
     match fault {
         Some(fault) => Ok(Reply::Refused(fault)),
         None => Ok(Reply::Accepted(id)),
     }
 }
 
-// Judges one pending transaction at a tick, and adds it where no rule refuses it.
+// Judges one pending transaction, and adds it where no rule refuses it.
 fn judge_one(
     alloc: Global,
+    kept: &Kept<'_>,
     index: &mut Index,
-    tick: &i64,
     ticket: u64,
     tx: &Tx,
-    cache: &[Checked<Published>],
 ) -> Result<Ticketed, Memory>
-    requires can { fault_in index.old.present tick.now tx.now ≡ None → CanBeAdded index.old.present tx.now }
-    ensures verdict { IfOk result (λ t. t ≡ record { ticket = ticket; verdict = verdict_of (fault_in index.old.present tick.now tx.now) }) }
+    requires { fault_in index.old.present (world kept.now).replay.tick tx.now ≡ None → CanBeAdded index.old.present tx.now }
+    ensures verdict { IfOk result (λ t. t ≡ record { ticket = ticket; verdict = verdict_of (fault_in index.old.present (world kept.now).replay.tick tx.now) }) }
     ensures fits { IfOk result (λ t. TxFits tx.now) }
-    ensures present { OnOk result (index.new.present ≡ accepting_unless index.old.present tx.now (fault_in index.old.present tick.now tx.now)) }
+    ensures present { OnOk result (index.new.present ≡ accepting_unless index.old.present tx.now (fault_in index.old.present (world kept.now).replay.tick tx.now)) }
     ensures settled { index.new.settled ≡ index.old.settled }
 {
-    let (fault, _) = judge_and_accept(alloc, index, tick, tx, cache)?;
+    let (fault, _) = judge_and_accept(alloc, kept, index, tx)?;
     Ok(Ticketed {
         ticket,
         verdict: verdict_of(fault),
@@ -162,11 +169,10 @@ fn round(
     ensures settled { index.new.settled ≡ index.old.settled }
 {
     each_is_judged_alike();
-    let tick = kept.tick();
     let mut places = Items::new(alloc);
     for i in 0..first_of(kept, count) {
         let (ticket, tx) = kept.pending_at(i);
-        let place = judge_one(alloc, index, &tick, ticket, tx, kept.cache())?;
+        let place = judge_one(alloc, kept, index, ticket, tx)?;
         places.push(place)?;
     }
     Ok(places)
@@ -251,14 +257,12 @@ fn publish_object(alloc: Global, index: &mut Index, object: Published) -> Result
 
 fn publish_as(
     alloc: Global,
-    kept: &Kept<'_>,
     index: &mut Index,
     contract: &Contract,
     currency: &Bytes,
 ) -> Result<Reply, Memory>
-    requires tied { IsIndexOf index.old.present (world kept.now) }
-    ensures reply { IfOk result (λ reply. reply ≡ publish_reply (world kept.now) (publication contract.now currency.now)) }
-    ensures tied { OnOk result (IsIndexOf index.new.present (record (world kept.now) { published = with_object (world kept.now).published (publication contract.now currency.now) })) }
+    ensures reply { IfOk result (λ reply. (w : World) → IsIndexOf index.old.present w → reply ≡ publish_reply w (publication contract.now currency.now)) }
+    ensures tied { OnOk result ((w : World) → IsIndexOf index.old.present w → IsIndexOf index.new.present (record w { published = with_object w.published (publication contract.now currency.now) })) }
     ensures settled { index.new.settled ≡ index.old.settled }
 {
     publishing_is_sound::<Published>();
@@ -301,7 +305,7 @@ pub fn answer(
     ensures settled { index.new.settled ≡ index.old.settled }
 {
     match call {
-        Call::Publish { contract, currency } => publish_as(alloc, kept, index, contract, currency),
+        Call::Publish { contract, currency } => publish_as(alloc, index, contract, currency),
         Call::Advance(tick) => Ok(advance(kept, *tick)),
         Call::Look(ask) => look(alloc, kept, index, ask),
         Call::Submit(tx) => submit(alloc, kept, index, tx),

@@ -74,7 +74,8 @@ pub fn front(
     let mut jobs = Vec::with_capacity(alloc, first)?;
     for i in 0..first {
         let (_, tx) = kept.pending_at(i);
-        jobs.push(job_of(alloc, kept, index, tx)?)?;
+        let job = job_of(alloc, kept, index, tx)?;
+        jobs.push(job)?;
     }
     Ok(jobs)
 }
