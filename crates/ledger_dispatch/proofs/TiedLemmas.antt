@@ -13,8 +13,8 @@ use Rattle.ledger_laws.specs.Laws.{AfterIsSound, LaterIsSound}
 use Rattle.ledger_laws.specs.Past.{Past}
 use Rattle.ledger_laws.specs.Sound.{IsSound}
 use Rattle.ledger_spec.specs.Replay.{World, past_of, moment_of, published_at, with_object, after_call}
-use Rattle.ledger_spec.specs.Calls.{fault_on, with_accepted_unless, submit_reply, advance_reply, enqueue_reply}
-use Rattle.ledger_spec.proofs.CallsLaws.{after_advance, after_enqueue}
+use Rattle.ledger_spec.specs.Calls.{fault_on, with_accepted_unless, submit_reply, advance_reply}
+use Rattle.ledger_spec.proofs.CallsLaws.{after_advance}
 use Rattle.ledger_spec.proofs.PublishingLaws.{with_stays}
 use Rattle.chain_index.specs.Contents.{Contents, contents_of, accepting, moment_at, CanBeAdded}
 use Rattle.chain_index.specs.Laws.{ReadsAlike, AcceptsAlike, JudgedCanBeAdded}
