@@ -15,7 +15,7 @@ returns-in-Some-clause-live g c =
     let w = (c.get_mut.follows.holds None).0 in
     ap live w ∙ ap (λ e. live (set_value (e r) m.entries None)) eq_same ∙ removed r m.entries d
 
-pub returns-in_default-clause-live : goal.returns-in_default-clause-live
-returns-in_default-clause-live g c =
+pub returns-in-None-clause-live : goal.returns-in-None-clause-live
+returns-in-None-clause-live g c =
     let m = c.args.slots.now in
-    ap (λ x. live x.entries) c.get_mut.follows.holds-at-none ∙ without_so c.args.reference.now m.entries _ (ap option_copied_mut c.in_default.is) c.get_mut.ensures.value
+    ap (λ x. live x.entries) c.get_mut.follows.holds-at-none ∙ without_so c.args.reference.now m.entries _ (ap option_copied_mut c.in-None.is) c.get_mut.ensures.value
