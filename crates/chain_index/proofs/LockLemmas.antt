@@ -1,5 +1,6 @@
 -- Names of locks, and references listed under them.
-use Rattle.std.proofs.Common.{◌≡◌, Bool, true, false, ◌&&◌, ◌||◌, not, cond, filter, List, [], ◌∷◌, ◌++◌, refl, sym, ◌∙◌, ap, subst, Option, Some, None}
+use Rattle.std.proofs.Common.{◌≡◌, Bool, true, false, ◌&&◌, ◌||◌, not, cond, filter, List, [], ◌∷◌, ◌++◌, refl, sym, ◌∙◌, ap, subst, Option, Some, None, Result, Ok, Err}
+use Rattle.std.specs.Prelude.{OnOk, OnErr}
 use Rattle.std.specs.List.{list_any}
 use Rattle.std.specs.Map.{lookup}
 use Rattle.std.specs.Cmp.Lexicographic.{bytes_decides}
@@ -9,15 +10,17 @@ use Rattle.eutxo_types.specs.declared.output.Output.{Output}
 use Rattle.eutxo_types.specs.declared.output_ref.OutputRef.{OutputRef}
 use Rattle.eutxo_types.specs.Parts.{same_bytes, same_ref}
 use Rattle.indexmap.specs.IndexSet.{IndexSet}
-use Rattle.ledger_laws.proofs.PlainLaws.{and_true, both, same_some}
-use Rattle.ledger_laws.proofs.ReferenceLaws.{itself}
+use Rattle.eutxo_types.specs.contracts.output_ref.OutputRefPartialEq.TheImpl.{ghosts as of_refs}
+use Rattle.ledger_laws.proofs.PlainLaws.{and_true, both, or_true}
+use Rattle.ledger_laws.proofs.ReferenceLaws.{itself, same_ref-refl}
 use Rattle.chain_index.specs.contracts.lock_name.LockNamePartialEq.TheImpl.{ghosts}
 use Rattle.chain_index.specs.declared.lock_name.LockName.{LockName}
 use Rattle.chain_index.specs.declared.lock_name.LockName.TheVariants.{Address, Role}
 use Rattle.chain_index.specs.Contents.{is_among}
-use Rattle.chain_index.specs.HolesSupport.{live}
+use Rattle.chain_index.specs.HolesSupport.{live, with_key}
 use Rattle.chain_index.specs.LocksSupport.{name_in, same_name, is_name, is_named, refs_in, refs_under, Listed, AreListed, Keeps, KeepsBut}
 use Rattle.chain_index.proofs.LiveLemmas.{live_append, kept_without}
+use Rattle.chain_index.proofs.RefLemmas.{eq_same, among_with}
 
 -- ---- names
 
@@ -75,6 +78,23 @@ module _ {S : Type 0} (old new : Kept S) (name : LockName) (w : Option (IndexSet
           ∙ f r p (subst (λ (q : LockName). is_among (refs_under old q) r ≡ true) (sym (same_name_so name n e)) k)
       by false e = ap (λ o. is_among (refs_in o) r) (changed n ∙ ap (λ b. cond b w (lookup (same_name n) old)) e) ∙ k
 
+-- ---- one set of references
+
+-- each other reference stays
+pub others_stay : (q : OutputRef) (old new : List OutputRef) → ((r : OutputRef) → of_refs.eq q r ≡ false → list_any (of_refs.eq r) new ≡ list_any (of_refs.eq r) old) → (r : OutputRef) → same_ref q r ≡ false → is_among old r ≡ true → is_among new r ≡ true
+others_stay q old new h r n k =
+    let all = subst (λ (e : OutputRef → OutputRef → Bool). (s : OutputRef) → e q s ≡ false → list_any (e s) new ≡ list_any (e s) old) eq_same h in
+    all r n ∙ k
+
+-- a noted one is there
+pub noted_there : (q : OutputRef) (old new : List OutputRef) → new ≡ with_key old q → is_among new q ≡ true
+noted_there q old new e = ap (λ rs. is_among rs q) e ∙ among_with old q q ∙ ap (λ b. b || is_among old q) (same_ref-refl q)
+
+-- and each that was there still is, also where it couldn't be noted
+pub noted_keeps : {T E : Type 0} (result : Result T E) (q : OutputRef) (old new : List OutputRef) → OnOk result (new ≡ with_key old q) → OnErr result (new ≡ old) → (r : OutputRef) → is_among old r ≡ true → is_among new r ≡ true
+noted_keeps (Ok v) q old new h k r there = ap (λ rs. is_among rs r) h ∙ among_with old q r ∙ or_true (same_ref q r) (is_among old r) there
+noted_keeps (Err e) q old new h k r there = ap (λ rs. is_among rs r) k ∙ there
+
 -- ---- listed outputs
 
 pub listed_still : (old new : LockName → List OutputRef) (es : List (OutputRef × Output)) → Keeps old new → AreListed old es → AreListed new es
@@ -90,8 +110,14 @@ listed_front refs [] fs h = tt
 listed_front refs (e ∷ es) fs h = (h.0, listed_front refs es fs h.1)
 
 -- one output more
-pub listed_put : (refs : LockName → List OutputRef) (es : List (OutputRef × Option Output)) (r : OutputRef) (o : Output) → AreListed refs (live es) → Listed refs (r, o) → AreListed refs (live (es ++ (r, Some o) ∷ []))
-listed_put refs es r o h k = subst (AreListed refs) (sym (live_append es ((r, Some o) ∷ []))) (listed_more refs (live es) ((r, o) ∷ []) h (k, tt))
+listed_last : (refs : LockName → List OutputRef) (es : List (OutputRef × Option Output)) (r : OutputRef) (o : Output) → AreListed refs (live es) → Listed refs (r, o) → AreListed refs (live (es ++ (r, Some o) ∷ []))
+listed_last refs es r o h k = subst (AreListed refs) (sym (live_append es ((r, Some o) ∷ []))) (listed_more refs (live es) ((r, o) ∷ []) h (k, tt))
+
+-- also where it couldn't be put
+pub listed_put : {T E : Type 0} (result : Result T E) (old new : LockName → List OutputRef) (es fs : List (OutputRef × Option Output)) (r : OutputRef) (o : Output) → OnOk result (fs ≡ es ++ (r, Some o) ∷ []) → OnErr result (fs ≡ es) →
+    Keeps old new → Listed new (r, o) → AreListed old (live es) → AreListed new (live fs)
+listed_put (Ok v) old new es fs r o e f k l h = subst (λ x. AreListed new (live x)) (sym e) (listed_last new es r o (listed_still old new (live es) k h) l)
+listed_put (Err x) old new es fs r o e f k l h = subst (λ x. AreListed new (live x)) (sym f) (listed_still old new (live es) k h)
 
 -- without what a reference names
 pub listed_without : (r : OutputRef) (old new : LockName → List OutputRef) (es : List (OutputRef × Output)) → KeepsBut r old new → AreListed old es → AreListed new (filter (λ e. not (same_ref r e.0)) es)
@@ -106,8 +132,8 @@ listed_without r old new (e ∷ es) k h = by (same_ref r e.0) refl (listed_witho
     by false p go = (λ n q. k n e.0 p (h.0 n q), go)
 
 -- without the last entry, whose reference no other has
-pub listed_before : (r : OutputRef) (o : Option Output) (old new : LockName → List OutputRef) (es fs : List (OutputRef × Option Output)) → KeepsBut r old new → fs ≡ es ++ (r, o) ∷ [] → lookup (same_ref r) es ≡ None →
+pub listed_before : (r : OutputRef) (o : Option Output) (old new : LockName → List OutputRef) (es fs : List (OutputRef × Option Output)) → KeepsBut r old new → fs ≡ es ++ (r, o) ∷ [] → lookup (of_refs.eq r) es ≡ None →
     AreListed old (live fs) → AreListed new (live es)
 listed_before r o old new es fs k e none h =
-    subst (AreListed new) (kept_without r es none)
+    subst (AreListed new) (kept_without r es (sym (ap (λ q. lookup (q r) es) eq_same) ∙ none))
     (listed_without r old new (live es) k (listed_front old (live es) (live ((r, o) ∷ [])) (subst (AreListed old) (ap live e ∙ live_append es ((r, o) ∷ [])) h)))

@@ -45,9 +45,9 @@ and_none : (b : Bool) → b && false ≡ false
 and_none true = refl
 and_none false = refl
 
-or_none : (b : Bool) → b || false ≡ b
-or_none true = refl
-or_none false = refl
+and_one : (b : Bool) → b && true ≡ b
+and_one true = refl
+and_one false = refl
 
 or_and : (a b c : Bool) → (a || b) && c ≡ (a && c) || (b && c)
 or_and true true true = refl
@@ -124,20 +124,39 @@ found_place p r es j e u there named i = by (is_at (nat_cmp j) i) refl (slice_ge
 -- no entry is named
 pub no_place : (p : Entry → Bool) (r : OutputRef) (es : List Entry) → lookup (same_ref r) es ≡ None → (i : ℕ) → false ≡ passes_at (λ x. same_ref x.0 r && p x) es i
 no_place p r [] h i = refl
-no_place p r (x ∷ xs) h i = by (same_ref r x.0) refl h i
+no_place p r (x ∷ xs) h i = by (same_ref r x.0) refl h (no_place p r xs) i
   where
-    by : (b : Bool) → same_ref r x.0 ≡ b → cond b (Some x.1) (lookup (same_ref r) xs) ≡ None → (k : ℕ) → false ≡ passes_at (λ y. same_ref y.0 r && p y) (x ∷ xs) k
-    by true e k = cc
-    by false e k zero = sym (ap (λ b. b && p x) (flips x.0 r ∙ e))
-    by false e k (suc n) = no_place p r xs k n
+    by : (b : Bool) → same_ref r x.0 ≡ b → cond b (Some x.1) (lookup (same_ref r) xs) ≡ None → (lookup (same_ref r) xs ≡ None → (k : ℕ) → false ≡ passes_at (λ y. same_ref y.0 r && p y) xs k) →
+        (k : ℕ) → false ≡ passes_at (λ y. same_ref y.0 r && p y) (x ∷ xs) k
+    by true e k go n = cc
+    by false e k go zero = sym (ap (λ b. b && p x) (flips x.0 r ∙ e))
+    by false e k go (suc n) = go k n
+
+-- what a map's look-up tells of it
+module _ (p : Entry → Bool) (r : OutputRef) (es : List Entry) (j : ℕ) (k : OutputRef) (o : Option Output) (u : IsDistinct ghosts.eq (keys_of es)) (there : slice_get es j ≡ Some (k, o)) (key : Some k ≡ lookup_key (ghosts.eq r) es) where
+  named_place : (i : ℕ) → (is_at (nat_cmp j) i && p (k, o)) ≡ passes_at (λ x. same_ref x.0 r && p x) es i
+  named_place =
+      found_place p r es j (k, o) (subst (λ e. IsDistinct e (keys_of es)) eq_same u) there
+      (sym (ap (λ e. e r k) eq_same) ∙ lookup_key_passes (ghosts.eq r) es k (sym key))
+
+  pub place_passes : p (k, o) ≡ true → (i : ℕ) → is_at (nat_cmp j) i ≡ passes_at (λ x. same_ref x.0 r && p x) es i
+  place_passes h i = sym (and_one (is_at (nat_cmp j) i)) ∙ ap (λ b. is_at (nat_cmp j) i && b) (sym h) ∙ named_place i
+
+  pub place_fails : p (k, o) ≡ false → (i : ℕ) → false ≡ passes_at (λ x. same_ref x.0 r && p x) es i
+  place_fails h i = sym (and_none (is_at (nat_cmp j) i)) ∙ ap (λ b. is_at (nat_cmp j) i && b) (sym h) ∙ named_place i
+
+pub place_of_none : (p : Entry → Bool) (r : OutputRef) (es : List Entry) → None ≡ lookup (ghosts.eq r) es → (i : ℕ) → false ≡ passes_at (λ x. same_ref x.0 r && p x) es i
+place_of_none p r es h = no_place p r es (sym (h ∙ ap (λ e. lookup (e r) es) eq_same))
 
 -- ---- references, one after another
 
-pub next_named : (p : Entry → Bool) (rs : List OutputRef) (j : ℕ) (r : OutputRef) (es : List Entry) (i : ℕ) (before after : Bool) → j < length rs → r ≡ get_or rs j r → after ≡ (passes_at (λ e. same_ref e.0 r && p e) es i || before) →
+pub next_named : (p : Entry → Bool) (rs : List OutputRef) (j : ℕ) (default : OutputRef) (es : List Entry) (i : ℕ) (before after : Bool) → j < length rs →
+    after ≡ (passes_at (λ e. same_ref e.0 (get_or rs j default) && p e) es i || before) →
     (passes_at (λ e. is_among (drop j rs) e.0 && p e) es i || before) ≡ (passes_at (λ e. is_among (drop (j + 1) rs) e.0 && p e) es i || after)
-next_named p rs j r es i before after l e h =
+next_named p rs j default es i before after l h =
     let rest = drop (j + 1) rs in
-    let d : drop j rs ≡ r ∷ rest = drop_more rs j r l ∙ ap (λ (x : OutputRef). x ∷ rest) (sym e) in
+    let r = get_or rs j default in
+    let d : drop j rs ≡ r ∷ rest = drop_more rs j default l in
     step (passes_at (λ x. is_among (drop j rs) x.0 && p x) es i) (passes_at (λ x. is_among rest x.0 && p x) es i) (passes_at (λ x. same_ref x.0 r && p x) es i) before after
     (passes_or (λ x. is_among (drop j rs) x.0 && p x) (λ x. same_ref x.0 r && p x) (λ x. is_among rest x.0 && p x)
     (λ x. ap (λ (l : List OutputRef). is_among l x.0 && p x) d ∙ or_and (same_ref x.0 r) (is_among rest x.0) (p x)) (slice_get es i))

@@ -1,5 +1,5 @@
 -- The outputs at the places of those that are shown, in order, are those that are shown.
-use Rattle.std.proofs.Common.{◌≡◌, ℕ, zero, suc, ◌+◌, ◌-◌, ◌<◌, ◌≤◌, arith, Bool, true, false, ◌&&◌, ◌||◌, not, cond, filter, List, [], ◌∷◌, ◌++◌, refl, sym, ◌∙◌, ap, subst, map, Option, Some, None}
+use Rattle.std.proofs.Common.{◌≡◌, ℕ, zero, suc, ◌+◌, ◌-◌, ◌<◌, ◌≤◌, arith, Bool, true, false, ◌&&◌, ◌||◌, not, cond, filter, List, [], ◌∷◌, ◌++◌, refl, sym, ◌∙◌, ap, subst, length, map, Option, Some, None}
 use Rattle.std.specs.List.{slice_get, list_any, flat_map, AllByRecursion}
 use Rattle.std.specs.List.Sorted.{IsStrictlySortedBy}
 use Rattle.std.specs.Ordering.{nat_cmp}
@@ -34,6 +34,7 @@ above : (k n : ℕ) → nat_cmp k n ≡ Less → k + 1 ≤ n
 above k n h = grind (arith, nat_tests)
 
 ascend_from : (n : ℕ) (ks : List ℕ) → AllByRecursion (λ y. n ≤ y) ks → IsStrictlySortedBy nat_cmp ks → Ascend n ks
+unfolding IsStrictlySortedBy
 ascend_from n [] h s = tt
 ascend_from n (k ∷ ks) h s = (h.0, ascend_from (k + 1) ks (all ks s.0) s.1)
   where
@@ -44,6 +45,10 @@ ascend_from n (k ∷ ks) h s = (h.0, ascend_from (k + 1) ks (all ks s.0) s.1)
 all_from : (ks : List ℕ) → AllByRecursion (λ y. 0 ≤ y) ks
 all_from [] = tt
 all_from (k ∷ ks) = (omega arith, all_from ks)
+
+pub no_places : (ks : List ℕ) → (0 < length ks → false ≡ true) → ks ≡ []
+no_places [] h = refl
+no_places (k ∷ ks) h = let e = h (omega arith) in cc
 
 -- none of them is below
 none_below : (n i : ℕ) (ks : List ℕ) → i < n → Ascend n ks → has_place ks i ≡ false

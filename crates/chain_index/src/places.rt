@@ -1,5 +1,5 @@
 //! Places of entries, and the outputs at them.
-ghost use Rattle.std.specs.Prelude.{◌≡◌, ◌++◌, ◌||◌, ◌&&◌, ℕ, slice_get, OnOk};
+ghost use Rattle.std.specs.Prelude.{◌≡◌, ◌++◌, ◌||◌, ◌&&◌, ℕ, slice_get, Some, OnOk};
 ghost use Rattle.eutxo_types.specs.Parts.{same_ref};
 ghost use Rattle.chain_index.specs.Contents.{is_among};
 ghost use Rattle.chain_index.specs.LocksSupport.{is_named};
@@ -14,6 +14,18 @@ use ledger::Unspent;
 use std::alloc::AllocError;
 use std::collections::BTreeSet;
 
+// Whether an output is under the lock of this name and doesn't leave.
+fn is_shown(
+    leaving: &IndexSet<OutputRef>,
+    name: &LockName,
+    reference: &OutputRef,
+    output: &Output,
+) -> bool
+    ensures { result ≡ is_shown (is_named name.now) leaving.now.keys (reference.now, Some output.now) }
+{
+    is_named(name, &output.lock) && !is_noted(leaving, reference)
+}
+
 // The place of the output that a reference names, where it is under the lock of this name and doesn't leave.
 fn place_of(
     slots: &Slots<Output>,
@@ -27,8 +39,8 @@ fn place_of(
     // touch: keys differ
     let _len = slots.len();
     match slots.get_full(reference) {
-        Some((place, _, Some(output))) => {
-            if is_named(name, &output.lock) && !is_noted(leaving, reference) {
+        Some((place, key, Some(output))) => {
+            if is_shown(leaving, name, key, output) {
                 Some(place)
             } else {
                 None

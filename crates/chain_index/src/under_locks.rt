@@ -25,9 +25,10 @@ fn show_all(
 {
     // touch: they ascend
     let _len = places.len();
+    let mut left = places;
     let mut shown = Items::new(alloc);
-    for place in &places {
-        outputs.show(*place, &mut shown)?;
+    while let Some(place) = left.pop_first() {
+        outputs.show(place, &mut shown)?;
     }
     Ok(shown)
 }
