@@ -1,11 +1,10 @@
 -- Names of locks, and references listed under them.
-use Rattle.std.proofs.Common.{◌≡◌, Bool, true, false, ◌&&◌, ◌||◌, not, cond, filter, List, [], ◌∷◌, ◌++◌, refl, sym, ◌∙◌, ap, subst, Option, Some, None, Result, Ok, Err}
+use Rattle.std.proofs.Common.{◌≡◌, Bool, true, false, ◌||◌, not, cond, filter, List, [], ◌∷◌, ◌++◌, refl, sym, ◌∙◌, ap, subst, Option, Some, None, Result, Ok, Err}
 use Rattle.std.specs.Prelude.{OnOk, OnErr}
 use Rattle.std.specs.List.{list_any}
 use Rattle.std.specs.Map.{lookup}
 use Rattle.std.specs.Cmp.Lexicographic.{bytes_decides}
 use Rattle.eutxo_types.specs.declared.lock.Lock.{Lock}
-use Rattle.eutxo_types.specs.declared.lock.Lock.TheVariants.{Key, Payout, Contract}
 use Rattle.eutxo_types.specs.declared.output.Output.{Output}
 use Rattle.eutxo_types.specs.declared.output_ref.OutputRef.{OutputRef}
 use Rattle.eutxo_types.specs.Parts.{same_bytes, same_ref}
@@ -60,8 +59,15 @@ named_so n lock h = is_name_so n (name_in lock) h
 abbrev Kept : Type 0 → Type 0
 Kept S = List (LockName × IndexSet OutputRef S)
 
+abbrev Under : Type 0
+Under = LockName → List OutputRef
+
+abbrev Entries : Type 0
+Entries = List (OutputRef × Option Output)
+
 -- what is under a name has changed, and under no other
-module _ {S : Type 0} (old new : Kept S) (name : LockName) (w : Option (IndexSet OutputRef S)) (h : (q : LockName) → lookup (ghosts.eq q) new ≡ cond (ghosts.eq name q) w (lookup (ghosts.eq q) old)) where
+module _ {S : Type 0} (old new : Kept S) (name : LockName) (w : Option (IndexSet OutputRef S))
+    (h : (q : LockName) → lookup (ghosts.eq q) new ≡ cond (ghosts.eq name q) w (lookup (ghosts.eq q) old)) where
   changed : (q : LockName) → lookup (same_name q) new ≡ cond (same_name name q) w (lookup (same_name q) old)
   changed = subst (λ (e : LockName → LockName → Bool). (q : LockName) → lookup (e q) new ≡ cond (e name q) w (lookup (e q) old)) name_same h
 
@@ -81,7 +87,8 @@ module _ {S : Type 0} (old new : Kept S) (name : LockName) (w : Option (IndexSet
 -- ---- one set of references
 
 -- each other reference stays
-pub others_stay : (q : OutputRef) (old new : List OutputRef) → ((r : OutputRef) → of_refs.eq q r ≡ false → list_any (of_refs.eq r) new ≡ list_any (of_refs.eq r) old) → (r : OutputRef) → same_ref q r ≡ false → is_among old r ≡ true → is_among new r ≡ true
+pub others_stay : (q : OutputRef) (old new : List OutputRef) → ((r : OutputRef) → of_refs.eq q r ≡ false → list_any (of_refs.eq r) new ≡ list_any (of_refs.eq r) old) →
+    (r : OutputRef) → same_ref q r ≡ false → is_among old r ≡ true → is_among new r ≡ true
 others_stay q old new h r n k =
     let all = subst (λ (e : OutputRef → OutputRef → Bool). (s : OutputRef) → e q s ≡ false → list_any (e s) new ≡ list_any (e s) old) eq_same h in
     all r n ∙ k
@@ -91,36 +98,37 @@ pub noted_there : (q : OutputRef) (old new : List OutputRef) → new ≡ with_ke
 noted_there q old new e = ap (λ rs. is_among rs q) e ∙ among_with old q q ∙ ap (λ b. b || is_among old q) (same_ref-refl q)
 
 -- and each that was there still is, also where it couldn't be noted
-pub noted_keeps : {T E : Type 0} (result : Result T E) (q : OutputRef) (old new : List OutputRef) → OnOk result (new ≡ with_key old q) → OnErr result (new ≡ old) → (r : OutputRef) → is_among old r ≡ true → is_among new r ≡ true
+pub noted_keeps : {T E : Type 0} (result : Result T E) (q : OutputRef) (old new : List OutputRef) → OnOk result (new ≡ with_key old q) → OnErr result (new ≡ old) →
+    (r : OutputRef) → is_among old r ≡ true → is_among new r ≡ true
 noted_keeps (Ok v) q old new h k r there = ap (λ rs. is_among rs r) h ∙ among_with old q r ∙ or_true (same_ref q r) (is_among old r) there
 noted_keeps (Err e) q old new h k r there = ap (λ rs. is_among rs r) k ∙ there
 
 -- ---- listed outputs
 
-pub listed_still : (old new : LockName → List OutputRef) (es : List (OutputRef × Output)) → Keeps old new → AreListed old es → AreListed new es
+pub listed_still : (old new : Under) (es : List (OutputRef × Output)) → Keeps old new → AreListed old es → AreListed new es
 listed_still old new [] k h = tt
 listed_still old new (e ∷ es) k h = (λ n q. k n e.0 (h.0 n q), listed_still old new es k h.1)
 
-listed_more : (refs : LockName → List OutputRef) (es fs : List (OutputRef × Output)) → AreListed refs es → AreListed refs fs → AreListed refs (es ++ fs)
+listed_more : (refs : Under) (es fs : List (OutputRef × Output)) → AreListed refs es → AreListed refs fs → AreListed refs (es ++ fs)
 listed_more refs [] fs h k = k
 listed_more refs (e ∷ es) fs h k = (h.0, listed_more refs es fs h.1 k)
 
-listed_front : (refs : LockName → List OutputRef) (es fs : List (OutputRef × Output)) → AreListed refs (es ++ fs) → AreListed refs es
+listed_front : (refs : Under) (es fs : List (OutputRef × Output)) → AreListed refs (es ++ fs) → AreListed refs es
 listed_front refs [] fs h = tt
 listed_front refs (e ∷ es) fs h = (h.0, listed_front refs es fs h.1)
 
 -- one output more
-listed_last : (refs : LockName → List OutputRef) (es : List (OutputRef × Option Output)) (r : OutputRef) (o : Output) → AreListed refs (live es) → Listed refs (r, o) → AreListed refs (live (es ++ (r, Some o) ∷ []))
+listed_last : (refs : Under) (es : Entries) (r : OutputRef) (o : Output) → AreListed refs (live es) → Listed refs (r, o) → AreListed refs (live (es ++ (r, Some o) ∷ []))
 listed_last refs es r o h k = subst (AreListed refs) (sym (live_append es ((r, Some o) ∷ []))) (listed_more refs (live es) ((r, o) ∷ []) h (k, tt))
 
 -- also where it couldn't be put
-pub listed_put : {T E : Type 0} (result : Result T E) (old new : LockName → List OutputRef) (es fs : List (OutputRef × Option Output)) (r : OutputRef) (o : Output) → OnOk result (fs ≡ es ++ (r, Some o) ∷ []) → OnErr result (fs ≡ es) →
+pub listed_put : {T E : Type 0} (result : Result T E) (old new : Under) (es fs : Entries) (r : OutputRef) (o : Output) → OnOk result (fs ≡ es ++ (r, Some o) ∷ []) → OnErr result (fs ≡ es) →
     Keeps old new → Listed new (r, o) → AreListed old (live es) → AreListed new (live fs)
 listed_put (Ok v) old new es fs r o e f k l h = subst (λ x. AreListed new (live x)) (sym e) (listed_last new es r o (listed_still old new (live es) k h) l)
 listed_put (Err x) old new es fs r o e f k l h = subst (λ x. AreListed new (live x)) (sym f) (listed_still old new (live es) k h)
 
 -- without what a reference names
-pub listed_without : (r : OutputRef) (old new : LockName → List OutputRef) (es : List (OutputRef × Output)) → KeepsBut r old new → AreListed old es → AreListed new (filter (λ e. not (same_ref r e.0)) es)
+pub listed_without : (r : OutputRef) (old new : Under) (es : List (OutputRef × Output)) → KeepsBut r old new → AreListed old es → AreListed new (filter (λ e. not (same_ref r e.0)) es)
 listed_without r old new [] k h = tt
 listed_without r old new (e ∷ es) k h = by (same_ref r e.0) refl (listed_without r old new es k h.1)
   where
@@ -132,7 +140,7 @@ listed_without r old new (e ∷ es) k h = by (same_ref r e.0) refl (listed_witho
     by false p go = (λ n q. k n e.0 p (h.0 n q), go)
 
 -- without the last entry, whose reference no other has
-pub listed_before : (r : OutputRef) (o : Option Output) (old new : LockName → List OutputRef) (es fs : List (OutputRef × Option Output)) → KeepsBut r old new → fs ≡ es ++ (r, o) ∷ [] → lookup (of_refs.eq r) es ≡ None →
+pub listed_before : (r : OutputRef) (o : Option Output) (old new : Under) (es fs : Entries) → KeepsBut r old new → fs ≡ es ++ (r, o) ∷ [] → lookup (of_refs.eq r) es ≡ None →
     AreListed old (live fs) → AreListed new (live es)
 listed_before r o old new es fs k e none h =
     subst (AreListed new) (kept_without r es (sym (ap (λ q. lookup (q r) es) eq_same) ∙ none))

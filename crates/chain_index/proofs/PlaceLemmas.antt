@@ -1,6 +1,6 @@
 -- Which places the entries have that a look shows.
-use Rattle.std.proofs.Common.{◌≡◌, ◌≢◌, ℕ, zero, suc, ◌+◌, ◌-◌, ◌<◌, ◌≤◌, arith, Bool, true, false, ◌&&◌, ◌||◌, not, cond, List, [], ◌∷◌, ◌++◌, refl, sym, ◌∙◌, ap, subst, length, drop, get_or, Option, Some, None}
-use Rattle.std.specs.List.{slice_get, list_any, IsDistinct, AllByRecursion}
+use Rattle.std.proofs.Common.{◌≡◌, ℕ, zero, suc, ◌+◌, ◌<◌, arith, Bool, true, false, ◌&&◌, ◌||◌, not, cond, List, [], ◌∷◌, refl, sym, ◌∙◌, ap, subst, length, drop, get_or, Option, Some, None}
+use Rattle.std.specs.List.{slice_get, IsDistinct, AllByRecursion}
 use Rattle.std.specs.Map.{lookup, lookup_key, keys_of}
 use Rattle.std.specs.Ordering.{nat_cmp}
 use Rattle.std.specs.BTreeMap.{is_at}
@@ -15,7 +15,7 @@ use Rattle.eutxo_types.specs.declared.output_ref.OutputRef.{OutputRef}
 use Rattle.eutxo_types.specs.Parts.{same_ref}
 use Rattle.eutxo_types.specs.contracts.output_ref.OutputRefPartialEq.TheImpl.{ghosts}
 use Rattle.ledger.specs.declared.ask.PayoutLock.{PayoutLock}
-use Rattle.ledger_laws.proofs.PlainLaws.{same_some, not_both, and_true}
+use Rattle.ledger_laws.proofs.PlainLaws.{same_some, not_both}
 use Rattle.ledger_laws.proofs.ReferenceLaws.{same_ref_so, same_ref-refl}
 use Rattle.ledger_spec.specs.Views.{is_key_of, is_payout_of}
 use Rattle.chain_index.specs.declared.lock_name.LockName.{LockName}
@@ -23,7 +23,7 @@ use Rattle.chain_index.specs.declared.lock_name.LockName.TheVariants.{Address, R
 use Rattle.chain_index.specs.Contents.{is_among}
 use Rattle.chain_index.specs.HolesSupport.{live, with_live}
 use Rattle.chain_index.specs.LocksSupport.{is_named, AreListed}
-use Rattle.chain_index.specs.UnderLocksSupport.{is_asked, is_shown, passes, passes_at, is_place, has_place}
+use Rattle.chain_index.specs.UnderLocksSupport.{is_asked, is_shown, passes, passes_at}
 use Rattle.chain_index.proofs.LockLemmas.{named_so}
 use Rattle.chain_index.proofs.RefLemmas.{eq_same, flips}
 
@@ -133,7 +133,8 @@ no_place p r (x ∷ xs) h i = by (same_ref r x.0) refl h (no_place p r xs) i
     by false e k go (suc n) = go k n
 
 -- what a map's look-up tells of it
-module _ (p : Entry → Bool) (r : OutputRef) (es : List Entry) (j : ℕ) (k : OutputRef) (o : Option Output) (u : IsDistinct ghosts.eq (keys_of es)) (there : slice_get es j ≡ Some (k, o)) (key : Some k ≡ lookup_key (ghosts.eq r) es) where
+module _ (p : Entry → Bool) (r : OutputRef) (es : List Entry) (j : ℕ) (k : OutputRef) (o : Option Output) (u : IsDistinct ghosts.eq (keys_of es))
+    (there : slice_get es j ≡ Some (k, o)) (key : Some k ≡ lookup_key (ghosts.eq r) es) where
   named_place : (i : ℕ) → (is_at (nat_cmp j) i && p (k, o)) ≡ passes_at (λ x. same_ref x.0 r && p x) es i
   named_place =
       found_place p r es j (k, o) (subst (λ e. IsDistinct e (keys_of es)) eq_same u) there
@@ -205,7 +206,8 @@ shown_or a b c leaving h e = by e.1
     by (Some o) = ap (λ x. x && stays) (h o.lock) ∙ or_and (b o.lock) (c o.lock) stays
 
 -- asked for: all, one of them, and those that are left
-next_asked : (all one left : Lock → Bool) (leaving : List OutputRef) (es : List Entry) (i : ℕ) (before after : Bool) → ((l : Lock) → all l ≡ (one l || left l)) → after ≡ (passes_at (is_shown one leaving) es i || before) →
+next_asked : (all one left : Lock → Bool) (leaving : List OutputRef) (es : List Entry) (i : ℕ) (before after : Bool) → ((l : Lock) → all l ≡ (one l || left l)) →
+    after ≡ (passes_at (is_shown one leaving) es i || before) →
     (passes_at (is_shown all leaving) es i || before) ≡ (passes_at (is_shown left leaving) es i || after)
 next_asked all one left leaving es i before after h k =
     step (passes_at (is_shown all leaving) es i) (passes_at (is_shown left leaving) es i) (passes_at (is_shown one leaving) es i) before after

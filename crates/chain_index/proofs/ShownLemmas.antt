@@ -1,6 +1,6 @@
 -- The outputs at the places of those that are shown, in order, are those that are shown.
-use Rattle.std.proofs.Common.{◌≡◌, ℕ, zero, suc, ◌+◌, ◌-◌, ◌<◌, ◌≤◌, arith, Bool, true, false, ◌&&◌, ◌||◌, not, cond, filter, List, [], ◌∷◌, ◌++◌, refl, sym, ◌∙◌, ap, subst, length, map, Option, Some, None}
-use Rattle.std.specs.List.{slice_get, list_any, flat_map, AllByRecursion}
+use Rattle.std.proofs.Common.{◌≡◌, ℕ, suc, ◌+◌, ◌-◌, ◌<◌, ◌≤◌, arith, Bool, true, false, ◌&&◌, ◌||◌, not, cond, filter, List, [], ◌∷◌, ◌++◌, refl, sym, ◌∙◌, ap, subst, length, map, Option, Some, None}
+use Rattle.std.specs.List.{slice_get, flat_map, AllByRecursion}
 use Rattle.std.specs.List.Sorted.{IsStrictlySortedBy}
 use Rattle.std.specs.Ordering.{nat_cmp}
 use Rattle.std.specs.declared.cmp.Ordering.TheVariants.{Less}
@@ -16,7 +16,7 @@ use Rattle.ledger_spec.specs.Views.{unspent_of}
 use Rattle.ledger_laws.proofs.PlainLaws.{not_both, or_false}
 use Rattle.chain_index.specs.Contents.{is_among}
 use Rattle.chain_index.specs.HolesSupport.{live, staying}
-use Rattle.chain_index.specs.UnderLocksSupport.{under, is_asked, is_shown, passes, passes_at, has_place, row_with, row, rows_at}
+use Rattle.chain_index.specs.UnderLocksSupport.{under, is_shown, passes, passes_at, has_place, row_with, row, rows_at}
 use Rattle.chain_index.proofs.LiveLemmas.{live_append}
 use Rattle.chain_index.proofs.PlaceLemmas.{place_so, place_itself, place_apart, place_flips}
 
@@ -124,11 +124,16 @@ module _ (asks : Lock → Bool) (leaving : List OutputRef) where
           let up : Ascend (n + 1) js = subst (λ j. Ascend (j + 1) js) (sym same) (g.0).1 in
           let there : at k ≡ Some e = ap at (sym same ∙ sym here) ∙ g.1 0 in
           let apart = λ (i : ℕ). place_flips ((n + 1) + i) k ∙ place_apart k ((n + 1) + i) (omega (arith, same)) in
-          (λ i. row (there i) ++ go (n + 1) js (up, (λ i. ap at (later i) ∙ g.1 (suc i)), (λ i. sym (ap (λ b. b || has_place js ((n + 1) + i)) (apart i)) ∙ ap (has_place (k ∷ js)) (later i) ∙ g.2 (suc i))) i)
+          (λ i. row (there i) ++ go (n + 1) js (
+            up,
+            (λ i. ap at (later i) ∙ g.1 (suc i)),
+            (λ i. sym (ap (λ b. b || has_place js ((n + 1) + i)) (apart i)) ∙ ap (has_place (k ∷ js)) (later i) ∙ g.2 (suc i)),
+          ) i)
           ∙ sym (under_cons ∙ ap (λ b. cond b (row (Some e)) [] ++ under asks leaving es) h)
 
 -- where places ascend, and are those of the entries that are shown
-pub rows_shown : (asks : Lock → Bool) (leaving : List OutputRef) (es : List Entry) (ks : List ℕ) → IsStrictlySortedBy nat_cmp ks → ((i : ℕ) → has_place ks i ≡ passes_at (is_shown asks leaving) es i) → rows_at es ks ≡ under asks leaving es
+pub rows_shown : (asks : Lock → Bool) (leaving : List OutputRef) (es : List Entry) (ks : List ℕ) → IsStrictlySortedBy nat_cmp ks →
+    ((i : ℕ) → has_place ks i ≡ passes_at (is_shown asks leaving) es i) → rows_at es ks ≡ under asks leaving es
 rows_shown asks leaving es ks s h =
     let zero_plus : (i : ℕ) → 0 + i ≡ i = λ i. omega arith in
     picked asks leaving es 0 (slice_get es) ks (ascend_from 0 ks (all_from ks) s, (λ i. ap (slice_get es) (zero_plus i)), (λ i. ap (has_place ks) (zero_plus i) ∙ h i))

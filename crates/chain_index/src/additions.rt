@@ -25,12 +25,7 @@ use indexmap::{IndexMap, IndexSet};
 // ---- outputs
 
 // Puts a copy of an output under a new reference.
-fn put_one(
-    outputs: &mut Outputs,
-    whose: &Naming,
-    index: u64,
-    output: &Output,
-) -> Result<(), Memory>
+fn put_one(outputs: &mut Outputs, whose: &Naming, index: u64, output: &Output) -> Result<(), Memory>
     requires { is_among (known outputs.old) (naming whose.now index) ≡ false }
     ensures ok { OnOk result (outputs.new ≡ outputs.old ++ (naming whose.now index, Some output.now) ∷ []) }
     ensures err { OnErr result (outputs.new ≡ outputs.old) }
@@ -40,11 +35,7 @@ fn put_one(
 }
 
 /// Puts copies of outputs under their references.
-pub(crate) fn put_all(
-    outputs: &mut Outputs,
-    whose: &Naming,
-    made: &[Output],
-) -> Result<(), Memory>
+pub(crate) fn put_all(outputs: &mut Outputs, whose: &Naming, made: &[Output]) -> Result<(), Memory>
     requires { (i : ℕ) → is_among (known outputs.old) (naming whose.now i) ≡ false }
     ensures ok { OnOk result (outputs.new ≡ outputs.old ++ slots_of whose.now made.now) }
     ensures grown { IsFront outputs.old outputs.new }

@@ -28,11 +28,7 @@ pub(crate) fn refs_under<'a>(by_lock: &'a ByLock, name: &LockName) -> &'a [Outpu
 // ---- listed
 
 // Lists a reference under a name that has none yet.
-fn list_first(
-    by_lock: &mut ByLock,
-    name: LockName,
-    reference: OutputRef,
-) -> Result<(), Memory>
+fn list_first(by_lock: &mut ByLock, name: LockName, reference: OutputRef) -> Result<(), Memory>
     requires { lookup (same_name name) by_lock.old.entries ≡ None }
     ensures ok { OnOk result (is_among (refs_under by_lock.new.entries name) reference ≡ true) }
     ensures keeps { Keeps (refs_under by_lock.old.entries) (refs_under by_lock.new.entries) }
@@ -45,11 +41,7 @@ fn list_first(
     }
 }
 
-fn list_under(
-    by_lock: &mut ByLock,
-    name: LockName,
-    reference: OutputRef,
-) -> Result<(), Memory>
+fn list_under(by_lock: &mut ByLock, name: LockName, reference: OutputRef) -> Result<(), Memory>
     ensures ok { OnOk result (is_among (refs_under by_lock.new.entries name) reference ≡ true) }
     ensures keeps { Keeps (refs_under by_lock.old.entries) (refs_under by_lock.new.entries) }
 {
@@ -102,7 +94,12 @@ fn unlist_under(by_lock: &mut ByLock, name: &LockName, reference: &OutputRef)
 // The name of what an output is under, which is used up. Takes no memory.
 fn name_of_spent(output: Option<Output>) -> Option<LockName> {
     match output {
-        Some(Output { lock, amount: _amount }) => into_name(lock),
+        Some(
+            Output {
+                lock,
+                amount: _amount,
+            },
+        ) => into_name(lock),
         None => None,
     }
 }

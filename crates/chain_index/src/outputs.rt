@@ -1,5 +1,6 @@
 //! Outputs in the order in which they came, with holes where some were spent, found by reference and by lock.
-ghost use Rattle.std.specs.Prelude.{◌≡◌, ◌++◌, ◌∷◌, [], ◌-◌, ◌||◌, ℕ, false, not, filter, length, take, slice_get, Some, OnOk, OnErr, option_copied};
+ghost use Rattle.std.specs.Prelude.{◌≡◌, ◌++◌, ◌∷◌, [], ◌-◌, ◌||◌, ℕ, false, not, filter, length, take, slice_get};
+ghost use Rattle.std.specs.Prelude.{Some, OnOk, OnErr, option_copied};
 ghost use Rattle.std.specs.Map.{lookup, keys_of};
 ghost use Rattle.eutxo_types.specs.Parts.{same_ref};
 ghost use Rattle.chain_index.specs.Contents.{is_among};
@@ -120,7 +121,13 @@ impl Outputs {
         ensures { OnOk result ((i : ℕ) → has_place places.new.keys i
             ≡ (passes_at (is_shown (is_named name.now) leaving.now.keys) self.now i || has_place places.old.keys i)) }
     {
-        collect(&self.entries, leaving, name, refs_under(&self.by_lock, name), places)
+        collect(
+            &self.entries,
+            leaving,
+            name,
+            refs_under(&self.by_lock, name),
+            places,
+        )
     }
 
     /// Adds a copy of the output at a place.

@@ -56,7 +56,7 @@ pub(crate) struct Parts {
 impl Model for Parts {
     ghost use Rattle.std.specs.Coded.{codes};
     ghost use Rattle.std.specs.Map.{values_of};
-    ghost use Rattle.eutxo_types.specs.contracts.output.Output as output_rows;
+    ghost use Rattle.eutxo_types.specs.contracts.output.Output as made;
     ghost use Rattle.eutxo_types.specs.contracts.output_ref.OutputRef as references;
     ghost use Rattle.roles.specs.contracts.published.Published as publications;
     ghost use Rattle.chain_index.specs.contracts.moves.Move as move_rows;
@@ -65,7 +65,7 @@ impl Model for Parts {
     ghost Value = { Parts };
 
     ghost coded = { Prim.hlevel
-        (codes, output_rows.the_row.coded, references.the_row.coded, publications.the_row.coded, move_rows.the_row.coded) };
+        (codes, made.the_row.coded, references.the_row.coded, publications.the_row.coded, move_rows.the_row.coded) };
 
     ghost view = { λ a.
         record {

@@ -34,7 +34,8 @@ fn place_of(
     reference: &OutputRef,
 ) -> Option<usize>
     ensures { (i : ℕ) → is_place result i
-        ≡ passes_at (λ e. same_ref e.0 reference.now && is_shown (is_named name.now) leaving.now.keys e) slots.now.entries i }
+        ≡ passes_at (λ e. same_ref e.0 reference.now && is_shown (is_named name.now) leaving.now.keys e)
+        slots.now.entries i }
 {
     // touch: keys differ
     let _len = slots.len();
@@ -73,8 +74,8 @@ pub(crate) fn collect(
     places: &mut BTreeSet<usize>,
 ) -> Result<(), Memory>
     ensures { OnOk result ((i : ℕ) → has_place places.new.keys i
-        ≡ (passes_at (λ e. is_among references.now e.0 && is_shown (is_named name.now) leaving.now.keys e) slots.now.entries i
-        || has_place places.old.keys i)) }
+        ≡ (passes_at (λ e. is_among references.now e.0 && is_shown (is_named name.now) leaving.now.keys e)
+        slots.now.entries i || has_place places.old.keys i)) }
 {
     for reference in references {
         add_place(places, place_of(slots, leaving, name, reference))?;

@@ -12,7 +12,8 @@ returns-in-Some-clause-ok c =
     let w = c.note.new.set in
     let updates = (c.get_mut.follows.holds w).3 (sym (ap is_some c.in-Some.ensures.value)) in
     on_ok_weaker c.note.result
-    (λ e. ap (λ rs. is_among rs c.args.reference) (under_changed old.entries (c.get_mut.follows.lender w).entries c.args.name (Some w) updates.0) ∙ noted_there c.args.reference c.in-Some.refs.now.keys w.keys e)
+    (λ e. ap (λ rs. is_among rs c.args.reference) (under_changed old.entries (c.get_mut.follows.lender w).entries c.args.name (Some w) updates.0)
+    ∙ noted_there c.args.reference c.in-Some.refs.now.keys w.keys e)
     c.note.ensures.ok
 
 pub returns-in-Some-clause-keeps : goal.returns-in-Some-clause-keeps
@@ -23,5 +24,6 @@ returns-in-Some-clause-keeps c n r there =
     let found = c.in-Some.ensures.value in
     let updates = (c.get_mut.follows.holds w).3 (sym (ap is_some found)) in
     kept_under old.entries (c.get_mut.follows.lender w).entries name (Some w) updates.0 (λ _. Unit {0})
-    (λ s p k. noted_keeps c.note.result c.args.reference c.in-Some.refs.now.keys w.keys c.note.ensures.ok c.note.ensures.err s (ap (λ o. is_among (refs_in o) s) (found ∙ ap (λ e. lookup (e name) old.entries) name_same) ∙ k))
+    (λ s p k. noted_keeps c.note.result c.args.reference c.in-Some.refs.now.keys w.keys c.note.ensures.ok c.note.ensures.err s
+    (ap (λ o. is_among (refs_in o) s) (found ∙ ap (λ e. lookup (e name) old.entries) name_same) ∙ k))
     n r tt there

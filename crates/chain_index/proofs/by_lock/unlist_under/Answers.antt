@@ -1,4 +1,4 @@
-use Rattle.std.proofs.Common.{◌≡◌, ◌∙◌, false, true, sym, ap, None}
+use Rattle.std.proofs.Common.{◌≡◌, ◌∙◌, false, sym, ap, None}
 use Rattle.eutxo_types.specs.Parts.{same_ref}
 use Rattle.chain_index.specs.Contents.{is_among}
 use Rattle.chain_index.proofs.LockLemmas.{kept_under}

@@ -1,4 +1,4 @@
-use Rattle.std.proofs.Common.{◌∙◌, ◌||◌, ℕ, List, sym, ap}
+use Rattle.std.proofs.Common.{◌∙◌, ◌||◌, List, sym, ap}
 use Rattle.std.specs.List.{slice_get}
 use Rattle.std.proofs.lemmas.List.{drop_all}
 use Rattle.ledger.specs.declared.ask.PayoutLock.{PayoutLock}

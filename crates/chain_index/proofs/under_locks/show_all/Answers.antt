@@ -11,7 +11,8 @@ loop-place-preserved c =
     let es = c.args.outputs.now in
     let rest = rows_at es c.pop_first.new.self.keys in
     let told = c.loop-place.shown in
-    ap (λ (l : List Unspent). l ++ rest) c.in_ok-show.ensures ∙ append_assoc told (row (slice_get es c.in-Some.place)) rest ∙ ap (λ ks. told ++ rows_at es ks) (sym c.in-Some.ensures.removal) ∙ c.loop-place.invariant
+    ap (λ (l : List Unspent). l ++ rest) c.in_ok-show.ensures ∙ append_assoc told (row (slice_get es c.in-Some.place)) rest
+    ∙ ap (λ ks. told ++ rows_at es ks) (sym c.in-Some.ensures.removal) ∙ c.loop-place.invariant
 
 pub returns-clause-rows : goal.returns-clause-rows
 returns-clause-rows c =

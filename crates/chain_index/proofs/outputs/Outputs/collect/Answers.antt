@@ -1,4 +1,4 @@
-use Rattle.std.proofs.Common.{◌∙◌, ◌||◌, ◌&&◌, List, ap, sym}
+use Rattle.std.proofs.Common.{◌∙◌, ◌||◌, ◌&&◌, List, ap}
 use Rattle.std.proofs.lemmas.Result.{on_ok_weaker}
 use Rattle.eutxo_types.specs.declared.output_ref.OutputRef.{OutputRef}
 use Rattle.chain_index.specs.Contents.{is_among}
