@@ -71,6 +71,8 @@ impl Outputs {
         ensures ok { OnOk result (self.new ≡ self.old ++ (reference, Some output) ∷ []) }
         ensures err { OnErr result (self.new ≡ self.old) }
     {
+        // room first: what is listed has its entry
+        self.entries.reserve(1)?;
         list(&mut self.by_lock, reference, &output)?;
         put(&mut self.entries, reference, output)
     }
