@@ -1,10 +1,12 @@
 pub mod RefLemmas
 pub mod LiveLemmas
+pub mod LockLemmas
 pub mod FrontLemmas
 pub mod OutputLemmas
 pub mod MoveLemmas
 pub mod StartLemmas
 pub mod ObjectLemmas
+pub mod PlaceLemmas
 pub mod ShownLemmas
 pub mod PartsLemmas
 pub mod PastLemmas

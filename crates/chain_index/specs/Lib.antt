@@ -4,4 +4,5 @@ pub mod Laws
 pub mod HolesSupport
 pub mod NamingSupport
 pub mod PartsSupport
+pub mod LocksSupport
 pub mod UnderLocksSupport

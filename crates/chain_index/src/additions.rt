@@ -14,9 +14,10 @@ ghost use Rattle.chain_index.specs.Moves.{moves_by, moves_in, starts_by};
 ghost use Rattle.chain_index.specs.NamingSupport.{naming, slots_of};
 ghost use Rattle.chain_index.specs.PartsSupport.{IsFront, LeaveWith, one_start};
 
-use crate::holes::{Slots, note, put};
+use crate::holes::note;
 use crate::moves::{Move, next_of, put_move};
 use crate::naming::{Naming, name_at};
+use crate::outputs::Outputs;
 use collections::{Memory, TryClone};
 use eutxo_types::{Output, OutputRef, Spend, Tx};
 use indexmap::{IndexMap, IndexSet};
@@ -24,33 +25,23 @@ use indexmap::{IndexMap, IndexSet};
 // ---- outputs
 
 // Puts a copy of an output under a new reference.
-fn put_one(
-    entries: &mut Slots<Output>,
-    whose: &Naming,
-    index: u64,
-    output: &Output,
-) -> Result<(), Memory>
-    requires { is_among (known entries.old.entries) (naming whose.now index) ≡ false }
-    ensures ok { OnOk result (entries.new.entries ≡ entries.old.entries
-        ++ (naming whose.now index, Some output.now) ∷ []) }
-    ensures err { OnErr result (entries.new.entries ≡ entries.old.entries) }
+fn put_one(outputs: &mut Outputs, whose: &Naming, index: u64, output: &Output) -> Result<(), Memory>
+    requires { is_among (known outputs.old) (naming whose.now index) ≡ false }
+    ensures ok { OnOk result (outputs.new ≡ outputs.old ++ (naming whose.now index, Some output.now) ∷ []) }
+    ensures err { OnErr result (outputs.new ≡ outputs.old) }
 {
     let copy = output.try_clone()?;
-    put(entries, name_at(whose, index), copy)
+    outputs.put(name_at(whose, index), copy)
 }
 
 /// Puts copies of outputs under their references.
-pub(crate) fn put_all(
-    entries: &mut Slots<Output>,
-    whose: &Naming,
-    made: &[Output],
-) -> Result<(), Memory>
-    requires { (i : ℕ) → is_among (known entries.old.entries) (naming whose.now i) ≡ false }
-    ensures ok { OnOk result (entries.new.entries ≡ entries.old.entries ++ slots_of whose.now made.now) }
-    ensures grown { IsFront entries.old.entries entries.new.entries }
+pub(crate) fn put_all(outputs: &mut Outputs, whose: &Naming, made: &[Output]) -> Result<(), Memory>
+    requires { (i : ℕ) → is_among (known outputs.old) (naming whose.now i) ≡ false }
+    ensures ok { OnOk result (outputs.new ≡ outputs.old ++ slots_of whose.now made.now) }
+    ensures grown { IsFront outputs.old outputs.new }
 {
     for (i, o) in made.iter().enumerate() {
-        put_one(entries, whose, i as u64, o)?;
+        put_one(outputs, whose, i as u64, o)?;
     }
     Ok(())
 }

@@ -4,7 +4,7 @@ ghost use Rattle.std.specs.Prelude.{◌≡◌, ◌++◌, ◌∷◌, [], false, n
 ghost use Rattle.std.specs.Map.{lookup, keys_of};
 ghost use Rattle.eutxo_types.specs.Parts.{same_ref};
 ghost use Rattle.chain_index.specs.Contents.{is_among};
-ghost use Rattle.chain_index.specs.HolesSupport.{live, staying, known, with_key, AreAmong};
+ghost use Rattle.chain_index.specs.HolesSupport.{live, known, with_key, AreAmong};
 
 use collections::Memory;
 use eutxo_types::OutputRef;
@@ -60,24 +60,14 @@ pub(crate) fn is_noted(set: &IndexSet<OutputRef>, reference: &OutputRef) -> bool
     set.contains(reference)
 }
 
-// Makes a hole at a reference. Takes no memory.
-fn take_out<V: Drop>(slots: &mut Slots<V>, reference: &OutputRef)
+/// Makes a hole at a reference, and answers what was there. Takes no memory.
+pub(crate) fn take_out<V: Drop>(slots: &mut Slots<V>, reference: &OutputRef) -> Option<V>
     ensures live { live slots.new.entries ≡ filter (λ e. not (same_ref reference.now e.0)) (live slots.old.entries) }
     ensures keys { keys_of slots.new.entries ≡ keys_of slots.old.entries }
 {
-    if let Some(slot) = slots.get_mut(reference) {
-        *slot = None;
-    }
-}
-
-/// Makes holes at all these references, and forgets these. Takes no memory.
-pub(crate) fn take_all_out<V: Drop>(slots: &mut Slots<V>, set: &mut IndexSet<OutputRef>)
-    ensures live { live slots.new.entries ≡ staying set.old.keys (live slots.old.entries) }
-    ensures keys { keys_of slots.new.entries ≡ keys_of slots.old.entries }
-    ensures empty { set.new.keys ≡ [] }
-{
-    while let Some(reference) = set.pop() {
-        take_out(slots, &reference);
+    match slots.get_mut(reference) {
+        Some(slot) => slot.take(),
+        None => None,
     }
 }
 

@@ -4,17 +4,17 @@ ghost use Rattle.std.specs.Map.{lookup};
 ghost use Rattle.eutxo_types.specs.Ids.{id_of};
 ghost use Rattle.eutxo_types.specs.Parts.{same_bytes, same_ref};
 ghost use Rattle.ledger_spec.specs.Replay.{published_at};
+ghost use Rattle.ledger_spec.specs.Views.{is_key_of, is_payout_of};
 ghost use Rattle.chain_index.specs.Contents.{beginning, accepting, publishing, CanBeAdded};
 ghost use Rattle.chain_index.specs.Contents.{is_used, is_among, end_in, under_locks_in};
 ghost use Rattle.chain_index.specs.Moves.{along};
 
 use crate::moves::StepPlace;
 use crate::parts::{Parts, Sizes};
-use crate::under_locks::LockFilter;
-use collections::{Items, Memory};
+use collections::{Items, Memory, Text};
 use eutxo::Shared;
 use eutxo_types::{Output, OutputRef, Tx};
-use ledger::Unspent;
+use ledger::{PayoutLock, Unspent};
 use roles::Published;
 use std::alloc::Global;
 use std::marker::Model;
@@ -23,7 +23,8 @@ use std::marker::Model;
 /// Clauses see what there was when it was last settled, and what there is now.
 ///
 /// A look-up costs the same whatever there is, and takes no memory; but `steps` and `end_of` make one for each step of
-/// the thread, `under_locks` walks over all unspent outputs, and the answers of `steps` and `under_locks` take memory.
+/// the thread, `keys_shown` and `payouts_shown` one for each lock that is asked for and each output under it, and what
+/// these and `steps` answer takes memory.
 /// Keys are found by their hashes, whose seed is fixed (docs/DECISIONS.md).
 #[derive(Drop)]
 pub struct Index {
@@ -158,14 +159,23 @@ impl Index {
         self.parts.steps(alloc, start)
     }
 
-    /// The unspent outputs under the locks that are asked for, in order of creation: one walk over them all.
-    pub fn under_locks<F: LockFilter>(
+    /// The unspent outputs under the keys of these addresses, in order of creation, each once. It costs what is asked
+    /// and what is shown.
+    pub fn keys_shown(&self, alloc: Global, keys: &[Text]) -> Result<Items<Unspent>, Memory>
+        ensures { IfOk result (λ shown. shown ≡ under_locks_in (is_key_of keys.now) self.now.present) }
+    {
+        self.parts.keys_shown(alloc, keys)
+    }
+
+    /// The unspent outputs under these payout locks, in order of creation, each once. It costs what is asked and what
+    /// is shown.
+    pub fn payouts_shown(
         &self,
         alloc: Global,
-        asked: &F,
+        payouts: &[PayoutLock],
     ) -> Result<Items<Unspent>, Memory>
-        ensures { IfOk result (λ shown. shown ≡ under_locks_in (F.asks asked.now) self.now.present) }
+        ensures { IfOk result (λ shown. shown ≡ under_locks_in (is_payout_of payouts.now) self.now.present) }
     {
-        self.parts.under_locks(alloc, asked)
+        self.parts.payouts_shown(alloc, payouts)
     }
 }

@@ -8,18 +8,21 @@
 #![tactic(auto)]
 
 mod additions;
+mod by_lock;
 mod holes;
 mod index;
 mod index_at;
 mod laws;
+mod lock_name;
 mod moves;
 mod naming;
 mod objects;
+mod outputs;
 mod parts;
+mod places;
 mod under_locks;
 
 pub use index::Index;
 pub use index_at::IndexAt;
 pub use laws::{index_accepts_alike, index_follows_threads, index_reads_alike};
 pub use moves::{Move, StepPlace};
-pub use under_locks::LockFilter;

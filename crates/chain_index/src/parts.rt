@@ -6,22 +6,24 @@ ghost use Rattle.eutxo_types.specs.declared.output_ref.OutputRef.TheVariants.{Ma
 ghost use Rattle.eutxo_types.specs.Ids.{id_of};
 ghost use Rattle.eutxo_types.specs.Parts.{same_bytes, same_ref};
 ghost use Rattle.ledger_spec.specs.Replay.{published_at};
+ghost use Rattle.ledger_spec.specs.Views.{is_key_of, is_payout_of};
 ghost use Rattle.chain_index.specs.Contents.{is_used, is_among, end_in, under_locks_in, CanBeAdded};
 ghost use Rattle.chain_index.specs.HolesSupport.{known, AreAmong};
 ghost use Rattle.chain_index.specs.Moves.{along};
 ghost use Rattle.chain_index.specs.PartsSupport.{contents_in, no_parts, first_parts, sizes_of, front, Takes, IsGrown};
 
 use crate::additions::{leave_all, move_all, put_all, start_all};
-use crate::holes::{Slots, close_if_many, is_noted, take_all_out, value_at};
+use crate::holes::is_noted;
 use crate::moves::{Move, StepPlace, end_along, steps_along};
 use crate::naming::Naming;
 use crate::objects::{Objects, object_at, put_object};
-use crate::under_locks::{LockFilter, under_locks};
-use collections::{Items, Memory};
+use crate::outputs::{Outputs, take_all_out, truncate};
+use crate::under_locks::{keys_shown, payouts_shown};
+use collections::{Items, Memory, Text};
 use eutxo::Shared;
 use eutxo_types::{Output, OutputRef, Tx};
 use indexmap::{IndexMap, IndexSet};
-use ledger::Unspent;
+use ledger::{PayoutLock, Unspent};
 use roles::Published;
 use std::alloc::{AllocError, Global};
 use std::marker::Model;
@@ -42,7 +44,7 @@ pub struct Sizes {
 /// closed.
 #[derive(Drop)]
 pub(crate) struct Parts {
-    entries: Slots<Output>,
+    outputs: Outputs,
     leaving: IndexSet<OutputRef>,
     holes: usize,
     ids: IndexSet<[u8; 32]>,
@@ -54,7 +56,7 @@ pub(crate) struct Parts {
 impl Model for Parts {
     ghost use Rattle.std.specs.Coded.{codes};
     ghost use Rattle.std.specs.Map.{values_of};
-    ghost use Rattle.eutxo_types.specs.contracts.output.Output as outputs;
+    ghost use Rattle.eutxo_types.specs.contracts.output.Output as made;
     ghost use Rattle.eutxo_types.specs.contracts.output_ref.OutputRef as references;
     ghost use Rattle.roles.specs.contracts.published.Published as publications;
     ghost use Rattle.chain_index.specs.contracts.moves.Move as move_rows;
@@ -63,11 +65,11 @@ impl Model for Parts {
     ghost Value = { Parts };
 
     ghost coded = { Prim.hlevel
-        (codes, outputs.the_row.coded, references.the_row.coded, publications.the_row.coded, move_rows.the_row.coded) };
+        (codes, made.the_row.coded, references.the_row.coded, publications.the_row.coded, move_rows.the_row.coded) };
 
     ghost view = { λ a.
         record {
-          entries = a.entries.entries;
+          entries = a.outputs;
           leaving = a.leaving.keys;
           ids = a.ids.keys;
           objects = values_of a.objects.entries;
@@ -90,12 +92,12 @@ fn put_id(ids: &mut IndexSet<[u8; 32]>, id: [u8; 32]) -> Result<(), Memory>
     }
 }
 
-// These entries alone. Takes no memory.
-fn of_entries(alloc: Global, entries: Slots<Output>) -> Parts
-    ensures { result ≡ record no_parts { entries = entries.entries } }
+// These outputs alone. Takes no memory.
+fn of_outputs(alloc: Global, outputs: Outputs) -> Parts
+    ensures { result ≡ record no_parts { entries = outputs } }
 {
     Parts {
-        entries,
+        outputs,
         leaving: IndexSet::new(alloc),
         holes: 0,
         ids: IndexSet::new(alloc),
@@ -110,16 +112,16 @@ impl Parts {
     pub(crate) fn new(alloc: Global) -> Parts
         ensures { result ≡ no_parts }
     {
-        of_entries(alloc, IndexMap::new(alloc))
+        of_outputs(alloc, Outputs::new(alloc))
     }
 
     /// What there is at the beginning: these outputs.
     pub(crate) fn of_genesis(alloc: Global, genesis: &[Output]) -> Result<Parts, Memory>
         ensures { IfOk result (λ parts. parts ≡ first_parts genesis.now) }
     {
-        let mut entries = IndexMap::new(alloc);
-        put_all(&mut entries, &Naming::Genesis, genesis)?;
-        Ok(of_entries(alloc, entries))
+        let mut outputs = Outputs::new(alloc);
+        put_all(&mut outputs, &Naming::Genesis, genesis)?;
+        Ok(of_outputs(alloc, outputs))
     }
 
     /// How long the lists are.
@@ -127,7 +129,7 @@ impl Parts {
         ensures { result ≡ sizes_of self.now }
     {
         Sizes {
-            entries: self.entries.len(),
+            entries: self.outputs.len(),
             leaving: self.leaving.len(),
             ids: self.ids.len(),
             objects: self.objects.len(),
@@ -140,7 +142,7 @@ impl Parts {
     pub(crate) fn back(&mut self, sizes: &Sizes)
         ensures { self.new ≡ front sizes.now self.old }
     {
-        self.entries.truncate(sizes.entries);
+        truncate(&mut self.outputs, sizes.entries);
         self.leaving.truncate(sizes.leaving);
         self.ids.truncate(sizes.ids);
         self.objects.truncate(sizes.objects);
@@ -157,7 +159,7 @@ impl Parts {
         ensures grown { IsGrown self.old self.new }
     {
         let number = self.ids.len() as u64;
-        put_all(&mut self.entries, &Naming::Made(*id), tx.outputs.as_slice())?;
+        put_all(&mut self.outputs, &Naming::Made(*id), tx.outputs.as_slice())?;
         leave_all(&mut self.leaving, tx.inputs.as_slice())?;
         move_all(&mut self.moves, tx, id, number)?;
         start_all(&mut self.starts, tx, id)?;
@@ -199,8 +201,8 @@ impl Parts {
         ensures known { AreAmong (known self.new.entries) (known self.old.entries) }
     {
         let holes = self.holes.saturating_add(self.leaving.len());
-        take_all_out(&mut self.entries, &mut self.leaving);
-        self.holes = close_if_many(&mut self.entries, holes);
+        take_all_out(&mut self.outputs, &mut self.leaving);
+        self.holes = self.outputs.close_if_many(holes);
     }
 
     // ---- look-ups
@@ -212,7 +214,7 @@ impl Parts {
         if is_noted(&self.leaving, reference) {
             None
         } else {
-            value_at(&self.entries, reference)
+            self.outputs.value_at(reference)
         }
     }
 
@@ -265,14 +267,21 @@ impl Parts {
         steps_along(alloc, &self.moves, *start)
     }
 
-    /// The unspent outputs under the locks that are asked for, in order of creation.
-    pub(crate) fn under_locks<F: LockFilter>(
+    /// The unspent outputs under the keys of these addresses, in order of creation.
+    pub(crate) fn keys_shown(&self, alloc: Global, keys: &[Text]) -> Result<Items<Unspent>, Memory>
+        ensures { IfOk result (λ shown. shown ≡ under_locks_in (is_key_of keys.now) (contents_in self.now)) }
+    {
+        keys_shown(alloc, &self.outputs, &self.leaving, keys)
+    }
+
+    /// The unspent outputs under these payout locks, in order of creation.
+    pub(crate) fn payouts_shown(
         &self,
         alloc: Global,
-        asked: &F,
+        payouts: &[PayoutLock],
     ) -> Result<Items<Unspent>, Memory>
-        ensures { IfOk result (λ shown. shown ≡ under_locks_in (F.asks asked.now) (contents_in self.now)) }
+        ensures { IfOk result (λ shown. shown ≡ under_locks_in (is_payout_of payouts.now) (contents_in self.now)) }
     {
-        under_locks(alloc, &self.entries, &self.leaving, asked)
+        payouts_shown(alloc, &self.outputs, &self.leaving, payouts)
     }
 }

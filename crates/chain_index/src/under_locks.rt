@@ -1,79 +1,101 @@
 //! Unspent outputs under the locks that are asked for.
-ghost use Rattle.std.specs.Prelude.{◌≡◌, ◌++◌, ◌∷◌, [], ◌<◌, Bool, length, slice_get, Some, IfOk, OnOk};
-ghost use Rattle.eutxo_types.specs.declared.lock.Lock.{Lock};
-ghost use Rattle.chain_index.specs.UnderLocksSupport.{under};
+ghost use Rattle.std.specs.Prelude.{◌≡◌, ◌++◌, ◌∷◌, [], ◌||◌, ℕ, IfOk, OnOk};
+ghost use Rattle.std.specs.Ordering.{nat_cmp};
+ghost use Rattle.std.specs.BTreeSet.{IsOrdered};
+ghost use Rattle.ledger_spec.specs.Views.{is_key_of, is_payout_of};
+ghost use Rattle.chain_index.specs.UnderLocksSupport.{under, is_shown, passes_at, has_place, rows_at};
 
-use crate::holes::{Slots, is_noted};
-use collections::{Items, Memory, TryClone};
-use eutxo_types::{Lock, Output, OutputRef};
+use crate::lock_name::LockName;
+use crate::outputs::Outputs;
+use collections::{Items, Memory, Text, TryClone};
+use eutxo_types::OutputRef;
 use indexmap::IndexSet;
-use ledger::Unspent;
+use ledger::{PayoutLock, Unspent};
 use std::alloc::Global;
+use std::collections::BTreeSet;
 
-/// Which locks are asked for.
-pub trait LockFilter {
-    ghost asks: { Self → Lock → Bool };
-
-    fn asks(&self, lock: &Lock) -> bool
-        ensures { result ≡ asks self.now lock.now };
-}
-
-fn slot_at<V>(slots: &Slots<V>, place: usize) -> (&OutputRef, &Option<V>)
-    requires { place < length slots.now.entries }
-    ensures { slice_get slots.now.entries place ≡ Some (result.0.now, result.1.now) }
-{
-    match slots.get_index(place) {
-        Some((reference, slot)) => (reference, slot),
-        None => unreachable!(),
-    }
-}
-
-fn add_output<F: LockFilter>(
-    leaving: &IndexSet<OutputRef>,
-    asked: &F,
-    reference: &OutputRef,
-    output: &Output,
-    shown: &mut Items<Unspent>,
-) -> Result<(), Memory>
-    ensures { OnOk result (shown.new ≡ shown.old
-        ++ under (F.asks asked.now) leaving.now.keys ((reference.now, Some output.now) ∷ [])) }
-{
-    if asked.asks(&output.lock) && !is_noted(leaving, reference) {
-        let output = output.try_clone()?;
-        let reference = *reference;
-        shown.push(Unspent { reference, output })?;
-    }
-    Ok(())
-}
-
-fn add_slot<F: LockFilter>(
-    leaving: &IndexSet<OutputRef>,
-    asked: &F,
-    slot: (&OutputRef, &Option<Output>),
-    shown: &mut Items<Unspent>,
-) -> Result<(), Memory>
-    ensures { OnOk result (shown.new ≡ shown.old
-        ++ under (F.asks asked.now) leaving.now.keys ((slot.entry.0.now, slot.entry.1.now) ∷ [])) }
-{
-    let (reference, value) = slot;
-    match value {
-        Some(output) => add_output(leaving, asked, reference, output, shown),
-        None => Ok(()),
-    }
-}
-
-/// The unspent outputs under the locks that are asked for, in order: one walk over all entries.
-pub(crate) fn under_locks<F: LockFilter>(
+// The outputs at places, which ascend.
+fn show_all(
     alloc: Global,
-    slots: &Slots<Output>,
-    leaving: &IndexSet<OutputRef>,
-    asked: &F,
+    outputs: &Outputs,
+    places: BTreeSet<usize>,
 ) -> Result<Items<Unspent>, Memory>
-    ensures { IfOk result (λ shown. shown ≡ under (F.asks asked.now) leaving.now.keys slots.now.entries) }
+    ensures rows { IfOk result (λ shown. shown ≡ rows_at outputs.now places.keys) }
+    ensures ordered { IsOrdered nat_cmp places }
 {
+    // touch: they ascend
+    let _len = places.len();
+    let mut left = places;
     let mut shown = Items::new(alloc);
-    for i in 0..slots.len() {
-        add_slot(leaving, asked, slot_at(slots, i), &mut shown)?;
+    while let Some(place) = left.pop_first() {
+        outputs.show(place, &mut shown)?;
     }
+    Ok(shown)
+}
+
+// ---- keys
+
+fn key_places(
+    alloc: Global,
+    outputs: &Outputs,
+    leaving: &IndexSet<OutputRef>,
+    keys: &[Text],
+) -> Result<BTreeSet<usize>, Memory>
+    ensures { IfOk result (λ places. (i : ℕ) → has_place places.keys i
+        ≡ passes_at (is_shown (is_key_of keys.now) leaving.now.keys) outputs.now i) }
+{
+    let mut places = BTreeSet::new(alloc);
+    for key in keys {
+        let name = LockName::Address(key.try_clone()?);
+        outputs.collect(leaving, &name, &mut places)?;
+    }
+    Ok(places)
+}
+
+/// The unspent outputs under the keys of these addresses, in order.
+pub(crate) fn keys_shown(
+    alloc: Global,
+    outputs: &Outputs,
+    leaving: &IndexSet<OutputRef>,
+    keys: &[Text],
+) -> Result<Items<Unspent>, Memory>
+    ensures { IfOk result (λ shown. shown ≡ under (is_key_of keys.now) leaving.now.keys outputs.now) }
+{
+    let places = key_places(alloc, outputs, leaving, keys)?;
+    let shown = show_all(alloc, outputs, places)?;
+    Ok(shown)
+}
+
+// ---- payouts
+
+fn payout_places(
+    alloc: Global,
+    outputs: &Outputs,
+    leaving: &IndexSet<OutputRef>,
+    payouts: &[PayoutLock],
+) -> Result<BTreeSet<usize>, Memory>
+    ensures { IfOk result (λ places. (i : ℕ) → has_place places.keys i
+        ≡ passes_at (is_shown (is_payout_of payouts.now) leaving.now.keys) outputs.now i) }
+{
+    let mut places = BTreeSet::new(alloc);
+    for payout in payouts {
+        let currency = payout.currency.try_clone()?;
+        let role = payout.role.try_clone()?;
+        outputs.collect(leaving, &LockName::Role { currency, role }, &mut places)?;
+    }
+    Ok(places)
+}
+
+/// The unspent outputs under these payout locks, in order.
+pub(crate) fn payouts_shown(
+    alloc: Global,
+    outputs: &Outputs,
+    leaving: &IndexSet<OutputRef>,
+    payouts: &[PayoutLock],
+) -> Result<Items<Unspent>, Memory>
+    ensures { IfOk result (λ shown. shown ≡ under (is_payout_of payouts.now) leaving.now.keys outputs.now) }
+{
+    let places = payout_places(alloc, outputs, leaving, payouts)?;
+    let shown = show_all(alloc, outputs, places)?;
     Ok(shown)
 }

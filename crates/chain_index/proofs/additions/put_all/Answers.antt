@@ -12,7 +12,7 @@ use Rattle.chain_index.proofs.additions.put_all.Goals as goal
 pub loop-i-preserved : goal.loop-i-preserved
 loop-i-preserved c =
     let name = naming c.args.whose.now in
-    let old = c.loop-i.entries.entries in
+    let old = c.loop-i.outputs in
     let i = c.loop-i.i in
     let o = c.index-made-i.result in
     let one = slots ((name i, o) ∷ []) in
@@ -24,6 +24,6 @@ loop-i-preserved c =
           ∙ append_assoc old one rest
           ∙ ap (λ (l : List (OutputRef × Option Output)). old ++ l) (sym (next_slots name c.args.made.now i o c.loop-i-test.true c.index-made-i.is))
           ∙ c.loop-i.invariant.entries;
-      grown = front_more c.args.entries.now.entries old c.put_one.new.entries.entries one c.loop-i.invariant.grown e;
+      grown = front_more c.args.outputs.now old c.put_one.new.outputs one c.loop-i.invariant.grown e;
       absent = λ j h. ap (λ (l : List (OutputRef × Option Output)). is_among (known l) (name j)) e ∙ absent_more c.args.whose.now old i o c.loop-i.invariant.absent j h;
     }

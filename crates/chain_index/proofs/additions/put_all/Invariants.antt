@@ -8,7 +8,7 @@ use Rattle.chain_index.proofs.additions.put_all.Given as goal
 
 abbrev pub invariant-loop-i : goal.invariant-loop-i
 invariant-loop-i l = record {
-  entries : l.entries.entries ++ slots (with_references (naming l.whose) l.i (drop l.i l.made)) ≡ l.fn.entries.entries ++ slots (with_references (naming l.whose) 0 l.made);
-  grown : IsFront l.fn.entries.entries l.entries.entries;
-  absent : (j : ℕ) → l.i ≤ j → is_among (known l.entries.entries) (naming l.whose j) ≡ false;
+  entries : l.outputs ++ slots (with_references (naming l.whose) l.i (drop l.i l.made)) ≡ l.fn.outputs ++ slots (with_references (naming l.whose) 0 l.made);
+  grown : IsFront l.fn.outputs l.outputs;
+  absent : (j : ℕ) → l.i ≤ j → is_among (known l.outputs) (naming l.whose j) ≡ false;
 }

@@ -2,6 +2,7 @@ use Rattle.std.proofs.Common.{◌∙◌, ap, subst, None}
 use Rattle.std.specs.List.{IsDistinct}
 use Rattle.std.specs.Option.{option_copied_mut}
 use Rattle.std.specs.Map.{keys_of, set_value}
+use Rattle.eutxo_types.specs.contracts.output_ref.OutputRefPartialEq.TheImpl.{ghosts}
 use Rattle.chain_index.specs.HolesSupport.{live}
 use Rattle.chain_index.proofs.RefLemmas.{eq_same}
 use Rattle.chain_index.proofs.LiveLemmas.{removed, without_so}
@@ -12,10 +13,10 @@ returns-in-Some-clause-live g c =
     let m = c.args.slots.now in
     let r = c.args.reference.now in
     let d = subst (λ e. IsDistinct e (keys_of m.entries)) eq_same c.get_mut.ensures.unique in
-    let w = (c.get_mut.follows.holds None).0 in
-    ap live w ∙ ap (λ e. live (set_value (e r) m.entries None)) eq_same ∙ removed r m.entries d
+    let w = (c.get_mut.follows.holds c.take.new.self).0 in
+    ap live w ∙ ap (λ o. live (set_value (ghosts.eq r) m.entries o)) c.take.ensures.after ∙ ap (λ e. live (set_value (e r) m.entries None)) eq_same ∙ removed r m.entries d
 
-pub returns-in_default-clause-live : goal.returns-in_default-clause-live
-returns-in_default-clause-live g c =
+pub returns-in-None-clause-live : goal.returns-in-None-clause-live
+returns-in-None-clause-live g c =
     let m = c.args.slots.now in
-    ap (λ x. live x.entries) c.get_mut.follows.holds-at-none ∙ without_so c.args.reference.now m.entries _ (ap option_copied_mut c.in_default.is) c.get_mut.ensures.value
+    ap (λ x. live x.entries) c.get_mut.follows.holds-at-none ∙ without_so c.args.reference.now m.entries _ (ap option_copied_mut c.in-None.is) c.get_mut.ensures.value

@@ -19,8 +19,8 @@ returns-clause-ok c =
     on_ok_weaker c.put_id.result
     (λ e. takes_after c.self.view_is (record {
       entries =
-          c.in_ok-put_all.ensures.ok ∙ (λ i. s.entries.entries ++ slots (with_references (made_named c.args.id.now i) 0 (c.as_slice.ensures i)))
-          ∙ ap (λ (id : List ℕ). s.entries.entries ++ slots (with_references (λ j. Made id j) 0 tx.outputs)) c.requires.named;
+          c.in_ok-put_all.ensures.ok ∙ (λ i. s.outputs ++ slots (with_references (made_named c.args.id.now i) 0 (c.as_slice.ensures i)))
+          ∙ ap (λ (id : List ℕ). s.outputs ++ slots (with_references (λ j. Made id j) 0 tx.outputs)) c.requires.named;
       leaving = λ r. c.in_ok-leave_all.ensures.ok r ∙ ap (λ (xs : List Spend). list_any (λ x. same_ref x.reference r) xs || is_among s.leaving.keys r) c.as_slice-2.ensures;
       ids = e ∙ ap (λ (id : List ℕ). s.ids.keys ++ id ∷ []) c.requires.named;
       objects = refl;

@@ -12,7 +12,7 @@ returns c =
     let z = c.args.sizes.now in
     let o = ap values_of c.truncate-4.ensures.entries ∙ values_taken z.objects c.self.inside.objects.entries in
     (λ i. record {
-      entries = c.truncate.ensures.entries i;
+      entries = c.truncate.ensures i;
       leaving = c.truncate-2.ensures.keys i;
       ids = c.truncate-3.ensures.keys i;
       objects = o i;
