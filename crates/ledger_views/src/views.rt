@@ -1,76 +1,19 @@
 //! What a look shows.
-ghost use Rattle.std.specs.Prelude.{◌≡◌, ◌&&◌, Some, IfOk, option_copied};
-ghost use Rattle.std.specs.List.{list_any};
-ghost use Rattle.eutxo_types.specs.Parts.{same_bytes, script_in};
+ghost use Rattle.std.specs.Prelude.{◌≡◌, Some, IfOk, option_copied};
+ghost use Rattle.eutxo_types.specs.Parts.{script_in};
 ghost use Rattle.ledger_spec.specs.Replay.{world};
-ghost use Rattle.ledger_spec.specs.Views.{is_key_of, is_among_payouts, is_payout_of, object_under, thread_output, thread_output_in, look};
-ghost use Rattle.chain_index.specs.Contents.{under_locks_in};
+ghost use Rattle.ledger_spec.specs.Views.{object_under, thread_output, thread_output_in, look};
 ghost use Rattle.ledger_kept.specs.Kept.{IsIndexOf};
 ghost use Rattle.ledger_views.specs.ViewsSupport.{output_shown_in, thread_shown_in, look_in};
 
-use chain_index::{Index, LockFilter, index_follows_threads};
-use collections::{Items, Memory, Text, TryClone};
+use chain_index::{Index, index_follows_threads};
+use collections::{Memory, TryClone};
 use eutxo::Shared;
-use eutxo_types::{Lock, Output, OutputRef, PayoutRole};
-use ledger::{Ask, Look, PayoutLock, ThreadOutput, Unspent};
+use eutxo_types::{Lock, Output, OutputRef};
+use ledger::{Ask, Look, ThreadOutput};
 use ledger_kept::Kept;
 use roles::Published;
 use std::alloc::Global;
-
-// ---- the locks that are asked for
-
-/// Keys of these addresses.
-#[derive(Clone, Copy)]
-struct Keys<'a> {
-    known: &'a [Text],
-}
-
-/// Payouts under these locks.
-#[derive(Clone, Copy)]
-struct Payouts<'a> {
-    known: &'a [PayoutLock],
-}
-
-fn is_known_key(known: &[Text], address: &Text) -> bool
-    ensures { result ≡ list_any (λ b. same_bytes b address.now) known.now }
-{
-    known.iter().any(|b| *b == *address)
-}
-
-fn is_payout(lock: &PayoutLock, payout: &PayoutRole<'_>) -> bool
-    ensures { result ≡ (same_bytes lock.now.currency payout.now.currency && same_bytes lock.now.role payout.now.role) }
-{
-    lock.currency == *payout.currency && lock.role == *payout.role
-}
-
-fn is_known_payout(known: &[PayoutLock], payout: &PayoutRole<'_>) -> bool
-    ensures { result ≡ is_among_payouts known.now (Some payout.now) }
-{
-    known.iter().any(|x| is_payout(x, payout))
-}
-
-impl LockFilter for Keys<'_> {
-    ghost asks = { λ a lock. is_key_of a.known.now lock };
-
-    fn asks(&self, lock: &Lock) -> bool {
-        match lock {
-            Lock::Key(address) => is_known_key(self.known, address),
-            Lock::Payout { .. } => false,
-            Lock::Contract { .. } => false,
-        }
-    }
-}
-
-impl LockFilter for Payouts<'_> {
-    ghost asks = { λ a lock. is_payout_of a.known.now lock };
-
-    fn asks(&self, lock: &Lock) -> bool {
-        match lock.payout() {
-            None => false,
-            Some(payout) => is_known_payout(self.known, &payout),
-        }
-    }
-}
 
 // ---- a thread
 
@@ -139,28 +82,12 @@ fn thread_shown(index: &Index, asked: Option<OutputRef>) -> Result<Option<Thread
 
 // ---- a look
 
-fn keys_shown(alloc: Global, index: &Index, known: &[Text]) -> Result<Items<Unspent>, Memory>
-    ensures { IfOk result (λ outputs. outputs ≡ under_locks_in (is_key_of known.now) index.now.present) }
-{
-    index.under_locks(alloc, &Keys { known })
-}
-
-fn payouts_shown(
-    alloc: Global,
-    index: &Index,
-    known: &[PayoutLock],
-) -> Result<Items<Unspent>, Memory>
-    ensures { IfOk result (λ outputs. outputs ≡ under_locks_in (is_payout_of known.now) index.now.present) }
-{
-    index.under_locks(alloc, &Payouts { known })
-}
-
 // What is shown of what is indexed, at a tick.
 fn look_at(alloc: Global, index: &Index, tick: i64, ask: &Ask) -> Result<Look, Memory>
     ensures { IfOk result (λ shown. shown ≡ look_in index.now.present tick ask.now) }
 {
-    let keys = keys_shown(alloc, index, ask.keys.as_slice())?;
-    let payouts = payouts_shown(alloc, index, ask.payouts.as_slice())?;
+    let keys = index.keys_shown(alloc, ask.keys.as_slice())?;
+    let payouts = index.payouts_shown(alloc, ask.payouts.as_slice())?;
     let thread = thread_shown(index, ask.thread)?;
     Ok(Look {
         tick,
