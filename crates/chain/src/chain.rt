@@ -22,10 +22,10 @@ use eutxo::{Checked, Resolved, found_is_enough};
 use eutxo_types::{Output, OutputRef, Tx};
 use ledger::{Call, Entry, Reply};
 use ledger_dispatch::{answer, front, resolution};
+use ledger_kept::{Kept, Tally, check_genesis};
 use ledger_laws::{
     accepting_is_sound, contracts_end_threads, publishing_is_sound, starting_is_sound,
 };
-use ledger_kept::{Kept, Tally, check_genesis};
 use ledger_spec::{GenesisFault, StepRecord, legal_histories_stand, publications_are_entries};
 use ledger_views::steps_of;
 use roles::Published;
@@ -155,11 +155,7 @@ fn add_entry(entries: &mut Vec<Entry>, tally: &mut Tally, entry: Entry) -> Resul
 
 impl Chain {
     // A chain without entries.
-    fn starting(
-        alloc: Global,
-        outputs: Items<Output>,
-        first_tick: i64,
-    ) -> Result<Chain, Memory>
+    fn starting(alloc: Global, outputs: Items<Output>, first_tick: i64) -> Result<Chain, Memory>
         requires keys { AreKeys outputs }
         requires sums { SumsFit outputs }
         ensures { IfOk result (λ chain. chain ≡ record { genesis = outputs; first_tick = first_tick; entries = [] }) }
