@@ -1,7 +1,7 @@
 //! Rows and what is printed for them.
-use collections::TryClone;
+use collections::{Boxed, Items, TryClone};
 use compiler::{CompileFault, compile};
-use contract::Contract;
+use contract::{Action, Case, Contract, Observation};
 use contract_json::read_contract;
 use marlowe_run::{Fault, compile_fault_name, refusal, table_text};
 use rows_text::{Answers, RowFault, first, nested, put_beside, put_copies, put_copy, wide};
@@ -25,6 +25,7 @@ impl<R: AllocGlobal> Answers<R> for Rows {
             "last" => asked_row(rt.alloc(), rest, Asked::LastTimeout)?,
             "nested" => nested_row(rt.alloc(), rest)?,
             "wide" => wide_row(rt.alloc(), rest)?,
+            "grid" => grid_row(rt.alloc(), rest)?,
             "copies" => asked_row(rt.alloc(), rest, Asked::Copies)?,
             _ => return Err(RowFault::NoSuchRow),
         };
@@ -84,6 +85,30 @@ fn nested_row(alloc: Global, text: &str) -> Result<Vec<u8>, AllocError> {
 fn wide_row(alloc: Global, text: &str) -> Result<Vec<u8>, AllocError> {
     let contract = wide(alloc, text.parse().unwrap_or(0))?;
     lent(contract, |contract| compiled(alloc, contract, Asked::Root))
+}
+
+fn grid_row(alloc: Global, text: &str) -> Result<Vec<u8>, AllocError> {
+    let (outer, inner) = first(text);
+    let contract = grid(
+        alloc,
+        outer.parse().unwrap_or(0),
+        inner.parse().unwrap_or(0),
+    )?;
+    lent(contract, |contract| compiled(alloc, contract, Asked::Root))
+}
+
+// A contract that waits for so many notifies of what is true, each followed by an equal one that waits for so many more, and each
+// of these by close. Nothing is shared in it.
+fn grid(alloc: Global, outer: u32, inner: u32) -> Result<Contract, AllocError> {
+    let mut cases = Items::new(alloc);
+    for _ in 0..outer {
+        cases.push(Case {
+            action: Action::Notify(Observation::TrueObs),
+            then: wide(alloc, inner)?,
+        })?;
+    }
+    let close = Boxed::new(alloc, Contract::Close)?;
+    Ok(Contract::When(cases, 100, close))
 }
 
 fn compiled(alloc: Global, contract: &Contract, asked: Asked) -> Result<Vec<u8>, AllocError> {

@@ -8,6 +8,8 @@
 //! - `nested N` compiles an assertion of so many `not`s round `true`, and prints the height of its node, or the fault;
 //! - `wide N` compiles a contract that waits for so many notifies, each followed by close, and prints the number of its root,
 //!   or the fault;
+//! - `grid M N` the same of a contract that waits for `M` notifies, each followed by an equal one that waits for `N`, each of these
+//!   followed by close;
 //! - `copies TEXT` prints of a contract's table whether a copy of it and of its root is the `same`; then a line for its values,
 //!   observations, cases and continuations: for each whether a copy is the `same`, and behind `beside` for each but the first
 //!   whether it is the `same` as the one before it or an `other`.
