@@ -1,7 +1,8 @@
 //! What is printed for a row.
+use crate::calls::Work;
 use crate::payments::payments;
 use crate::row::{Row, row_of};
-use crate::seats::{Played, admit, pay};
+use crate::seats::{Played, admit, play};
 use collections::Memory;
 use eutxo::{Checked, Validator};
 use eutxo_types::Verdict;
@@ -25,7 +26,11 @@ pub fn answer<R: Clock + AllocGlobal + Threads + Wait + Sync>(
         ("check", Some(row)) => Ok(Some(check_line(rt, row)?.into_bytes())),
         ("time", Some(row)) => Ok(Some(time_line(rt, row)?.into_bytes())),
         ("seats", Some(row)) => Ok(Some(seats_line(rt, row)?.into_bytes())),
-        ("time_calls", Some(row)) => Ok(Some(micros_line(rt, pay(rt, row)?)?.into_bytes())),
+        ("calls", Some(row)) => Ok(Some(calls_line(rt, row)?.into_bytes())),
+        ("time_calls", Some(row)) => {
+            let played = play(rt, row, Work::Payments)?;
+            Ok(Some(micros_line(rt, played)?.into_bytes()))
+        }
         ("time_admits", Some(row)) => Ok(Some(micros_line(rt, admit(rt, row)?)?.into_bytes())),
         _ => Err(RowFault::NoSuchRow),
     }
@@ -52,13 +57,32 @@ fn seats_line<R: Clock + AllocGlobal + Threads + Wait + Sync>(
     rt: &R,
     row: Row,
 ) -> Result<String, RowFault> {
-    let played = pay(rt, row)?;
+    let played = play(rt, row, Work::Payments)?;
     Ok(format!(in rt.alloc();
         "seats {}, payments {} each: {} entries, {} accepted",
         row.seats(),
         row.jobs,
         played.entries,
         played.accepted
+    )?)
+}
+
+fn calls_line<R: Clock + AllocGlobal + Threads + Wait + Sync>(
+    rt: &R,
+    row: Row,
+) -> Result<String, RowFault> {
+    let played = play(rt, row, Work::AllKinds)?;
+    let told = match played.amiss {
+        None => format!(in rt.alloc(); "all as the receipts say")?,
+        Some((seat, place)) => {
+            format!(in rt.alloc(); "not as receipt {place} of seat {seat} says")?
+        }
+    };
+    Ok(format!(in rt.alloc();
+        "seats {}, calls {} each: {} entries, {told}",
+        row.seats(),
+        row.jobs,
+        played.entries
     )?)
 }
 

@@ -1,21 +1,27 @@
-//! `rows_workers`: worked rows of many checks at once as data. It plays the files that its arguments name, line by line, as
-//! `rows_text` says: below each row stands its answer.
+//! `rows_workers`: worked rows of many checks and of many callers at once, as data. It plays the files that its
+//! arguments name, line by line, as `rows_text` says: below each row stands its answer.
 //!
-//! - `check WORKERS JOBS INPUTS` has so many payments of so many inputs each checked by so many workers, and prints how many are
-//!   accepted, and whether their checks stand in the order of the payments;
-//! - `time WORKERS JOBS INPUTS` does so too, and prints how many microseconds the checks took: it is for measurements alone
-//!   (`bench/checks_at_once.py`).
+//! - `check WORKERS JOBS INPUTS` has so many payments of so many inputs each checked by so many workers, and prints how
+//!   many are accepted, and whether their checks stand in the order of the payments;
+//! - `time WORKERS JOBS INPUTS` does so too, and prints how many microseconds the checks took: it is for measurements
+//!   alone (`bench/checks_at_once.py`);
+//! - `seats SEATS PAYMENTS INPUTS` has so many seats of a hub, each in a thread of its own, submit so many payments
+//!   each, and prints how many entries the closed chain has, and how many of them are accepted;
+//! - `time_calls SEATS PAYMENTS INPUTS` does so too, and prints how many microseconds the calls took; `time_admits 1
+//!   PAYMENTS INPUTS` the same for one seat that admits payments that were checked before (`bench/calls_of_seats.py`);
+//! - `calls SEATS CALLS` has so many seats, each in a thread of its own, make so many calls each: of all six kinds,
+//!   with rounds by 16 workers among them. It prints how many entries the closed chain has, and whether each receipt is
+//!   what its entry says, with the seat and the number that the call had. So where there are as many entries as calls,
+//!   each belongs to one receipt. `data/rows.txt` has 1,000 calls by each of 64 seats. To run longer, play a file of
+//!   one line, as `calls 64 100000`: without an answer below it, what comes is printed.
 //!
-//! - `seats SEATS PAYMENTS INPUTS` has so many seats of a hub, each in a thread of its own, submit so many payments each, and prints how many entries
-//!   the closed chain has, and how many of them are accepted;
-//! - `time_calls SEATS PAYMENTS INPUTS` does so too, and prints how many microseconds the calls took; `time_admits 1 PAYMENTS INPUTS` the same for one seat that
-//!   admits payments that were checked before (`bench/calls_of_seats.py`).
-//!
-//! A number of workers outside 1 to 16 is taken for the nearest inside, and a number of seats outside 1 to 64 too. `#` begins a comment, and an empty line is nothing. Any
-//! other line prints `no such row`.
+//! Where INPUTS is left out, it is 1. A number of workers outside 1 to 16 is taken for the nearest inside, and a number
+//! of seats outside 1 to 64 too. `#` begins a comment, and an empty line is nothing. Any other line prints `no such
+//! row`.
 #![tactic(auto)]
 
 mod answers;
+mod calls;
 mod no_script;
 mod payments;
 mod row;

@@ -1,5 +1,5 @@
-//! Payments with what they find. Each is put together by functions that are generic in the parts, so that no proof walks
-//! through the drop of a transaction.
+//! Payments with what they find. Each is put together by functions that are generic in the parts, so that no proof
+//! walks through the drop of a transaction.
 ghost use Rattle.std.specs.Prelude.{IsTrue};
 ghost use Rattle.bundle.specs.Bundles.{AllPositive};
 
@@ -10,11 +10,12 @@ use collections::{Bytes, Entries, Items, Memory, Text};
 use contract::Interval;
 use eutxo::{Resolved, Scripts};
 use eutxo_types::{Lock, Output, OutputRef, Redeemer, Spend, Tx};
+use ledger::Ask;
 use names::Token;
 use std::alloc::Global;
 
-/// The payments of a row, told apart by the ticks from which they may happen, with what they find: each spends outputs of one
-/// lovelace under a key, and pays all of it to that key.
+/// The payments of a row, told apart by the ticks from which they may happen, with what they find: each spends outputs
+/// of one lovelace under a key, and pays all of it to that key.
 pub fn payments(alloc: Global, row: Row) -> Result<Vec<(Tx, Resolved<NoScript>)>, Memory> {
     let jobs = list(
         alloc,
@@ -27,7 +28,28 @@ pub fn payments(alloc: Global, row: Row) -> Result<Vec<(Tx, Resolved<NoScript>)>
 /// The payment of a number: of the outputs that come after those of the payments before it.
 pub fn payment(alloc: Global, number: u32, inputs: u32) -> Result<Tx, Memory> {
     let first = u64::from(number) * u64::from(inputs);
-    let spends = list(alloc, inputs, &|place| Ok(spend(first, place)));
+    let spends = list(
+        alloc,
+        inputs,
+        &|place| Ok(spend(OutputRef::Genesis {
+            index: first.saturating_add(u64::from(place)),
+        })),
+    );
+    payment_by(alloc, number, inputs, spends)
+}
+
+/// The payment of a number, of one output.
+pub fn payment_of(alloc: Global, number: u32, reference: OutputRef) -> Result<Tx, Memory> {
+    payment_by(alloc, number, 1, list(alloc, 1, &|_| Ok(spend(reference))))
+}
+
+// The payment of a number, by so many spends.
+fn payment_by(
+    alloc: Global,
+    number: u32,
+    inputs: u32,
+    spends: Result<Items<Spend>, Memory>,
+) -> Result<Tx, Memory> {
     let outputs = list(alloc, 1, &|_| key_output(alloc, inputs));
     let signers = list(alloc, 1, &|_| key(alloc));
     let (inputs, (outputs, signers)) = both(spends, both(outputs, signers))?;
@@ -51,13 +73,20 @@ pub fn found<V: Drop>(alloc: Global, inputs: u32) -> Result<Resolved<V>, Memory>
     })
 }
 
-fn spend(first: u64, place: u32) -> Spend {
+fn spend(reference: OutputRef) -> Spend {
     Spend {
-        reference: OutputRef::Genesis {
-            index: first.saturating_add(u64::from(place)),
-        },
+        reference,
         redeemer: Redeemer::None,
     }
+}
+
+/// What asks for all that is under the key of the payments.
+pub fn ask(alloc: Global) -> Result<Ask, Memory> {
+    Ok(Ask {
+        thread: None,
+        keys: list(alloc, 1, &|_| key(alloc))?,
+        payouts: Items::new(alloc),
+    })
 }
 
 fn key(alloc: Global) -> Result<Text, Memory> {

@@ -1,7 +1,7 @@
 //! Rows as they are read.
 ghost use Rattle.std.specs.Prelude.{◌<◌, ◌≤◌};
 
-/// How many workers check, or seats pay; how many payments, of how many inputs each.
+/// How many workers check, or seats call; how many payments or calls, of how many inputs each.
 #[derive(Clone, Copy)]
 pub struct Row {
     workers: u32,
@@ -18,21 +18,28 @@ impl Row {
         self.workers.clamp(1, 16) as usize
     }
 
-    /// How many seats pay: the same number, or the nearest from 1 to 64.
+    /// How many seats call: the same number, or the nearest from 1 to 64.
     pub fn seats(self) -> u32
         ensures some { 0 < result }
         ensures few { result ≤ 64 }
     {
         self.workers.clamp(1, 64)
     }
+
+    /// How many outputs the payments of all seats spend, or the most that there can be.
+    pub fn spends(self) -> u32 {
+        self.seats()
+            .saturating_mul(self.jobs)
+            .saturating_mul(self.inputs)
+    }
 }
 
-/// The row that three numbers spell.
+/// The row that three numbers spell, or two, for payments of one input.
 pub fn row_of(words: &str) -> Option<Row> {
     let mut words = words.split_whitespace();
     let workers = number(words.next()?)?;
     let jobs = number(words.next()?)?;
-    let inputs = number(words.next()?)?;
+    let inputs = number(words.next().unwrap_or("1"))?;
     Some(Row {
         workers,
         jobs,

@@ -1,12 +1,13 @@
-//! Rows of many seats, each in a thread of its own, which submit payments of their own.
+//! Rows of many seats, each in a thread of its own.
 ghost use Rattle.std.specs.Prelude.{◌≡◌, ◌<◌, ◌≤◌, [], IfOk};
 
+use crate::calls::{Work, call_all};
 use crate::payments::{found, key_output, list, payment};
 use crate::row::Row;
-use chain::{Call, Chain, Entry, Reply};
-use collections::Memory;
+use chain::{Chain, Entry, Reply};
+use collections::{Memory, Same};
 use eutxo::{Checked, check_owned};
-use hub::{Closed, Hub, Opening, Seat, SeatAtHub, Session};
+use hub::{Closed, Hub, Opening, Receipt, Seat, SeatAtHub, Session};
 use roles::Published;
 use rows_text::RowFault;
 use std::alloc::Global;
@@ -17,53 +18,64 @@ use std::thread;
 use std::thread::Threads;
 use std::time::Instant;
 
-/// What seats did: their closed hub's entries, how many of them are accepted, and how long the calls took together, in microseconds.
+/// What seats did.
 #[derive(Drop)]
 pub struct Played {
+    /// Of their closed hub.
     pub entries: usize,
     pub accepted: usize,
+    /// The first receipt whose entry says otherwise, if there is one: its seat, and its place among the seat's.
+    pub amiss: Option<(u64, u64)>,
+    /// How long the calls took together.
     pub micros: u128,
 }
 
-// A chain on which these payments can be made, in any order.
-fn chain_for(alloc: Global, row: Row) -> Result<Chain, RowFault>
+// A chain that begins with so many outputs, at this tick.
+fn chain_of(alloc: Global, outputs: u32, tick: i64) -> Result<Chain, RowFault>
     ensures { IfOk result (λ chain. chain.entries ≡ []) }
 {
-    let count = row
-        .seats()
-        .saturating_mul(row.jobs)
-        .saturating_mul(row.inputs);
-    let outputs = list(alloc, count, &|_| key_output(alloc, 1))?;
-    match Chain::genesis(alloc, outputs, i64::MAX) {
+    let outputs = list(alloc, outputs, &|_| key_output(alloc, 1))?;
+    match Chain::genesis(alloc, outputs, tick) {
         Ok(chain) => Ok(chain),
         Err(_) => Err(RowFault::NoSuchRow),
     }
-}
-
-// Submits a seat's payments, one after another.
-fn pay_all<J: Session, R: Wait>(
-    rt: &R,
-    alloc: Global,
-    hub: &Hub<J>,
-    seat: &mut Seat<J>,
-    row: Row,
-) -> Result<(), Memory> {
-    let seats_before = u32::try_from(seat.number()).unwrap_or(u32::MAX);
-    let first = seats_before.saturating_mul(row.jobs);
-    for n in 0..row.jobs {
-        let tx = payment(alloc, first.saturating_add(n), row.inputs)?;
-        hub.call(rt, alloc, seat, Call::Submit(tx))?;
-    }
-    Ok(())
 }
 
 fn is_accepted(entry: &Entry) -> bool {
     matches!(&entry.reply, Reply::Accepted(_))
 }
 
+// Whether a seat's receipt at this place says what its entry says. The entry is of that seat and has that number, so no
+// other receipt has it.
+fn agrees<J: Session>(closed: &Closed<J>, receipt: &Receipt<J>, seat: u64, place: u64) -> bool {
+    let entry = closed.entry(receipt);
+    receipt.seat() == seat
+        && receipt.number() == place
+        && entry.seat == seat
+        && entry.number == place
+        && entry.reply.same(receipt.reply())
+}
+
+// The first receipt of all seats that doesn't agree with its entry.
+fn amiss_in<J: Session>(closed: &Closed<J>, told: &[Vec<Receipt<J>>]) -> Option<(u64, u64)> {
+    let mut seat = 0u64;
+    for receipts in told {
+        let mut place = 0u64;
+        for receipt in receipts {
+            if !agrees(closed, receipt, seat, place) {
+                return Some((seat, place));
+            }
+            place = place.saturating_add(1);
+        }
+        seat = seat.saturating_add(1);
+    }
+    None
+}
+
 fn closed_after<J: Session>(
     hub: Hub<J>,
     seats: Vec<Seat<J>>,
+    told: &[Vec<Receipt<J>>],
     micros: u128,
 ) -> Result<Played, RowFault> {
     if !hub.are_all(&seats) {
@@ -74,34 +86,37 @@ fn closed_after<J: Session>(
     Ok(Played {
         entries: entries.len(),
         accepted: entries.iter().filter(|e| is_accepted(e)).count(),
+        amiss: amiss_in(&closed, told),
         micros,
     })
 }
 
-// Each seat pays in a thread of its own: the seats, and whether memory was refused.
-fn pay_in_threads<J: Session + Send + Sync, R: Threads + Wait + Sync>(
+// Each seat calls in a thread of its own: the seats, with their receipts or the want of memory.
+fn call_in_threads<J: Session + Send + Sync, R: Threads + Wait + Sync>(
     rt: &R,
     alloc: Global,
     seats: Vec<SeatAtHub<J>>,
     row: Row,
-) -> Result<Vec<(Seat<J>, Result<(), Memory>)>, Memory> {
+    work: Work,
+) -> Result<Vec<(Seat<J>, Result<Vec<Receipt<J>>, Memory>)>, Memory> {
     thread::map_vec(
         rt,
         seats,
-        &|handed: SeatAtHub<J>| -> (Seat<J>, Result<(), Memory>) {
+        &|handed: SeatAtHub<J>| -> (Seat<J>, Result<Vec<Receipt<J>>, Memory>) {
             let SeatAtHub { hub, mut seat } = handed;
-            let paid = pay_all(rt, alloc, hub, &mut seat, row);
-            (seat, paid)
+            let told = call_all(rt, alloc, hub, &mut seat, row, work);
+            (seat, told)
         },
     )
 }
 
-// All seats pay at once.
-fn pay_at_once<J: Session + Send + Sync, R: Clock + Threads + Wait + Sync>(
+// All seats call at once.
+fn call_at_once<J: Session + Send + Sync, R: Clock + Threads + Wait + Sync>(
     rt: &R,
     alloc: Global,
     opening: Opening,
     row: Row,
+    work: Work,
 ) -> Result<Played, RowFault>
     requires { opening ≡ J.session }
 {
@@ -111,24 +126,31 @@ fn pay_at_once<J: Session + Send + Sync, R: Clock + Threads + Wait + Sync>(
         handed.push(SeatAtHub { hub: &hub, seat })?;
     }
     let start = Instant::now(rt)?;
-    let paid = pay_in_threads(rt, alloc, handed, row)?;
+    let called = call_in_threads(rt, alloc, handed, row, work)?;
     let micros = start.elapsed(rt)?.as_micros();
     let mut seats = Vec::new(alloc);
-    for (seat, paid) in paid {
-        paid?;
+    let mut told = Vec::new(alloc);
+    for (seat, receipts) in called {
+        told.push(receipts?)?;
         seats.push(seat)?;
     }
-    closed_after(hub, seats, micros)
+    closed_after(hub, seats, &told, micros)
 }
 
-/// So many seats submit so many payments each.
-pub fn pay<R: Clock + AllocGlobal + Threads + Wait + Sync>(
+/// So many seats make so many calls each. Payments alone are made on a chain on which each is accepted, in any order.
+/// For calls of all kinds there is one output for each seat at first, at time 0.
+pub fn play<R: Clock + AllocGlobal + Threads + Wait + Sync>(
     rt: &R,
     row: Row,
+    work: Work,
 ) -> Result<Played, RowFault> {
-    let chain = chain_for(rt.alloc(), row)?;
+    let (outputs, tick) = match work {
+        Work::Payments => (row.spends(), i64::MAX),
+        Work::AllKinds => (row.seats(), 0),
+    };
+    let chain = chain_of(rt.alloc(), outputs, tick)?;
     let opening = Opening::new(chain, u64::from(row.seats()));
-    pay_at_once::<Brand, R>(rt, rt.alloc(), opening, row)
+    call_at_once::<Brand, R>(rt, rt.alloc(), opening, row, work)
 }
 
 // ---- checks at hand
@@ -148,11 +170,12 @@ fn admit_all<J: Session, R: Wait>(
     hub: &Hub<J>,
     seat: &mut Seat<J>,
     checks: Vec<Checked<Published>>,
-) -> Result<(), Memory> {
+) -> Result<Vec<Receipt<J>>, Memory> {
+    let mut receipts = Vec::new(alloc);
     for checked in checks {
-        hub.admit(rt, alloc, seat, checked)?;
+        receipts.push(hub.admit(rt, alloc, seat, checked)?)?;
     }
-    Ok(())
+    Ok(receipts)
 }
 
 fn admit_by_one<J: Session, R: Clock + Wait>(
@@ -165,12 +188,13 @@ fn admit_by_one<J: Session, R: Clock + Wait>(
 {
     let (hub, mut seats) = opening.open::<J>(alloc)?;
     let checks = checks(alloc, row)?;
+    let mut told = Vec::new(alloc);
     let start = Instant::now(rt)?;
     if let Some(seat) = seats.first_mut() {
-        admit_all(rt, alloc, &hub, seat, checks)?;
+        told.push(admit_all(rt, alloc, &hub, seat, checks)?)?;
     }
     let micros = start.elapsed(rt)?.as_micros();
-    closed_after(hub, seats, micros)
+    closed_after(hub, seats, &told, micros)
 }
 
 /// One seat admits so many payments that were checked before.
@@ -178,7 +202,7 @@ pub fn admit<R: Clock + AllocGlobal + Threads + Wait + Sync>(
     rt: &R,
     row: Row,
 ) -> Result<Played, RowFault> {
-    let chain = chain_for(rt.alloc(), row)?;
+    let chain = chain_of(rt.alloc(), row.spends(), i64::MAX)?;
     let opening = Opening::new(chain, u64::from(row.seats()));
     admit_by_one::<Brand, R>(rt, rt.alloc(), opening, row)
 }

@@ -2,7 +2,6 @@
 ghost use Rattle.std.specs.Prelude.{◌≡◌};
 
 use crate::deal::bank;
-use crate::many::agrees;
 use crate::party::payment;
 use chain::{Call, Reply};
 use collections::Same;
@@ -141,6 +140,14 @@ fn places_from(reply: &Reply, first: u64) -> Option<u64> {
         }
         _ => None,
     }
+}
+
+// Whether a receipt's entry says what the receipt says.
+fn agrees<J: Session>(closed: &Closed<J>, receipt: &Receipt<J>) -> bool {
+    let entry = closed.entry(receipt);
+    entry.seat == receipt.seat()
+        && entry.number == receipt.number()
+        && entry.reply.same(receipt.reply())
 }
 
 fn pool_is_full<J: Session + Send + Sync, R: Threads + Wait + Abort + Sync + AllocGlobal>(

@@ -13,8 +13,6 @@ mod full;
 #[cfg(test)]
 mod jobs;
 #[cfg(test)]
-mod many;
-#[cfg(test)]
 mod meeting;
 #[cfg(test)]
 mod party;

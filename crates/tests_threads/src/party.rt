@@ -51,8 +51,8 @@ pub fn publish_deal<J: Session, R: Wait>(
     hub.call(rt, alloc, seat, call).ok()
 }
 
-/// What asks for a thread and for what is under a key.
-pub fn ask_of(alloc: Global, thread: Option<OutputRef>, name: &str) -> Option<Ask> {
+// What asks for a thread and for what is under a key.
+fn ask_of(alloc: Global, thread: Option<OutputRef>, name: &str) -> Option<Ask> {
     Some(Ask {
         thread,
         keys: one_text(alloc, name)?,
