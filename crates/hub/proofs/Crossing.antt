@@ -22,12 +22,12 @@ use Rattle.contract.proofs.tree.Contract.TheLaws.TheKnot as tree_knot
 use Rattle.contract.proofs.value.Observation.TheLaws.TheKnot as value_knot
 use Rattle.eutxo_types.proofs.output.Output.TheSendSync as output
 use Rattle.eutxo_types.proofs.tx.Tx.TheSendSync as tx
-use Rattle.eutxo.proofs.shared.Shared.TheSendSync as shared
-use Rattle.roles.proofs.published.Published.TheSendSync as published
 use Rattle.ledger.proofs.ask.Ask.TheSendSync as ask
 use Rattle.ledger.proofs.call.Reply.TheSendSync as reply
 use Rattle.ledger.specs.contracts.call.Call as Call
 use Rattle.ledger.specs.contracts.call.Entry as Entry
+use Rattle.chain_index.proofs.index.Index.TheSendSync as index
+use Rattle.ledger_kept.proofs.tally.Tally.TheSendSync as tally
 use Rattle.chain.specs.contracts.chain.Chain as Chain
 use Rattle.journal.proofs.journal.Journal.TheSendSync as journal
 use Rattle.journal.proofs.beginning.Beginning.TheSendSync as beginning
@@ -51,7 +51,7 @@ entries : IsSend Entry.the_row
 entries = search (calls, reply.the_field_send, crosses, sendable) depth 60 fits 20000
 
 chains : IsSend (Chain.the_field).row
-chains = search (entries, output.the_send, items.the_send, shared.the_send, published.the_send, published.the_sync, crosses, sendable) depth 60 fits 20000
+chains = search (entries, output.the_send, items.the_send, index.the_send, tally.the_send, crosses, sendable) depth 60 fits 20000
 
 module _ (J : RattleType) (S : session.Ghosts J.Denot) where
   pub seats_are_sent : IsSend (Seat.the_row J S)
