@@ -18,3 +18,9 @@ returns-clause-heard g c =
 
 pub returns-clause-legal : goal.returns-clause-legal
 returns-clause-legal g c = subst (λ (k : Course). IsLegal k) (sym c.closed_of.ensures) c.history.ensures.legal
+
+pub returns-clause-count : goal.returns-clause-count
+returns-clause-count g c =
+    let desk = c.into_parts-chain.ensures in
+    let count : length c.into_parts-chain.result.chain.entries ≡ answered c.args.seats.items = sym desk.counted ∙ (sym (c.audit.ensures.whole (c.merged-all.ensures.0 ∙ c.requires.all)) ∙ c.merged-all.ensures.1) in
+    subst (λ (k : Course). length k.entries ≡ answered c.args.seats.items) (sym c.closed_of.ensures) count
