@@ -5,9 +5,9 @@ both with their ratios to those after the first.
 Needs    the program that ledger_program.py makes, and valgrind with its vgdb
 Usage    chain_growth.py PROGRAM [ENTRIES ..]   (as FOLDER/crates/ledger_bench/out/ledger_bench; other numbers of entries are multiples of 200)
 Expect   for each number of entries a line for each call, and ratios of instructions of at most GREATEST; else status 1. The calls are a Submit and an Enqueue of
-         a payment of one input and two outputs, a Round of ten such, a Look of a key with ten outputs, a Look of a thread of one step, and `resolve` of a payment.
-         The last line of each number is what an entry of the history took, with the growth of all that is kept: processor time of the whole run, a part each.
-         `bench/README.md` has what was measured.
+         a payment of one input and two outputs, a Round of ten such, a Look of a key with ten outputs, a Look of a thread of one step, `resolve` of a payment,
+         and a Look of a thread of 400 steps (`long`). The last line of each number is what an entry of the history took, with the growth of all that is kept:
+         a part of the processor time of the whole run. README.md has what was measured.
 Mind     a history has, of each twenty entries, ten payments by Submit, one by Enqueue and Round, a Publish, two starts, three steps, a Look and an Advance, by
          sixteen seats. Half of the payments go to the bank's own key, whose output each payment spends; of the others each to a key of its own, and ten to
          the key that is looked at, evenly over the history. So each is longer by that: what is unspent, under one key and under many; the ids, what is published,
@@ -25,7 +25,7 @@ import sys
 import tempfile
 
 ENTRIES = [1_000, 10_000, 100_000]
-CALLS = {"submit": 20, "enqueue": 20, "round": 4, "look": 20, "thread": 20, "resolve": 20}
+CALLS = {"submit": 20, "enqueue": 20, "round": 4, "look": 20, "thread": 20, "resolve": 20, "long": 20}
 WINDOWS = 3
 RUNS = 3
 GREATEST = 1.2

@@ -6,7 +6,7 @@ Needs    the program that ledger_program.py makes, Debian's package `time`, and
          (cd bench/plain/ledger && CARGO_TARGET_DIR=/tmp/plain cargo build --release --offline)
 Usage    ledger_beside_plain.py PLAIN PROGRAM [PAYMENTS]   (as /tmp/plain/release/plain_ledger FOLDER/crates/ledger_bench/out/ledger_bench)
 Expect   of 100,000 payments, unless it is said how many, one line; at most TIMES times the processor time of the plain ledger and at most SPACE times its memory, in
-         less than SECONDS of processor time; else status 1. `bench/README.md` has what was measured.
+         less than SECONDS of processor time; else status 1. README.md has what was measured.
 Else     what the two print otherwise: how many were accepted, how many outputs are unspent, what they hold, and a digest of all, in order of their making.
 Mind     both keep each call with its reply. A payment spends the output of the one before, pays one lovelace to one of a thousand keys in turn, and the rest
          to the bank. The plain ledger judges by the rules that such a transaction meets, 1 to 6, 8 and 18, and by ids from the same spelling.
