@@ -8,7 +8,7 @@ Mind     the cost is what MORE builds add to the instructions of a run, with the
 """
 import json
 
-from chain_growth import instructions
+from rows_run import instructions
 
 MORE = 3
 DEPOSIT = {"input_from_party": {"address": "x"}, "that_deposits": 255, "of_token": {"currency_symbol": "", "token_name": ""}, "into_account": {"address": "x"}}

@@ -1,62 +1,107 @@
 #!/usr/bin/env python3
-"""Makes chains of n, 2n and 4n entries by the program of rows, measures what a Submit and a look cost after them, and prints both with the ratios.
+"""Has the program `ledger_bench` make histories of 1,000, 10,000 and 100,000 entries, measures what calls cost after them, in instructions and time, and prints
+both with their ratios to those after the first.
 
-Needs    (cd crates/rows_chain && rt run); where valgrind is there, instructions are counted too
-Usage    chain_growth.py
-Expect   after 1,000, 2,000 and 4,000 entries the cost of each call, and a ratio near 2: a chain walks over its history, once for each output that a
-         Submit spends, a few times for a look. Each entry accepts a transaction of one input and one output.
-Mind     the cost is what MORE calls add to the processor time of a run, the least of RUNS runs, with the program's own search for a name, one pass
-         over the names. Times grow faster than the work once a history no longer fits a processor's cache; instructions don't.
+Needs    the program that ledger_program.py makes, and valgrind with its vgdb
+Usage    chain_growth.py PROGRAM [ENTRIES ..]   (as FOLDER/crates/ledger_bench/out/ledger_bench; other numbers of entries are multiples of 200)
+Expect   for each number of entries a line for each call, and ratios of instructions of at most GREATEST; else status 1. The calls are a Submit and an Enqueue of
+         a payment of one input and two outputs, a Round of ten such, a Look of a key with ten outputs, a Look of a thread of one step, `resolve` of a payment,
+         and a Look of a thread of 400 steps (`long`). The last line of each number is what an entry of the history took, with the growth of all that is kept:
+         a part of the processor time of the whole run. README.md has what was measured.
+Mind     a history has, of each twenty entries, ten payments by Submit, one by Enqueue and Round, a Publish, two starts, three steps, a Look and an Advance, by
+         sixteen seats. Half of the payments go to the bank's own key, whose output each payment spends; of the others each to a key of its own, and ten to
+         the key that is looked at, evenly over the history. So each is longer by that: what is unspent, under one key and under many; the ids, what is published,
+         the threads, the entries and those of each seat.
+         Calls are measured in windows of some at once, made ready before. Instructions: callgrind runs without counting, the program waits for a line before
+         and after each window, and there counting is switched on and off; a window without calls, which has all but the calls, is taken off. That is exact but for
+         a few instructions a window. Of WINDOWS windows the least counts, and of RUNS runs the least time: where a list or a map happens to be doubled within a
+         window, one call in thousands pays for all. Times also grow once a history no longer fits a processor's cache; nothing is asked of them.
 """
 import os
 import re
 import resource
-import shutil
 import subprocess
 import sys
 import tempfile
 
-HERE = os.path.dirname(os.path.abspath(__file__))
-PROGRAM = os.path.join(HERE, "..", "crates", "rows_chain", "out", "rows_chain")
-MORE = 200
-RUNS = 15
+ENTRIES = [1_000, 10_000, 100_000]
+CALLS = {"submit": 20, "enqueue": 20, "round": 4, "look": 20, "thread": 20, "resolve": 20, "long": 20}
+WINDOWS = 3
+RUNS = 3
+GREATEST = 1.2
 
 
-def transaction(name, origin):
-    """A transaction that spends what another made, all of it, and pays it to the same key."""
-    return ["in %s none" % origin, "out key bank ada 1000000", "from 0 to 10", "signer bank", "submit 0 %s" % name]
+class Measured:
+    """The program with windows to be measured, each waiting for its line."""
+
+    def __init__(self, program, entries, windows, before=()):
+        words = [str(word) for window in windows for word in window]
+        pipes = {"stdin": subprocess.PIPE, "stdout": subprocess.PIPE, "stderr": subprocess.DEVNULL, "text": True}
+        self.process = subprocess.Popen([*before, program, "history", str(entries), *words], **pipes)
+
+    def line(self):
+        """What it says, which it says once it waits for a line."""
+        said = self.process.stdout.readline().strip()
+        if not said:
+            sys.exit(f"the program ended, with status {self.process.wait()}")
+        return said
+
+    def go(self):
+        self.process.stdin.write("\n")
+        self.process.stdin.flush()
+
+    def end(self):
+        self.process.stdin.close()
+        if self.process.wait():
+            sys.exit("the program answered otherwise")
+
+    def tell(self, *words):
+        """Tells valgrind."""
+        subprocess.run(["vgdb", f"--pid={self.process.pid}", *words], stdout=subprocess.DEVNULL, stderr=subprocess.DEVNULL, check=True)
 
 
-def accepted(n):
-    """A session of n accepted transactions, each of which spends what the one before made."""
-    lines = ["# a chain", "genesis key bank ada 1000000", "begin 0"]
-    for i in range(n):
-        lines += transaction("t%d" % i, "t%d.0" % (i - 1) if i else "genesis.0")
-    return lines
+def all_windows():
+    return [window for _ in range(WINDOWS) for window in CALLS.items()]
 
 
-def unspent(n):
-    """Submits that are refused only by the rule on sums, the last: they spend what stands, and make too little of it."""
-    lines = []
-    for i in range(MORE):
-        lines += ["in t%d.0 none" % (n - 1), "out key bank ada 999999", "from 0 to 10", "signer bank", "submit 0 less%d" % i]
-    return lines
-
-
-def looks(n):
-    """Looks at an address under which each transaction made an output; all but the last are spent."""
-    return ["look 0 key bank"] * MORE
-
-
-def run(lines, before=()):
-    """Runs the program over these lines, behind the words of a command that measures it, and gives what that command wrote."""
+def instructions(program, entries):
+    """How many instructions each call takes after so many entries."""
+    windows = [("look", 0), *all_windows()]
+    counts = []
     with tempfile.TemporaryDirectory() as folder:
-        with open(os.path.join(folder, "rows.txt"), "w") as file:
-            file.write("\n".join(lines) + "\n")
-        ended = subprocess.run([*before, PROGRAM, "rows.txt"], cwd=folder, capture_output=True, text=True)
-    if ended.returncode or "no such row" in ended.stdout:
-        sys.exit("the program answered otherwise")
-    return ended.stderr
+        out = os.path.join(folder, "counts")
+        measured = Measured(program, entries, windows, ["valgrind", "--tool=callgrind", "--instr-atstart=no", f"--callgrind-out-file={out}"])
+        for place, _ in enumerate(windows, 1):
+            measured.line()
+            measured.tell("instrumentation", "on")
+            measured.go()
+            measured.line()
+            measured.tell("dump")
+            measured.tell("instrumentation", "off")
+            measured.go()
+            with open(f"{out}.{place}") as file:
+                counts.append(int(re.search(r"(?m)^totals: (\d+)", file.read())[1]))
+        measured.end()
+    return least([(word, (count - counts[0]) / times) for (word, times), count in zip(windows[1:], counts[1:])])
+
+
+def times(program, entries):
+    """How many microseconds each call takes after so many entries."""
+    windows = all_windows()
+    found = []
+    for _ in range(RUNS):
+        measured = Measured(program, entries, windows)
+        for word, count in windows:
+            measured.line()
+            measured.go()
+            found.append((word, int(measured.line()) / count))
+            measured.go()
+        measured.end()
+    return least(found)
+
+
+def least(found):
+    return {word: min(cost for other, cost in found if other == word) for word in CALLS}
 
 
 def spent():
@@ -65,48 +110,28 @@ def spent():
     return used.ru_utime + used.ru_stime
 
 
-def seconds(lines):
-    """The processor time of a run over these lines."""
+def history(program, entries):
+    """How many microseconds of processor time an entry of a history takes."""
     before = spent()
-    run(lines)
-    return spent() - before
-
-
-def least_seconds(start, calls):
-    """What one of MORE calls takes after that start."""
-    times = [(seconds(start), seconds(start + calls)) for _ in range(RUNS)]
-    return (min(time for _, time in times) - min(time for time, _ in times)) / MORE
-
-
-def instructions(lines):
-    """How many instructions a run over these lines takes."""
-    said = run(lines, ["valgrind", "--tool=cachegrind", "--cache-sim=no", "--cachegrind-out-file=/dev/null"])
-    return int(re.search(r"I +refs: +([0-9,]+)", said)[1].replace(",", ""))
-
-
-def more_instructions(start, calls):
-    """How many instructions one of MORE calls takes after that start."""
-    return (instructions(start + calls) - instructions(start)) / MORE
-
-
-def print_growth(call, unit, cost_of):
-    """Prints a call's cost after 1,000, 2,000 and 4,000 entries."""
-    before = None
-    for n in (1000, 2000, 4000):
-        cost = cost_of(accepted(n), call(n))
-        line = f"  after {n:5}: {cost:10.1f} {unit}"
-        if before:
-            line += f", times {cost / before:.2f}"
-        print(line, flush=True)
-        before = cost
+    Measured(program, entries, []).end()
+    return 1e6 * (spent() - before) / entries
 
 
 def main():
-    for call in (unspent, looks):
-        print(call.__doc__)
-        print_growth(call, "us", lambda start, calls: 1e6 * least_seconds(start, calls))
-        if shutil.which("valgrind"):
-            print_growth(call, "thousand instructions", lambda start, calls: more_instructions(start, calls) / 1e3)
+    if len(sys.argv) < 2:
+        sys.exit(__doc__)
+    program = os.path.abspath(sys.argv[1])
+    first, steeper = None, False
+    for entries in [int(word) for word in sys.argv[2:]] or ENTRIES:
+        print(f"after {entries} entries", flush=True)
+        found = {"counts": instructions(program, entries), "times": times(program, entries)}
+        first = first or found
+        for word in CALLS:
+            (count, grown), (time, later) = ((found[sort][word], found[sort][word] / first[sort][word]) for sort in ("counts", "times"))
+            steeper |= grown > GREATEST
+            print(f"  {word:8} {count / 1e3:10.1f} thousand instructions, times {grown:6.2f} {time:10.1f} us, times {later:6.2f}", flush=True)
+        print(f"  an entry of the history took {history(program, entries):.1f} us", flush=True)
+    sys.exit(1 if steeper else 0)
 
 
 if __name__ == "__main__":

@@ -11,7 +11,7 @@ Mind     a cost is what something adds to the processor time of a run, the least
 import json
 import sys
 
-from chain_growth import seconds
+from rows_run import seconds
 
 RUNS = 9
 PAYMENTS = 1000
