@@ -3,21 +3,25 @@
 
 Needs    (cd crates/marlowe && rt run -- --version); for --rows also (cd crates/rows_transactions && rt run -- data/sums.txt)
 Usage    checks/spoiled.py [--seconds N] [--seed N] [--workers N] [--rows]
-         for N seconds (60) on so many processors (1); --rows spoils the rows of transactions in place of the texts
-Expect   of each kind of answer how often it came, then `N spoiled texts, none at fault`; some 500 texts a second on a processor
-Else     the text, kept in a folder that is named, and what it was told; then status 1
+         for N seconds (60) with so many workers (1), each a process; a worker spoils the same texts in the same order again for the same seed;
+         --rows spoils the rows of transactions in place of the texts
+Expect   how many texts there were of each command, were spoiled in each way and were answered in each kind, and `N spoiled texts, none at fault`;
+         RATE
+Else     what is wrong, the command line over copies of its files, and what it was told; then status 1
 
 Each text is spoiled once or a few times: a byte changed, a part cut out or doubled, a key renamed, a number put to an end of its range,
-a name in some script of the world, a number written as a text or a text as a number, a part exchanged for one of another text.
+a name in some script of the world, a number written as a text or a text as a number, a part exchanged for one of another text. A play is in
+threads or, with --one, in turn.
 Of each answer it asks: status 0, with a text on standard output alone, or status 1, with one line `refused ..` on standard error alone; at
-most a second; at most 64 MiB. Of rows: status 0 and no word but those of rows.
+most a second; at most 64 MiB. Of rows: status 0 or 1, and nothing on standard error. What takes longer than a second beside the other workers
+is asked again alone before it is at fault.
 """
-import argparse, collections, glob, json, multiprocessing, os, random, re, shutil, subprocess, sys, tempfile, time
+import argparse, collections, glob, json, multiprocessing, os, random, re, shutil, signal, sys, tempfile, time, typing
 
 ROOT = os.path.dirname(os.path.dirname(os.path.abspath(__file__)))
 PROGRAM = f"{ROOT}/crates/marlowe/out/marlowe"
 ROWS = f"{ROOT}/crates/rows_transactions/out/rows_transactions"
-MOST_SECONDS, MOST_KIB = 1.0, 64 * 1024
+MOST_SECONDS, MOST_KIB, MOST_FAULTS = 1.0, 64 * 1024, 100
 
 NUMBERS = [
     "0", "-0", "1", "-1", "1.0", "1e2", "0.5", "1e400", "-1e-400", "01", "1e", "9223372036854775807", "9223372036854775808",
@@ -35,19 +39,20 @@ SCRIPTS = [
     (0x300, 0x36F), (0x660, 0x669), (0x200B, 0x200F), (0x202A, 0x202E), (0x1F300, 0x1F5FF), (0xE000, 0xE0FF), (0xFFF0, 0xFFFD), (0x0, 0x1F), (0x10FFF0, 0x10FFFF),
 ]
 ESCAPES = ['"\\ud800"', '"\\udc00\\ud800"', '"\\ud83d\\ude00"', '"\\u0000"', '"\\x"', '"\\u12"', '"\\"', '"\\n\\t\\b\\f\\r\\/"']
-NUMBER = re.compile(rb'(?<![\w".])-?\d+(?![\w".])')
-TEXT = re.compile(rb'"(?:[^"\\]|\\.)*"')
-KEY = re.compile(rb'"((?:[^"\\]|\\.)*)"\s*:')
-
-
 # Words of rows that make so many things: a row of millions takes what it is asked to take.
 COUNTED = re.compile(rb"(notifies|many|keys) \d{5,}")
 
+VERDICT = re.compile(r"(?:at hand |anew )?(accepted|refused [A-Z]\w+|no such row|done|same|other|TooLarge|Short)")
+NAME = re.compile(r"[a-z]{4,}|[A-Z]\w+")
+NUMBER = re.compile(rb'(?<![\w".])-?\d+(?![\w".])')
+TEXT = re.compile(rb'(?<![^\s{[,:])"(?:[^"\\]|\\.)*"')
+KEY = re.compile(rb'(?<![^\s{,])"(?:[^"\\]|\\.)*"\s*:')
+PART = re.compile(rb'\{[^{}]*\}|\[[^][]*\]|(?<![^\s{[,:])"(?:[^"\\]|\\.)*"|-?\d+|true|false|null')
+
 
 def one_of(chance, pattern, text):
-    """A match of the pattern, any of them, or None."""
-    found = list(pattern.finditer(text))
-    return chance.choice(found) if found else None
+    """What matches the pattern next behind some place of the text, or the first, or None."""
+    return pattern.search(text, chance.randrange(len(text) + 1)) or pattern.search(text)
 
 
 def put(text, found, new):
@@ -58,14 +63,14 @@ def name_of(chance):
     if chance.random() < 0.1:
         return chance.choice(ESCAPES).encode()
     first, last = chance.choice(SCRIPTS)
-    letters = "".join(chr(chance.randint(first, last)) for _ in range(chance.choice([1, 1, 3, 12, 200])))
+    letters = "".join(map(chr, chance.choices(range(first, last + 1), k=chance.choice([1, 1, 3, 12, 200]))))
     return json.dumps(letters, ensure_ascii=chance.random() < 0.3).encode("utf-8", "surrogatepass")
 
 
 def changed_byte(chance, text, others):
-    at = chance.randrange(len(text) + 1)
+    place = chance.randrange(len(text) + 1)
     byte = chance.choice([chance.randrange(256), *b'{}[]",:0\\ -.e\n'])
-    return text[:at] + bytes([byte]) + text[at + chance.randrange(2) :]
+    return text[:place] + bytes([byte]) + text[place + chance.randrange(2) :]
 
 
 def cut(chance, text, others):
@@ -79,9 +84,8 @@ def doubled(chance, text, others):
 
 
 def renamed_key(chance, text, others):
-    keys = [it[1] for it in KEY.finditer(text)] + [it[1] for it in KEY.finditer(chance.choice(others))]
-    found = one_of(chance, KEY, text)
-    return put(text, found, b'"' + chance.choice(keys) + b'":') if keys else text
+    given = one_of(chance, KEY, chance.choice([text, chance.choice(others)]))
+    return put(text, one_of(chance, KEY, text), given[0]) if given else text
 
 
 def end_of_range(chance, text, others):
@@ -94,7 +98,7 @@ def another_script(chance, text, others):
 
 def number_as_text(chance, text, others):
     found = one_of(chance, NUMBER, text)
-    return put(text, found, b'"' + (found[0] if found else b"") + b'"')
+    return put(text, found, b'"' + found[0] + b'"') if found else text
 
 
 def text_as_number(chance, text, others):
@@ -103,45 +107,103 @@ def text_as_number(chance, text, others):
 
 def exchanged_part(chance, text, others):
     """A part in brackets, or another value, put in the place of one."""
-    values = re.compile(rb'\{[^{}]*\}|\[[^][]*\]|"(?:[^"\\]|\\.)*"|-?\d+|true|false|null')
-    given = one_of(chance, values, chance.choice(others))
-    return put(text, one_of(chance, values, text), given[0] if given else b"null")
+    given = one_of(chance, PART, chance.choice(others))
+    return put(text, one_of(chance, PART, text), given[0] if given else b"null")
 
 
 SPOILERS = [changed_byte, cut, doubled, renamed_key, end_of_range, another_script, number_as_text, text_as_number, exchanged_part]
 
 
 def spoiled(chance, text, others):
-    for _ in range(chance.choice([1, 1, 1, 2, 4])):
-        text = chance.choice(SPOILERS)(chance, text, others)
+    """The text spoiled once or a few times, so that it is another, and the names of what was done to it."""
+    new, done = text, []
+    while new == text:
+        done = chance.choices(SPOILERS, k=chance.choice([1, 1, 1, 2, 4]))
+        for spoil in done:
+            new = spoil(chance, new, others)
+    return new, [f"done {it.__name__}" for it in done]
+
+
+class Answer(typing.NamedTuple):
+    """What a program left: its status, both streams, the seconds from its start to its end, the KiB that it took at most.
+
+    The system counts as the program's what the process that starts it held at most, before it is the program: so no KiB are below a worker's own.
+    """
+
+    status: int
+    out: bytes
+    err: bytes
+    seconds: float
+    kib: int
+
+
+class Runner:
+    """Runs one program after another. Their streams are files in memory, and a clock ends a program that stays."""
+
+    def __init__(self):
+        self.streams = os.memfd_create("out"), os.memfd_create("err")
+        self.actions = [(os.POSIX_SPAWN_DUP2, it, number) for number, it in enumerate(self.streams, 1)]
+        self.pid, self.begun = 0, 0.0
+
+    def __enter__(self):
+        signal.signal(signal.SIGALRM, self.end_what_stays)
+        signal.setitimer(signal.ITIMER_REAL, MOST_SECONDS / 8, MOST_SECONDS / 8)
+        return self
+
+    def __exit__(self, *_):
+        signal.setitimer(signal.ITIMER_REAL, 0)
+
+    def end_what_stays(self, *_):
+        if self.pid and time.monotonic() - self.begun > MOST_SECONDS:
+            os.kill(self.pid, signal.SIGKILL)
+
+    def ask(self, line):
+        """Runs a command line without an environment."""
+        self.begun = time.monotonic()
+        self.pid = pid = os.posix_spawn(line[0], line, {}, file_actions=self.actions)
+        # (it has ended, but its number is still its own: the clock can't end another)
+        os.waitid(os.P_PID, pid, os.WEXITED | os.WNOWAIT)
+        self.pid = 0
+        _, status, used = os.wait4(pid, 0)
+        seconds = time.monotonic() - self.begun
+        return Answer(os.waitstatus_to_exitcode(status), *map(take, self.streams), seconds, used.ru_maxrss)
+
+
+def take(stream):
+    """What was written to a file in memory, which is empty afterwards."""
+    length = os.lseek(stream, 0, os.SEEK_CUR)
+    if not length:
+        return b""
+    text = os.pread(stream, length, 0)
+    os.ftruncate(stream, 0)
+    os.lseek(stream, 0, os.SEEK_SET)
     return text
 
 
-def ask(words, room):
-    """Runs a program; answers its status, both its streams, the seconds and the KiB that it took."""
-    begun = time.monotonic()
-    with open(f"{room}/out", "wb+") as out, open(f"{room}/err", "wb+") as err:
-        actions = [(os.POSIX_SPAWN_DUP2, out.fileno(), 1), (os.POSIX_SPAWN_DUP2, err.fileno(), 2)]
-        pid = os.posix_spawn(words[0], words, {}, file_actions=actions)
-        _, status, used = os.wait4(pid, 0)
-        took = time.monotonic() - begun
-        out.seek(0)
-        err.seek(0)
-        return os.waitstatus_to_exitcode(status), out.read(), err.read(), min(took, used.ru_utime + used.ru_stime), used.ru_maxrss
+def fault_of(word, text, answer):
+    """What is wrong with an answer, or None."""
+    if answer.seconds > MOST_SECONDS:
+        return f"took {answer.seconds:.1f} s or longer"
+    if answer.kib > MOST_KIB:
+        return f"took {answer.kib} KiB"
+    return fault_of_rows(text, answer) if word == "rows" else fault_of_command(answer)
 
 
-def fault_of_answer(status, out, err, took, kib):
-    """What is wrong with an answer of `marlowe`, or None."""
-    if took > MOST_SECONDS:
-        return f"took {took:.1f} s"
-    if kib > MOST_KIB:
-        return f"took {kib} KiB"
+def fault_of_command(answer):
+    """What is wrong with the status and the streams of `marlowe`, or None."""
+    status, out, err = answer[:3]
     if status == 0:
         return None if out and not err else "an answer, and not on standard output alone"
     if status == 1:
         is_line = err.startswith(b"refused ") and err.endswith(b"\n") and err.count(b"\n") == 1
         return None if is_line and not out else "a refusal that isn't one line on standard error alone"
     return f"status {status}"
+
+
+def fault_of_rows(text, answer):
+    """What is wrong with those of the row program, or None. Of a file that is no text in UTF-8 it plays nothing, with status 2."""
+    is_right = answer.status in ((0, 1) if is_utf8(text) else (2,)) and not answer.err
+    return None if is_right else f"status {answer.status}"
 
 
 def is_utf8(text):
@@ -152,84 +214,118 @@ def is_utf8(text):
         return False
 
 
-def fault_of_rows(text, status, out, err, took, kib):
-    """What is wrong with an answer of the row program, or None. Of a file that is no text in UTF-8 it plays nothing, with status 2."""
-    if took > MOST_SECONDS:
-        return f"took {took:.1f} s"
-    if kib > MOST_KIB:
-        return f"took {kib} KiB"
-    return None if status in ((0, 1) if is_utf8(text) else (2,)) and not err else f"status {status}"
-
-
-def kind_of(word, status, out, err):
-    """The kind of an answer: its word, and of a refusal its names without what is particular to the text."""
-    if status == 0:
-        return f"{word}: an answer"
-    line = err.decode("utf-8", "replace").split()
-    return f"{word}: " + " ".join([line[0], *[it for it in line[1:] if re.fullmatch(r"[a-z]{4,}|[A-Z]\w+", it)]])
+def kinds_of(word, answer):
+    """The kinds of an answer: of rows each line's verdict, else of a refusal its names without what is particular to the text."""
+    if word == "rows":
+        return [f"{word}: {it[1]}" for it in map(VERDICT.match, answer.out.decode("utf-8", "replace").split("\n")) if it]
+    if answer.status == 0:
+        return [f"{word}: an answer"]
+    return [f"{word}: {' '.join(filter(NAME.fullmatch, answer.err.decode('utf-8', 'replace').split()))}"]
 
 
 def texts_of_examples():
-    """For each example the word and its texts, of which one is spoiled."""
-    found = []
-    for folder in sorted(glob.glob(f"{ROOT}/crates/rows_runs/data/examples/*/")):
-        texts = [open(f"{folder}/{it}.json", "rb").read() for it in ("contract", "state", "transaction")]
-        found += [("run", texts), ("table", texts[:1])]
-    for file in sorted(glob.glob(f"{ROOT}/examples/plays/*/scenario.json")):
-        found.append(("play", [open(file, "rb").read()]))
-    return found
+    """For each command the texts of its examples, of each of which one is spoiled."""
+    folders = sorted(glob.glob(f"{ROOT}/crates/rows_runs/data/examples/*/"))
+    runs = [[text_of(f"{folder}/{it}.json") for it in ("contract", "state", "transaction")] for folder in folders]
+    plays = [[text_of(it)] for it in sorted(glob.glob(f"{ROOT}/examples/plays/*/scenario.json"))]
+    return {"run": runs, "table": [texts[:1] for texts in runs], "play": plays}
+
+
+def text_of(file):
+    with open(file, "rb") as it:
+        return it.read()
 
 
 def rows_of_transactions():
-    """Each file of rows without its answers, and the lines that it has of common.txt."""
-    common = open(f"{ROOT}/crates/rows_transactions/data/common.txt", "rb").read()
-    found = []
-    for name in ("steps", "rules", "roles", "order", "starts", "sums", "transactions"):
-        lines = open(f"{ROOT}/crates/rows_transactions/data/{name}.txt", "rb").read().split(b"\n")
-        found.append([common, *[it for it in lines if it and not it.startswith((b"=", b"#", b"use "))]])
+    """For each file of rows what common.txt and the file itself publish, and its other lines without the answers."""
+    folder = f"{ROOT}/crates/rows_transactions/data"
+    common, found = text_of(f"{folder}/common.txt").split(b"\n"), []
+    for file in sorted(glob.glob(f"{folder}/*.txt")):
+        lines = [it for it in text_of(file).split(b"\n") if it and not it.startswith((b"=", b"#", b"use "))]
+        published = [it for it in lines if it.startswith(b"publish ")]
+        if len(published) < len(lines):
+            found.append(([*common, *published], [it for it in lines if it not in published]))
     return found
 
 
+def spoil_texts(chance, room):
+    """Spoils a text of an example, again and again: what is asked about which text, and what was done to it."""
+    examples = texts_of_examples()
+    everything = [it for some in examples.values() for texts in some for it in texts]
+    files = {word: [files_of(f"{room}/{word}_{number}", it) for number, it in enumerate(some)] for word, some in examples.items()}
+    while True:
+        word = chance.choice(["run", "table", "play"])
+        number = chance.randrange(len(examples[word]))
+        line, texts = [PROGRAM, word, *files[word][number]], examples[word][number]
+        place = chance.randrange(len(texts))
+        line[2 + place] = f"{room}/spoiled"
+        text, done = spoiled(chance, texts[place], everything)
+        is_in_turn = word == "play" and chance.random() < 0.5
+        yield word, [*line, "--one"] if is_in_turn else line, text, done
+
+
+def spoil_rows(chance, room):
+    """Spoils a line among some rows of transactions."""
+    rows = rows_of_transactions()
+    everything = [it for some in texts_of_examples().values() for texts in some for it in texts]
+    while True:
+        published, lines = chance.choice(rows)
+        at = chance.randrange(len(lines))
+        few = [*published, *lines[max(0, at - 12) : at + 12]]
+        place = chance.randrange(len(few))
+        few[place], done = spoiled(chance, few[place], everything)
+        text = b"\n".join(few) + b"\n"
+        if not COUNTED.search(text):
+            yield "rows", [ROWS, f"{room}/spoiled"], text, done
+
+
+def files_of(beginning, texts):
+    """The names of new files that hold the texts."""
+    files = [f"{beginning}_{number}.json" for number in range(len(texts))]
+    for file, text in zip(files, texts):
+        with open(file, "wb") as it:
+            it.write(text)
+    return files
+
+
+def kept(line):
+    """The command line, with copies of its files in a folder of their own."""
+    folder = tempfile.mkdtemp(prefix="spoiled-")
+    return [shutil.copy(it, folder) if os.path.isfile(it) and it != line[0] else it for it in line]
+
+
 def work(arguments):
+    """A worker's part: how many there were of each kind, the inputs at fault, and the most seconds and KiB of one that isn't."""
     number, given = arguments
-    chance, room = random.Random(f"{given.seed} {number}"), tempfile.mkdtemp(prefix="spoiled-", dir="/dev/shm" if os.path.isdir("/dev/shm") else None)
-    examples, rows = texts_of_examples(), rows_of_transactions() if given.rows else []
-    everything = [it for _, texts in examples for it in texts]
-    kinds, ran, ends = collections.Counter(), 0, time.monotonic() + given.seconds
-    while time.monotonic() < ends:
-        if given.rows:
-            word, lines = "rows", list(chance.choice(rows))
-            at = chance.randrange(len(lines) - 1) + 1
-            few = lines[:1] + [it for it in lines[1:] if it.startswith(b"publish ")] + lines[max(1, at - 12) : at + 12]
-            place = chance.randrange(1, len(few))
-            few[place] = spoiled(chance, few[place] or b" ", everything)
-            texts, words = [b"\n".join(few) + b"\n"], [ROWS]
-        else:
-            word, texts = chance.choice(examples)
-            texts, place, words = list(texts), chance.randrange(len(texts)), [PROGRAM, word]
-            texts[place] = spoiled(chance, texts[place], everything)
-        if given.rows and COUNTED.search(texts[0]):
-            continue
-        for place, text in enumerate(texts):
-            with open(f"{room}/{place}.txt", "wb") as it:
-                it.write(text)
-        files = [f"{room}/{place}.txt" for place in range(len(texts))]
-        status, out, err, took, kib = ask([*words, *files, *(["--one"] if word == "play" else [])], room)
-        ran += 1
-        if given.rows:
-            fault = fault_of_rows(texts[0], status, out, err, took, kib)
-            # (the kind of an answer is its verdict, with the fault's name)
-            for line in out.decode("utf-8", "replace").split("\n"):
-                verdict = re.match(r"(accepted|refused [A-Z]\w+|no such row|done|same|other|TooLarge|Short)", line)
-                if verdict:
-                    kinds[f"rows: {verdict[1]}"] += 1
-        else:
-            fault = fault_of_answer(status, out, err, took, kib)
-            kinds[kind_of(word, status, out, err)] += 1
-        if fault:
-            return number, kinds, ran, (room, fault, word, err[:300])
-    shutil.rmtree(room)
-    return number, kinds, ran, None
+    chance, spoil, ends = random.Random(f"{given.seed} {number}"), spoil_rows if given.rows else spoil_texts, time.monotonic() + given.seconds
+    kinds, faults, seconds, kib = collections.Counter(), [], 0, 0
+    with tempfile.TemporaryDirectory(prefix="spoiled-", dir="/dev/shm") as room, Runner() as runner:
+        file = os.open(f"{room}/spoiled", os.O_WRONLY | os.O_CREAT)
+        for word, line, text, done in spoil(chance, room):
+            if time.monotonic() > ends or len(faults) == MOST_FAULTS:
+                break
+            os.pwrite(file, text, 0)
+            os.ftruncate(file, len(text))
+            answer = runner.ask(line)
+            if fault_of(word, text, answer):
+                faults.append((word, kept(line), text, answer))
+            else:
+                kinds.update(kinds_of(word, answer))
+                seconds, kib = max(seconds, answer.seconds), max(kib, answer.kib)
+            kinds.update([f"asked {word}", *done])
+    return kinds, faults, seconds, kib
+
+
+def ask_again(faults):
+    """Of the inputs at fault those that are so still. What was late beside other workers is asked again alone."""
+    still = []
+    with Runner() as runner:
+        for word, line, text, answer in faults:
+            if answer.seconds > MOST_SECONDS:
+                answer = runner.ask(line)
+            if fault_of(word, text, answer):
+                still.append((word, line, text, answer))
+    return still
 
 
 def main():
@@ -239,20 +335,21 @@ def main():
     words.add_argument("--workers", type=int, default=1)
     words.add_argument("--rows", action="store_true")
     given = words.parse_args()
-    for program in [ROWS if given.rows else PROGRAM]:
-        if not os.path.exists(program):
-            sys.exit(f"{program} isn't built")
+    program = ROWS if given.rows else PROGRAM
+    if not os.path.exists(program):
+        sys.exit(f"{program} isn't built")
     with multiprocessing.Pool(given.workers) as pool:
         told = pool.map(work, [(it, given) for it in range(given.workers)])
-    kinds = sum((it[1] for it in told), collections.Counter())
+    kinds, faults = sum((it[0] for it in told), collections.Counter()), [it for part in told for it in part[1]]
     for kind, count in sorted(kinds.items()):
         print(f"{count:9} {kind}")
-    faults = [it[3] for it in told if it[3]]
-    for room, fault, word, line in faults:
-        print(f"{word} of {room}: {fault}: {line!r}")
-    ran = sum(it[2] for it in told)
-    print(f"{ran} spoiled texts, " + (f"{len(faults)} at fault" if faults else "none at fault"))
-    return 1 if faults else 0
+    late, still = sum(it[3].seconds > MOST_SECONDS for it in faults), ask_again(faults)
+    for word, line, text, answer in still:
+        print(f"{fault_of(word, text, answer)}: {' '.join(line)}: {answer.err[:300]!r}")
+    asked = sum(count for kind, count in kinds.items() if kind.startswith("asked "))
+    print(f"{asked / given.seconds:.0f} a second, at most {max(it[2] for it in told):.2f} s and {max(it[3] for it in told)} KiB, {late} asked again alone")
+    print(f"{asked} spoiled texts, {len(still) or 'none'} at fault")
+    return 1 if still else 0
 
 
 sys.exit(main())
