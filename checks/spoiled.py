@@ -6,7 +6,7 @@ Usage    checks/spoiled.py [--seconds N] [--seed N] [--workers N] [--rows]
          for N seconds (60) with so many workers (1), each a process; a worker spoils the same texts in the same order again for the same seed;
          --rows spoils the rows of transactions in place of the texts
 Expect   how many texts there were of each command, were spoiled in each way and were answered in each kind, and `N spoiled texts, none at fault`;
-         RATE
+         beside other work some 700 to 1,000 a second with four workers
 Else     what is wrong, the command line over copies of its files, and what it was told; then status 1
 
 Each text is spoiled once or a few times: a byte changed, a part cut out or doubled, a key renamed, a number put to an end of its range,
@@ -22,6 +22,8 @@ ROOT = os.path.dirname(os.path.dirname(os.path.abspath(__file__)))
 PROGRAM = f"{ROOT}/crates/marlowe/out/marlowe"
 ROWS = f"{ROOT}/crates/rows_transactions/out/rows_transactions"
 MOST_SECONDS, MOST_KIB, MOST_FAULTS = 1.0, 64 * 1024, 100
+# The bytes of a spoiled text at most: twice those that a program reads of a file.
+MOST_BYTES = 1 << 21
 
 NUMBERS = [
     "0", "-0", "1", "-1", "1.0", "1e2", "0.5", "1e400", "-1e-400", "01", "1e", "9223372036854775807", "9223372036854775808",
@@ -80,7 +82,8 @@ def cut(chance, text, others):
 
 def doubled(chance, text, others):
     one, other = sorted(chance.randrange(len(text) + 1) for _ in range(2))
-    return text[:one] + text[one:other] * chance.choice([2, 2, 3, 50]) + text[other:]
+    times = chance.choice([2, 2, 3, 50])
+    return (text[:one] + text[one:other] * min(times, 1 + MOST_BYTES // len(text)) + text[other:])[:MOST_BYTES] if text else text
 
 
 def renamed_key(chance, text, others):
@@ -127,7 +130,7 @@ def spoiled(chance, text, others):
 class Answer(typing.NamedTuple):
     """What a program left: its status, both streams, the seconds from its start to its end, the KiB that it took at most.
 
-    The system counts as the program's what the process that starts it held at most, before it is the program: so no KiB are below a worker's own.
+    The system counts as the program's what the process that starts it held at most: so no KiB are below those of a worker, which holds no long text.
     """
 
     status: int
@@ -347,7 +350,8 @@ def main():
     for word, line, text, answer in still:
         print(f"{fault_of(word, text, answer)}: {' '.join(line)}: {answer.err[:300]!r}")
     asked = sum(count for kind, count in kinds.items() if kind.startswith("asked "))
-    print(f"{asked / given.seconds:.0f} a second, at most {max(it[2] for it in told):.2f} s and {max(it[3] for it in told)} KiB, {late} asked again alone")
+    most = f"{max(it[2] for it in told):.2f} s and {max(it[3] for it in told)} KiB"
+    print(f"{asked / given.seconds:.0f} a second, at most {most}, {late} asked again alone")
     print(f"{asked} spoiled texts, {len(still) or 'none'} at fault")
     return 1 if still else 0
 
