@@ -1,5 +1,5 @@
 -- The outputs at the places of those that are shown, in order, are those that are shown.
-use Rattle.std.proofs.Common.{◌≡◌, ℕ, suc, ◌+◌, ◌-◌, ◌<◌, ◌≤◌, arith, Bool, true, false, ◌&&◌, ◌||◌, not, cond, filter, List, [], ◌∷◌, ◌++◌, refl, sym, ◌∙◌, ap, subst, length, map, Option, Some, None}
+use Rattle.std.proofs.Common.{◌≡◌, ℕ, suc, ◌+◌, ◌-◌, ◌<◌, ◌≤◌, arith, Bool, true, false, ◌&&◌, ◌||◌, not, cond, filter, List, [], ◌∷◌, ◌++◌, refl, sym, ◌∙◌, ap, subst, append_assoc, length, map, Option, Some, None}
 use Rattle.std.specs.List.{slice_get, flat_map, AllByRecursion}
 use Rattle.std.specs.List.Sorted.{IsStrictlySortedBy}
 use Rattle.std.specs.Ordering.{nat_cmp}
@@ -130,6 +130,11 @@ module _ (asks : Lock → Bool) (leaving : List OutputRef) where
             (λ i. sym (ap (λ b. b || has_place js ((n + 1) + i)) (apart i)) ∙ ap (has_place (k ∷ js)) (later i) ∙ g.2 (suc i)),
           ) i)
           ∙ sym (under_cons ∙ ap (λ b. cond b (row (Some e)) [] ++ under asks leaving es) h)
+
+-- one place more, the first of those that are left
+pub next_row : (es : List Entry) (told more all : List Unspent) (ks rest : List ℕ) (k : ℕ) → ks ≡ k ∷ rest → more ≡ told ++ row (slice_get es k) → told ++ rows_at es ks ≡ all → more ++ rows_at es rest ≡ all
+next_row es told more all ks rest k e m h =
+    ap (λ (l : List Unspent). l ++ rows_at es rest) m ∙ append_assoc told (row (slice_get es k)) (rows_at es rest) ∙ ap (λ (l : List ℕ). told ++ rows_at es l) (sym e) ∙ h
 
 -- where places ascend, and are those of the entries that are shown
 pub rows_shown : (asks : Lock → Bool) (leaving : List OutputRef) (es : List Entry) (ks : List ℕ) → IsStrictlySortedBy nat_cmp ks →

@@ -1,5 +1,5 @@
-//! References of outputs, listed by the locks that the outputs are under. Some may be listed whose outputs are gone; so
-//! a look asks each output.
+//! References of outputs, listed by the locks that the outputs are under. That none lacks is all that clauses say: what
+//! else is listed a look passes over, since it asks each output.
 ghost use Rattle.std.specs.Prelude.{◌≡◌, [], true, None, OnOk};
 ghost use Rattle.std.specs.Map.{lookup};
 ghost use Rattle.eutxo_types.specs.declared.lock.Lock.{Lock};
@@ -91,24 +91,14 @@ fn unlist_under(by_lock: &mut ByLock, name: &LockName, reference: &OutputRef)
     }
 }
 
-// The name of what an output is under, which is used up. Takes no memory.
-fn name_of_spent(output: Option<Output>) -> Option<LockName> {
-    match output {
-        Some(
-            Output {
-                lock,
-                amount: _amount,
-            },
-        ) => into_name(lock),
-        None => None,
-    }
-}
-
 /// Lists an output no more. Each other reference stays. Takes no memory.
 pub(crate) fn unlist(by_lock: &mut ByLock, reference: &OutputRef, output: Option<Output>)
     ensures { KeepsBut reference.now (refs_under by_lock.old.entries) (refs_under by_lock.new.entries) }
 {
-    if let Some(name) = name_of_spent(output) {
+    let Some(output) = output else {
+        return;
+    };
+    if let Some(name) = into_name(output) {
         unlist_under(by_lock, &name, reference);
     }
 }

@@ -3,7 +3,7 @@ ghost use Rattle.std.specs.Prelude.{◌≡◌, IfOk};
 ghost use Rattle.chain_index.specs.LocksSupport.{name_in, is_named};
 
 use collections::{Bytes, Memory, Text, TryClone};
-use eutxo_types::Lock;
+use eutxo_types::{Lock, Output};
 
 /// What outputs are looked up by: the address of a key, or the currency symbol and the role of a payout.
 #[derive(PartialEq, Eq, Hash, Drop)]
@@ -26,10 +26,14 @@ pub(crate) fn name_of(lock: &Lock) -> Result<Option<LockName>, Memory>
     }
 }
 
-/// The name of a lock, which is used up. Takes no memory.
-pub(crate) fn into_name(lock: Lock) -> Option<LockName>
-    ensures { result ≡ name_in lock }
+/// The name of the lock of an output, which is used up. Takes no memory.
+pub(crate) fn into_name(output: Output) -> Option<LockName>
+    ensures { result ≡ name_in output.lock }
 {
+    let Output {
+        lock,
+        amount: _amount,
+    } = output;
     match lock {
         Lock::Key(address) => Some(LockName::Address(address)),
         Lock::Payout { currency, role } => Some(LockName::Role { currency, role }),

@@ -20,8 +20,8 @@ use std::alloc::Global;
 use std::collections::BTreeSet;
 use std::marker::Model;
 
-/// Outputs by reference, in order, with holes; clauses see these entries. Beside them stands, for each lock, which
-/// outputs are under it: none that there is lacks.
+/// Outputs by reference, in order, with holes; clauses see these entries. Each output that is there is listed under its
+/// lock, too.
 #[derive(Drop)]
 pub(crate) struct Outputs {
     entries: Slots<Output>,

@@ -11,19 +11,24 @@ use Rattle.roles.specs.declared.published.Published.{Published}
 use Rattle.roles.specs.Publications.{published_of}
 use Rattle.ledger_spec.specs.Replay.{if_compiled, publication}
 
-ok_by : (c : ContractTree) (currency : List ℕ) (p : Published) (f : Option CompileFault) → MatchOption f (IsOkUnless (let r : Result Published CompileFault = Ok p in r) faults.Memory) (λ e. (let r : Result Published CompileFault = Ok p in r) ≡ Err e) → p ≡ published_of c currency → if_compiled c currency f ≡ Ok p
+ok_by : (c : ContractTree) (currency : List ℕ) (p : Published) (f : Option CompileFault) →
+    MatchOption f (IsOkUnless (let r : Result Published CompileFault = Ok p in r) faults.Memory) (λ e. (let r : Result Published CompileFault = Ok p in r) ≡ Err e) →
+    p ≡ published_of c currency → if_compiled c currency f ≡ Ok p
 ok_by c currency p None h e = ap (λ (q : Published). let r : Result Published CompileFault = Ok q in r) (sym e)
 ok_by c currency p (Some f) h e = cc
 
-pub compiled : (c : Contract) (currency : List ℕ) (p : Published) → MatchOption (compile_fault (contract_tree c)) (IsOkUnless (let r : Result Published CompileFault = Ok p in r) faults.Memory) (λ e. (let r : Result Published CompileFault = Ok p in r) ≡ Err e) →
+pub compiled : (c : Contract) (currency : List ℕ) (p : Published) →
+    MatchOption (compile_fault (contract_tree c)) (IsOkUnless (let r : Result Published CompileFault = Ok p in r) faults.Memory) (λ e. (let r : Result Published CompileFault = Ok p in r) ≡ Err e) →
     p ≡ published_of (contract_tree c) currency → publication c currency ≡ Ok p
 compiled c currency p h e = ok_by (contract_tree c) currency p (compile_fault (contract_tree c)) h e
 
-err_by : (c : ContractTree) (currency : List ℕ) (g : CompileFault) (f : Option CompileFault) → MatchOption f (IsOkUnless (let r : Result Published CompileFault = Err g in r) faults.Memory) (λ e. (let r : Result Published CompileFault = Err g in r) ≡ Err e) →
+err_by : (c : ContractTree) (currency : List ℕ) (g : CompileFault) (f : Option CompileFault) →
+    MatchOption f (IsOkUnless (let r : Result Published CompileFault = Err g in r) faults.Memory) (λ e. (let r : Result Published CompileFault = Err g in r) ≡ Err e) →
     (g ≡ faults.Memory) ⊎ (if_compiled c currency f ≡ Err g)
 err_by c currency g None h = inl h
 err_by c currency g (Some f) h = let e : g ≡ f = cc in inr (ap (λ (x : CompileFault). let r : Result Published CompileFault = Err x in r) (sym e))
 
-pub not_compiled : (c : Contract) (currency : List ℕ) (g : CompileFault) → MatchOption (compile_fault (contract_tree c)) (IsOkUnless (let r : Result Published CompileFault = Err g in r) faults.Memory) (λ e. (let r : Result Published CompileFault = Err g in r) ≡ Err e) →
+pub not_compiled : (c : Contract) (currency : List ℕ) (g : CompileFault) →
+    MatchOption (compile_fault (contract_tree c)) (IsOkUnless (let r : Result Published CompileFault = Err g in r) faults.Memory) (λ e. (let r : Result Published CompileFault = Err g in r) ≡ Err e) →
     (g ≡ faults.Memory) ⊎ (publication c currency ≡ Err g)
 not_compiled c currency g h = err_by (contract_tree c) currency g (compile_fault (contract_tree c)) h

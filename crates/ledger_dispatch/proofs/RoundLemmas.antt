@@ -41,9 +41,11 @@ none_among (p ∷ ps) = refl
 pub begun : (w : World) → with_places w [] ≡ w
 begun w = ap (λ (l : List Tx). with_these w (w.replay.accepted ++ l)) (none_among w.replay.pending) ∙ ap (with_these w) (no_more w.replay.accepted)
 
-among_more : (ps : List Pending) (vs : List Ticketed) (i : ℕ) (p : Pending) (t : Ticketed) → length vs ≡ i → slice_get ps i ≡ Some p → accepted_among ps (vs ++ t ∷ []) ≡ accepted_among ps vs ++ accepted_at p (Some t)
+among_more : (ps : List Pending) (vs : List Ticketed) (i : ℕ) (p : Pending) (t : Ticketed) → length vs ≡ i → slice_get ps i ≡ Some p →
+    accepted_among ps (vs ++ t ∷ []) ≡ accepted_among ps vs ++ accepted_at p (Some t)
 among_more [] vs i p t long at = cc
-among_more (q ∷ ps) [] zero p t long at = ap (λ (l : List Tx). accepted_at q (Some t) ++ l) (none_among ps) ∙ no_more (accepted_at q (Some t)) ∙ ap (λ (x : Pending). accepted_at x (Some t)) (same_some q p at)
+among_more (q ∷ ps) [] zero p t long at =
+    ap (λ (l : List Tx). accepted_at q (Some t) ++ l) (none_among ps) ∙ no_more (accepted_at q (Some t)) ∙ ap (λ (x : Pending). accepted_at x (Some t)) (same_some q p at)
 among_more (q ∷ ps) [] (suc i) p t long at = absurd (omega (arith, long))
 among_more (q ∷ ps) (v ∷ vs) zero p t long at = absurd (omega (arith, long))
 among_more (q ∷ ps) (v ∷ vs) (suc i) p t long at =
@@ -58,7 +60,9 @@ place_told : (w : World) (vs : List Ticketed) (i : ℕ) (p : Pending) (f : Optio
     with_accepted_unless (with_places w vs) p.1 f ≡ with_places w (vs ++ ticketed p f ∷ [])
 place_told w vs i p f long at =
     accepted_by (with_places w vs) p.1 p f refl
-    ∙ ap (with_these w) (append_assoc w.replay.accepted (accepted_among w.replay.pending vs) (accepted_at p (Some (ticketed p f))) ∙ ap (λ (l : List Tx). w.replay.accepted ++ l) (sym (among_more w.replay.pending vs i p (ticketed p f) long at)))
+    ∙ ap (with_these w)
+    (append_assoc w.replay.accepted (accepted_among w.replay.pending vs) (accepted_at p (Some (ticketed p f)))
+    ∙ ap (λ (l : List Tx). w.replay.accepted ++ l) (sym (among_more w.replay.pending vs i p (ticketed p f) long at)))
 
 -- ---- what is told
 
@@ -74,11 +78,13 @@ place_more w next ps i p places t all h at e n =
     ∙ sym (append_assoc places (t ∷ []) (round_verdicts next (drop (i + 1) ps)))
 
 -- what stands once one place more is told
-pub stands_on : (w : World) (vs : List Ticketed) (i : ℕ) (p : Pending) (t : Ticketed) → length vs ≡ i → slice_get w.replay.pending i ≡ Some p → t ≡ ticketed p (fault_on (with_places w vs) p.1) →
+pub stands_on : (w : World) (vs : List Ticketed) (i : ℕ) (p : Pending) (t : Ticketed) →
+    length vs ≡ i → slice_get w.replay.pending i ≡ Some p → t ≡ ticketed p (fault_on (with_places w vs) p.1) →
     with_accepted_unless (with_places w vs) p.1 (fault_on (with_places w vs) p.1) ≡ with_places w (vs ++ t ∷ [])
 stands_on w vs i p t long at e = place_told w vs i p (fault_on (with_places w vs) p.1) long at ∙ ap (λ (x : Ticketed). with_places w (vs ++ x ∷ [])) (sym e)
 
-pub told_more : (w : World) (ps : List Pending) (vs : List Ticketed) (i : ℕ) (p : Pending) (t : Ticketed) (all : List Ticketed) → all ≡ vs ++ round_verdicts (with_places w vs) (drop i ps) → length vs ≡ i →
+pub told_more : (w : World) (ps : List Pending) (vs : List Ticketed) (i : ℕ) (p : Pending) (t : Ticketed) (all : List Ticketed) →
+    all ≡ vs ++ round_verdicts (with_places w vs) (drop i ps) → length vs ≡ i →
     slice_get ps i ≡ Some p → slice_get w.replay.pending i ≡ Some p → t ≡ ticketed p (fault_on (with_places w vs) p.1) →
     all ≡ (vs ++ t ∷ []) ++ round_verdicts (with_places w (vs ++ t ∷ [])) (drop (i + 1) ps)
 told_more w ps vs i p t all h long here at e = place_more (with_places w vs) (with_places w (vs ++ t ∷ [])) ps i p vs t all h here e (stands_on w vs i p t long at e)

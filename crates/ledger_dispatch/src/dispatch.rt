@@ -30,7 +30,8 @@ const MOST_PENDING: usize = 1024;
 
 // ---- transactions
 
-// What an index is of, the rules read alike, and it stays so where it adds what no rule refuses. It does nothing.
+// The rules read an index as they read what it is of, and it is of what stands then where it adds what no rule refuses.
+// It does nothing.
 fn each_is_judged_alike()
     ensures { EachIsJudgedAlike }
 {
@@ -88,8 +89,8 @@ fn accept_unless(
     Ok(())
 }
 
-// Judges a transaction by what is indexed, and adds it where no rule refuses it. Answers the fault and the transaction's
-// id, which is computed here alone.
+// Judges a transaction by what is indexed, and adds it where no rule refuses it. Answers the fault and the
+// transaction's id, which is computed here alone.
 fn judge_and_accept(
     alloc: Global,
     kept: &Kept<'_>,
@@ -285,14 +286,14 @@ fn look(alloc: Global, kept: &Kept<'_>, index: &Index, ask: &Ask) -> Result<Repl
 
 // ---- a call
 
-/// What a call is answered after what stands, by the table of calls (`reply_to`). What a ledger keeps is lent, and the
-/// index beside it, which is of what stands, is brought on: it is then of what stands after the call (`world_with`). So
-/// what the call accepts and publishes is only added, and whoever keeps the entries reads the rest off call and reply.
-/// It costs what the call asks, not what the history is long. Answers `Memory` only where a growth was refused.
+/// What a call is answered after what stands, by the table of calls (`reply_to`). What a ledger keeps is lent. The
+/// index beside it, which is of what stands, is brought on: after the call it is of what stands then (`world_with`).
+/// The rest of what the call changes whoever keeps the entries reads off call and reply. It costs what the call asks,
+/// and goes over no entries. Answers `Memory` only where a growth was refused.
 ///
-/// Nothing settles the index here, and a refusal may leave it grown: a Round that runs out of memory at a later place
-/// has added what its first places accepted. So whoever called cuts it then, back to where it was settled, and settles
-/// it once the entry stands.
+/// A refusal may leave the index grown: a Round that runs out of memory at a later place has added what its first
+/// places accepted. But what it was settled at stays as it was. So whoever called cuts it back to that after a refusal,
+/// and else settles it once the entry stands.
 pub fn answer(
     alloc: Global,
     kept: &Kept<'_>,

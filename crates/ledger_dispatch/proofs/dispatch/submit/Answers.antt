@@ -20,8 +20,10 @@ returns-in-None-clause-reply c =
 
 pub returns-in-Some-clause-tied : goal.returns-in-Some-clause-tied
 returns-in-Some-clause-tied c =
-    tied_after c.each_is_judged_alike.ensures c.args.index.now.present c.judge_and_accept.new.index.present (world c.args.kept.now) c.args.tx.now c.requires.tied c.in_ok-fault.ensures.fits c.in_ok-fault.ensures.present
+    let told = c.in_ok-fault.ensures in
+    tied_after c.each_is_judged_alike.ensures c.args.index.now.present c.judge_and_accept.new.index.present (world c.args.kept.now) c.args.tx.now c.requires.tied told.fits told.present
 
 pub returns-in-None-clause-tied : goal.returns-in-None-clause-tied
 returns-in-None-clause-tied c =
-    tied_after c.each_is_judged_alike.ensures c.args.index.now.present c.judge_and_accept.new.index.present (world c.args.kept.now) c.args.tx.now c.requires.tied c.in_ok-fault.ensures.fits c.in_ok-fault.ensures.present
+    let told = c.in_ok-fault.ensures in
+    tied_after c.each_is_judged_alike.ensures c.args.index.now.present c.judge_and_accept.new.index.present (world c.args.kept.now) c.args.tx.now c.requires.tied told.fits told.present
