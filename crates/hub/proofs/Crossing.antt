@@ -31,6 +31,7 @@ use Rattle.ledger_kept.proofs.tally.Tally.TheSendSync as tally
 use Rattle.chain.specs.contracts.chain.Chain as Chain
 use Rattle.journal.proofs.journal.Journal.TheSendSync as journal
 use Rattle.journal.proofs.beginning.Beginning.TheSendSync as beginning
+use Rattle.hub.proofs.carried.Carried.TheSendSync as carried
 use Rattle.hub.specs.declared.session.Session as session
 use Rattle.hub.specs.contracts.answer.Answer as Answer
 use Rattle.hub.specs.contracts.seat.Seat as Seat
@@ -58,7 +59,7 @@ module _ (J : RattleType) (S : session.Ghosts J.Denot) where
   seats_are_sent = search (answers, share.the_send, beginning.the_send, crosses, sendable) depth 60 fits 20000
 
   pub receipts_are_sent : IsSend (Receipt.the_row J S)
-  receipts_are_sent = search (reply.the_field_send, beginning.the_send, crosses, sendable) depth 60 fits 20000
+  receipts_are_sent = search (reply.the_field_send, carried.the_send, beginning.the_send, crosses, sendable) depth 60 fits 20000
 
   pub hubs_are_lent : IsSync (Hub.the_row J S)
   hubs_are_lent = search (chains, book.the_send, share.the_send, journal.the_send, phantom.the_field_send, phantom.the_field_sync, mutex.the_sync, crosses, sendable) depth 60 fits 20000

@@ -9,7 +9,6 @@ use journal::Sealed;
 use std::marker::Model;
 
 /// A chain that no seat calls any more. Clauses see the chain: what it began with, and its entries.
-#[derive(Drop)]
 pub struct Closed<J: Session> {
     chain: Chain,
     journal: Sealed<Entry, Tokens<J>>,
@@ -32,6 +31,16 @@ impl<J: Session> Model for Closed<J> {
     ghost view = { λ c. c.chain };
 
     ghost invariant = { λ c. c.journal ≡ c.chain.entries };
+}
+
+// Dropped once.
+impl<J: Session> Drop for Closed<J> {
+    fn drop(self) {
+        let Closed {
+            chain: _,
+            journal: _,
+        } = self;
+    }
 }
 
 // The closed hub of a chain, with the journal of its entries.

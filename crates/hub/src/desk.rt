@@ -7,6 +7,7 @@ ghost use Rattle.ledger_spec.specs.Views.{pool_front};
 ghost use Rattle.hub.specs.Seats.{WasTold};
 
 use crate::answer::Answer;
+use crate::carried::Carried;
 use crate::receipt::Receipt;
 use crate::seat::Seat;
 use crate::session::{Session, Tokens};
@@ -65,8 +66,8 @@ pub(crate) struct Parts<J: Session> {
 struct Made {
     place: u64,
     number: u64,
-    mine: Reply,
-    told: Reply,
+    mine: Carried<Reply>,
+    told: Carried<Reply>,
 }
 
 // Makes the entry of one call, and writes it into the journal.
@@ -75,7 +76,7 @@ fn enter<J: Session>(
     chain: &mut Chain,
     journal: &mut Journal<Entry, Tokens<J>>,
     seat: u64,
-    call: Call,
+    call: Carried<Call>,
     cache: &[Checked<Published>],
 ) -> Result<Made, Memory>
     requires { journal.old ≡ chain.old.entries }
@@ -87,15 +88,34 @@ fn enter<J: Session>(
     ensures err { OnErr result ((chain.new ≡ chain.old) × (journal.new ≡ journal.old)) }
 {
     let place = chain.entries().len();
-    let (mine, told) = chain.step(alloc, seat, call, cache)?;
+    let (mine, told) = chain.step(alloc, seat, call.into_inner(), cache)?;
     let made = &chain.entries()[place];
     journal.add(made);
     Ok(Made {
         place: place as u64,
         number: made.number,
-        mine,
-        told,
+        mine: Carried::new(mine),
+        told: Carried::new(told),
     })
+}
+
+// What a seat keeps of an answered call.
+fn answer_of(place: u64, number: u64, call: Carried<Call>, reply: Carried<Reply>) -> Answer
+    ensures { result ≡ record { place = place; number = number; call = call; reply = reply } }
+{
+    Answer {
+        place,
+        number,
+        call: call.into_inner(),
+        reply: reply.into_inner(),
+    }
+}
+
+// The call of a checked transaction's Submit.
+fn submit_of(checked: Carried<Checked<Published>>) -> Carried<Call>
+    ensures { result ≡ on.Submit checked.tx }
+{
+    Carried::new(Call::Submit(checked.into_inner().into_tx()))
 }
 
 impl<J: Session> Desk<J> {
@@ -104,8 +124,8 @@ impl<J: Session> Desk<J> {
         &mut self,
         alloc: Global,
         seat: &mut Seat<J>,
-        call: Call,
-        kept: Call,
+        call: Carried<Call>,
+        kept: Carried<Call>,
         cache: &[Checked<Published>],
     ) -> Result<Receipt<J>, Memory>
         requires { kept ≡ call }
@@ -130,12 +150,7 @@ impl<J: Session> Desk<J> {
         let made = enter(alloc, chain, journal, *me, call, cache)?;
         calls.add(share, 1);
         *seen = journal.beginning();
-        answers.push_reserved(Answer {
-            place: made.place,
-            number: made.number,
-            call: kept,
-            reply: made.mine,
-        });
+        answers.push_reserved(answer_of(made.place, made.number, kept, made.mine));
         Ok(Receipt {
             entry: made.place,
             seat: *me,
@@ -145,16 +160,16 @@ impl<J: Session> Desk<J> {
         })
     }
 
-    // Makes the entry of the Submit of a checked transaction, with that check at hand. `tx` is the transaction for the entry; the seat's list keeps the
-    // one that was checked.
+    // Makes the entry of the Submit of a checked transaction, with that check at hand. `call` is that Submit, for the entry; the seat's list keeps the
+    // transaction that was checked.
     pub(crate) fn admit(
         &mut self,
         alloc: Global,
         seat: &mut Seat<J>,
-        tx: Tx,
-        checked: Checked<Published>,
+        call: Carried<Call>,
+        checked: Carried<Checked<Published>>,
     ) -> Result<Receipt<J>, Memory>
-        requires { tx ≡ checked.tx }
+        requires { call ≡ on.Submit checked.tx }
         ensures told { IfOk result (λ r. WasTold seat.old (on.Submit checked.tx) r seat.new) }
         ensures err { OnErr result (seat.new ≡ seat.old) }
     {
@@ -178,17 +193,13 @@ impl<J: Session> Desk<J> {
             chain,
             journal,
             *me,
-            Call::Submit(tx),
-            slice::from_ref(&checked),
+            call,
+            slice::from_ref(checked.get()),
         )?;
         calls.add(share, 1);
         *seen = journal.beginning();
-        answers.push_reserved(Answer {
-            place: made.place,
-            number: made.number,
-            call: Call::Submit(checked.into_tx()),
-            reply: made.mine,
-        });
+        let kept = submit_of(checked);
+        answers.push_reserved(answer_of(made.place, made.number, kept, made.mine));
         Ok(Receipt {
             entry: made.place,
             seat: *me,

@@ -5,6 +5,7 @@ ghost use Rattle.ledger_spec.specs.Legal.{IsLegal};
 ghost use Rattle.hub.specs.HubSupport.{AllFit};
 ghost use Rattle.hub.specs.Seats.{WasTold, AreNumbered, AreHeard, answered};
 
+use crate::carried::Carried;
 use crate::closed::{Closed, closed_of};
 use crate::desk::{Desk, Parts};
 use crate::receipt::Receipt;
@@ -51,6 +52,20 @@ pub(crate) fn hub_of<J: Session>(desk: Desk<J>, seats: u64) -> Hub<J>
     }
 }
 
+// The Submit of a copy of a checked transaction.
+fn submit_again(checked: &Carried<Checked<Published>>) -> Result<Carried<Call>, Memory>
+    ensures { IfOk result (λ call. call ≡ on.Submit checked.now.tx) }
+{
+    let tx = checked.get().tx().try_clone()?;
+    Ok(Carried::new(Call::Submit(tx)))
+}
+
+fn round_of(k: u64) -> Carried<Call>
+    ensures { result ≡ on.Round k }
+{
+    Carried::new(Call::Round(k))
+}
+
 impl<J: Session> Hub<J> {
     /// Makes one call in the seat's name: the entry and its reply are made under the lock. The seat's list has one answer more, the one that the receipt
     /// names. `Memory` where a growth was refused: then no entry is made, and the seat is as it was.
@@ -64,6 +79,7 @@ impl<J: Session> Hub<J> {
         ensures told { IfOk result (λ r. WasTold seat.old call r seat.new) }
         ensures err { OnErr result (seat.new ≡ seat.old) }
     {
+        let call = Carried::new(call);
         let kept = call.try_clone()?;
         self.desk.lock(rt).call(alloc, seat, call, kept, &[])
     }
@@ -80,8 +96,9 @@ impl<J: Session> Hub<J> {
         ensures told { IfOk result (λ r. WasTold seat.old (on.Submit checked.tx) r seat.new) }
         ensures err { OnErr result (seat.new ≡ seat.old) }
     {
-        let tx = checked.tx().try_clone()?;
-        self.desk.lock(rt).admit(alloc, seat, tx, checked)
+        let checked = Carried::new(checked);
+        let call = submit_again(&checked)?;
+        self.desk.lock(rt).admit(alloc, seat, call, checked)
     }
 
     /// Makes a Round(k) whose checks are made by so many workers (1 to 16) without the lock. It holds the lock twice: first it copies the first k pending
@@ -106,7 +123,7 @@ impl<J: Session> Hub<J> {
         let checks = check_all(rt, alloc, gate, workers, jobs)?;
         self.desk
             .lock(rt)
-            .call(alloc, seat, Call::Round(k), Call::Round(k), &checks)
+            .call(alloc, seat, round_of(k), round_of(k), &checks)
     }
 
     /// Whether these are all seats, in the order of their numbers, as `close` asks. It takes no memory.

@@ -8,6 +8,7 @@
 
 mod answer;
 mod at_hub;
+mod carried;
 mod closed;
 mod desk;
 mod hub;

@@ -1,6 +1,7 @@
 //! Receipts.
 ghost use Rattle.std.specs.Prelude.{◌≡◌};
 
+use crate::carried::Carried;
 use crate::session::{Session, Tokens};
 use chain::{Entry, Reply};
 use journal::Beginning;
@@ -8,12 +9,11 @@ use std::marker::Model;
 
 /// What a call was told: the place of its entry in the history, the seat, how many entries of the seat stand before it, and the reply. Once the hub is
 /// closed, the entry stands there (`Closed::entry`). It is made by the hub alone.
-#[derive(Drop)]
 pub struct Receipt<J: Session> {
     pub(crate) entry: u64,
     pub(crate) seat: u64,
     pub(crate) number: u64,
-    pub(crate) reply: Reply,
+    pub(crate) reply: Carried<Reply>,
     pub(crate) seen: Beginning<Entry, Tokens<J>>,
 }
 
@@ -34,6 +34,19 @@ impl<J: Session> Model for Receipt<J> {
     ghost view = { λ r. record { entry = r.entry; seat = r.seat; number = r.number; reply = r.reply } };
 
     ghost invariant = { λ r. (e : Entry) × Stands r.seen (record { entry = r.entry; seat = r.seat; number = r.number; reply = r.reply }) e };
+}
+
+// Dropped once: the drop is written, not derived, so that no crate above proves it again.
+impl<J: Session> Drop for Receipt<J> {
+    fn drop(self) {
+        let Receipt {
+            entry: _,
+            seat: _,
+            number: _,
+            reply: _,
+            seen: _,
+        } = self;
+    }
 }
 
 impl<J: Session> Receipt<J> {
@@ -62,6 +75,6 @@ impl<J: Session> Receipt<J> {
     pub fn reply(&self) -> &Reply
         ensures { result.now ≡ self.now.reply }
     {
-        &self.reply
+        self.reply.get()
     }
 }

@@ -19,7 +19,7 @@ invariant_of-seat-2 g c =
     let written = c.self.invariant.3 in
     let add : c.beginning.result ≡ c.self.inside.journal ++ e ∷ [] =
     c.beginning.ensures ∙ (m.journal ∙ (ap (λ (k : Course). k.entries) m.chain ∙ ap (λ (l : List Entry). l ++ e ∷ []) (sym written))) in
-    let more : c.push_reserved.new.self.items ≡ c.seat.inside.answers.items ++ a ∷ [] = c.push_reserved.ensures.items ∙ ap (λ (l : List Answer). l ++ a ∷ []) c.reserve.ensures.items in (
+    let more : c.push_reserved.new.self.items ≡ c.seat.inside.answers.items ++ a ∷ [] = cc (c.push_reserved.ensures.items, c.answer_of.ensures, c.reserve.ensures.items) in (
       c.add.ensures.parts ∙ i.0,
       search rules,
       fits_call {made = e} {a = a} c.seat.inside.seen c.self.inside.journal old.entries c.beginning.result me c.seat.inside.answers.items c.push_reserved.new.self.items i.2 c.covers.ensures.prefix written add entry m.place more,
