@@ -6,7 +6,7 @@ Usage    checks/spoiled.py [--seconds N] [--seed N] [--workers N] [--rows]
          for N seconds (60) with so many workers (1), each a process; a worker spoils the same texts in the same order again for the same seed;
          --rows spoils the rows of transactions in place of the texts
 Expect   how many texts there were of each command, were spoiled in each way and were answered in each kind, and `N spoiled texts, none at fault`;
-         beside other work some 700 to 1,000 a second with four workers
+         beside other work some 700 to 1,900 a second with four workers
 Else     what is wrong, the command line over copies of its files, and what it was told; then status 1
 
 Each text is spoiled once or a few times: a byte changed, a part cut out or doubled, a key renamed, a number put to an end of its range,
