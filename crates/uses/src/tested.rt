@@ -75,15 +75,60 @@ fn seen<R: Abort + AllocGlobal>(rt: &R, chain: &mut Chain, name: &str) -> Look {
     look_at(rt.alloc(), chain, 0, ask).expect(rt, "memory")
 }
 
-fn is_accepted(reply: &Reply) -> bool {
-    matches!(reply, Reply::Accepted(_))
+// How many key outputs and payouts are shown so.
+fn shown<R: Abort + AllocGlobal>(rt: &R, chain: &mut Chain, name: &str) -> (usize, usize) {
+    let look = seen(rt, chain, name);
+    (look.keys.len(), look.payouts.len())
 }
 
-#[derive(Drop)]
+fn advance<R: Abort + AllocGlobal>(rt: &R, chain: &mut Chain, tick: i64) {
+    let told = chain.step(rt.alloc(), 1, Call::Advance(tick), &[]);
+    assert!(rt; told.is_ok(), "memory");
+}
+
+// ---- what is told: replies and verdicts are dropped once here
+
+fn is_accepted<F: Drop>(reply: Result<Reply, F>) -> bool {
+    matches!(&reply, Ok(Reply::Accepted(_)))
+}
+
+fn is_useless(reply: Result<Reply, BuildFault>) -> bool {
+    matches!(&reply, Err(BuildFault::Semantics(SemFault::Useless)))
+}
+
+fn is_of_accepted(verdict: &Verdict) -> bool {
+    matches!(verdict, Verdict::Accepted)
+}
+
+fn is_not_signed(verdict: &Verdict) -> bool {
+    matches!(verdict, Verdict::Refused(TxFault::NotSigned(0)))
+}
+
+fn is_not_authorised(verdict: &Verdict, name: &str) -> bool {
+    match verdict {
+        Verdict::Refused(TxFault::NotAuthorised(Party::Address(address))) => {
+            address.as_str() == name
+        }
+        _ => false,
+    }
+}
+
 struct Held {
     contract: Contract,
     currency: Bytes,
     state: State,
+}
+
+// Dropped once; the tree is carried generically to where it is dropped.
+impl Drop for Held {
+    fn drop(self) {
+        let Held {
+            contract,
+            currency: _,
+            state: _,
+        } = self;
+        drop(contract);
+    }
 }
 
 fn read_held<R: Abort + AllocGlobal>(rt: &R, state: &str) -> Held {
@@ -147,81 +192,100 @@ fn an_escrow_ends_with_what_was_agreed(rt: HostRuntime) {
         look.keys.as_slice(),
         &ann,
     );
-    assert!(rt; is_accepted(&reply.expect(&rt, "an escrow")));
-    let look = seen(&rt, &mut chain, "bob");
-    assert_eq!(rt; look.keys.len(), 1, "bob is paid");
+    assert!(rt; is_accepted(reply), "an escrow");
+    let (keys, _) = shown(&rt, &mut chain, "bob");
+    assert_eq!(rt; keys, 1, "bob is paid");
 }
 
-#[test]
-fn a_contract_is_closed_after_its_timeout_and_its_payout_claimed(rt: HostRuntime) {
-    let mut chain = new_chain(&rt);
-    let held = read_held(&rt, OF_ROLE);
-    let ann = text(&rt, "ann");
-    let signers = one(&rt, text(&rt, "ann"));
-    let look = seen(&rt, &mut chain, "ann");
-    let start = begin(
+// The role's contract, begun by ann: its start output.
+fn begun<R: Abort + AllocGlobal>(rt: &R, chain: &mut Chain) -> OutputRef {
+    let held = read_held(rt, OF_ROLE);
+    let ann = text(rt, "ann");
+    let signers = one(rt, text(rt, "ann"));
+    let look = seen(rt, chain, "ann");
+    begin(
         rt.alloc(),
-        &mut chain,
+        chain,
         0,
         deal_of(&held),
         signers.as_slice(),
         look.keys.as_slice(),
         &ann,
     )
-    .expect(&rt, "a start");
-    let early = close_thread(rt.alloc(), &mut chain, 1, start, &ann);
-    assert!(rt; matches!(early, Err(BuildFault::Semantics(SemFault::Useless))));
-    let _ = chain
-        .step(rt.alloc(), 1, Call::Advance(100), &[])
-        .expect(&rt, "memory");
-    let reply = close_thread(rt.alloc(), &mut chain, 1, start, &ann);
-    assert!(rt; is_accepted(&reply.expect(&rt, "a step")));
-    let look = seen(&rt, &mut chain, "ann");
-    assert_eq!(rt; look.payouts.len(), 1, "the role is paid");
-    let reply = claim_now(
+    .expect(rt, "a start")
+}
+
+// Whether ann claims all that is shown.
+fn claims<R: Abort + AllocGlobal>(rt: &R, chain: &mut Chain) -> bool {
+    let ann = text(rt, "ann");
+    let signers = one(rt, text(rt, "ann"));
+    let look = seen(rt, chain, "ann");
+    is_accepted(claim_now(
         rt.alloc(),
-        &mut chain,
+        chain,
         0,
         look.payouts.as_slice(),
         signers.as_slice(),
         look.keys.as_slice(),
         &ann,
-    );
-    assert!(rt; is_accepted(&reply.expect(&rt, "a claim")));
-    let look = seen(&rt, &mut chain, "ann");
-    assert_eq!(rt; look.payouts.len(), 0, "the payout is claimed");
+    ))
+}
+
+#[test]
+fn a_contract_is_closed_after_its_timeout_and_its_payout_claimed(rt: HostRuntime) {
+    let mut chain = new_chain(&rt);
+    let start = begun(&rt, &mut chain);
+    let ann = text(&rt, "ann");
+    let early = close_thread(rt.alloc(), &mut chain, 1, start, &ann);
+    assert!(rt; is_useless(early));
+    advance(&rt, &mut chain, 100);
+    let reply = close_thread(rt.alloc(), &mut chain, 1, start, &ann);
+    assert!(rt; is_accepted(reply), "a step");
+    let (_, payouts) = shown(&rt, &mut chain, "ann");
+    assert_eq!(rt; payouts, 1, "the role is paid");
+    assert!(rt; claims(&rt, &mut chain), "a claim");
+    let (_, payouts) = shown(&rt, &mut chain, "ann");
+    assert_eq!(rt; payouts, 0, "the payout is claimed");
 }
 
 // ---- one transaction
 
+// Whether a payment of ann's that one signs is accepted, and whether it is refused as not signed.
+fn signed_by<R: Abort + AllocGlobal>(rt: &R, signer: &str) -> (bool, bool) {
+    let held = read_held(rt, OF_BOB);
+    let published = publish(rt.alloc(), &held.contract, currency(rt)).expect(rt, "a table");
+    let tx = spending(rt, Redeemer::None, "key bob ada 60", 0, signer);
+    let outputs = one(rt, Some(output(rt, BANK)));
+    let verdict = check_one(rt.alloc(), &tx, outputs, published).expect(rt, "memory");
+    (is_of_accepted(&verdict), is_not_signed(&verdict))
+}
+
 #[test]
 fn one_transaction_is_checked_without_a_ledger(rt: HostRuntime) {
     for (signer, is_signed) in [("ann", true), ("bob", false)] {
-        let held = read_held(&rt, OF_BOB);
-        let published = publish(rt.alloc(), &held.contract, currency(&rt)).expect(&rt, "a table");
-        let tx = spending(&rt, Redeemer::None, "key bob ada 60", 0, signer);
-        let outputs = one(&rt, Some(output(&rt, BANK)));
-        let verdict = check_one(rt.alloc(), &tx, outputs, published).expect(&rt, "memory");
-        assert_eq!(rt; verdict == Verdict::Accepted, is_signed, "{signer}");
-        assert_eq!(rt;
-            verdict == Verdict::Refused(TxFault::NotSigned(0)),
-            !is_signed,
-            "{signer}"
-        );
+        let (accepted, not_signed) = signed_by(&rt, signer);
+        assert_eq!(rt; accepted, is_signed, "{signer}");
+        assert_eq!(rt; not_signed, !is_signed, "{signer}");
     }
+}
+
+// Whether a step that one signs, from a time on, is accepted by a lock that opens for ann at 50, and whether it is
+// refused for want of her.
+fn opened_by<R: Abort + AllocGlobal>(rt: &R, signer: &str, from: i64) -> (bool, bool) {
+    let owner = text(rt, "ann");
+    let lock = TimeLock { owner, from: 50 };
+    let inputs: Items<Input> = Items::new(rt.alloc());
+    let tx = spending(rt, Redeemer::Step(inputs), "key bob ada 5", from, signer);
+    let outputs = one(rt, Some(output(rt, LOCKED)));
+    let verdict = check_lock(rt.alloc(), &tx, outputs, [7; 32], lock).expect(rt, "memory");
+    (is_of_accepted(&verdict), is_not_authorised(&verdict, "ann"))
 }
 
 #[test]
 fn a_time_lock_opens_for_its_owner_from_its_time_on(rt: HostRuntime) {
     for (signer, from, opens) in [("ann", 50, true), ("ann", 49, false), ("bob", 50, false)] {
-        let owner = text(&rt, "ann");
-        let lock = TimeLock { owner, from: 50 };
-        let inputs: Items<Input> = Items::new(rt.alloc());
-        let tx = spending(&rt, Redeemer::Step(inputs), "key bob ada 5", from, signer);
-        let outputs = one(&rt, Some(output(&rt, LOCKED)));
-        let verdict = check_lock(rt.alloc(), &tx, outputs, [7; 32], lock).expect(&rt, "memory");
-        let refused = Verdict::Refused(TxFault::NotAuthorised(Party::Address(text(&rt, "ann"))));
-        assert_eq!(rt; verdict == Verdict::Accepted, opens, "{signer} from {from}");
-        assert_eq!(rt; verdict == refused, !opens, "{signer} from {from}");
+        let (accepted, not_authorised) = opened_by(&rt, signer, from);
+        assert_eq!(rt; accepted, opens, "{signer} from {from}");
+        assert_eq!(rt; not_authorised, !opens, "{signer} from {from}");
     }
 }
