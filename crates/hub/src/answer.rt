@@ -9,14 +9,16 @@ pub struct Answer {
     pub reply: Reply,
 }
 
-// Dropped once.
+// Dropped once; call and reply are carried generically to where they are dropped.
 impl Drop for Answer {
     fn drop(self) {
         let Answer {
             place: _,
             number: _,
-            call: _,
-            reply: _,
+            call,
+            reply,
         } = self;
+        drop(call);
+        drop(reply);
     }
 }
