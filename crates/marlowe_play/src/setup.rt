@@ -81,10 +81,10 @@ fn publish_one<R: Wait, J: Session, W: Watch>(
         Ok(published) => published,
         Err(fault) => return Err(contract_refused(alloc, name, fault)),
     };
-    let call = Call::Publish {
-        contract: named.contract.try_clone()?,
-        currency: named.currency.try_clone()?,
-    };
+    // dropped once: the contract is copied last, so no fault after it drops a tree
+    let currency = named.currency.try_clone()?;
+    let contract = named.contract.try_clone()?;
+    let call = Call::Publish { contract, currency };
     let receipt = hub.call(rt, alloc, seat, call)?;
     watch.answered(receipt.entry());
     match receipt.reply() {
