@@ -3,7 +3,7 @@
 both with their ratios to those after the first.
 
 Needs    the program that ledger_program.py makes, and valgrind with its vgdb
-Usage    chain_growth.py PROGRAM [ENTRIES ..]   (as FOLDER/crates/ledger_bench/out/ledger_bench; other numbers of entries are multiples of 200)
+Usage    chain_growth.py PROGRAM [ENTRIES ..]   (a copy of ledger_bench; other numbers of entries are multiples of 200)
 Expect   for each number of entries a line for each call, and ratios of instructions of at most GREATEST; else status 1. The calls are a Submit and an Enqueue of
          a payment of one input and two outputs, a Round of ten such, a Look of a key with ten outputs, a Look of a thread of one step, `resolve` of a payment,
          and a Look of a thread of 400 steps (`long`). The last line of each number is what an entry of the history took, with the growth of all that is kept:

@@ -4,7 +4,7 @@ unspent outputs, and prints the least processor time and the peak memory of each
 
 Needs    the program that ledger_program.py makes, Debian's package `time`, and
          (cd bench/plain/ledger && CARGO_TARGET_DIR=/tmp/plain cargo build --release --offline)
-Usage    ledger_beside_plain.py PLAIN PROGRAM [PAYMENTS]   (as /tmp/plain/release/plain_ledger FOLDER/crates/ledger_bench/out/ledger_bench)
+Usage    ledger_beside_plain.py PLAIN PROGRAM [PAYMENTS]   (as /tmp/plain/release/plain_ledger and a copy of ledger_bench)
 Expect   of 100,000 payments, unless it is said how many, one line; at most TIMES times the processor time of the plain ledger and at most SPACE times its memory, in
          less than SECONDS of processor time; else status 1. README.md has what was measured.
 Else     what the two print otherwise: how many were accepted, how many outputs are unspent, what they hold, and a digest of all, in order of their making.
