@@ -18,7 +18,8 @@ GREATEST = 2**127 - 1
 INPUTS, PENDING = 256, 1024
 ADA = (b"", b"")
 
-# A lock is ("key", address), ("payout", currency, role) or ("contract", script, contract, state); an amount maps tokens to numbers above 0.
+# A lock is ("key", address), ("payout", currency, role) or ("contract", script, contract, state): the last has its datum where the ledger's has
+# the datum's digest, so that a transaction lists no data. An amount maps tokens to numbers above 0.
 Output = namedtuple("Output", "lock amount")
 Transaction = namedtuple("Transaction", "inputs outputs interval signers")
 Published = namedtuple("Published", "script contract currency")

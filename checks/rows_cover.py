@@ -137,6 +137,7 @@ LEFT = {
     "call table::Table::push_cont": "each continuation of a table that a row prints was put there by it",
     "call roles::only": "each output for a payment that a row's built step prints holds it",
     "call roles::put_due": "each built step of a row prints what it puts",
+    "call roles::continuation": "each built start of a row prints what it makes",
     "call ledger::judge": "each Submit and Round of a row answers what it answers",
     "call marlowe_play::play_watched": "each play of a row is one that nobody watches",
     "call json_read_scenarios::scenario_from_json": "each reading of a scenario's text is its answer",

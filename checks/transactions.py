@@ -1,4 +1,4 @@
-"""Spells transactions in bytes by the tables of docs/formats.md, "Bytes", and adds and subtracts amounts, apart from the
+"""Spells transactions and data in bytes by the tables of docs/formats.md, "Bytes", and adds and subtracts amounts, apart from the
 programs, and compares that with the answers in those files of `rows_transactions` that have no checks.
 
 Needs    nothing built.
@@ -72,6 +72,10 @@ def contract_input(word):
                 + signed(form["that_deposits"], 16))
     wanted("for_choice_id" in form)
     return b"\1" + choice_id(form["for_choice_id"]) + signed(form["input_that_chooses_num"], 16)
+
+
+def datum(number, word):
+    return unsigned(whole(number), 4) + state(word)
 
 
 def by_party(form):
@@ -166,18 +170,20 @@ def spend(words):
 
 
 def output(words):
+    """Its bytes, and the data that are brought for it."""
     sort, *rest = words
     if sort == "key":
-        return b"\0" + text(rest[0]) + amounts_spelled(rest[1:])
+        return b"\0" + text(rest[0]) + amounts_spelled(rest[1:]), []
     if sort == "payout":
-        return b"\1" + string(bytes.fromhex(rest[0])) + text(rest[1]) + amounts_spelled(rest[2:])
+        return b"\1" + string(bytes.fromhex(rest[0])) + text(rest[1]) + amounts_spelled(rest[2:]), []
     wanted(sort == "contract")
-    return b"\2" + id_of(rest[0]) + unsigned(whole(rest[1]), 4) + state(rest[2]) + amounts_spelled(rest[3:])
+    brought = datum(rest[1], rest[2])
+    return b"\2" + id_of(rest[0]) + hashlib.sha256(brought).digest() + amounts_spelled(rest[3:]), [brought]
 
 
 class Transaction:
     def __init__(self):
-        self.inputs, self.outputs, self.interval, self.signers = [], [], bytes(16), []
+        self.inputs, self.outputs, self.interval, self.signers, self.data = [], [], bytes(16), [], []
 
     def take(self, word, rest):
         """Takes a line that writes the transaction."""
@@ -185,15 +191,20 @@ class Transaction:
         if word == "in":
             self.inputs.append(spend(words))
         elif word == "out":
-            self.outputs.append(output(words))
+            spelled, brought = output(words)
+            self.outputs.append(spelled)
+            self.data += brought
         elif word == "from":
             self.interval = signed(whole(words[0]), 8) + signed(whole(words[2]), 8)
+        elif word == "datums":
+            wanted(len(words) % 2 == 0)
+            self.data = [datum(*pair) for pair in zip(words[::2], words[1::2])]
         else:
             wanted(word == "signer")
             self.signers.append(text(rest))
 
     def spelled(self):
-        return items(self.inputs) + items(self.outputs) + self.interval + items(self.signers)
+        return items(self.inputs) + items(self.outputs) + self.interval + items(self.signers) + items(self.data)
 
 
 def rows(lines):
@@ -209,6 +220,10 @@ def rows(lines):
                 yield spelled.hex()
                 yield hashlib.sha256(spelled).hexdigest()
                 transaction = Transaction()
+            elif word == "datum":
+                spelled = datum(*rest.split())
+                yield spelled.hex()
+                yield hashlib.sha256(spelled).hexdigest()
             elif word in ("add", "subtract"):
                 yield {"add": added, "subtract": subtracted}[word](rest)
             elif line:

@@ -4,6 +4,7 @@ use Rattle.collections.proofs.SameLaws.{same_by_decides}
 use Rattle.names.specs.declared.token.Token.{Token}
 use Rattle.bundle.specs.contracts.bundle.Bundle as bundles
 use Rattle.machine.specs.declared.datum.Datum.{Datum}
+use Rattle.eutxo_types.specs.Digests.{datum_hash}
 use Rattle.eutxo_types.specs.Parts.{same_bytes, ContractLock}
 use Rattle.eutxo.specs.Faults.{first_of}
 use Rattle.roles.specs.declared.published.Published.{Published}
@@ -68,12 +69,14 @@ pub stands : (e : Thread) (o : Option ContractLock) → thread_in e.shown o ≡ 
 stands e None h = absurd (cc)
 stands e (Some c) h = by (is_current e.shown c) refl h
   where
-    by : (b : Bool) → is_current e.shown c ≡ b → if◌then◌else◌ {A = Option Thread} b (Some (record { shown = e.shown; datum = c.datum })) None ≡ Some e → IsStanding e
+    by : (b : Bool) → is_current e.shown c ≡ b → if◌then◌else◌ {A = Option Thread} b (Some (record { shown = e.shown; datum = e.shown.datum })) None ≡ Some e → IsStanding e
     by false t k = absurd (cc)
     by true t k =
+        let shown = e.shown.datum in
         let both = and_so (same_bytes c.script e.shown.published.id) _ t in
-        let last = and_so ((thread_terms e).has c.datum.cont) (same_amounts e.shown.output.amount (sums_of c.datum.state)) both.1 in
-        let same : c.datum ≡ e.datum = ap (datum_or e.datum) k in record {
+        let told = and_so (same_bytes (datum_hash shown) c.digest) _ both.1 in
+        let last = and_so ((thread_terms e).has shown.cont) (same_amounts e.shown.output.amount (sums_of shown.state)) told.1 in
+        let same : shown ≡ e.datum = ap (datum_or e.datum) k in record {
           has = subst (λ (d : Datum). (thread_terms e).has d.cont ≡ true) same last.0;
-          held = subst (λ (d : Datum). e.shown.output.amount ≡ sums_of d.state) same ((same_by_decides bundles.the_row.coded e.shown.output.amount (sums_of c.datum.state)).0 last.1);
+          held = subst (λ (d : Datum). e.shown.output.amount ≡ sums_of d.state) same ((same_by_decides bundles.the_row.coded e.shown.output.amount (sums_of shown.state)).0 last.1);
         }

@@ -13,6 +13,7 @@ use Rattle.table.specs.Flat.{Flat, Has, a_cont, cont_tree, is_close}
 use Rattle.table.specs.Along.{has_cont, cont_along}
 use Rattle.table.specs.AlongLaws.{along_at, along_tree}
 use Rattle.bundle.specs.Bundles.{covers, minus, AllPositive}
+use Rattle.machine.specs.declared.datum.Datum.{Datum}
 use Rattle.eutxo_types.specs.declared.output.Output.{Output}
 use Rattle.eutxo_types.specs.declared.tx.Tx.{Tx}
 use Rattle.roles.specs.declared.published.Published.{Published}
@@ -22,10 +23,10 @@ use Rattle.builder_spec.specs.Requests.{StepRequest}
 use Rattle.builder_spec.specs.Holding.{sums, amount_in}
 use Rattle.builder_spec.specs.Causes.{is_much}
 use Rattle.builder_spec.specs.Laying.{by_key, by_step, paid_to}
-use Rattle.builder_spec.specs.Steps.{Thread, step_walk, own_output, step_spent, continuing_outputs, step_outputs_of, step_outputs, layout_thread}
+use Rattle.builder_spec.specs.Steps.{Thread, step_walk, own_output, step_spent, continuing_outputs, step_outputs_of, step_outputs, next_data_of, step_data, layout_thread}
 use Rattle.builder_spec.proofs.FundsLaws.{amount}
 use Rattle.builder.specs.FundsSupport.{Funds, AreStepFunds, IsFinished}
-use Rattle.builder.specs.OutputsSupport.{outcome_outputs}
+use Rattle.builder.specs.OutputsSupport.{data_left, outcome_outputs}
 use Rattle.builder.proofs.CausesLemmas.{IsStanding}
 use Rattle.builder.proofs.CoveredLemmas.{IsFunded, step_covers, step_room}
 
@@ -35,6 +36,9 @@ end_of e out = standing out.state (cont_tree e.shown.published.table out.place.0
 
 abbrev outputs_of : StepRequest → Thread → Outcome Cont → List Output
 outputs_of r e out = step_outputs_of e (step_walk r e) (Ok (end_of e out))
+
+abbrev data_of : StepRequest → Thread → Outcome Cont → List Datum
+data_of r e out = e.datum ∷ next_data_of e (step_walk r e) (Ok (end_of e out))
 
 funded_by : (r : StepRequest) (e : Thread) (f : Funds) (out : Outcome Cont) → IsFinished r e f out → (t : Thread) → t ≡ e → states.AllPositive (entries t.datum.state.accounts) → AllPositive (entries t.shown.output.amount) → IsFunded r e (end_of e out) f.front
 funded_by r e f out h t k accounts amounts = record {
@@ -64,26 +68,38 @@ finished_outputs r e f out p closed h t k q l =
     ∙ ap (λ (place : Cont). map (continuation q.id) (if is_close a.contract then [] else record { cont = place; state = out.state } ∷ []) ++ due_outputs q.currency out.payments) (sym h.led)
     ∙ ap (λ ps. continuing_outputs e (step_walk r e) a ++ due_outputs q.currency ps) h.paid
 
+-- and the data that are brought are those that it has to bring
+pub finished_data : (r : StepRequest) (e : Thread) (f : Funds) (out : Outcome Cont) (p : Published) (closed : Bool) → IsFinished r e f out → (t : Thread) → t ≡ e → p ≡ t.shown.published → closed ≡ is_close (cont_tree p.table out.place.0) →
+    (first brought : List Datum) → first ≡ e.datum ∷ [] → brought ≡ first ++ data_left closed out → brought ≡ data_of r e out
+finished_data r e f out p closed h t k q l first brought one more =
+    let mine = q ∙ ap (λ (x : Thread). x.shown.published) k in
+    let a = end_of e out in
+    more ∙ ap (λ ds. ds ++ data_left closed out) one
+    ∙ ap (λ b. e.datum ∷ data_left b out) (l ∙ ap (λ (x : Published). is_close (cont_tree x.table out.place.0)) mine)
+    ∙ ap (λ (place : Cont). e.datum ∷ (if is_close a.contract then [] else record { cont = place; state = out.state } ∷ [])) (sym h.led)
+
 pub finished_covers : MoneyIsKept → EndsQuiet → PaymentsAreNatural → (r : StepRequest) (e : Thread) (f : Funds) (out : Outcome Cont) (made : List Output) → IsFinished r e f out → (t : Thread) → t ≡ e → states.AllPositive (entries t.datum.state.accounts) → AllPositive (entries t.shown.output.amount) → made ≡ outputs_of r e out →
     covers f.all (sums amount made) ≡ true
 finished_covers money quiet natural r e f out made h t k accounts amounts is =
     subst (λ m. covers m (sums amount made) ≡ true) (sym (spent_all r e f out h)) (subst (λ os. covers (sums amount_in (own_output e ∷ f.front)) (sums amount os) ≡ true) (sym is)
     (step_covers money quiet natural r e (end_of e out) f.front (funded_by r e f out h t k accounts amounts)))
 
--- a transaction from what is spent and what is made but for the change
-abbrev pub laid_out : StepRequest → Thread → Funds → List Output → Tx
-laid_out r e f made = record {
+-- a transaction from what is spent, what is made but for the change, and the data
+abbrev pub laid_out : StepRequest → Thread → Funds → List Output → List Datum → Tx
+laid_out r e f made brought = record {
   inputs = by_step r.inputs (own_output e) ∷ map by_key f.front;
   outputs = made ++ paid_to r.change (minus f.all (sums amount made));
   interval = r.interval;
   signers = r.signers;
+  datums = brought;
 }
 
-pub finished_layout : (r : StepRequest) (e : Thread) (f : Funds) (out : Outcome Cont) (made : List Output) → IsFinished r e f out → made ≡ outputs_of r e out → laid_out r e f made ≡ layout_thread r e
-finished_layout r e f out made h is =
-    ap (laid_out r e f) (is ∙ ap (step_outputs_of e (step_walk r e)) (sym h.ended))
-    ∙ ap (λ all. laid_out r e (record { all = all; front = f.front }) (step_outputs r e)) h.funds.all
-    ∙ ap (λ us. laid_out r e (record { all = sums amount_in (step_spent r e); front = us }) (step_outputs r e)) h.funds.front
+pub finished_layout : (r : StepRequest) (e : Thread) (f : Funds) (out : Outcome Cont) (made : List Output) (brought : List Datum) → IsFinished r e f out → made ≡ outputs_of r e out → brought ≡ data_of r e out → laid_out r e f made brought ≡ layout_thread r e
+finished_layout r e f out made brought h is are =
+    ap (λ os. laid_out r e f os brought) (is ∙ ap (step_outputs_of e (step_walk r e)) (sym h.ended))
+    ∙ ap (laid_out r e f (step_outputs r e)) (are ∙ ap (λ end. e.datum ∷ next_data_of e (step_walk r e) end) (sym h.ended))
+    ∙ ap (λ all. laid_out r e (record { all = all; front = f.front }) (step_outputs r e) (step_data r e)) h.funds.all
+    ∙ ap (λ us. laid_out r e (record { all = sums amount_in (step_spent r e); front = us }) (step_outputs r e) (step_data r e)) h.funds.front
 
 -- what is told of the outcome of a transaction on a table
 pub record IsComputed (r : StepRequest) (e : Thread) (table : Flat) (out : Outcome Cont) : Type 0 where

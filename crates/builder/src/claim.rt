@@ -1,5 +1,5 @@
 //! Claims of payouts.
-ghost use Rattle.std.specs.Prelude.{◌≡◌, ◌++◌, map, IfOk, IfErr};
+ghost use Rattle.std.specs.Prelude.{◌≡◌, [], ◌++◌, map, IfOk, IfErr};
 ghost use Rattle.collections.specs.Answers.{Aside};
 ghost use Rattle.eutxo_types.specs.Fitting.{TxFits};
 ghost use Rattle.builder_spec.specs.Holding.{sums, amount_in};
@@ -91,6 +91,7 @@ fn lay_out_claim(
       outputs = paid_to asked.now.to shares.first ++ paid_to asked.now.change shares.others;
       interval = asked.now.interval;
       signers = asked.now.signers;
+      datums = [];
     }) }
     ensures fits { IfOk result TxFits }
     ensures err { IfErr result (λ fault. fault ≡ BuildFault.Memory) }
@@ -109,6 +110,7 @@ fn lay_out_claim(
         outputs,
         interval: asked.interval,
         signers,
+        datums: Items::new(alloc),
     };
     Ok(fitting(alloc, tx)?)
 }

@@ -8,7 +8,7 @@ ghost use Rattle.roles.specs.Sums.{sums_of};
 ghost use Rattle.builder_spec.specs.Holding.{sums};
 ghost use Rattle.builder_spec.specs.Causes.{is_much};
 ghost use Rattle.builder_spec.specs.Laying.{paid_to};
-ghost use Rattle.builder.specs.OutputsSupport.{outcome_outputs};
+ghost use Rattle.builder.specs.OutputsSupport.{data_left, outcome_outputs};
 
 use builder_spec::BuildFault;
 use bundle::{Bundle, BundleFault};
@@ -19,19 +19,19 @@ use eutxo_types::{Cont, Datum, Lock, Output};
 use roles::{Published, continuation, put_due};
 use std::alloc::Global;
 
-/// The output in which a contract goes on, with the sums of its accounts, none of which is too large for an amount. It
-/// is refused only for memory.
+/// The output in which a contract goes on from a datum, with the sums of its accounts, none of which is too large for an
+/// amount. It is refused only for memory.
 pub(crate) fn continuing_output(
     alloc: Global,
     script: &[u8; 32],
-    datum: Datum,
+    datum: &Datum,
 ) -> Result<Output, BuildFault>
-    requires { is_much (sums_of datum.state) ≡ false }
-    ensures ok { IfOk result (λ output. output ≡ continuation script.now datum) }
+    requires { is_much (sums_of datum.now.state) ≡ false }
+    ensures ok { IfOk result (λ output. output ≡ continuation script.now datum.now) }
     ensures err { IfErr result (λ fault. fault ≡ BuildFault.Memory) }
 {
     match sums_of(alloc, &datum.state) {
-        Ok(sums) => Ok(continuation(script, datum, sums)),
+        Ok(sums) => Ok(continuation(alloc, script, datum, sums)?),
         Err(BundleFault::Memory) => Err(BuildFault::Memory),
         Err(_) => unreachable!(),
     }
@@ -61,16 +61,19 @@ pub(crate) fn put_paid(
     outputs.push(Output { lock, amount })
 }
 
-/// The output in which a published contract goes on, unless it is closed, and those that are due for the payments. No
-/// sum of its accounts is too large for an amount, and it is refused only for memory.
+/// The output in which a published contract goes on, unless it is closed, and those that are due for the payments. The
+/// datum from which it goes on is put behind others. No sum of its accounts is too large for an amount, and it is
+/// refused only for memory.
 pub(crate) fn step_outputs(
     alloc: Global,
+    datums: &mut Items<Datum>,
     published: &Published,
     closed: bool,
     outcome: Outcome<Cont>,
 ) -> Result<Items<Output>, BuildFault>
     requires { is_much (sums_of outcome.state) ≡ false }
     ensures ok { IfOk result (λ outputs. outputs ≡ outcome_outputs published.now closed outcome) }
+    ensures brought { OnOk result (datums.new ≡ datums.old ++ data_left closed outcome) }
     ensures err { IfErr result (λ fault. fault ≡ BuildFault.Memory) }
 {
     let Outcome {
@@ -82,7 +85,8 @@ pub(crate) fn step_outputs(
     let mut outputs = Items::new(alloc);
     if !closed {
         let datum = Datum { cont: place, state };
-        outputs.push(continuing_output(alloc, &published.id, datum)?)?;
+        outputs.push(continuing_output(alloc, &published.id, &datum)?)?;
+        datums.push(datum)?;
     }
     let currency = &published.currency;
     put_due(alloc, &mut outputs, currency, payments.as_slice())?;

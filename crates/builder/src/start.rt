@@ -9,7 +9,7 @@ ghost use Rattle.builder_spec.specs.declared.fault.BuildFault.TheVariants.{NoFun
 ghost use Rattle.builder_spec.specs.Holding.{amount_in, AreBundles};
 ghost use Rattle.builder_spec.specs.Causes.{funds_cause, is_much};
 ghost use Rattle.builder_spec.specs.Built.{build_answer};
-ghost use Rattle.builder_spec.specs.Starts.{fresh_state, start_output, hinders_start, layout_start};
+ghost use Rattle.builder_spec.specs.Starts.{fresh_state, start_datum, start_output, hinders_start, layout_start};
 ghost use Rattle.builder_spec.specs.Requests.{start_request};
 ghost use Rattle.coin_selection.specs.Answers.{AnswersCause};
 ghost use Rattle.builder.specs.FundsSupport.{AreStartFunds};
@@ -25,7 +25,7 @@ use coin_selection::{
     Amount, Shares, accounts_of, check_apart, check_funds, check_signed, see_all, see_room,
     shares_within, start_front,
 };
-use collections::{Bytes, Items, Text};
+use collections::{Bytes, Items, Memory, Text};
 use contract::{Interval, State};
 use eutxo_types::{Datum, Output, Tx};
 use ledger::Unspent;
@@ -111,19 +111,25 @@ fn start_funds<'a>(alloc: Global, asked: &StartAsked<'a>) -> Result<Funds<'a>, B
     }
 }
 
-// The contract's output.
-fn start_output(alloc: Global, asked: &StartAsked<'_>) -> Result<Output, BuildFault>
-    requires { is_much (sums_of (fresh_state asked.now.state)) ≡ false }
+// The datum at which the contract starts.
+fn start_datum(alloc: Global, asked: &StartAsked<'_>) -> Result<Datum, Memory>
+    ensures { IfOk result (λ datum. datum ≡ start_datum asked.now) }
+{
+    let state = fresh(alloc, asked.state)?;
+    Ok(Datum {
+        cont: asked.published.root,
+        state,
+    })
+}
+
+// The contract's output, at its datum.
+fn start_output(alloc: Global, asked: &StartAsked<'_>, datum: &Datum) -> Result<Output, BuildFault>
+    requires of { datum.now ≡ start_datum asked.now }
+    requires room { is_much (sums_of (fresh_state asked.now.state)) ≡ false }
     ensures ok { IfOk result (λ output. output ≡ start_output asked.now) }
     ensures err { IfErr result (λ fault. fault ≡ BuildFault.Memory) }
 {
-    let published = asked.published;
-    let state = fresh(alloc, asked.state)?;
-    let datum = Datum {
-        cont: published.root,
-        state,
-    };
-    continuing_output(alloc, &published.id, datum)
+    continuing_output(alloc, &asked.published.id, datum)
 }
 
 // The transaction of a start that nothing hinders.
@@ -137,17 +143,21 @@ fn lay_out_start(alloc: Global, asked: &StartAsked<'_>, funds: Funds<'_>) -> Res
     // touch: there is room for what is spent
     see_room(&all);
     let mut outputs = Items::new(alloc);
-    outputs.push(start_output(alloc, asked)?)?;
+    let datum = start_datum(alloc, asked)?;
+    outputs.push(start_output(alloc, asked, &datum)?)?;
     let change = rest(alloc, all, outputs.as_slice())?;
     put_paid(&mut outputs, asked.change, change)?;
     let mut inputs = Items::new(alloc);
     put_keys(&mut inputs, front)?;
     let signers = copies_of(alloc, asked.signers)?;
+    let mut datums = Items::new(alloc);
+    datums.push(datum)?;
     let tx = Tx {
         inputs,
         outputs,
         interval: asked.interval,
         signers,
+        datums,
     };
     Ok(fitting(alloc, tx)?)
 }
@@ -155,7 +165,8 @@ fn lay_out_start(alloc: Global, asked: &StartAsked<'_>, funds: Funds<'_>) -> Res
 /// Builds the transaction that starts a published contract with the accounts and the minimum time of a state, in an
 /// interval in POSIX milliseconds, signed by these addresses. It spends the shortest front of the offered outputs that
 /// covers the accounts and has one output at least. The contract's output comes first, with what the accounts hold;
-/// what is left goes to the key of the address `change`. The transaction fits its spelling.
+/// what is left goes to the key of the address `change`. The contract's datum is brought. The transaction fits its
+/// spelling.
 ///
 /// Refused is a request of which an offered output isn't under the key of a signer (`NotSigned`), which isn't funded
 /// (`NoFunds`: of ada where nothing is offered), which leaves the limits (`TooMany`), or which names an output twice

@@ -25,7 +25,7 @@ use coin_selection::{
 };
 use collections::{Items, Text};
 use contract::{Input, Interval, Outcome, SemFault};
-use eutxo_types::{Cont, Output, Tx};
+use eutxo_types::{Cont, Datum, Output, Tx};
 use ledger::{Look, ThreadOutput, Unspent};
 use machine::compute;
 use semantics::{money_is_kept, payments_are_natural, transactions_end_quiet};
@@ -86,13 +86,14 @@ fn step_funds<'a>(
     }
 }
 
-// The transaction of a step, from what it spends and what it makes but for the change.
+// The transaction of a step, from what it spends, what it makes but for the change, and the data that it brings.
 fn lay_out_step(
     alloc: Global,
     asked: &StepAsked<'_>,
     thread: &ThreadAt<'_>,
     funds: Funds<'_>,
     mut outputs: Items<Output>,
+    datums: Items<Datum>,
 ) -> Result<Tx, BuildFault>
     requires { covers funds.all (sums (λ o. o.amount) outputs) ≡ true }
     ensures ok { IfOk result (λ tx. tx ≡ record {
@@ -100,6 +101,7 @@ fn lay_out_step(
       outputs = outputs ++ paid_to asked.now.change (minus funds.entry.all (sums (λ o. o.amount) outputs));
       interval = asked.now.interval;
       signers = asked.now.signers;
+      datums = datums;
     }) }
     ensures fits { IfOk result TxFits }
     ensures err { IfErr result (λ fault. fault ≡ BuildFault.Memory) }
@@ -117,6 +119,7 @@ fn lay_out_step(
         outputs,
         interval: asked.interval,
         signers,
+        datums,
     };
     Ok(fitting(alloc, tx)?)
 }
@@ -145,8 +148,9 @@ fn finish(
     see_room(&funds.all);
     let published = shown.published.get();
     let closed = published.table.is_close(outcome.place);
-    match step_outputs(alloc, published, closed, outcome) {
-        Ok(made) => lay_out_step(alloc, asked, thread, funds, made),
+    let mut datums = thread.datums(alloc)?;
+    match step_outputs(alloc, &mut datums, published, closed, outcome) {
+        Ok(made) => lay_out_step(alloc, asked, thread, funds, made, datums),
         Err(fault) => Err(fault),
     }
 }
@@ -188,7 +192,8 @@ fn build_on(alloc: Global, asked: &StepAsked<'_>, shown: &ThreadOutput) -> Resul
 /// interval in POSIX milliseconds, signed by these addresses. It spends the thread's output and the shortest front
 /// of the offered outputs that holds the tokens of the roles which the inputs need and covers the deposits. The
 /// contract goes on in output 0, unless it is Close; the payments follow that are due to parties; and what is left
-/// goes to the key of the address `change`. The transaction fits its spelling.
+/// goes to the key of the address `change`. The thread's datum is brought, and then the one from which the contract goes
+/// on. The transaction fits its spelling.
 ///
 /// Refused is a request for which there is no thread (`NoThread`), which the contract refuses (`Semantics`), of which
 /// an offered output isn't under the key of a signer (`NotSigned`), of which a party doesn't sign and has no role

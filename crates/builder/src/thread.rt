@@ -1,10 +1,10 @@
 //! The thread that a look shows.
-ghost use Rattle.std.specs.Prelude.{◌≡◌, Some, IfOk};
+ghost use Rattle.std.specs.Prelude.{◌≡◌, [], ◌∷◌, Some, IfOk};
 ghost use Rattle.builder_spec.specs.Steps.{is_current, thread_of, own_output};
 
 use coin_selection::OwnOutput;
-use collections::Memory;
-use eutxo_types::{ContractLock, Datum};
+use collections::{Items, Memory, TryClone};
+use eutxo_types::{ContractLock, Datum, datum_hash};
 use ledger::ThreadOutput;
 use roles::holds_sums;
 use std::alloc::Global;
@@ -41,16 +41,29 @@ impl<'a> ThreadAt<'a> {
             output: &shown.output,
         }
     }
+
+    /// The data that a step of it brings first: its own datum.
+    pub fn datums(&self, alloc: Global) -> Result<Items<Datum>, Memory>
+        ensures { IfOk result (λ datums. datums ≡ self.now.datum ∷ []) }
+    {
+        let mut datums = Items::new(alloc);
+        datums.push(self.datum.try_clone()?)?;
+        Ok(datums)
+    }
 }
 
-// Whether a thread's output is of the published script, at a number of its table, and holds exactly the sums of its
-// accounts.
+// Whether a thread's output is of the published script and holds its datum's digest, the datum is at a number of the
+// table, and the output holds exactly the sums of its accounts.
 fn is_current(alloc: Global, shown: &ThreadOutput, held: &ContractLock<'_>) -> Result<bool, Memory>
     ensures { IfOk result (λ answer. answer ≡ is_current shown.now held.now) }
 {
     let published = shown.published.get();
-    let datum = held.datum;
-    if *held.script == published.id && published.table.contains(datum.cont) {
+    let datum = &shown.datum;
+    let digest = datum_hash(alloc, datum)?;
+    if *held.script == published.id
+        && digest == *held.digest
+        && published.table.contains(datum.cont)
+    {
         holds_sums(alloc, &shown.output.amount, &datum.state)
     } else {
         Ok(false)
@@ -66,7 +79,7 @@ pub(crate) fn thread_of(alloc: Global, shown: &ThreadOutput) -> Result<Option<Th
             if is_current(alloc, shown, &held)? {
                 Ok(Some(ThreadAt {
                     shown,
-                    datum: held.datum,
+                    datum: &shown.datum,
                 }))
             } else {
                 Ok(None)

@@ -1,5 +1,5 @@
 -- A claim that nothing hinders is accepted.
-use Rattle.std.proofs.Common.{◌≡◌, ℕ, nat_lt, ◌+ℤ◌, Bool, true, false, not, ◌||◌, List, [], ◌∷◌, ◌++◌, map, refl, sym, ap, ◌∙◌, Option, Some, None}
+use Rattle.std.proofs.Common.{◌≡◌, ℕ, nat_lt, ◌+ℤ◌, Bool, true, false, not, ◌||◌, List, [], ◌∷◌, ◌++◌, map, refl, sym, ap, ◌∙◌, Option, None}
 use Rattle.std.specs.Prelude.{is_none, count_by}
 use Rattle.std.specs.List.{list_all, list_any, cons_option, AllByRecursion}
 use Rattle.names.specs.declared.party.Party.TheVariants.{Role}
@@ -14,9 +14,9 @@ use Rattle.eutxo_types.specs.declared.tx.Tx.{Tx}
 use Rattle.eutxo.specs.Found.{script_at, is_known, all_known}
 use Rattle.eutxo.specs.Laws.{FoundIsEnough}
 use Rattle.eutxo.specs.Local.{tx_fault, spent_fault}
-use Rattle.eutxo_types.specs.Parts.{is_contract, contract_in, instance_in, is_key, is_payout}
+use Rattle.eutxo_types.specs.Parts.{is_contract, contract_in, is_key, is_payout}
 use Rattle.eutxo.specs.Faults.{is_empty}
-use Rattle.eutxo.specs.Rules.{lacks_role, opens, starts_wrong, steps_of, step_fault}
+use Rattle.eutxo.specs.Rules.{lacks_role, opens, steps_of, step_fault, wrong_datum}
 use Rattle.roles.specs.declared.published.Published.{Published}
 use Rattle.roles.specs.Steps.{holds_role, role_token, marlowe}
 use Rattle.ledger.specs.declared.look.Unspent.{Unspent}
@@ -33,9 +33,10 @@ use Rattle.builder_laws.specs.Accepting.{ClaimsPass, ClaimsAreAccepted}
 use Rattle.builder_laws.specs.AfterPasts.{BytesTellApart, ClaimsAreAcceptedAfter}
 use Rattle.builder_laws.proofs.TestLemmas.{Everywhere, both, together, neither, not_not, each-append, each_so, any_nowhere, all_everywhere, everywhere_all, none_counted, found_nowhere, each_none, unless, unmapped}
 use Rattle.builder_laws.proofs.PairLemmas.{laid, pairs, paired, all_paired, all_named, AreKeyed, nowhere_keys, nowhere_paired, front_holds, no_step}
+use Rattle.builder_laws.proofs.DatumLemmas.{none_spent, none_made, none_wrong}
 use Rattle.builder_laws.proofs.SumsLemmas.{total-given}
 use Rattle.builder_laws.proofs.FrontLemmas.{shortest_rest}
-use Rattle.builder_laws.proofs.OutputLemmas.{IsSo, each_given, each_given_so, none_starts_wrong}
+use Rattle.builder_laws.proofs.OutputLemmas.{IsSo, each_given, no_starts}
 use Rattle.builder_laws.proofs.SpentLemmas.{first_rules, IsOpened, passing}
 use Rattle.builder_laws.proofs.CausesLemmas.{keyed_front, named_once, not_many, pairs_known}
 use Rattle.builder_laws.proofs.AcceptingLemmas.{IsClean, passes, judged}
@@ -89,7 +90,7 @@ module _ (r : ClaimRequest) (clear : hinders_claim r ≡ None) where
   change = paid_to r.change (sums amount_in fs)
 
   abbrev tx : Tx
-  tx = laid with.Claim us fs (paid ++ change) r.interval r.signers
+  tx = laid with.Claim us fs (paid ++ change) r.interval r.signers []
 
   clauses : AllByRecursion (λ x. x ≡ None) (payout_cause us ∷ signature_cause r.signers r.offered ∷ role_cause r ∷ limit_cause (us ++ fs) ∷ repeat_cause (us ++ r.offered) ∷ [])
   clauses = each_none (payout_cause us ∷ signature_cause r.signers r.offered ∷ role_cause r ∷ limit_cause (us ++ fs) ∷ repeat_cause (us ++ r.offered) ∷ []) clear
@@ -117,7 +118,7 @@ module _ (r : ClaimRequest) (clear : hinders_claim r ≡ None) where
       all_everywhere (holds_token fs) ts (both (list_all (holds_token fs) ts) (is_none (least_lacking [] fs)) all).0
 
   first : tx_fault tx ≡ None
-  first = first_rules with.Claim us fs (paid ++ change) r.interval r.signers (some_first us (map by_key fs) there.0) (not_many (us ++ fs) clauses.1.1.1.0) refl (named_once us fs later.0 r.offered later.1 clauses.1.1.1.1.0)
+  first = first_rules with.Claim us fs (paid ++ change) r.interval r.signers [] (some_first us (map by_key fs) there.0) (not_many (us ++ fs) clauses.1.1.1.0) refl (named_once us fs later.0 r.offered later.1 clauses.1.1.1.1.0)
 
   opened : AllByRecursion (IsOpened with.Claim) us
   opened =
@@ -139,6 +140,15 @@ module _ (r : ClaimRequest) (clear : hinders_claim r ≡ None) where
       (nowhere_paired with.Claim (λ (x : Spend × Output). is_contract x.1.lock) us (each_so (λ (u : Unspent). contract_in u.output.lock ≡ None) (λ (u : Unspent). is_contract u.output.lock ≡ false) (λ u h. not_contract u.output.lock h) us no_contracts))
       (nowhere_keys r.signers (λ (x : Spend × Output). is_contract x.1.lock) (λ u k. ap is_contract k.lock) fs signed)))
 
+  -- it makes no contract, and brings no datum
+  no_others : AllByRecursion (λ (o : Output). is_contract o.lock ≡ false) tx.outputs
+  no_others =
+      let none : IsSo is_contract false = record { key = λ x. refl; payout = λ x y. refl } in
+      each-append (λ (o : Output). is_contract o.lock ≡ false) paid change (each_given is_contract false none r.to (sums amount_in us)) (each_given is_contract false none r.change (sums amount_in fs))
+
+  brought : wrong_datum tx ys ≡ None
+  brought = none_wrong tx ys [] [] (none_spent with.Claim r.signers us fs no_contracts signed) (none_made tx.outputs no_others) refl
+
   kept : (t : Token) → total_of amount_in t (us ++ fs) ≡ total_of (λ (o : Output). o.amount) t tx.outputs
   kept t =
       total_of-append amount_in t us fs
@@ -147,13 +157,8 @@ module _ (r : ClaimRequest) (clear : hinders_claim r ≡ None) where
       ∙ sym (total_of-append (λ (o : Output). o.amount) t paid change)
 
   module _ (named : List ℕ → Option Published) where
-    steps : step_fault marlowe named tx ys (steps_of ys) ≡ None
-    steps =
-        ap (step_fault marlowe named tx ys) (no_step with.Claim r.signers us fs no_contracts signed)
-        ∙ none_starts_wrong named tx
-        (each-append (λ (o : Output). starts_wrong marlowe named o.amount (instance_in (Some o)) ≡ false) paid change
-        (each_given_so (λ (o : Output). starts_wrong marlowe named o.amount (instance_in (Some o)) ≡ false) r.to (sums amount_in us) refl)
-        (each_given_so (λ (o : Output). starts_wrong marlowe named o.amount (instance_in (Some o)) ≡ false) r.change (sums amount_in fs) refl))
+    steps : step_fault marlowe named tx ys (steps_of ys []) ≡ None
+    steps = ap (step_fault marlowe named tx ys) (no_step with.Claim r.signers us fs [] no_contracts signed) ∙ no_starts named tx no_others
 
     known_is : all_known named tx.outputs ys ≡ true
     known_is =
@@ -166,7 +171,7 @@ module _ (r : ClaimRequest) (clear : hinders_claim r ≡ None) where
     rules : spent_fault marlowe named tx ys ≡ None
     rules =
         passing with.Claim r.signers us fs opened signed named tx refl none_counted_is
-        (all_granted (holds_role ys) fs (λ c q. front_holds with.Claim r.signers c q us fs unkeyed signed) us tokens_held) steps kept
+        (all_granted (holds_role ys) fs (λ c q. front_holds with.Claim r.signers c q us fs unkeyed signed) us tokens_held) brought steps kept
 
     clean : IsClean named (layout_claim r) (us ++ fs) ys
     clean = record { first = first; names = all_named with.Claim us fs; pairs = all_paired with.Claim us fs; known = known_is; rules = rules }

@@ -3,6 +3,7 @@ pub mod NamedLemmas
 pub mod SumsLemmas
 pub mod FrontLemmas
 pub mod PairLemmas
+pub mod DatumLemmas
 pub mod SpentLemmas
 pub mod AcceptingLemmas
 pub mod OutputLemmas

@@ -1,5 +1,5 @@
 -- The outputs that layouts make.
-use Rattle.std.proofs.Common.{◌≡◌, ℕ, ◌+◌, Bool, true, false, ◌||◌, List, [], ◌∷◌, ◌++◌, map, refl, ap, ◌∙◌, arith, Option, Some, None}
+use Rattle.std.proofs.Common.{◌≡◌, ℕ, ◌+◌, Bool, true, false, ◌||◌, List, [], ◌∷◌, ◌++◌, map, take, refl, ap, ◌∙◌, arith, Option, Some, None}
 use Rattle.std.specs.Prelude.{if◌then◌else◌}
 use Rattle.std.specs.List.{slice_get, AllByRecursion}
 use Rattle.std.specs.FinMap.{entries}
@@ -13,12 +13,15 @@ use Rattle.eutxo_types.specs.declared.lock.Lock.{Lock}
 use Rattle.eutxo_types.specs.declared.lock.Lock.TheVariants.{Key, Payout, Contract}
 use Rattle.eutxo_types.specs.declared.output.Output.{Output}
 use Rattle.eutxo_types.specs.declared.tx.Tx.{Tx}
-use Rattle.eutxo_types.specs.Parts.{instance_in, contract_at, outputs_from}
+use Rattle.eutxo_types.specs.Digests.{datum_hash}
+use Rattle.eutxo_types.specs.Parts.{is_contract, ContractLock, contract_in, contract_of, contract_count, made_datums, with_datum, contract_at, outputs_from}
 use Rattle.eutxo.specs.Faults.{is_empty}
 use Rattle.eutxo.specs.Rules.{stray_after, after_answer, starts_wrong, wrong_start}
 use Rattle.roles.specs.declared.published.Published.{Published}
 use Rattle.roles.specs.Steps.{lock_for, continuation, due_to, and_owed_output, due_outputs, goes_on_in, payments_from, answer_by, marlowe}
+use Rattle.roles.specs.Owed.{standing_at}
 use Rattle.roles.proofs.OwedLaws.{goes_on_there}
+use Rattle.ledger_laws.proofs.PartLaws.{no_contract_in}
 use Rattle.builder_spec.specs.Laying.{paid_to}
 use Rattle.builder_laws.proofs.TestLemmas.{each_at, no_place, mapped}
 
@@ -42,28 +45,40 @@ each_due test v h currency (p ∷ ps) = by (due_to p) (due_outputs currency ps) 
     by None rest k = k
     by (Some party) rest k = (so_for test v h currency party, k)
 
--- and what holds of a key output holds of what is given to an address
-pub each_given_so : (P : Output → Type 0) (address : List ℕ) (m : Amounts) → P (record { lock = Key address; amount = m }) → AllByRecursion P (paid_to address m)
-each_given_so P address m h = by (is_empty (entries m))
-  where
-    by : (b : Bool) → AllByRecursion P (if b then [] else record { lock = Key address; amount = m } ∷ [])
-    by true = tt
-    by false = (h, tt)
-
+-- and of what is given to an address
 pub each_given : (test : Lock → Bool) (v : Bool) → IsSo test v → (address : List ℕ) (m : Amounts) → AllByRecursion (λ (o : Output). test o.lock ≡ v) (paid_to address m)
-each_given test v h address m = each_given_so (λ (o : Output). test o.lock ≡ v) address m (h.key address)
+each_given test v h address m = by (is_empty (entries m))
+  where
+    by : (b : Bool) → AllByRecursion (λ (o : Output). test o.lock ≡ v) (if b then [] else record { lock = Key address; amount = m } ∷ [])
+    by true = tt
+    by false = (h.key address, tt)
 
 -- of an output that is there unless the contract is over
-pub each_unless : (test : Lock → Bool) (v b : Bool) (script : List ℕ) (d : Datum) → test (Contract script d) ≡ v → AllByRecursion (λ (x : Output). test x.lock ≡ v) (map (continuation script) (if b then [] else d ∷ []))
+pub each_unless : (test : Lock → Bool) (v b : Bool) (script : List ℕ) (d : Datum) → test (Contract script (datum_hash d)) ≡ v → AllByRecursion (λ (x : Output). test x.lock ≡ v) (map (continuation script) (if b then [] else d ∷ []))
 each_unless test v true script d h = tt
 each_unless test v false script d h = (h, tt)
 
+-- an output that is no contract is no wrong start
+pub no_wrong_start : (named : List ℕ → Option Published) (tx : Tx) (i : ℕ) (o : Output) → slice_get tx.outputs i ≡ Some o → is_contract o.lock ≡ false → starts_wrong marlowe named o.amount (contract_at tx i) ≡ false
+no_wrong_start named tx i o at h =
+    ap (λ (x : Option Output). starts_wrong marlowe named o.amount (with_datum (contract_of x) (slice_get (made_datums tx) (contract_count (take i tx.outputs))))) at
+    ∙ ap (λ (l : Option ContractLock). starts_wrong marlowe named o.amount (with_datum l (slice_get (made_datums tx) (contract_count (take i tx.outputs))))) (no_contract_in o.lock h)
+
 -- where none of the outputs is a wrong start, the rule on starts refuses nothing
-pub none_starts_wrong : (named : List ℕ → Option Published) (tx : Tx) → AllByRecursion (λ (o : Output). starts_wrong marlowe named o.amount (instance_in (Some o)) ≡ false) tx.outputs → wrong_start marlowe named tx ≡ None
+pub none_starts_wrong : (named : List ℕ → Option Published) (tx : Tx) → ((i : ℕ) (o : Output) → slice_get tx.outputs i ≡ Some o → starts_wrong marlowe named o.amount (contract_at tx i) ≡ false) → wrong_start marlowe named tx ≡ None
 none_starts_wrong named tx h =
     mapped WrongStart _ (no_place (λ i (o : Output). starts_wrong marlowe named o.amount (contract_at tx i)) 0 tx.outputs
-    (λ k o e. ap (λ (x : Option Output). starts_wrong marlowe named o.amount (instance_in x)) (ap (λ n. slice_get tx.outputs n) (let f : 0 + k ≡ k = omega arith in f) ∙ e)
-    ∙ each_at (λ (x : Output). starts_wrong marlowe named x.amount (instance_in (Some x)) ≡ false) tx.outputs h k o e))
+    (λ k o e. ap (λ (n : ℕ). starts_wrong marlowe named o.amount (contract_at tx n)) (let f : 0 + k ≡ k = omega arith in f) ∙ h k o e))
+
+-- so it is where none is a contract
+pub no_starts : (named : List ℕ → Option Published) (tx : Tx) → AllByRecursion (λ (o : Output). is_contract o.lock ≡ false) tx.outputs → wrong_start marlowe named tx ≡ None
+no_starts named tx h = none_starts_wrong named tx (λ i o at. no_wrong_start named tx i o at (each_at (λ (x : Output). is_contract x.lock ≡ false) tx.outputs h i o at))
+
+-- a contract is made in the first output, at the first datum that is brought for outputs
+pub made_first : (tx : Tx) (script : List ℕ) (d : Datum) (ds : List Datum) → slice_get tx.outputs 0 ≡ Some (continuation script d) → made_datums tx ≡ d ∷ ds → contract_at tx 0 ≡ Some (standing_at script d)
+made_first tx script d ds at h =
+    ap (λ (x : Option Output). with_datum (contract_of x) (slice_get (made_datums tx) (contract_count (take 0 tx.outputs)))) at
+    ∙ ap (λ (ys : List Datum). with_datum (contract_in (Contract script (datum_hash d))) (slice_get ys (contract_count (take 0 tx.outputs)))) h
 
 -- ---- the step's
 
@@ -71,9 +86,11 @@ pub after_first : (b : Bool) (script : List ℕ) (d : Datum) (xs ys : List Outpu
 after_first true script d xs ys = refl
 after_first false script d xs ys = refl
 
-pub goes_on_first : (b : Bool) (tx : Tx) (script : List ℕ) (d : Datum) (xs ys : List Output) → tx.outputs ≡ (map (continuation script) (if b then [] else d ∷ []) ++ xs) ++ ys → b || goes_on_in tx 0 script d ≡ true
-goes_on_first true tx script d xs ys h = refl
-goes_on_first false tx script d xs ys h = goes_on_there tx 0 script d (ap (λ (os : List Output). slice_get os 0) h)
+pub goes_on_first : (b : Bool) (tx : Tx) (script : List ℕ) (d : Datum) (xs ys : List Output) → tx.outputs ≡ (map (continuation script) (if b then [] else d ∷ []) ++ xs) ++ ys → made_datums tx ≡ (if b then [] else d ∷ []) → b || goes_on_in tx 0 script d ≡ true
+goes_on_first true tx script d xs ys h k = refl
+goes_on_first false tx script d xs ys h k =
+    let at : slice_get tx.outputs 0 ≡ Some (continuation script d) = ap (λ (os : List Output). slice_get os 0) h in
+    goes_on_there tx 0 script d (made_first tx script d [] at k, continuation script d, at, refl)
 
 -- where no rule of the script refuses, those on stray contracts follow
 pub after_passing : (b : Bool) (os : List Output) → after_answer os (answer_by None b) ≡ stray_after (payments_from b 0) os

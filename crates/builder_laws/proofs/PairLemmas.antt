@@ -3,10 +3,12 @@ use Rattle.std.proofs.Common.{◌≡◌, ℕ, ◌+ℤ◌, Bool, true, false, ◌
 use Rattle.std.specs.Prelude.{int_lt, ◌&&◌, pos}
 use Rattle.std.specs.List.{AllByRecursion}
 use Rattle.std.specs.Option.{option_map}
+use Rattle.contract.specs.declared.input.Input.{Input}
 use Rattle.contract.specs.declared.interval.Interval.{Interval}
 use Rattle.names.specs.declared.token.Token.{Token}
 use Rattle.bundle.specs.Bundles.{amount_of}
 use Rattle.bundle.specs.Totals.{total_of}
+use Rattle.machine.specs.declared.datum.Datum.{Datum}
 use Rattle.eutxo_types.specs.declared.lock.Lock.{Lock}
 use Rattle.eutxo_types.specs.declared.lock.Lock.TheVariants.{Key, Payout, Contract}
 use Rattle.eutxo_types.specs.declared.output.Output.{Output}
@@ -16,20 +18,20 @@ use Rattle.eutxo_types.specs.declared.redeemer.Redeemer.TheVariants as with
 use Rattle.eutxo_types.specs.declared.spend.Spend.{Spend}
 use Rattle.eutxo_types.specs.declared.tx.Tx.{Tx}
 use Rattle.eutxo.specs.Found.{with_outputs}
-use Rattle.eutxo_types.specs.Parts.{inputs_of, contract_in, is_key}
-use Rattle.eutxo.specs.Rules.{has_signed, step_in, steps_of}
+use Rattle.eutxo_types.specs.Parts.{inputs_of, contract_in, is_key, is_step, step_count}
+use Rattle.eutxo.specs.Rules.{has_signed, or_step, steps_of}
 use Rattle.roles.specs.Steps.{role_token, holds_role}
 use Rattle.ledger.specs.declared.look.Unspent.{Unspent}
 use Rattle.builder_spec.specs.Causes.{is_signed}
 use Rattle.builder_spec.specs.Holding.{amount_in, holds_token}
 use Rattle.builder_spec.specs.Laying.{spend_with, by_key}
 use Rattle.builder_laws.specs.Accepting.{contents}
-use Rattle.builder_laws.proofs.TestLemmas.{Nowhere}
+use Rattle.builder_laws.proofs.TestLemmas.{Nowhere, each-append, none_counted, one_counted}
 use Rattle.builder_laws.proofs.NamedLemmas.{refs}
 
--- a transaction that spends the first of these with a redeemer, and the others by their keys
-abbrev pub laid : Redeemer → List Unspent → List Unspent → List Output → Interval → List (List ℕ) → Tx
-laid w us fs os i signers = record { inputs = map (spend_with w) us ++ map by_key fs; outputs = os; interval = i; signers = signers }
+-- a transaction that spends the first of these with a redeemer, and the others by their keys, and brings data
+abbrev pub laid : Redeemer → List Unspent → List Unspent → List Output → Interval → List (List ℕ) → List Datum → Tx
+laid w us fs os i signers ds = record { inputs = map (spend_with w) us ++ map by_key fs; outputs = os; interval = i; signers = signers; datums = ds }
 
 abbrev pub paired : Redeemer → List Unspent → List (Spend × Output)
 paired w us = map (λ u. (spend_with w u, u.output)) us
@@ -122,11 +124,25 @@ total_pairs w t (u ∷ us) fs = ap (λ n. amount_of u.output.amount t +ℤ n) (t
 
 -- ---- the step
 
-pub no_keys_step : (signers : List (List ℕ)) (fs : List Unspent) → AreKeyed signers fs → steps_of (paired with.None fs) ≡ []
-no_keys_step signers [] g = refl
-no_keys_step signers (f ∷ fs) g = ap (λ l. step_in (contract_in l) [] ++ steps_of (paired with.None fs)) g.0.lock ∙ no_keys_step signers fs g.1
+pub no_keys_step : (signers : List (List ℕ)) (fs : List Unspent) (ds : List Datum) → AreKeyed signers fs → steps_of (paired with.None fs) ds ≡ []
+no_keys_step signers [] ds g = refl
+no_keys_step signers (f ∷ fs) ds g = ap (λ l. or_step (contract_in l) [] ds (steps_of (paired with.None fs))) g.0.lock ∙ no_keys_step signers fs ds g.1
 
 -- where none of the others is a contract, nothing is stepped
-pub no_step : (w : Redeemer) (signers : List (List ℕ)) (us fs : List Unspent) → AllByRecursion (λ u. contract_in u.output.lock ≡ None) us → AreKeyed signers fs → steps_of (pairs w us fs) ≡ []
-no_step w signers [] fs h g = no_keys_step signers fs g
-no_step w signers (u ∷ us) fs h g = ap (λ c. step_in c (inputs_of w) ++ steps_of (pairs w us fs)) h.0 ∙ no_step w signers us fs h.1 g
+pub no_step : (w : Redeemer) (signers : List (List ℕ)) (us fs : List Unspent) (ds : List Datum) → AllByRecursion (λ u. contract_in u.output.lock ≡ None) us → AreKeyed signers fs → steps_of (pairs w us fs) ds ≡ []
+no_step w signers [] fs ds h g = no_keys_step signers fs ds g
+no_step w signers (u ∷ us) fs ds h g = ap (λ c. or_step c (inputs_of w) ds (steps_of (pairs w us fs))) h.0 ∙ no_step w signers us fs ds h.1 g
+
+-- and where the first are no steps, none of the inputs is one
+none_steps : (w : Redeemer) → is_step w ≡ false → (us : List Unspent) → Nowhere (λ (x : Spend). is_step x.redeemer) (map (spend_with w) us)
+none_steps w h [] = tt
+none_steps w h (u ∷ us) = (h, none_steps w h us)
+
+pub no_steps : (w : Redeemer) → is_step w ≡ false → (us fs : List Unspent) → step_count (map (spend_with w) us ++ map by_key fs) ≡ 0
+no_steps w h us fs =
+    none_counted (λ (x : Spend). is_step x.redeemer) (map (spend_with w) us ++ map by_key fs)
+    (each-append (λ (x : Spend). is_step x.redeemer ≡ false) (map (spend_with w) us) (map by_key fs) (none_steps w h us) (none_steps with.None refl fs))
+
+-- where one is stepped, there is one step
+pub one_step : (xs : List Input) (u : Unspent) (fs : List Unspent) → step_count (spend_with (with.Step xs) u ∷ map by_key fs) ≡ 1
+one_step xs u fs = one_counted (λ (x : Spend). is_step x.redeemer) (spend_with (with.Step xs) u) (map by_key fs) refl (none_steps with.None refl fs)

@@ -6,6 +6,7 @@ use Rattle.std.proofs.lemmas.List.{length-map}
 use Rattle.contract.specs.declared.interval.Interval.{Interval}
 use Rattle.names.specs.declared.token.Token.{Token}
 use Rattle.bundle.specs.Totals.{total_of}
+use Rattle.machine.specs.declared.datum.Datum.{Datum}
 use Rattle.eutxo_types.specs.declared.fault.TxFault.TheVariants.{NoInputs, TooMany, RepeatedInput, NotSigned, TwoContracts, WrongRedeemer, RoleMissing}
 use Rattle.eutxo_types.specs.declared.lock.Lock.{Lock}
 use Rattle.eutxo_types.specs.declared.lock.Lock.TheVariants.{Key, Payout, Contract}
@@ -17,7 +18,7 @@ use Rattle.eutxo_types.specs.declared.tx.Tx.{Tx}
 use Rattle.eutxo.specs.Local.{tx_fault, spent_fault, spent_rules}
 use Rattle.eutxo_types.specs.Parts.{inputs_of, is_contract, is_key}
 use Rattle.eutxo.specs.Faults.{is_empty}
-use Rattle.eutxo.specs.Rules.{no_inputs, too_many, has_too_many, repeated_input, lacks_signer, not_signed, opens, wrong_redeemer, lacks_role, role_missing, steps_of, step_fault}
+use Rattle.eutxo.specs.Rules.{no_inputs, too_many, has_too_many, repeated_input, lacks_signer, not_signed, opens, wrong_redeemer, lacks_role, role_missing, steps_of, step_fault, step_fault_unless, wrong_datum}
 use Rattle.roles.specs.declared.published.Published.{Published}
 use Rattle.roles.specs.Steps.{holds_role, marlowe}
 use Rattle.ledger.specs.declared.look.Unspent.{Unspent}
@@ -31,9 +32,9 @@ use Rattle.builder_laws.proofs.SumsLemmas.{preserved}
 
 -- ---- of the transaction alone
 
-module _ (w : Redeemer) (us fs : List Unspent) (os : List Output) (i : Interval) (signers : List (List ℕ)) where
+module _ (w : Redeemer) (us fs : List Unspent) (os : List Output) (i : Interval) (signers : List (List ℕ)) (ds : List Datum) where
   abbrev tx : Tx
-  tx = laid w us fs os i signers
+  tx = laid w us fs os i signers ds
 
   all_counted : length tx.inputs ≡ length (us ++ fs)
   all_counted =
@@ -94,15 +95,22 @@ module _ (w : Redeemer) (signers : List (List ℕ)) (us fs : List Unspent) (h : 
       no_fault RoleMissing (λ (x : Spend × Output). lacks_role (holds_role ys) x.1.lock) ys
       (nowhere (λ (x : Spend × Output). lacks_role (holds_role ys) x.1.lock) k (λ u k. ap (lacks_role (holds_role ys)) k.lock))
 
-  -- the others are met too, where one contract at most is spent, each payout is granted, the step is taken and sums are kept
+  -- the others are met too, where one contract at most is spent, each payout is granted, no datum is wrong, the step is taken and sums
+  -- are kept
   pub passing : (named : List ℕ → Option Published) (tx : Tx) → tx.signers ≡ signers → nat_lt 1 (count_by (λ (x : Spend × Output). is_contract x.1.lock) ys) ≡ false →
-      AllByRecursion (λ u. lacks_role (holds_role ys) u.output.lock ≡ false) us → step_fault marlowe named tx ys (steps_of ys) ≡ None →
+      AllByRecursion (λ u. lacks_role (holds_role ys) u.output.lock ≡ false) us → wrong_datum tx ys ≡ None → step_fault marlowe named tx ys (steps_of ys tx.datums) ≡ None →
       ((t : Token) → total_of amount_in t (us ++ fs) ≡ total_of (λ (o : Output). o.amount) t tx.outputs) → spent_fault marlowe named tx ys ≡ None
-  passing named tx s one granted step kept =
+  passing named tx s one granted brought step kept =
       none_of (spent_rules marlowe named tx ys) (
         ap (λ ss. not_signed ss ys) s ∙ all_signed,
         (
           if_not (nat_lt 1 (count_by (λ (x : Spend × Output). is_contract x.1.lock) ys)) TwoContracts one,
-          (all_opened, (all_granted granted, (step, (preserved ys tx.outputs (λ t. total_pairs w t us fs ∙ kept t), tt)))),
+          (
+            all_opened,
+            (
+              all_granted granted,
+              (ap (λ f. step_fault_unless f marlowe named tx ys) brought ∙ step, (preserved ys tx.outputs (λ t. total_pairs w t us fs ∙ kept t), (brought, tt))),
+            ),
+          ),
         ),
       )

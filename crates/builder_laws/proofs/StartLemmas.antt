@@ -1,7 +1,7 @@
 -- A start that nothing hinders is accepted.
-use Rattle.std.proofs.Common.{◌≡◌, ℕ, ℤ, nat_lt, true, false, not, ◌&&◌, List, [], ◌∷◌, ◌++◌, map, refl, sym, ap, ◌∙◌, Option, Some, None}
+use Rattle.std.proofs.Common.{◌≡◌, ℕ, zero, suc, ℤ, nat_lt, true, false, not, ◌&&◌, List, [], ◌∷◌, ◌++◌, map, drop, refl, sym, ap, ◌∙◌, subst, Option, Some, None}
 use Rattle.std.specs.Prelude.{is_some, is_none}
-use Rattle.std.specs.List.{list_all, AllByRecursion}
+use Rattle.std.specs.List.{slice_get, list_all, AllByRecursion}
 use Rattle.std.proofs.lemmas.Bool.{eq-eqb}
 use Rattle.std.specs.FinMap.{entries, empty, entries-from_sorted}
 use Rattle.std.specs.declared.cmp.Ordering.{Ordering}
@@ -15,9 +15,10 @@ use Rattle.eutxo_types.specs.declared.tx.Tx.{Tx}
 use Rattle.eutxo.specs.Found.{script_at, is_known, all_known}
 use Rattle.eutxo.specs.Laws.{FoundIsEnough}
 use Rattle.eutxo.specs.Local.{tx_fault, spent_fault}
-use Rattle.eutxo_types.specs.Parts.{is_contract, instance_in}
+use Rattle.eutxo_types.specs.Digests.{datum_hash}
+use Rattle.eutxo_types.specs.Parts.{is_contract, made_datums, contract_at}
 use Rattle.eutxo.specs.Faults.{is_empty}
-use Rattle.eutxo.specs.Rules.{starts_wrong, starts_wrong_at, steps_of, step_fault}
+use Rattle.eutxo.specs.Rules.{starts_wrong, starts_wrong_at, steps_of, step_fault, wrong_datum}
 use Rattle.roles.specs.declared.published.Published.{Published}
 use Rattle.roles.specs.Sums.{sums_of}
 use Rattle.roles.specs.Steps.{same_cont, is_fresh, same_amounts, starts_from, marlowe}
@@ -32,11 +33,12 @@ use Rattle.builder_spec.specs.Starts.{fresh_state, accounts_of, covers_accounts,
 use Rattle.builder_spec.proofs.FrontsLaws.{shortest_passes}
 use Rattle.builder_laws.specs.Accepting.{StartsPass, StartsAreAccepted}
 use Rattle.builder_laws.specs.AfterPasts.{BytesTellApart, StartsAreAcceptedAfter}
-use Rattle.builder_laws.proofs.TestLemmas.{both, together, not_so, none_counted, each_none, unmapped, everywhere_all}
-use Rattle.builder_laws.proofs.PairLemmas.{laid, pairs, all_paired, all_named, AreKeyed, nowhere_keys, no_step}
+use Rattle.builder_laws.proofs.TestLemmas.{both, together, not_so, each_at, none_counted, each_none, unmapped, everywhere_all}
+use Rattle.builder_laws.proofs.PairLemmas.{laid, pairs, all_paired, all_named, AreKeyed, nowhere_keys, no_step, no_steps}
+use Rattle.builder_laws.proofs.DatumLemmas.{none_spent, digests_made, none_wrong}
 use Rattle.builder_laws.proofs.SumsLemmas.{total-changed}
 use Rattle.builder_laws.proofs.FrontLemmas.{shortest_rest}
-use Rattle.builder_laws.proofs.OutputLemmas.{IsSo, each_given, each_given_so, none_starts_wrong}
+use Rattle.builder_laws.proofs.OutputLemmas.{IsSo, each_given, no_wrong_start, none_starts_wrong, made_first}
 use Rattle.builder_laws.proofs.SpentLemmas.{first_rules, passing}
 use Rattle.builder_laws.proofs.CausesLemmas.{is_nothing, unless_else, keyed_front, named_once, not_many, pairs_known}
 use Rattle.builder_laws.proofs.AcceptingLemmas.{IsClean, passes, judged}
@@ -63,7 +65,7 @@ module _ (r : StartRequest) (clear : hinders_start r ≡ None) where
   change = paid_to r.change (rest fs (output ∷ []))
 
   abbrev tx : Tx
-  tx = laid with.None [] fs (output ∷ change) r.interval r.signers
+  tx = laid with.None [] fs (output ∷ change) r.interval r.signers (start_datum r ∷ [])
 
   clauses : AllByRecursion (λ x. x ≡ None) (signature_cause r.signers r.offered ∷ start_funds_cause r ∷ limit_cause fs ∷ repeat_cause r.offered ∷ [])
   clauses = each_none (signature_cause r.signers r.offered ∷ start_funds_cause r ∷ limit_cause fs ∷ repeat_cause r.offered ∷ []) clear
@@ -86,7 +88,17 @@ module _ (r : StartRequest) (clear : hinders_start r ≡ None) where
   signed = keyed_front r.signers fs later.0 r.offered later.1 clauses.0
 
   first : tx_fault tx ≡ None
-  first = first_rules with.None [] fs (output ∷ change) r.interval r.signers (no_keys fs enough.0) (not_many fs clauses.1.1.0) refl (named_once [] fs later.0 r.offered later.1 clauses.1.1.1.0)
+  first = first_rules with.None [] fs (output ∷ change) r.interval r.signers (start_datum r ∷ []) (no_keys fs enough.0) (not_many fs clauses.1.1.0) refl (named_once [] fs later.0 r.offered later.1 clauses.1.1.1.0)
+
+  -- its datum is that of the first output, and the change is no contract
+  made_is : made_datums tx ≡ start_datum r ∷ []
+  made_is = ap (λ n. drop n (start_datum r ∷ [])) (no_steps with.None refl [] fs)
+
+  no_others : AllByRecursion (λ (o : Output). is_contract o.lock ≡ false) change
+  no_others = let none : IsSo is_contract false = record { key = λ x. refl; payout = λ x y. refl } in each_given is_contract false none r.change (rest fs (output ∷ []))
+
+  brought : wrong_datum tx ys ≡ None
+  brought = none_wrong tx ys [] (datum_hash (start_datum r) ∷ []) (none_spent with.None r.signers [] fs tt signed) (digests_made r.published.id (start_datum r ∷ []) change no_others) refl
 
   -- it is a start
   starts : starts_from r.published.root (start_datum r) output.amount ≡ true
@@ -97,14 +109,17 @@ module _ (r : StartRequest) (clear : hinders_start r ≡ None) where
       (same_amounts_itself (sums_of (fresh_state r.state)))
 
   module _ (named : List ℕ → Option Published) (there : named r.published.id ≡ Some r.published) where
-    starts_well : starts_wrong marlowe named output.amount (instance_in (Some output)) ≡ false
-    starts_well = ap (λ v. starts_wrong_at marlowe v (start_datum r) output.amount) there ∙ ap not starts
+    starts_well : starts_wrong marlowe named output.amount (contract_at tx 0) ≡ false
+    starts_well =
+        ap (starts_wrong marlowe named output.amount) (made_first tx r.published.id (start_datum r) [] refl made_is)
+        ∙ ap (λ v. starts_wrong_at marlowe v (start_datum r) output.amount) there ∙ ap not starts
 
-    steps : step_fault marlowe named tx ys (steps_of ys) ≡ None
-    steps =
-        ap (step_fault marlowe named tx ys) (no_step with.None r.signers [] fs tt signed)
-        ∙ none_starts_wrong named tx
-        (starts_well, each_given_so (λ (o : Output). starts_wrong marlowe named o.amount (instance_in (Some o)) ≡ false) r.change (rest fs (output ∷ [])) refl)
+    each_starts : (i : ℕ) (o : Output) → slice_get tx.outputs i ≡ Some o → starts_wrong marlowe named o.amount (contract_at tx i) ≡ false
+    each_starts zero o at = let same : output ≡ o = cc in subst (λ (x : Output). starts_wrong marlowe named x.amount (contract_at tx 0) ≡ false) same starts_well
+    each_starts (suc k) o at = no_wrong_start named tx (suc k) o at (each_at (λ (x : Output). is_contract x.lock ≡ false) change no_others k o at)
+
+    steps : step_fault marlowe named tx ys (steps_of ys tx.datums) ≡ None
+    steps = ap (step_fault marlowe named tx ys) (no_step with.None r.signers [] fs tx.datums tt signed) ∙ none_starts_wrong named tx each_starts
 
     known_is : all_known named tx.outputs ys ≡ true
     known_is =
@@ -117,7 +132,7 @@ module _ (r : StartRequest) (clear : hinders_start r ≡ None) where
     rules =
         passing with.None r.signers [] fs tt signed named tx refl
         (ap (nat_lt 1) (none_counted (λ (x : Spend × Output). is_contract x.1.lock) ys (nowhere_keys r.signers (λ (x : Spend × Output). is_contract x.1.lock) (λ u k. ap is_contract k.lock) fs signed)))
-        tt steps (λ t. sym (total-changed r.change fs (output ∷ []) t))
+        tt brought steps (λ t. sym (total-changed r.change fs (output ∷ []) t))
 
     clean : IsClean named (layout_start r) fs ys
     clean = record { first = first; names = all_named with.None [] fs; pairs = all_paired with.None [] fs; known = known_is; rules = rules }

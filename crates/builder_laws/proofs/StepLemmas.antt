@@ -1,5 +1,5 @@
 -- A step that nothing hinders is accepted.
-use Rattle.std.proofs.Common.{◌≡◌, ℕ, ◌+◌, nat_lt, Bool, true, false, not, List, [], ◌∷◌, ◌++◌, length, refl, sym, ap, ◌∙◌, subst, Option, Some, None, Result, Ok, Err}
+use Rattle.std.proofs.Common.{◌≡◌, ℕ, ◌+◌, nat_lt, Bool, true, false, not, List, [], ◌∷◌, ◌++◌, map, drop, length, refl, sym, ap, ◌∙◌, subst, append_assoc, Option, Some, None, Result, Ok, Err}
 use Rattle.std.specs.Prelude.{if◌then◌else◌, is_some, is_none}
 use Rattle.std.specs.List.{position, list_all, filter_map, AllByRecursion}
 use Rattle.std.specs.Option.{option_map}
@@ -21,8 +21,9 @@ use Rattle.eutxo.specs.Asked.{Stepping}
 use Rattle.eutxo.specs.Found.{script_at, is_known, all_known}
 use Rattle.eutxo.specs.Laws.{FoundIsEnough}
 use Rattle.eutxo.specs.Local.{tx_fault, spent_fault}
-use Rattle.eutxo_types.specs.Parts.{is_contract, contract_in, is_key}
-use Rattle.eutxo.specs.Rules.{lacks_role, Step, step_in, steps_of, step_asked, stray_after, after_answer, script_fault, step_fault, opens}
+use Rattle.eutxo_types.specs.Digests.{datum_hash}
+use Rattle.eutxo_types.specs.Parts.{is_contract, contract_in, is_key, made_datums}
+use Rattle.eutxo.specs.Rules.{lacks_role, digest_in, digests_in, Step, or_step, steps_of, step_asked, stray_after, after_answer, script_fault, step_fault, opens, wrong_datum}
 use Rattle.roles.specs.declared.published.Published.{Published}
 use Rattle.table.specs.Flat.{is_close}
 use Rattle.roles.specs.Steps.{holds_role, role_token, actor, authorised, due_outputs, first_unpaid, payments_from, next_datum, by_answer, answer_by, step_of, marlowe}
@@ -36,11 +37,12 @@ use Rattle.builder_spec.specs.Holding.{holds_token, least_lacking}
 use Rattle.builder_spec.specs.Fronts.{suffices}
 use Rattle.builder_spec.specs.Causes.{signature_cause, funds_cause, limit_cause, repeat_cause}
 use Rattle.builder_spec.specs.Laying.{spend_with, paid_to, rest}
-use Rattle.builder_spec.specs.Steps.{Thread, thread_terms, look_thread, step_walk, semantics_cause, token_of, roles_of, deposits, may_act, authority_cause, step_front, own_output, step_spent, step_limit_cause, hinders_thread, hinders_on, continuing_outputs, step_outputs_of, layout_thread, layout_on}
+use Rattle.builder_spec.specs.Steps.{Thread, thread_terms, look_thread, step_walk, semantics_cause, token_of, roles_of, deposits, may_act, authority_cause, step_front, own_output, step_spent, step_limit_cause, hinders_thread, hinders_on, next_data, continuing_outputs, step_outputs_of, next_data_of, layout_thread, layout_on}
 use Rattle.builder_laws.specs.Accepting.{StepsPass, StepsAreAccepted}
 use Rattle.builder_laws.specs.AfterPasts.{BytesTellApart, StepsAreAcceptedAfter}
 use Rattle.builder_laws.proofs.TestLemmas.{Nowhere, Everywhere, both, together, not_not, each-append, all_everywhere, everywhere_all, one_counted, no_fault, not_found, found_nowhere, each_none, none_of, if_not, mapped, unmapped}
-use Rattle.builder_laws.proofs.PairLemmas.{laid, paired, pairs, all_paired, all_named, AreKeyed, nowhere_keys, front_holds}
+use Rattle.builder_laws.proofs.PairLemmas.{laid, paired, pairs, all_paired, all_named, AreKeyed, nowhere_keys, front_holds, one_step}
+use Rattle.builder_laws.proofs.DatumLemmas.{outputs_of, none_of_keys, digests_made, none_wrong}
 use Rattle.builder_laws.proofs.SumsLemmas.{total-changed}
 use Rattle.builder_laws.proofs.FrontLemmas.{shortest_rest}
 use Rattle.builder_spec.proofs.SufficesLaws.{front_suffices}
@@ -123,11 +125,17 @@ module _ (r : StepRequest) (e : Thread) (clear : hinders_thread r e ≡ None) wh
     abbrev change : List Output
     change = paid_to r.change (rest (us ++ fs) firsts)
 
+    abbrev nexts : List Datum
+    nexts = next_data e (step_walk r e) a
+
+    abbrev datums : List Datum
+    datums = e.datum ∷ nexts
+
     abbrev tx : Tx
-    tx = laid w us fs (firsts ++ change) r.interval r.signers
+    tx = laid w us fs (firsts ++ change) r.interval r.signers datums
 
     first : tx_fault tx ≡ None
-    first = first_rules w us fs (firsts ++ change) r.interval r.signers refl (not_many (us ++ fs) few.1) few.0 (named_once us fs later.0 r.offered later.1 clauses.1.1.1.1.1.0)
+    first = first_rules w us fs (firsts ++ change) r.interval r.signers datums refl (not_many (us ++ fs) few.1) few.0 (named_once us fs later.0 r.offered later.1 clauses.1.1.1.1.1.0)
 
     opened : AllByRecursion (IsOpened w) us
     opened = (record { unkeyed = ap is_key is.lock; opened = ap (opens w) is.lock }, tt)
@@ -137,8 +145,8 @@ module _ (r : StepRequest) (e : Thread) (clear : hinders_thread r e ≡ None) wh
     abbrev step : Step
     step = record { script = p.id; datum = e.datum; inputs = r.inputs }
 
-    stepped_is : steps_of ys ≡ step ∷ steps_of (paired with.None fs)
-    stepped_is = ap (λ l. step_in (contract_in l) r.inputs ++ steps_of (paired with.None fs)) is.lock
+    stepped_is : steps_of ys datums ≡ step ∷ steps_of (paired with.None fs) nexts
+    stepped_is = ap (λ l. or_step (contract_in l) r.inputs datums (steps_of (paired with.None fs))) is.lock
 
     abbrev s : Stepping
     s = step_asked tx ys step
@@ -151,21 +159,30 @@ module _ (r : StepRequest) (e : Thread) (clear : hinders_thread r e ≡ None) wh
         mapped faults.NotAuthorised _ (not_found (λ q. not (authorised p.currency r.signers ys q)) (filter_map actor r.inputs)
         (all_act p.currency r.signers r.offered fs ys (λ role. front_holds w r.signers p.currency role us fs (ap is_key is.lock, tt) signed) (filter_map actor r.inputs) parties (all_everywhere (holds_token fs) (roles_of p.currency r.inputs) enough.0)))
 
+    -- the datum that is brought for outputs is the next one
+    made_is : made_datums tx ≡ nexts
+    made_is = ap (λ n. drop n datums) (one_step r.inputs (own_output e) fs)
+
     continued : roles.wrong_continuation closed 0 next s ≡ None
-    continued = if_not _ faults.WrongContinuation (ap not (goes_on_first closed tx p.id next (due_outputs p.currency (step_walk r e).payments) change refl))
+    continued = if_not _ faults.WrongContinuation (ap not (goes_on_first closed tx p.id next (due_outputs p.currency (step_walk r e).payments) change refl made_is))
 
     paid : roles.wrong_payment p.currency closed 0 (step_walk r e).payments s ≡ None
     paid =
         let os = due_outputs p.currency (step_walk r e).payments in
         mapped faults.WrongPayment _ (ap (first_unpaid (payments_from closed 0) os) (after_first closed p.id next os change) ∙ all_paid (payments_from closed 0) os change)
 
+    -- behind the first output there is no contract
+    no_others : AllByRecursion (λ (o : Output). is_contract o.lock ≡ false) (due_outputs p.currency (step_walk r e).payments ++ change)
+    no_others =
+        let none : IsSo is_contract false = record { key = λ x. refl; payout = λ x y. refl } in
+        let os = due_outputs p.currency (step_walk r e).payments in
+        each-append (λ (o : Output). is_contract o.lock ≡ false) os change (each_due is_contract false none p.currency (step_walk r e).payments) (each_given is_contract false none r.change (rest (us ++ fs) firsts))
+
     no_stray : stray_after (payments_from closed 0) tx.outputs ≡ None
     no_stray =
         let os = due_outputs p.currency (step_walk r e).payments in
-        let none : IsSo is_contract false = record { key = λ x. refl; payout = λ x y. refl } in
         ap (λ zs. option_map (λ k. StrayContract (payments_from closed 0 + k)) (position (λ (o : Output). is_contract o.lock) zs)) (after_first closed p.id next os change)
-        ∙ no_fault (λ k. StrayContract (payments_from closed 0 + k)) (λ (o : Output). is_contract o.lock) (os ++ change)
-        (each-append (λ (o : Output). is_contract o.lock ≡ false) os change (each_due is_contract false none p.currency (step_walk r e).payments) (each_given is_contract false none r.change (rest (us ++ fs) firsts)))
+        ∙ no_fault (λ k. StrayContract (payments_from closed 0 + k)) (λ (o : Output). is_contract o.lock) (os ++ change) no_others
 
     answered : after_answer tx.outputs (step_of (thread_terms e) s) ≡ None
     answered =
@@ -176,8 +193,17 @@ module _ (r : StepRequest) (e : Thread) (clear : hinders_thread r e ≡ None) wh
         ∙ after_passing closed tx.outputs
         ∙ no_stray
 
+    -- ---- the data
+
+    brought : wrong_datum tx ys ≡ None
+    brought =
+        none_wrong tx ys (datum_hash e.datum ∷ []) (map datum_hash nexts)
+        (ap (λ l. digest_in (contract_in l) ++ digests_in (outputs_of (paired with.None fs))) is.lock ∙ ap (λ hs. datum_hash e.datum ∷ hs) (none_of_keys r.signers fs signed))
+        (ap digests_in (append_assoc (continuing_outputs e (step_walk r e) a) (due_outputs p.currency (step_walk r e).payments) change) ∙ digests_made p.id nexts (due_outputs p.currency (step_walk r e).payments ++ change) no_others)
+        refl
+
     module _ (named : List ℕ → Option Published) (there : named p.id ≡ Some p) where
-      steps : step_fault marlowe named tx ys (steps_of ys) ≡ None
+      steps : step_fault marlowe named tx ys (steps_of ys datums) ≡ None
       steps = ap (step_fault marlowe named tx ys) stepped_is ∙ ap (λ v. script_fault marlowe v s) there ∙ answered
 
       known_is : is_some (named p.id) ≡ true
@@ -200,7 +226,7 @@ module _ (r : StepRequest) (e : Thread) (clear : hinders_thread r e ≡ None) wh
           passing w r.signers us fs opened signed named tx refl
           (ap (nat_lt 1) (one_counted (λ (x : Spend × Output). is_contract x.1.lock) (spend_with w (own_output e), e.shown.output) (paired with.None fs) (ap is_contract is.lock)
           (nowhere_keys r.signers (λ (x : Spend × Output). is_contract x.1.lock) (λ u k. ap is_contract k.lock) fs signed)))
-          (ap (lacks_role (holds_role ys)) is.lock, tt) steps
+          (ap (lacks_role (holds_role ys)) is.lock, tt) brought steps
           (λ t. sym (total-changed r.change (us ++ fs) firsts t))
 
       clean : IsClean named tx (us ++ fs) ys
@@ -212,8 +238,8 @@ its_pairs r e = pairs (with.Step r.inputs) (own_output e ∷ []) (step_front r e
 clean_thread : (r : StepRequest) (e : Thread) → IsThread e → hinders_thread r e ≡ None → (named : List ℕ → Option Published) → named e.shown.published.id ≡ Some e.shown.published → IsClean named (layout_thread r e) (step_spent r e) (its_pairs r e)
 clean_thread r e is clear named there =
     let end = succeeds r e clear in
-    subst (λ os. IsClean named (laid (with.Step r.inputs) (own_output e ∷ []) (step_front r e) (os ++ paid_to r.change (rest (step_spent r e) os)) r.interval r.signers) (step_spent r e) (its_pairs r e))
-    (sym (ap (step_outputs_of e (step_walk r e)) end.1)) (clean r e clear is end.0 end.1 named there)
+    subst (λ (end : Result Standing SemFault). let os = step_outputs_of e (step_walk r e) end in IsClean named (laid (with.Step r.inputs) (own_output e ∷ []) (step_front r e) (os ++ paid_to r.change (rest (step_spent r e) os)) r.interval r.signers (e.datum ∷ next_data_of e (step_walk r e) end)) (step_spent r e) (its_pairs r e))
+    (sym end.1) (clean r e clear is end.0 end.1 named there)
 
 clean_step : (look : Look) (r : StepRequest) (e : Thread) → look_thread look ≡ Some e → hinders_on r (look_thread look) ≡ None → (named : List ℕ → Option Published) → named e.shown.published.id ≡ Some e.shown.published → IsClean named (layout_on r (look_thread look)) (step_spent r e) (its_pairs r e)
 clean_step look r e shown clear named there =

@@ -1,13 +1,13 @@
 -- A thread that a ledger shows meets the first clause of what hinders a step.
 use Rattle.std.specs.Prelude.{◌≡◌, ℕ, List, Option, Some}
-use Rattle.machine.specs.declared.datum.Datum.{Datum}
-use Rattle.eutxo_types.specs.Parts.{contract_in}
+use Rattle.eutxo_types.specs.Parts.{ContractLock, contract_in, Instance}
 use Rattle.roles.specs.declared.published.Published.{Published}
 use Rattle.ledger.specs.declared.look.Look.{Look}
 use Rattle.ledger.specs.declared.look.ThreadOutput.{ThreadOutput}
 use Rattle.builder_spec.specs.Steps.{look_thread}
 use Rattle.ledger_laws.specs.Past.{Past, unspent_at}
 use Rattle.ledger_laws.specs.Sound.{IsSound}
+use Rattle.ledger_laws.specs.Threads.{IsMade}
 use Rattle.roles.specs.Steps.{marlowe}
 use Rattle.ledger_laws.specs.Laws.{AreTables}
 
@@ -15,14 +15,17 @@ use Rattle.ledger_laws.specs.Laws.{AreTables}
 abbrev pub AreUnderIds : (List ℕ → Option Published) → Type 0
 AreUnderIds published = (id : List ℕ) (p : Published) → published id ≡ Some p → p.id ≡ id
 
--- a contract output that is unspent after a past, with what is published under its script
-pub record IsShown (published : List ℕ → Option Published) (past : Past) (t : ThreadOutput) (d : Datum) : Type 0 where
-  pub script : List ℕ
+-- a contract output that is unspent after a past, with the datum that its maker brought and with what is published under its script
+pub record IsShown (published : List ℕ → Option Published) (past : Past) (t : ThreadOutput) : Type 0 where
+  pub lock : ContractLock
+  pub instance : Instance
   pub unspent : unspent_at past t.reference ≡ Some t.output
-  pub contract : contract_in t.output.lock ≡ Some (record { script = script; datum = d })
-  pub named : published script ≡ Some t.published
+  pub contract : contract_in t.output.lock ≡ Some lock
+  pub made : IsMade past t.reference instance
+  pub datum : instance.datum ≡ t.datum
+  pub named : published lock.script ≡ Some t.published
 
 -- the thread of a look that shows one so is that output, with its datum
 abbrev pub ShownThreadsAreCurrent : Type 0
-ShownThreadsAreCurrent = (published : List ℕ → Option Published) (past : Past) (look : Look) (t : ThreadOutput) (d : Datum) → AreTables published → AreUnderIds published → IsSound marlowe published past →
-    look.thread ≡ Some t → IsShown published past t d → look_thread look ≡ Some (record { shown = t; datum = d })
+ShownThreadsAreCurrent = (published : List ℕ → Option Published) (past : Past) (look : Look) (t : ThreadOutput) → AreTables published → AreUnderIds published → IsSound marlowe published past →
+    look.thread ≡ Some t → IsShown published past t → look_thread look ≡ Some (record { shown = t; datum = t.datum })

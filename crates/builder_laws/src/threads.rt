@@ -2,16 +2,19 @@
 ghost use Rattle.builder_laws.specs.ShownThreads.{ShownThreadsAreCurrent};
 ghost use Rattle.builder_laws.specs.AfterLast.{AnyoneCloses, NoThreadHinders};
 
+use eutxo::found_is_enough;
 use ledger_laws::contracts_are_funded;
+use roles::Published;
 use semantics::contracts_close_after_the_last_timeout;
 
-/// A look that shows an unspent contract output of a ledger, with what is published there under its script, shows a
-/// thread that stands: it is of that script, at a number of the table, and holds just the sums of its accounts. So such a
-/// look fails the first clause only where it shows no thread.
+/// A look that shows an unspent contract output of a ledger, with the datum that its maker brought and what is published
+/// there under its script, shows a thread that stands: it is of that script, holds the datum's digest, is at a number of
+/// the table, and holds just the sums of its accounts. So such a look fails the first clause only where it shows no thread.
 pub fn shown_threads_are_current()
     ensures { ShownThreadsAreCurrent }
 {
     contracts_are_funded();
+    found_is_enough::<Published>();
 }
 
 /// After the last timeout anyone can close a thread, without inputs and with nothing offered, in an interval that

@@ -57,4 +57,5 @@ layout_claim r = record {
   outputs = paid_to r.to (sums amount_in r.payouts) ++ paid_to r.change (sums amount_in (claim_front r));
   interval = r.interval;
   signers = r.signers;
+  datums = [];
 }

@@ -48,11 +48,12 @@ start_datum r = record { cont = r.published.root; state = fresh_state r.state }
 abbrev pub start_output : StartRequest → Output
 start_output r = continuation r.published.id (start_datum r)
 
--- ITS LAYOUT: the front is spent; the contract's output, and then the change
+-- ITS LAYOUT: the front is spent; the contract's output, and then the change. Its datum is brought
 abbrev pub layout_start : StartRequest → Tx
 layout_start r = record {
   inputs = map by_key (start_front r);
   outputs = start_output r ∷ paid_to r.change (rest (start_front r) (start_output r ∷ []));
   interval = r.interval;
   signers = r.signers;
+  datums = start_datum r ∷ [];
 }

@@ -14,6 +14,7 @@ use Rattle.table.specs.Flat.{is_close}
 use Rattle.machine.specs.declared.datum.Datum.{Datum}
 use Rattle.eutxo_types.specs.declared.output.Output.{Output}
 use Rattle.eutxo_types.specs.declared.tx.Tx.{Tx}
+use Rattle.eutxo_types.specs.Digests.{datum_hash}
 use Rattle.eutxo_types.specs.Parts.{same_bytes, contract_in, ContractLock}
 use Rattle.eutxo.specs.Faults.{first_of}
 use Rattle.eutxo.specs.Rules.{has_signed}
@@ -33,7 +34,7 @@ use Rattle.builder_spec.specs.Laying.{by_key, by_step, paid_to, rest}
 
 -- ---- the thread
 
--- a thread's output with its datum
+-- a thread's output with its datum, which is the one that its maker brought
 pub record Thread : Type 0 where
   pub shown : ThreadOutput
   pub datum : Datum
@@ -46,13 +47,16 @@ pub record Stepped : Type 0 where
   pub thread : Thread
   pub inputs : List Input
 
--- its script is what is published there, its number is in the table, and it holds exactly the sums of its accounts
+-- its script is what is published there, it holds the datum's digest, the datum's number is in the table, and it holds exactly
+-- the sums of its accounts
 abbrev pub is_current : ThreadOutput → ContractLock → Bool
-is_current t c = same_bytes c.script t.published.id && ((terms_of t.published).has c.datum.cont && same_amounts t.output.amount (sums_of c.datum.state))
+is_current t c =
+    same_bytes c.script t.published.id
+    && (same_bytes (datum_hash t.datum) c.digest && ((terms_of t.published).has t.datum.cont && same_amounts t.output.amount (sums_of t.datum.state)))
 
 abbrev pub thread_in : ThreadOutput → Option ContractLock → Option Thread
 thread_in t None = None
-thread_in t (Some c) = if is_current t c then Some (record { shown = t; datum = c.datum }) else None
+thread_in t (Some c) = if is_current t c then Some (record { shown = t; datum = t.datum }) else None
 
 abbrev pub thread_of : Option ThreadOutput → Option Thread
 thread_of None = None
@@ -146,7 +150,7 @@ abbrev pub hinders_step : Look → StepRequest → Option BuildFault
 hinders_step look r = hinders_on r (look_thread look)
 
 -- ---- ITS LAYOUT: the thread's output and the front are spent; the contract goes on, unless it is Close, the payments
--- that are due follow, and then the change
+-- that are due follow, and then the change. The thread's datum is brought, and then the one from which the contract goes on
 
 -- the datum from which the contract goes on, unless it is Close
 abbrev pub next_data : Thread → Walk → Standing → List Datum
@@ -162,17 +166,25 @@ step_outputs_of e w (Err f) = []
 abbrev pub step_outputs : StepRequest → Thread → List Output
 step_outputs r e = step_outputs_of e (step_walk r e) (answer_of (step_walk r e))
 
+abbrev pub next_data_of : Thread → Walk → Result Standing SemFault → List Datum
+next_data_of e w (Ok a) = next_data e w a
+next_data_of e w (Err f) = []
+
+abbrev pub step_data : StepRequest → Thread → List Datum
+step_data r e = e.datum ∷ next_data_of e (step_walk r e) (answer_of (step_walk r e))
+
 abbrev pub layout_thread : StepRequest → Thread → Tx
 layout_thread r e = record {
   inputs = by_step r.inputs (own_output e) ∷ map by_key (step_front r e);
   outputs = step_outputs r e ++ paid_to r.change (rest (step_spent r e) (step_outputs r e));
   interval = r.interval;
   signers = r.signers;
+  datums = step_data r e;
 }
 
 -- where there is no thread, nothing is laid out
 abbrev pub layout_on : StepRequest → Option Thread → Tx
-layout_on r None = record { inputs = []; outputs = []; interval = r.interval; signers = r.signers }
+layout_on r None = record { inputs = []; outputs = []; interval = r.interval; signers = r.signers; datums = [] }
 layout_on r (Some e) = layout_thread r e
 
 abbrev pub layout_step : Look → StepRequest → Tx

@@ -11,9 +11,9 @@ use thiserror::Error;
 /// Why a transaction isn't built. Where several faults stand, the one that is listed first answers.
 #[derive(Debug, PartialEq, Eq, Drop, Error)]
 pub enum BuildFault {
-    /// 1: the look shows no thread, or one whose output isn't of the published script, stands at a number outside
-    /// of its table or doesn't hold exactly the sums of its accounts. Of a claim: there is no payout, or an output
-    /// under another lock is among them.
+    /// 1: the look shows no thread, or one whose output isn't of the published script or doesn't hold its datum's
+    /// digest, whose datum has a number outside of the table, or whose output doesn't hold exactly the sums of its
+    /// accounts. Of a claim: there is no payout, or an output under another lock is among them.
     #[error("there is no thread")]
     NoThread,
     /// 2: the contract refuses the inputs.

@@ -46,22 +46,22 @@ module _ (current : ShownThreadsAreCurrent) (c : Course) (kept : IsSoundCourse c
   past = past_of (world c)
 
   -- the thread of a look is an unspent contract output, with what is published under its script
-  look_shows : (ask : Ask) (e : Thread) → look_thread (look (world c) ask) ≡ Some e → IsShown known past e.shown e.datum
+  look_shows : (ask : Ask) (e : Thread) → look_thread (look (world c) ask) ≡ Some e → IsShown known past e.shown
   look_shows ask e h = by (thread_shown (world c) ask.thread) refl h
     where
-      by : (z : Option ThreadOutput) → thread_shown (world c) ask.thread ≡ z → thread_of z ≡ Some e → IsShown known past e.shown e.datum
+      by : (z : Option ThreadOutput) → thread_shown (world c) ask.thread ≡ z → thread_of z ≡ Some e → IsShown known past e.shown
       by None k m = cc
       by (Some t) k m =
           let s = shown_so (world c) ask.thread t k in
-          let x : Thread = record { shown = t; datum = s.0 } in
-          let same : x ≡ e = same_some x e (sym (current known past (look (world c) ask) t s.0 kept.tables (found_under (published c.entries)) kept.sound k s.1) ∙ h) in
-          subst (λ (y : Thread). IsShown known past y.shown y.datum) same s.1
+          let x : Thread = record { shown = t; datum = t.datum } in
+          let same : x ≡ e = same_some x e (sym (current known past (look (world c) ask) t kept.tables (found_under (published c.entries)) kept.sound k s) ∙ h) in
+          subst (λ (y : Thread). IsShown known past y.shown) same s
 
   pub closes_shown : AnyoneCloses → StepsAreAcceptedAfter → AnyoneClosesShown c
   closes_shown law accepted ask e i signers change shown reached order late =
       let s = look_shows ask e shown in
       let is : is_contract e.shown.output.lock ≡ true = is_contract_so e.shown.output.lock _ s.contract in
-      let named : known e.shown.published.id ≡ Some e.shown.published = ap known (found_under (published c.entries) s.script e.shown.published s.named) ∙ s.named in
+      let named : known e.shown.published.id ≡ Some e.shown.published = ap known (found_under (published c.entries) s.lock.script e.shown.published s.named) ∙ s.named in
       record {
         outcome = law (look (world c) ask) e i signers change shown (output_fits past kept.sound.keys kept.fits e.shown.reference e.shown.output s.unspent is) reached order late;
         accepted = λ clear free. accepts_steps accepted c kept (look (world c) ask) (closing i signers change) e shown clear named free;

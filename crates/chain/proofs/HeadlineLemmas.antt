@@ -1,12 +1,12 @@
 -- Layouts are accepted, and a thread that is shown stands.
 use Rattle.std.proofs.Common.{◌≡◌, List, refl, ap, subst, Option, Some, None, All}
-use Rattle.machine.specs.declared.datum.Datum.{Datum}
+use Rattle.std.specs.Option.{option_map}
 use Rattle.eutxo_types.specs.declared.lock.Lock.{Lock}
 use Rattle.eutxo_types.specs.declared.lock.Lock.TheVariants.{Key, Payout, Contract}
 use Rattle.eutxo_types.specs.declared.output.Output.{Output}
 use Rattle.eutxo_types.specs.declared.output_ref.OutputRef.{OutputRef}
 use Rattle.eutxo_types.specs.Fitting.{TxFits}
-use Rattle.eutxo_types.specs.Parts.{script_in, contract_in}
+use Rattle.eutxo_types.specs.Parts.{script_in, contract_in, Instance}
 use Rattle.roles.specs.declared.published.Published.{Published}
 use Rattle.roles.specs.Steps.{marlowe}
 use Rattle.ledger.specs.declared.look.ThreadOutput.{ThreadOutput}
@@ -19,8 +19,9 @@ use Rattle.builder_spec.specs.Claims.{layout_claim}
 use Rattle.builder_laws.specs.AfterPasts.{StepsAreAcceptedAfter, StartsAreAcceptedAfter, ClaimsAreAcceptedAfter}
 use Rattle.builder_laws.specs.ShownThreads.{IsShown, ShownThreadsAreCurrent}
 use Rattle.ledger_spec.specs.Replay.{Course, World, world, past_of, published, published_at}
-use Rattle.ledger_spec.specs.Views.{thread_output, object_under, thread_output_in, thread_output_at, end_of, thread_shown, look}
+use Rattle.ledger_spec.specs.Views.{instance_at, thread_output, object_under, thread_output_in, thread_output_at, end_of, thread_shown, look}
 use Rattle.ledger_spec.specs.Calls.{submit_reply}
+use Rattle.ledger_spec.proofs.InstanceLaws.{instance_made}
 use Rattle.ledger_spec.proofs.PublishingLaws.{found_under}
 use Rattle.ledger_spec.specs.Headline.{AcceptsSteps, AcceptsStarts, AcceptsClaims, ShowsCurrentThreads}
 
@@ -43,31 +44,33 @@ accepts_claims law c kept r clear is = ap (submit_reply (layout_claim r)) (law r
 
 -- ---- what is shown
 
-with_so : (ps : List Published) (past : Past) (q : OutputRef) (o : Output) → unspent_at past q ≡ Some o → (lock : Lock) → o.lock ≡ lock → (t : ThreadOutput) → thread_output q o (object_under ps (script_in lock)) ≡ Some t →
-    (d : Datum) × IsShown (published_at ps) past t d
-with_so ps past q o h (Key a) e t k = cc
-with_so ps past q o h (Payout currency role) e t k = cc
-with_so ps past q o h (Contract script d) e t k = by (published_at ps script) refl k
+with_so : (ps : List Published) (past : Past) (q : OutputRef) (o : Output) (c : Instance) → unspent_at past q ≡ Some o → instance_at past q ≡ Some c → (lock : Lock) → o.lock ≡ lock → (t : ThreadOutput) →
+    thread_output q o c.datum (object_under ps (script_in lock)) ≡ Some t → IsShown (published_at ps) past t
+with_so ps past q o c h m (Key a) e t k = cc
+with_so ps past q o c h m (Payout currency role) e t k = cc
+with_so ps past q o c h m (Contract script d) e t k = by (published_at ps script) refl k
   where
-    by : (v : Option Published) → published_at ps script ≡ v → thread_output q o v ≡ Some t → (there : Datum) × IsShown (published_at ps) past t there
-    by None f m = cc
-    by (Some p) f m =
-        let same : (let z : ThreadOutput = record { reference = q; output = o; published = p } in z) ≡ t = cc in
-        (d, subst (λ (z : ThreadOutput). IsShown (published_at ps) past z d) same (record { script = script; unspent = h; contract = ap contract_in e; named = f }))
+    by : (v : Option Published) → published_at ps script ≡ v → thread_output q o c.datum v ≡ Some t → IsShown (published_at ps) past t
+    by None f n = cc
+    by (Some p) f n =
+        let same : (let z : ThreadOutput = record { reference = q; output = o; datum = c.datum; published = p } in z) ≡ t = cc in
+        subst (λ (z : ThreadOutput). IsShown (published_at ps) past z) same
+        (record { lock = record { script = script; digest = d }; instance = c; unspent = h; contract = ap contract_in e; made = instance_made past q c m; datum = refl; named = f })
 
-output_so : (ps : List Published) (past : Past) (q : OutputRef) (o : Option Output) → unspent_at past q ≡ o → (t : ThreadOutput) → thread_output_in ps q o ≡ Some t → (d : Datum) × IsShown (published_at ps) past t d
-output_so ps past q None h t k = cc
-output_so ps past q (Some o) h t k = with_so ps past q o h o.lock refl t k
+output_so : (ps : List Published) (past : Past) (q : OutputRef) (o : Option Output) → unspent_at past q ≡ o → (c : Option Instance) → instance_at past q ≡ c → (t : ThreadOutput) →
+    thread_output_in ps q o (option_map (λ (z : Instance). z.datum) c) ≡ Some t → IsShown (published_at ps) past t
+output_so ps past q None h c m t k = cc
+output_so ps past q (Some o) h None m t k = cc
+output_so ps past q (Some o) h (Some c) m t k = with_so ps past q o c h m o.lock refl t k
 
-at_so : (w : World) (q : Option OutputRef) (t : ThreadOutput) → thread_output_at w q ≡ Some t → (d : Datum) × IsShown (published_at w.published) (past_of w) t d
+at_so : (w : World) (q : Option OutputRef) (t : ThreadOutput) → thread_output_at w q ≡ Some t → IsShown (published_at w.published) (past_of w) t
 at_so w None t k = cc
-at_so w (Some q) t k = output_so w.published (past_of w) q (unspent_at (past_of w) q) refl t k
+at_so w (Some q) t k = output_so w.published (past_of w) q (unspent_at (past_of w) q) refl (instance_at (past_of w) q) refl t k
 
-pub shown_so : (w : World) (r : Option OutputRef) (t : ThreadOutput) → thread_shown w r ≡ Some t → (d : Datum) × IsShown (published_at w.published) (past_of w) t d
+pub shown_so : (w : World) (r : Option OutputRef) (t : ThreadOutput) → thread_shown w r ≡ Some t → IsShown (published_at w.published) (past_of w) t
 shown_so w None t k = cc
 shown_so w (Some r) t k = at_so w (end_of (past_of w) r) t k
 
 pub shows_standing : ShownThreadsAreCurrent → (c : Course) → IsSoundCourse c → ShowsCurrentThreads c
 shows_standing law c kept ask t h =
-    let s = shown_so (world c) ask.thread t h in
-    (s.0, law (published_at (published c.entries)) (past_of (world c)) (look (world c) ask) t s.0 kept.tables (found_under (published c.entries)) kept.sound h s.1)
+    (t.datum, law (published_at (published c.entries)) (past_of (world c)) (look (world c) ask) t kept.tables (found_under (published c.entries)) kept.sound h (shown_so (world c) ask.thread t h))

@@ -3,16 +3,18 @@ use Rattle.std.proofs.Common.{◌≡◌, ℕ, zero, suc, ◌+◌, ◌<◌, Bool,
 use Rattle.std.specs.Prelude.{if◌then◌else◌, filter}
 use Rattle.std.specs.List.{slice_get, list_any, Contains, slice_index_or}
 use Rattle.std.specs.Map.{lookup}
+use Rattle.std.specs.Option.{option_map}
 use Rattle.std.proofs.lemmas.List.Folds.{list_any-append}
 use Rattle.eutxo_types.specs.declared.lock.Lock.{Lock}
 use Rattle.eutxo_types.specs.declared.lock.Lock.TheVariants.{Key, Payout, Contract}
+use Rattle.machine.specs.declared.datum.Datum.{Datum}
 use Rattle.eutxo_types.specs.declared.output.Output.{Output}
 use Rattle.eutxo_types.specs.declared.output_ref.OutputRef.{OutputRef}
 use Rattle.eutxo_types.specs.declared.output_ref.OutputRef.TheVariants.{Made}
 use Rattle.eutxo_types.specs.declared.tx.Tx.{Tx}
 use Rattle.eutxo_types.specs.Ids.{id_of}
 use Rattle.eutxo.specs.Laws.{FoundIsEnough}
-use Rattle.eutxo_types.specs.Parts.{same_ref, is_contract, script_in}
+use Rattle.eutxo_types.specs.Parts.{same_ref, is_contract, script_in, Instance}
 use Rattle.roles.specs.declared.published.Published.{Published}
 use Rattle.ledger.specs.declared.ask.Ask.{Ask}
 use Rattle.ledger.specs.declared.call.Call.{Call}
@@ -27,8 +29,10 @@ use Rattle.ledger_laws.specs.Past.{Past, unspent, unspent_at, is_input_of, is_sp
 use Rattle.ledger_laws.specs.Sound.{AreKeys, IsSound}
 use Rattle.roles.specs.Steps.{marlowe}
 use Rattle.ledger_laws.specs.Laws.{StartIsSound, AfterIsSound, LaterIsSound, EndsAreUnspent}
-use Rattle.ledger_laws.specs.Threads.{next_of, thread, ends}
+use Rattle.ledger_laws.specs.Threads.{next_of, thread, ends, IsMade}
 use Rattle.ledger_laws.proofs.AcceptedLaws.{made_there, still_there, made_published}
+use Rattle.ledger_laws.proofs.MadeLaws.{each_tells}
+use Rattle.ledger_laws.proofs.PartLaws.{contract_of_lock}
 use Rattle.ledger_laws.proofs.PlainLaws.{both_false, same_some, cut_at, take_some}
 use Rattle.ledger_laws.proofs.ReferenceLaws.{same_ref_so, unspent_is}
 use Rattle.ledger_laws.proofs.SpineLaws.{reached, reached_append, ends_reached, stays}
@@ -36,8 +40,9 @@ use Rattle.ledger_spec.specs.Legal.{IsLegal, before_entry}
 use Rattle.ledger_spec.specs.Calls.{reply_to}
 use Rattle.ledger_spec.specs.Replay.{Replay, World, Course, after_call, replay_from, world, past_of, published, published_at}
 use Rattle.ledger_spec.specs.Shown.{ShowsOutput, ShowsWhatWasMade}
-use Rattle.ledger_spec.specs.Views.{is_key_of, is_payout_of, unspent_of, under_locks, starts_in, end_of, thread_output, thread_output_at, thread_output_in, object_under, thread_shown, look}
+use Rattle.ledger_spec.specs.Views.{is_key_of, is_payout_of, unspent_of, under_locks, starts_in, end_of, made_datum, thread_output, thread_output_at, thread_output_in, object_under, thread_shown, look}
 use Rattle.ledger_spec.proofs.CallsLaws.{GoesOn, accepted_on}
+use Rattle.ledger_spec.proofs.InstanceLaws.{made_instance}
 use Rattle.ledger_spec.proofs.ReplayLaws.{replay_two}
 use Rattle.ledger_spec.proofs.StartsLaws.{end_told, end_starts}
 use Rattle.chain.proofs.LegalLemmas.{sound_at}
@@ -169,21 +174,21 @@ look_in r = None
 look_of : (a b : Look) → answer.Look a ≡ answer.Look b → a ≡ b
 look_of a b h = same_some a b (ap look_in h)
 
--- the unspent end of a thread is shown with what is published under its script
-pub shown_thread : (w : World) (asked : Option OutputRef) (s r : OutputRef) (o : Output) (p : Published) → asked ≡ Some s → end_of (past_of w) s ≡ Some r → unspent_at (past_of w) r ≡ Some o →
-    object_under w.published (script_in o.lock) ≡ Some p → (let t : ThreadOutput = record { reference = r; output = o; published = p } in thread_shown w asked ≡ Some t)
-shown_thread w asked s r o p a e u k =
-    ap (λ (z : Option OutputRef). thread_shown w z) a ∙ ap (λ (z : Option OutputRef). thread_output_at w z) e ∙ ap (λ (z : Option Output). thread_output_in w.published r z) u
-    ∙ ap (λ (z : Option Published). thread_output r o z) k
+-- the unspent end of a thread is shown with the datum that its maker brought and what is published under its script
+pub shown_thread : (w : World) (asked : Option OutputRef) (s r : OutputRef) (o : Output) (d : Datum) (p : Published) → asked ≡ Some s → end_of (past_of w) s ≡ Some r → unspent_at (past_of w) r ≡ Some o →
+    made_datum (past_of w) r ≡ Some d → object_under w.published (script_in o.lock) ≡ Some p → (let t : ThreadOutput = record { reference = r; output = o; datum = d; published = p } in thread_shown w asked ≡ Some t)
+shown_thread w asked s r o d p a e u m k =
+    ap (λ (z : Option OutputRef). thread_shown w z) a ∙ ap (λ (z : Option OutputRef). thread_output_at w z) e ∙ ap (λ (z : Option Output). thread_output_in w.published r z (made_datum (past_of w) r)) u
+    ∙ ap (λ (z : Option Datum). thread_output_in w.published r (Some o) z) m ∙ ap (λ (z : Option Published). thread_output r o d z) k
 
 -- ---- the law
 
 module _ (enough : FoundIsEnough marlowe) (start : StartIsSound marlowe) (after : AfterIsSound marlowe) (later : LaterIsSound marlowe) (ends_unspent : EndsAreUnspent marlowe) where
   -- after a sound course, what a look shows of an output that is unspent
   shown_now : (c : Course) (k i : ℕ) (tx : Tx) (o : Output) (ask : Ask) → IsSound marlowe (published_at (published c.entries)) (past_of (world c)) → slice_get (world c).replay.accepted k ≡ Some tx → slice_get tx.outputs i ≡ Some o →
-      is_spent (drop (suc k) (world c).replay.accepted) (Made (id_of tx) i) ≡ false → (earlier : Past) → ((r : OutputRef) → end_of earlier r ≡ Some (Made (id_of tx) i) → end_of (past_of (world c)) r ≡ Some (Made (id_of tx) i)) →
+      is_spent (drop (suc k) (world c).replay.accepted) (Made (id_of tx) i) ≡ false → (earlier : Past) (n : ℕ) → slice_get earlier.accepted n ≡ Some tx → ((r : OutputRef) → end_of earlier r ≡ Some (Made (id_of tx) i) → end_of (past_of (world c)) r ≡ Some (Made (id_of tx) i)) →
       ShowsOutput earlier ask (look (world c) ask) (record { reference = Made (id_of tx) i; output = o })
-  shown_now c k i tx o ask sound at made free earlier same =
+  shown_now c k i tx o ask sound at made free earlier n made_then same =
       record {
         key = under (is_key_of ask.keys) past r o there;
         payout = under (is_payout_of ask.payouts) past r o there;
@@ -208,18 +213,23 @@ module _ (enough : FoundIsEnough marlowe) (start : StartIsSound marlowe) (after 
       there : unspent_at past r ≡ Some o
       there = unspent_is past r ∙ rw unspent_r (made_there marlowe enough named past sound k tx at i o made)
 
-      as_thread : (s : OutputRef) → ask.thread ≡ Some s → end_of earlier s ≡ Some r → (p : Published) × (let t : ThreadOutput = record { reference = r; output = o; published = p } in (look (world c) ask).thread ≡ Some t)
+      as_thread : (s : OutputRef) → ask.thread ≡ Some s → end_of earlier s ≡ Some r →
+          (z : Instance) × IsMade earlier r z × (p : Published) × (let t : ThreadOutput = record { reference = r; output = o; datum = z.datum; published = p } in (look (world c) ask).thread ≡ Some t)
       as_thread s asked ended =
           let e : end_of past s ≡ Some r = same s ended in
           let q = end_starts past s r e in
           let z = ends_unspent named past sound s r q.0 q.1 in
           let is : is_contract o.lock ≡ true = subst (λ (x : Output). is_contract x.lock ≡ true) (same_some z.0 o (sym z.1 ∙ there)) z.2 in
           let p = published_so (published c.entries) o.lock (λ script l. made_published marlowe enough named past sound k tx at i o script made l) is in
-          (p.0, shown_thread (world c) ask.thread s r o p.0 asked e there p.1)
+          let l = contract_of_lock o.lock is in
+          let m = (each_tells marlowe enough named past sound k tx at).made i o l.0 made l.1 in
+          let now : IsMade past r m.0 = record { number = k; tx = tx; accepted = at; index = i; name = refl; contract = m.1 } in
+          let d : made_datum past r ≡ Some (m.0).datum = ap (option_map (λ (z : Instance). z.datum)) (made_instance marlowe enough named past sound r m.0 now) in
+          (m.0, record { number = n; tx = tx; accepted = made_then; index = i; name = refl; contract = m.1 }, p.0, shown_thread (world c) ask.thread s r o (m.0).datum p.0 asked e there d p.1)
 
   pub shows : (c : Course) → AreKeys c.genesis → IsLegal c → ShowsWhatWasMade c
   shows c keys legal n m i e f tx ask l o before at_n call_n reply_n at_m call_m reply_m made free =
-      subst (λ (x : Look). ShowsOutput (past_of (world (before_entry c (n + 1)))) ask x u) is (shown_now d k i tx o ask sound at made free' (past_of (world (before_entry c (n + 1)))) same)
+      subst (λ (x : Look). ShowsOutput (past_of (world (before_entry c (n + 1)))) ask x u) is (shown_now d k i tx o ask sound at made free' (past_of (world (before_entry c (n + 1)))) k made_then same)
     where
       d : Course
       d = before_entry c m
@@ -235,6 +245,9 @@ module _ (enough : FoundIsEnough marlowe) (start : StartIsSound marlowe) (after 
 
       made_here : accepted_at_entry c (n + 1) ≡ accepted_at_entry c n ++ tx ∷ []
       made_here = submitted c n e tx at_n call_n reply_n
+
+      made_then : slice_get (accepted_at_entry c (n + 1)) k ≡ Some tx
+      made_then = ap (λ (xs : List Tx). slice_get xs k) made_here ∙ get_middle (accepted_at_entry c n) tx []
 
       on : GoesOn (accepted_at_entry c (n + 1)) (accepted_at_entry c m)
       on = accepted_on c (n + 1) m (omega (arith, before))

@@ -272,9 +272,10 @@ impl Chain {
     /// accepted. What is published under an id is what a Publish call published, one contract with one currency; an id
     /// is answered to be in use only where an earlier call published another contract or currency under it.
     ///
-    /// And whatever was called, this holds of what was accepted. The thread of each start output is exactly one run of
-    /// the contract that was published under its script, and where the thread has an end, its datum says where that
-    /// run stands. Every input that spends a contract output stands on exactly one thread; a contract output is spent
+    /// And whatever was called, this holds of what was accepted. Where no two different data that accepted transactions
+    /// bring have one digest, the thread of each start output is exactly one run of the contract that was published
+    /// under its script, and where the thread has an end, its datum says where that run stands. Nothing else needs that
+    /// of digests. Every input that spends a contract output stands on exactly one thread; a contract output is spent
     /// by a step alone, and a step spends one. Each party that a step's inputs need is authorised: an address among
     /// the signers, or a role whose token a key input's output holds. Each unspent contract output is the end of
     /// exactly one thread, and each thread's end is an unspent contract output. Such an output holds just the sums of
@@ -330,8 +331,9 @@ impl Chain {
 
     /// The records of the thread that starts at an output, in order: the thread's one run (`history`), with as many
     /// records as the thread has transactions; each record's number stands for what remained, in the table that
-    /// is published under the thread's script. Where no thread starts there are none. Answers `Memory` only where
-    /// a growth was refused.
+    /// is published under the thread's script. So it is where no two different data that accepted transactions bring
+    /// have one digest; else the records may end early. Where no thread starts there are none. Answers `Memory` only
+    /// where a growth was refused.
     pub fn steps_of(
         &self,
         alloc: Global,

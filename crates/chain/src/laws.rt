@@ -5,6 +5,7 @@ use builder_laws::{
     anyone_closes_after_the_last_timeout, bytes_tell_accepted_apart, change_is_the_rest,
     claims_are_accepted, shown_threads_are_current, starts_are_accepted, steps_are_accepted,
 };
+use eutxo::found_is_enough;
 use ledger_laws::{
     accepting_is_sound, contracts_are_funded, contracts_end_threads, names_are_single,
     outputs_are_spent_once, parties_are_authorised, publishing_is_sound, starting_is_sound,
@@ -19,6 +20,7 @@ use roles::{Published, sums_are_of_each_token};
 pub fn both_halves_hold_of_legal_histories()
     ensures { LegalHistoriesHaveBothHalves }
 {
+    found_is_enough::<Published>();
     starting_is_sound::<Published>();
     accepting_is_sound::<Published>();
     publishing_is_sound::<Published>();

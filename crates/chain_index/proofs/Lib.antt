@@ -5,6 +5,7 @@ pub mod FrontLemmas
 pub mod OutputLemmas
 pub mod MoveLemmas
 pub mod StartLemmas
+pub mod DataLemmas
 pub mod ObjectLemmas
 pub mod PlaceLemmas
 pub mod ShownLemmas

@@ -1,7 +1,6 @@
 -- What is indexed of a past.
 use Rattle.std.proofs.Common.{◌≡◌, ℕ, suc, ◌+◌, Bool, true, false, ◌||◌, ◌&&◌, not, filter, List, [], ◌∷◌, ◌++◌, refl, sym, ◌∙◌, ap, subst, append_assoc, length, map, arith, Option, Some, None}
-use Rattle.std.specs.Prelude.{is_some, is_none, if◌then◌else◌, ◌==◌}
-use Rattle.std.proofs.lemmas.Bool.{eq-eqb}
+use Rattle.std.specs.Prelude.{is_some, is_none, if◌then◌else◌}
 use Rattle.std.specs.List.{list_any, slice_get, IsDistinct, AllByRecursion}
 use Rattle.std.specs.Map.{keys_of}
 use Rattle.std.proofs.Math.Seq.{take-append_seam}
@@ -9,8 +8,8 @@ use Rattle.std.proofs.lemmas.List.{map-append, length-map}
 use Rattle.std.proofs.lemmas.List.Elements.{filter-append}
 use Rattle.std.proofs.lemmas.List.Folds.{list_any-append}
 use Rattle.std.proofs.lemmas.Map.Keys.{IsDistinct-cons}
-use Rattle.std.proofs.lemmas.Map.Made.{is_some-lookup}
 use Rattle.std.proofs.lemmas.Map.Views.{any-filter_same}
+use Rattle.machine.specs.declared.datum.Datum.{Datum}
 use Rattle.eutxo_types.specs.declared.output.Output.{Output}
 use Rattle.eutxo_types.specs.declared.output_ref.OutputRef.{OutputRef}
 use Rattle.eutxo_types.specs.declared.output_ref.OutputRef.TheVariants.{Genesis, Made}
@@ -25,9 +24,8 @@ use Rattle.ledger_laws.specs.Laws.{AfterIsSound}
 use Rattle.ledger_laws.specs.Past.{Past, after, is_input_of, is_spent, created, created_by, unspent, unspent_at, has_id}
 use Rattle.ledger_laws.specs.Past as past_words
 use Rattle.ledger_laws.specs.Threads.{next_of}
-use Rattle.ledger_laws.proofs.PlainLaws.{EachFalse, and_true, or_false, both, both_false, not_both, is_there, any_there, each_at, no_more}
-use Rattle.ledger_laws.proofs.PartLaws.{output_so}
-use Rattle.ledger_laws.proofs.ReferenceLaws.{same_ref_so, created_grown, spent_more, unspent_so, at_place, and_never}
+use Rattle.ledger_laws.proofs.PlainLaws.{EachFalse, and_true, or_false, both_false, not_both, is_there, any_there, each_at, no_more}
+use Rattle.ledger_laws.proofs.ReferenceLaws.{same_ref_so, created_grown, spent_more, unspent_so, and_never}
 use Rattle.ledger_laws.proofs.AcceptedLaws.{still_there}
 use Rattle.ledger_laws.proofs.FreshLemmas.{Fresh, fresh}
 use Rattle.ledger_laws.proofs.JudgedLemmas.{Passes, passes}
@@ -37,6 +35,8 @@ use Rattle.chain_index.specs.declared.moves.Move.{Move}
 use Rattle.chain_index.specs.Contents.{without, is_used, is_among}
 use Rattle.chain_index.specs.Laws.{ReadsAlike, AcceptsAlike, JudgedCanBeAdded}
 use Rattle.chain_index.specs.Moves.{move_to, moves_by, moves_in, moves_from, starts_by, starts_of}
+use Rattle.chain_index.specs.Data.{data_by, data_of, unspent_data}
+use Rattle.chain_index.proofs.DataLemmas.{made_among, data_after, data_stay}
 use Rattle.chain_index.proofs.PartsLemmas.{filtered_twice, all_stay}
 use Rattle.chain_index.proofs.RefLemmas.{flips, flip_or, or_left, or_elim}
 
@@ -62,6 +62,13 @@ unspent_after past tx new =
     ∙ (λ j. filter (λ e. not ((spent_more past.accepted tx e.0 ∙ flip_or (is_spent past.accepted e.0) (is_input_of e.0 tx)) j)) (created past) ++ all_stay (is_spent (past.accepted ++ tx ∷ [])) (id_of tx) 0 tx.outputs new j)
     ∙ ap (λ (l : List (OutputRef × Output)). l ++ created_by tx) (filtered_twice (λ e. is_input_of e.0 tx) (λ e. is_spent past.accepted e.0) (created past)))
 
+unspent_data_after : (past : Past) (tx : Tx) → ((i : ℕ) → is_spent (past.accepted ++ tx ∷ []) (Made (id_of tx) i) ≡ false) → without tx (unspent_data past) ++ data_by tx ≡ unspent_data (after past tx)
+unspent_data_after past tx new =
+    sym (ap (filter (λ e. not (is_spent (past.accepted ++ tx ∷ []) e.0))) (data_after past.accepted tx)
+    ∙ filter-append (λ e. not (is_spent (past.accepted ++ tx ∷ []) e.0)) (data_of past.accepted) (data_by tx)
+    ∙ (λ j. filter (λ e. not ((spent_more past.accepted tx e.0 ∙ flip_or (is_spent past.accepted e.0) (is_input_of e.0 tx)) j)) (data_of past.accepted) ++ data_stay (is_spent (past.accepted ++ tx ∷ [])) tx (id_of tx) 0 tx.outputs new j)
+    ∙ ap (λ (l : List (OutputRef × Datum)). l ++ data_by tx) (filtered_twice (λ e. is_input_of e.0 tx) (λ e. is_spent past.accepted e.0) (data_of past.accepted)))
+
 moves_after : (n : ℕ) (txs : List Tx) (tx : Tx) → moves_from n (txs ++ tx ∷ []) ≡ moves_from n txs ++ moves_in (n + length txs) tx
 moves_after n [] tx = no_more (moves_in n tx) ∙ ap (λ k. moves_in k tx) (let e : n ≡ n + 0 = omega arith in e)
 moves_after n (t ∷ txs) tx =
@@ -83,7 +90,8 @@ accepts_alike j enough after_is_sound published ps past tick tx sound h =
     let z : length past.accepted ≡ 0 + length past.accepted = omega arith in
     let m = ap (λ n. moves_from 0 past.accepted ++ moves_in n tx) (length-map past.accepted id_of ∙ z) ∙ sym (moves_after 0 past.accepted tx) in
     let s = sym (starts_after past.accepted tx) in
-    λ i. record { unspent = u i; used = d i; published = ps; moves = m i; starts = s i }
+    let a = unspent_data_after past tx new in
+    λ i. record { unspent = u i; used = d i; published = ps; moves = m i; starts = s i; datums = a i }
 
 -- ---- what is judged without a fault can be added
 
@@ -146,10 +154,7 @@ start_made (Made id i) tx h =
     let a = and_true (has_id id tx) (not (steps tx) && is_some (contract_at tx i)) h in
     let b = and_true (not (steps tx)) (is_some (contract_at tx i)) a.1 in
     let c = is_there (contract_at tx i) b.1 in
-    let o = output_so tx i c.0 c.1 in
-    let name : Made (id_of tx) i ≡ Made id i = sym (same_ref_so (Made id i) (Made (id_of tx) i) (both (same_bytes id (id_of tx)) (i == i) a.0 (eq-eqb i i refl))) in
-    subst (λ (q : OutputRef). is_among (keys_of (created_by tx)) q ≡ true) name
-    (sym (is_some-lookup (same_ref (Made (id_of tx) i)) (created_by tx)) ∙ ap is_some (at_place (id_of tx) i tx.outputs ∙ o.1))
+    made_among tx id i c.0 a.0 c.1
 
 starts_one : (tx : Tx) (r : OutputRef) → is_among (starts_by tx) r ≡ starts_in r tx
 starts_one tx r = any-filter_same (same_ref r) (λ q. starts_in q tx) (starts_in r tx) (λ q e. ap (λ (x : OutputRef). starts_in x tx) (sym (same_ref_so r q e))) (keys_of (created_by tx)) ∙ by (starts_in r tx) refl

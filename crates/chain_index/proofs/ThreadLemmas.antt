@@ -17,7 +17,7 @@ use Rattle.ledger_laws.specs.Past.{Past, created, is_input_of, is_spent}
 use Rattle.ledger_laws.specs.Sound.{IsSound}
 use Rattle.ledger_laws.specs.Threads.{Link, next_of, spine, ends, thread, IsMade}
 use Rattle.ledger_laws.proofs.PlainLaws.{or_false, both_false, not_both, same_some, head_at, take_some, no_more}
-use Rattle.ledger_laws.proofs.PartLaws.{output_so, is_contract_so}
+use Rattle.ledger_laws.proofs.PartLaws.{under_so, is_contract_so}
 use Rattle.ledger_laws.proofs.ReferenceLaws.{same_ref_so, same_ref-refl, lookup_front, lookup_back, spent_more}
 use Rattle.ledger_laws.proofs.AcceptedLaws.{named_input, steps_contract, made_there, still_there}
 use Rattle.ledger_laws.proofs.MadeLaws.{made_output}
@@ -121,11 +121,11 @@ module _ {V : Type 0} (j : Judges V) (enough : FoundIsEnough j) (named : List �
   opened_next : (n : ℕ) (tx : Tx) (r : OutputRef) → slice_get past.accepted n ≡ Some tx → IsOpen (n + 1) (next_of r tx)
   opened_next n tx r at q h =
       let x = next_so r tx q h in
-      let o = output_so tx 0 x.1.0 x.1.1 in
+      let o = under_so tx 0 x.1.0 x.1.1 in
       record {
         output = o.0;
         there = ap (λ (k : OutputRef). lookup (same_ref k) (created past)) x.0 ∙ made_there j enough named past sound n tx at 0 o.0 o.1;
-        contract = is_contract_so (o.0).lock (lock_of x.1.0) o.2;
+        contract = is_contract_so (o.0).lock o.2 o.3;
         free = ap (λ (l : List Tx). is_spent l q) (one_more n tx at) ∙ ap (is_spent (take n past.accepted ++ tx ∷ [])) x.0 ∙ still_there j enough named past sound n tx at 0;
       }
 

@@ -2,6 +2,7 @@
 use Rattle.std.specs.Prelude.{◌≡◌, ℕ, ℤ, Bool, true, false, not, List, [], ◌∷◌, ◌++◌, map, filter, length, Option, None, is_some, if◌then◌else◌}
 use Rattle.std.specs.List.{list_any, IsDistinct}
 use Rattle.std.specs.Map.{lookup, keys_of}
+use Rattle.machine.specs.declared.datum.Datum.{Datum}
 use Rattle.eutxo_types.specs.declared.lock.Lock.{Lock}
 use Rattle.eutxo_types.specs.declared.output.Output.{Output}
 use Rattle.eutxo_types.specs.declared.output_ref.OutputRef.{OutputRef}
@@ -17,6 +18,7 @@ use Rattle.ledger_spec.specs.Replay.{published_at}
 use Rattle.ledger_spec.specs.Views.{unspent_of}
 use Rattle.chain_index.specs.declared.moves.Move.{Move}
 use Rattle.chain_index.specs.Moves.{moves_in, moves_from, leads, starts_by, starts_of}
+use Rattle.chain_index.specs.Data.{data_by, unspent_data}
 
 pub record Contents : Type 0 where
   -- the unspent outputs, in order of creation
@@ -29,17 +31,20 @@ pub record Contents : Type 0 where
   pub moves : List (OutputRef × Move)
   -- the outputs that start threads, in order of creation
   pub starts : List OutputRef
+  -- the unspent contract outputs, in order of creation, each with the datum that the transaction that made it brought for it
+  pub datums : List (OutputRef × Datum)
 
 -- what is indexed of a past, where this was published
 abbrev pub contents_of : Past → List Published → Contents
-contents_of past ps = record { unspent = unspent past; used = map id_of past.accepted; published = ps; moves = moves_from 0 past.accepted; starts = starts_of past.accepted }
+contents_of past ps =
+    record { unspent = unspent past; used = map id_of past.accepted; published = ps; moves = moves_from 0 past.accepted; starts = starts_of past.accepted; datums = unspent_data past }
 
 -- before anything was accepted and published
 abbrev pub first_contents : List Output → Contents
 first_contents genesis = contents_of (record { genesis = genesis; accepted = [] }) []
 
 -- without the outputs that a transaction spends
-abbrev pub without : Tx → List (OutputRef × Output) → List (OutputRef × Output)
+abbrev pub without : {V : Type 0} → Tx → List (OutputRef × V) → List (OutputRef × V)
 without tx es = filter (λ e. not (is_input_of e.0 tx)) es
 
 -- after one accepted transaction more
@@ -50,6 +55,7 @@ accepting c tx =
       used = c.used ++ id_of tx ∷ [];
       moves = c.moves ++ moves_in (length c.used) tx;
       starts = c.starts ++ starts_by tx;
+      datums = without tx c.datums ++ data_by tx;
     }
 
 -- after one publication more

@@ -1,18 +1,20 @@
 -- What is indexed of a past, and what the past is.
 use Rattle.std.specs.Prelude.{◌≡◌, ℕ, ℤ, List, map, slice_get, Option, Some, None}
 use Rattle.std.specs.List.{list_any}
+use Rattle.std.specs.Map.{lookup}
 use Rattle.std.specs.Option.{option_map}
+use Rattle.eutxo_types.specs.declared.output.Output.{Output}
 use Rattle.eutxo_types.specs.declared.output_ref.OutputRef.{OutputRef}
 use Rattle.eutxo_types.specs.declared.tx.Tx.{Tx}
-use Rattle.eutxo_types.specs.Parts.{Instance}
+use Rattle.eutxo_types.specs.Parts.{Instance, same_ref}
 use Rattle.eutxo.specs.Asked.{Judges}
 use Rattle.eutxo.specs.Judgement.{judge}
 use Rattle.roles.specs.declared.published.Published.{Published}
-use Rattle.ledger_laws.specs.Past.{Past, after}
+use Rattle.ledger_laws.specs.Past.{Past, after, unspent_at}
 use Rattle.ledger_laws.specs.Sound.{moment, IsSound}
 use Rattle.ledger_laws.specs.Threads.{Link, IsMade, thread, ends}
 use Rattle.ledger_spec.specs.Replay.{published_at}
-use Rattle.ledger_spec.specs.Views.{starts_in, end_of}
+use Rattle.ledger_spec.specs.Views.{starts_in, end_of, made_datum}
 use Rattle.chain_index.specs.declared.moves.StepPlace.{StepPlace}
 use Rattle.chain_index.specs.Contents.{contents_of, accepting, moment_at, is_among, end_in, CanBeAdded}
 use Rattle.chain_index.specs.Moves.{moves_from, along, leads, starts_of}
@@ -52,3 +54,7 @@ EndsAlike j =
 -- and the outputs that start threads are told
 abbrev pub StartsAlike : Type 0
 StartsAlike = (past : Past) (r : OutputRef) → is_among (starts_of past.accepted) r ≡ list_any (starts_in r) past.accepted
+
+-- DATA ALIKE: of an unspent output the datum is told that its maker brought for it, where it is a contract's
+abbrev pub DataAlike : Type 0
+DataAlike = (ps : List Published) (past : Past) (r : OutputRef) (o : Output) → unspent_at past r ≡ Some o → lookup (same_ref r) (contents_of past ps).datums ≡ made_datum past r

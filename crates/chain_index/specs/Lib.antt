@@ -1,4 +1,5 @@
 pub mod Moves
+pub mod Data
 pub mod Contents
 pub mod Laws
 pub mod HolesSupport

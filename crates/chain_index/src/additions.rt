@@ -1,25 +1,26 @@
 //! What accepted transactions add to the lists of an index. Where memory is refused, what came so far is there.
-ghost use Rattle.std.specs.Prelude.{◌≡◌, ◌++◌, ◌∷◌, [], ℕ, true, false, map, Some, OnOk, OnErr};
+ghost use Rattle.std.specs.Prelude.{◌≡◌, ◌+◌, ◌<◌, ◌++◌, ◌∷◌, [], ℕ, true, false, map, length, take, Some, OnOk, OnErr};
 ghost use Rattle.std.specs.List.{IsDistinct};
 ghost use Rattle.std.specs.Map.{keys_of};
 ghost use Rattle.eutxo_types.specs.declared.output_ref.OutputRef.{OutputRef};
 ghost use Rattle.eutxo_types.specs.declared.output_ref.OutputRef.TheVariants.{Made};
 ghost use Rattle.eutxo_types.specs.Ids.{id_of};
-ghost use Rattle.eutxo_types.specs.Parts.{same_ref, steps};
+ghost use Rattle.eutxo_types.specs.Parts.{same_ref, steps, contract_count, made_datums, contract_at};
 ghost use Rattle.ledger_laws.specs.Past.{is_input_of};
 ghost use Rattle.ledger_spec.specs.Views.{starts_in};
 ghost use Rattle.chain_index.specs.Contents.{is_among};
 ghost use Rattle.chain_index.specs.HolesSupport.{known};
 ghost use Rattle.chain_index.specs.Moves.{moves_by, moves_in, starts_by};
-ghost use Rattle.chain_index.specs.NamingSupport.{naming, slots_of};
-ghost use Rattle.chain_index.specs.PartsSupport.{IsFront, LeaveWith, one_start};
+ghost use Rattle.chain_index.specs.Data.{data_by};
+ghost use Rattle.chain_index.specs.NamingSupport.{naming, slots, slots_of};
+ghost use Rattle.chain_index.specs.PartsSupport.{IsFront, LeaveWith, one_start, one_datum};
 
-use crate::holes::note;
+use crate::holes::{Slots, note, put};
 use crate::moves::{Move, next_of, put_move};
 use crate::naming::{Naming, name_at};
 use crate::outputs::Outputs;
 use collections::{Memory, TryClone};
-use eutxo_types::{Output, OutputRef, Spend, Tx};
+use eutxo_types::{Datum, Instance, Output, OutputRef, Spend, Tx, with_datum};
 use indexmap::{IndexMap, IndexSet};
 
 // ---- outputs
@@ -102,15 +103,44 @@ pub(crate) fn move_all(
     Ok(())
 }
 
+// ---- contracts that are made
+
+// The contract in the output at a place, before which so many outputs are contracts'.
+#[tactic(auto, using(eutxo::proofs::DatumLemmas::made_here))]
+fn made_at<'a>(tx: &'a Tx, datums: &'a [Datum], index: usize, count: usize) -> Option<Instance<'a>>
+    requires index { index < length tx.now.outputs }
+    requires datums { datums.now ≡ made_datums tx.now }
+    requires count { count ≡ contract_count (take index tx.now.outputs) }
+    ensures { result ≡ contract_at tx.now index }
+{
+    let output = &tx.outputs.as_slice()[index];
+    with_datum(&output.lock, datums.get(count))
+}
+
+// How many outputs up to a place are contracts', where so many are before it.
+fn count_through(tx: &Tx, index: usize, count: usize) -> usize
+    requires index { index < length tx.now.outputs }
+    requires count { count ≡ contract_count (take index tx.now.outputs) }
+    ensures { result ≡ contract_count (take (index + 1) tx.now.outputs) }
+{
+    if tx.outputs.as_slice()[index].lock.is_contract() {
+        count + 1
+    } else {
+        count
+    }
+}
+
 // ---- starts
 
-// Whether a transaction starts a thread in the output at a place, where it is told whether it steps a contract.
-fn starts_at(tx: &Tx, id: &[u8; 32], stepping: bool, index: u64) -> bool
+// Whether a transaction starts a thread in the output at a place, where it is told whether it steps a contract, and
+// which contract it makes there.
+fn starts_at(tx: &Tx, id: &[u8; 32], stepping: bool, index: u64, made: Option<Instance<'_>>) -> bool
     requires named { id.now ≡ id_of tx.now }
     requires stepping { stepping ≡ steps tx.now }
+    requires made { made ≡ contract_at tx.now index }
     ensures { result ≡ starts_in (Made id.now index) tx.now }
 {
-    !stepping && tx.contract_at(index).is_some()
+    !stepping && made.is_some()
 }
 
 // Adds the output at a place, where it starts a thread.
@@ -120,14 +150,16 @@ fn start_one(
     id: &[u8; 32],
     stepping: bool,
     index: u64,
+    made: Option<Instance<'_>>,
 ) -> Result<(), Memory>
     requires named { id.now ≡ id_of tx.now }
     requires stepping { stepping ≡ steps tx.now }
+    requires made { made ≡ contract_at tx.now index }
     requires unstarted { is_among starts.old.keys (Made id.now index) ≡ false }
     ensures ok { OnOk result (starts.new.keys ≡ starts.old.keys ++ one_start id.now tx.now index) }
     ensures err { OnErr result (starts.new.keys ≡ starts.old.keys) }
 {
-    if starts_at(tx, id, stepping, index) {
+    if starts_at(tx, id, stepping, index, made) {
         note(starts, OutputRef::Made { id: *id, index })
     } else {
         Ok(())
@@ -146,8 +178,51 @@ pub(crate) fn start_all(
     ensures grown { IsFront starts.old.keys starts.new.keys }
 {
     let stepping = tx.steps();
+    let datums = tx.made_datums();
+    let mut count = 0;
     for i in 0..tx.outputs.len() {
-        start_one(starts, tx, id, stepping, i as u64)?;
+        let made = made_at(tx, datums, i, count);
+        start_one(starts, tx, id, stepping, i as u64, made)?;
+        count = count_through(tx, i, count);
+    }
+    Ok(())
+}
+
+// ---- data
+
+// Puts a copy of the datum of the contract that is made in an output under the output's reference.
+fn bring_one(
+    datums: &mut Slots<Datum>,
+    reference: OutputRef,
+    made: Option<Instance<'_>>,
+) -> Result<(), Memory>
+    requires { is_among (known datums.old.entries) reference ≡ false }
+    ensures ok { OnOk result (datums.new.entries ≡ datums.old.entries ++ slots (one_datum reference made.entry)) }
+    ensures err { OnErr result (datums.new.entries ≡ datums.old.entries) }
+{
+    match made {
+        Some(c) => {
+            let copy = c.datum.try_clone()?;
+            put(datums, reference, copy)
+        }
+        None => Ok(()),
+    }
+}
+
+/// Puts copies of the data that a transaction brings for the contracts that it makes.
+pub(crate) fn bring_all(datums: &mut Slots<Datum>, tx: &Tx, id: &[u8; 32]) -> Result<(), Memory>
+    requires named { id.now ≡ id_of tx.now }
+    requires absent { (i : ℕ) → is_among (known datums.old.entries) (Made (id_of tx.now) i) ≡ false }
+    ensures ok { OnOk result (datums.new.entries ≡ datums.old.entries ++ slots (data_by tx.now)) }
+    ensures grown { IsFront datums.old.entries datums.new.entries }
+{
+    let brought = tx.made_datums();
+    let mut count = 0;
+    for i in 0..tx.outputs.len() {
+        let made = made_at(tx, brought, i, count);
+        let index = i as u64;
+        bring_one(datums, OutputRef::Made { id: *id, index }, made)?;
+        count = count_through(tx, i, count);
     }
     Ok(())
 }

@@ -13,13 +13,14 @@ use crate::moves::StepPlace;
 use crate::parts::{Parts, Sizes};
 use collections::{Items, Memory, Text};
 use eutxo::Shared;
-use eutxo_types::{Output, OutputRef, Tx};
+use eutxo_types::{Datum, Output, OutputRef, Tx};
 use ledger::{PayoutLock, Unspent};
 use roles::Published;
 use std::alloc::Global;
 use std::marker::Model;
 
-/// What is unspent, which ids are in use, what is published, and how threads start and go on, after what was handed in.
+/// What is unspent and with which data, which ids are in use, what is published, and how threads start and go on, after
+/// what was handed in.
 /// Clauses see what there was when it was last settled, and what there is now.
 ///
 /// A look-up costs the same whatever there is, and takes no memory; but `steps` and `end_of` make one for each step of
@@ -34,6 +35,7 @@ pub struct Index {
 
 impl Model for Index {
     ghost use Rattle.std.specs.Coded.{codes};
+    ghost use Rattle.machine.specs.contracts.datum.Datum as brought;
     ghost use Rattle.eutxo_types.specs.contracts.output.Output as outputs;
     ghost use Rattle.eutxo_types.specs.contracts.output_ref.OutputRef as references;
     ghost use Rattle.roles.specs.contracts.published.Published as publications;
@@ -44,7 +46,7 @@ impl Model for Index {
     ghost Value = { Indexed };
 
     ghost coded = { Prim.hlevel
-        (codes, outputs.the_row.coded, references.the_row.coded, publications.the_row.coded, move_rows.the_row.coded) };
+        (codes, brought.the_row.coded, outputs.the_row.coded, references.the_row.coded, publications.the_row.coded, move_rows.the_row.coded) };
 
     ghost view = { λ a. indexed a.parts a.settled };
 
@@ -114,6 +116,13 @@ impl Index {
         ensures { option_copied result ≡ lookup (same_ref reference.now) self.now.present.unspent }
     {
         self.parts.unspent_at(reference)
+    }
+
+    /// The datum that was brought for the unspent contract output that a reference names.
+    pub fn datum_at(&self, reference: &OutputRef) -> Option<&Datum>
+        ensures { option_copied result ≡ lookup (same_ref reference.now) self.now.present.datums }
+    {
+        self.parts.datum_at(reference)
     }
 
     /// What is published under an id.

@@ -1,6 +1,6 @@
 //! Laws of what is indexed, each the contract of a function that does nothing.
 ghost use Rattle.roles.specs.Steps.{marlowe};
-ghost use Rattle.chain_index.specs.Laws.{ReadsAlike, AcceptsAlike, JudgedCanBeAdded, ThreadsAlike, EndsAlike, StartsAlike};
+ghost use Rattle.chain_index.specs.Laws.{ReadsAlike, AcceptsAlike, JudgedCanBeAdded, ThreadsAlike, EndsAlike, StartsAlike, DataAlike};
 
 use eutxo::found_is_enough;
 use ledger_laws::accepting_is_sound;
@@ -30,3 +30,8 @@ pub fn index_follows_threads()
 {
     found_is_enough::<Published>();
 }
+
+/// Of each unspent contract output of a past the datum is told that its maker brought for it.
+pub fn index_tells_data()
+    ensures { DataAlike }
+{}

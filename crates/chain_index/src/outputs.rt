@@ -13,7 +13,7 @@ use crate::holes::{Slots, close_if_many, put, take_out, value_at};
 use crate::lock_name::LockName;
 use crate::places::{collect, show};
 use collections::{Items, Memory};
-use eutxo_types::{Output, OutputRef};
+use eutxo_types::{Datum, Output, OutputRef};
 use indexmap::{IndexMap, IndexSet};
 use ledger::Unspent;
 use std::alloc::Global;
@@ -140,15 +140,33 @@ impl Outputs {
     }
 }
 
-/// Makes holes at all these references, and forgets these. Takes no memory.
-pub(crate) fn take_all_out(outputs: &mut Outputs, set: &mut IndexSet<OutputRef>)
+// One more, where something was taken out.
+fn one_more<V: Drop>(count: usize, taken: Option<V>) -> usize {
+    match taken {
+        Some(_) => count.saturating_add(1),
+        None => count,
+    }
+}
+
+/// Makes holes at all these references, among outputs and data, and forgets these. Answers how many holes it made among
+/// the data. Takes no memory.
+pub(crate) fn take_all_out(
+    outputs: &mut Outputs,
+    datums: &mut Slots<Datum>,
+    set: &mut IndexSet<OutputRef>,
+) -> usize
     ensures live { live outputs.new ≡ staying set.old.keys (live outputs.old) }
     ensures keys { keys_of outputs.new ≡ keys_of outputs.old }
+    ensures live_datums { live datums.new.entries ≡ staying set.old.keys (live datums.old.entries) }
+    ensures datum_keys { keys_of datums.new.entries ≡ keys_of datums.old.entries }
     ensures empty { set.new.keys ≡ [] }
 {
+    let mut gone = 0usize;
     while let Some(reference) = set.pop() {
         outputs.take_out(&reference);
+        gone = one_more(gone, take_out(datums, &reference));
     }
+    gone
 }
 
 /// Drops the entries from the end until there are no more than this many. Takes no memory.

@@ -12,8 +12,8 @@ ghost use Rattle.chain_index.specs.HolesSupport.{known, AreAmong};
 ghost use Rattle.chain_index.specs.Moves.{along};
 ghost use Rattle.chain_index.specs.PartsSupport.{contents_in, no_parts, first_parts, sizes_of, front, Takes, IsGrown};
 
-use crate::additions::{leave_all, move_all, put_all, start_all};
-use crate::holes::is_noted;
+use crate::additions::{bring_all, leave_all, move_all, put_all, start_all};
+use crate::holes::{Slots, close_if_many, is_noted, value_at};
 use crate::moves::{Move, StepPlace, end_along, steps_along};
 use crate::naming::Naming;
 use crate::objects::{Objects, object_at, put_object};
@@ -21,7 +21,7 @@ use crate::outputs::{Outputs, take_all_out, truncate};
 use crate::under_locks::{keys_shown, payouts_shown};
 use collections::{Items, Memory, Text};
 use eutxo::Shared;
-use eutxo_types::{Output, OutputRef, Tx};
+use eutxo_types::{Datum, Output, OutputRef, Tx};
 use indexmap::{IndexMap, IndexSet};
 use ledger::{PayoutLock, Unspent};
 use roles::Published;
@@ -37,11 +37,12 @@ pub struct Sizes {
     objects: usize,
     moves: usize,
     starts: usize,
+    datums: usize,
 }
 
 /// The lists that an index keeps. Additions go to their ends, and what is spent is only noted until it is settled; then
-/// its output is dropped and a hole stays in its place, and where more than half of the entries are holes they are
-/// closed.
+/// its output and its datum are dropped and holes stay in their places, and where more than half of the entries are
+/// holes they are closed.
 #[derive(Drop)]
 pub(crate) struct Parts {
     outputs: Outputs,
@@ -51,11 +52,14 @@ pub(crate) struct Parts {
     objects: Objects,
     moves: IndexMap<OutputRef, Move>,
     starts: IndexSet<OutputRef>,
+    datums: Slots<Datum>,
+    datum_holes: usize,
 }
 
 impl Model for Parts {
     ghost use Rattle.std.specs.Coded.{codes};
     ghost use Rattle.std.specs.Map.{values_of};
+    ghost use Rattle.machine.specs.contracts.datum.Datum as brought;
     ghost use Rattle.eutxo_types.specs.contracts.output.Output as made;
     ghost use Rattle.eutxo_types.specs.contracts.output_ref.OutputRef as references;
     ghost use Rattle.roles.specs.contracts.published.Published as publications;
@@ -65,7 +69,7 @@ impl Model for Parts {
     ghost Value = { Parts };
 
     ghost coded = { Prim.hlevel
-        (codes, made.the_row.coded, references.the_row.coded, publications.the_row.coded, move_rows.the_row.coded) };
+        (codes, brought.the_row.coded, made.the_row.coded, references.the_row.coded, publications.the_row.coded, move_rows.the_row.coded) };
 
     ghost view = { λ a.
         record {
@@ -75,6 +79,7 @@ impl Model for Parts {
           objects = values_of a.objects.entries;
           moves = a.moves.entries;
           starts = a.starts.keys;
+          datums = a.datums.entries;
         } };
 
     ghost invariant = { λ a. AreNamed a.objects.entries };
@@ -104,6 +109,8 @@ fn of_outputs(alloc: Global, outputs: Outputs) -> Parts
         objects: IndexMap::new(alloc),
         moves: IndexMap::new(alloc),
         starts: IndexSet::new(alloc),
+        datums: IndexMap::new(alloc),
+        datum_holes: 0,
     }
 }
 
@@ -135,6 +142,7 @@ impl Parts {
             objects: self.objects.len(),
             moves: self.moves.len(),
             starts: self.starts.len(),
+            datums: self.datums.len(),
         }
     }
 
@@ -148,12 +156,14 @@ impl Parts {
         self.objects.truncate(sizes.objects);
         self.moves.truncate(sizes.moves);
         self.starts.truncate(sizes.starts);
+        self.datums.truncate(sizes.datums);
     }
 
-    // Adds what a transaction makes, spends, moves and starts. Where memory is refused, what came so far is there.
+    // Adds what a transaction makes, spends, moves, starts and brings. Where memory is refused, what came so far is there.
     fn add(&mut self, tx: &Tx, id: &[u8; 32]) -> Result<(), Memory>
         requires named { id.now ≡ id_of tx.now }
         requires absent { (i : ℕ) → is_among (known self.old.entries) (Made id.now i) ≡ false }
+        requires absent_datums { (i : ℕ) → is_among (known self.old.datums) (Made (id_of tx.now) i) ≡ false }
         requires can { CanBeAdded (contents_in self.old) tx.now }
         ensures ok { OnOk result (Takes tx.now self.old self.new) }
         ensures grown { IsGrown self.old self.new }
@@ -163,13 +173,15 @@ impl Parts {
         leave_all(&mut self.leaving, tx.inputs.as_slice())?;
         move_all(&mut self.moves, tx, id, number)?;
         start_all(&mut self.starts, tx, id)?;
+        bring_all(&mut self.datums, tx, id)?;
         put_id(&mut self.ids, *id)
     }
 
-    /// Adds what a transaction makes, spends, moves and starts, or changes nothing.
+    /// Adds what a transaction makes, spends, moves, starts and brings, or changes nothing.
     pub(crate) fn grow(&mut self, tx: &Tx, id: &[u8; 32]) -> Result<(), Memory>
         requires named { id.now ≡ id_of tx.now }
         requires absent { (i : ℕ) → is_among (known self.old.entries) (Made id.now i) ≡ false }
+        requires absent_datums { (i : ℕ) → is_among (known self.old.datums) (Made (id_of tx.now) i) ≡ false }
         requires can { CanBeAdded (contents_in self.old) tx.now }
         ensures ok { OnOk result (Takes tx.now self.old self.new) }
         ensures grown { OnOk result (IsGrown self.old self.new) }
@@ -199,10 +211,13 @@ impl Parts {
         ensures same { contents_in self.new ≡ contents_in self.old }
         ensures leaving { self.new.leaving ≡ [] }
         ensures known { AreAmong (known self.new.entries) (known self.old.entries) }
+        ensures known_datums { AreAmong (known self.new.datums) (known self.old.datums) }
     {
         let holes = self.holes.saturating_add(self.leaving.len());
-        take_all_out(&mut self.outputs, &mut self.leaving);
+        let gone = take_all_out(&mut self.outputs, &mut self.datums, &mut self.leaving);
         self.holes = self.outputs.close_if_many(holes);
+        let datum_holes = self.datum_holes.saturating_add(gone);
+        self.datum_holes = close_if_many(&mut self.datums, datum_holes);
     }
 
     // ---- look-ups
@@ -215,6 +230,17 @@ impl Parts {
             None
         } else {
             self.outputs.value_at(reference)
+        }
+    }
+
+    /// The datum that was brought for the unspent contract output that a reference names.
+    pub(crate) fn datum_at(&self, reference: &OutputRef) -> Option<&Datum>
+        ensures { option_copied result ≡ lookup (same_ref reference.now) (contents_in self.now).datums }
+    {
+        if is_noted(&self.leaving, reference) {
+            None
+        } else {
+            value_at(&self.datums, reference)
         }
     }
 

@@ -1,4 +1,5 @@
 pub mod FaultsLemmas
+pub mod DatumLemmas
 pub mod FoundLemmas
 pub mod TallyLemmas
 pub mod ChangesLemmas
@@ -10,5 +11,6 @@ pub mod ScriptSearchLemmas
 pub mod ScriptPutLemmas
 pub mod ResolutionLemmas
 pub mod JudgementLemmas
+pub mod LocalLemmas
 pub mod WorkedLemmas
 pub mod ChecksLemmas

@@ -1,11 +1,12 @@
 -- What a transaction decides depends on the answers of the scripts that it and the outputs that it spends name.
 use Rattle.std.proofs.Common.{◌≡◌, ℕ, zero, suc, ◌+◌, Bool, true, false, not, ◌&&◌, List, [], ◌∷◌, ◌++◌, Option, Some, None, refl, ◌∙◌, ap, subst}
-use Rattle.std.specs.Prelude.{if◌then◌else◌, is_some, slice_get}
+use Rattle.std.specs.Prelude.{if◌then◌else◌, is_some, slice_get, take}
 use Rattle.std.specs.List.{list_all, AllByRecursion}
 use Rattle.std.specs.Option.{option_map}
 use Rattle.contract.specs.declared.input.Input.{Input}
 use Rattle.bundle.specs.Bundles.{Amounts}
 use Rattle.machine.specs.declared.datum.Datum.{Datum}
+use Rattle.eutxo_types.specs.declared.fault.TxFault.{TxFault}
 use Rattle.eutxo_types.specs.declared.fault.TxFault.TheVariants.{WrongStart}
 use Rattle.eutxo_types.specs.declared.lock.Lock.{Lock}
 use Rattle.eutxo_types.specs.declared.lock.Lock.TheVariants.{Key, Payout, Contract}
@@ -18,9 +19,9 @@ use Rattle.eutxo.specs.Found.{script_at, is_known, all_known, with_outputs, if_k
 use Rattle.eutxo.specs.Judgement.{name_in, made_names, found_names, names_of}
 use Rattle.eutxo.specs.Laws.{AnswerAlike, Agree}
 use Rattle.eutxo.specs.Local.{spent_fault, whole_fault, tx_fault, local}
-use Rattle.eutxo_types.specs.Parts.{inputs_of, script_in, contract_in, instance_of, instance_in, contract_at}
+use Rattle.eutxo_types.specs.Parts.{inputs_of, script_in, contract_in, contract_of, contract_count, made_datums, with_datum, contract_at}
 use Rattle.eutxo.specs.Faults.{first_of, or_else, first_index}
-use Rattle.eutxo.specs.Rules.{Step, step_in, steps_of, step_asked, after_answer, script_fault, step_fault, starts_wrong, starts_wrong_at, not_signed, two_contracts, wrong_redeemer, role_missing, not_preserved}
+use Rattle.eutxo.specs.Rules.{Step, or_step, steps_of, step_asked, after_answer, script_fault, step_fault, step_fault_unless, starts_wrong, starts_wrong_at, not_signed, two_contracts, wrong_redeemer, role_missing, not_preserved, wrong_datum}
 
 pub all_append : {A : Type 0} (P : A → Type 0) (xs ys : List A) → AllByRecursion P (xs ++ ys) → AllByRecursion P xs × AllByRecursion P ys
 all_append P [] ys h = (tt, h)
@@ -98,41 +99,48 @@ module _ {V : Type 0} (j : Judges V) (named other : List ℕ → Option V) where
   all_spent [] h = refl
   all_spent (y ∷ ys) h = ap (λ b. b && list_all (λ x. is_known named x.1.lock) ys) (same_known y.1.lock h.0) ∙ ap (λ b. is_known other y.1.lock && b) (all_spent ys h.1)
 
-  same_start : (held : Amounts) (l : Lock) → AlikeIn l → starts_wrong j named held (option_map instance_of (contract_in l)) ≡ starts_wrong j other held (option_map instance_of (contract_in l))
-  same_start held (Key a) h = refl
-  same_start held (Payout c r) h = refl
-  same_start held (Contract script d) h = start_alike j d held (named script) (other script) h.0
+  same_start : (held : Amounts) (d : Option Datum) (l : Lock) → AlikeIn l → starts_wrong j named held (with_datum (contract_in l) d) ≡ starts_wrong j other held (with_datum (contract_in l) d)
+  same_start held d (Key a) h = refl
+  same_start held d (Payout c r) h = refl
+  same_start held None (Contract script digest) h = refl
+  same_start held (Some d) (Contract script digest) h = start_alike j d held (named script) (other script) h.0
 
-  same_at : (os : List Output) → AlikeMade os → (i : ℕ) (held : Amounts) → starts_wrong j named held (instance_in (slice_get os i)) ≡ starts_wrong j other held (instance_in (slice_get os i))
-  same_at [] h i held = refl
-  same_at (o ∷ os) h zero held = same_start held o.lock h.0
-  same_at (o ∷ os) h (suc i) held = same_at os h.1 i held
+  same_at : (os : List Output) → AlikeMade os → (d : Option Datum) (i : ℕ) (held : Amounts) →
+      starts_wrong j named held (with_datum (contract_of (slice_get os i)) d) ≡ starts_wrong j other held (with_datum (contract_of (slice_get os i)) d)
+  same_at [] h d i held = refl
+  same_at (o ∷ os) h d zero held = same_start held d o.lock h.0
+  same_at (o ∷ os) h d (suc i) held = same_at os h.1 d i held
 
   same_places : (tx : Tx) → AlikeMade tx.outputs → (k : ℕ) (os : List Output) →
       first_index (λ i (o : Output). starts_wrong j named o.amount (contract_at tx i)) k os ≡ first_index (λ i (o : Output). starts_wrong j other o.amount (contract_at tx i)) k os
   same_places tx m k [] = refl
   same_places tx m k (o ∷ os) =
-      ap (λ b. if b then Some k else first_index (λ i (o : Output). starts_wrong j named o.amount (contract_at tx i)) (k + 1) os) (same_at tx.outputs m k o.amount)
+      ap (λ b. if b then Some k else first_index (λ i (o : Output). starts_wrong j named o.amount (contract_at tx i)) (k + 1) os) (same_at tx.outputs m (slice_get (made_datums tx) (contract_count (take k tx.outputs))) k o.amount)
       ∙ ap (λ r. if starts_wrong j other o.amount (contract_at tx k) then Some k else r) (same_places tx m (k + 1) os)
 
-  stepped_if : (l : Lock) (i : List Input) (later : List Step) (s : Step) (ss : List Step) → AlikeIn l → step_in (contract_in l) i ++ later ≡ s ∷ ss → (later ≡ s ∷ ss → Alike s.script) → Alike s.script
-  stepped_if (Key a) i later s ss h e go = go e
-  stepped_if (Payout c r) i later s ss h e go = go e
-  stepped_if (Contract script d) i later s ss h e go =
+  stepped_if : (l : Lock) (i : List Input) (ds : List Datum) (later : List Datum → List Step) (s : Step) (ss : List Step) → AlikeIn l → or_step (contract_in l) i ds later ≡ s ∷ ss → (later ds ≡ s ∷ ss → Alike s.script) → Alike s.script
+  stepped_if (Key a) i ds later s ss h e go = go e
+  stepped_if (Payout c r) i ds later s ss h e go = go e
+  stepped_if (Contract script digest) i [] later s ss h e go = cc
+  stepped_if (Contract script digest) i (d ∷ ds) later s ss h e go =
       let q : (let z : Step = record { script = script; datum = d; inputs = i } in z) ≡ s = cc in
       subst (λ (z : Step). Alike z.script) q h.0
 
-  first_alike : (ys : List (Spend × Output)) (s : Step) (ss : List Step) → AlikeSpent ys → steps_of ys ≡ s ∷ ss → Alike s.script
-  first_alike [] s ss h e = cc
-  first_alike (y ∷ ys) s ss h e = stepped_if y.1.lock (inputs_of y.0.redeemer) (steps_of ys) s ss h.0 e (first_alike ys s ss h.1)
+  first_alike : (ys : List (Spend × Output)) (ds : List Datum) (s : Step) (ss : List Step) → AlikeSpent ys → steps_of ys ds ≡ s ∷ ss → Alike s.script
+  first_alike [] ds s ss h e = cc
+  first_alike (y ∷ ys) ds s ss h e = stepped_if y.1.lock (inputs_of y.0.redeemer) ds (steps_of ys) s ss h.0 e (first_alike ys ds s ss h.1)
 
-  same_step : (tx : Tx) (ys : List (Spend × Output)) → AlikeMade tx.outputs → AlikeSpent ys → (zs : List Step) → steps_of ys ≡ zs → step_fault j named tx ys zs ≡ step_fault j other tx ys zs
+  same_step : (tx : Tx) (ys : List (Spend × Output)) → AlikeMade tx.outputs → AlikeSpent ys → (zs : List Step) → steps_of ys tx.datums ≡ zs → step_fault j named tx ys zs ≡ step_fault j other tx ys zs
   same_step tx ys m s [] e = ap (option_map WrongStart) (same_places tx m 0 tx.outputs)
-  same_step tx ys m s (z ∷ zs) e = step_alike j (step_asked tx ys z) (named z.script) (other z.script) (first_alike ys z zs s e)
+  same_step tx ys m s (z ∷ zs) e = step_alike j (step_asked tx ys z) (named z.script) (other z.script) (first_alike ys tx.datums z zs s e)
+
+  same_unless : (tx : Tx) (ys : List (Spend × Output)) → AlikeMade tx.outputs → AlikeSpent ys → (w : Option TxFault) → step_fault_unless w j named tx ys ≡ step_fault_unless w j other tx ys
+  same_unless tx ys m s None = same_step tx ys m s (steps_of ys tx.datums) refl
+  same_unless tx ys m s (Some fault) = refl
 
   same_spent : (tx : Tx) (ys : List (Spend × Output)) → AlikeMade tx.outputs → AlikeSpent ys → spent_fault j named tx ys ≡ spent_fault j other tx ys
   same_spent tx ys m s =
-      ap (λ f. first_of (not_signed tx.signers ys ∷ two_contracts ys ∷ wrong_redeemer ys ∷ role_missing j ys ∷ f ∷ not_preserved ys tx.outputs ∷ [])) (same_step tx ys m s (steps_of ys) refl)
+      ap (λ f. first_of (not_signed tx.signers ys ∷ two_contracts ys ∷ wrong_redeemer ys ∷ role_missing j ys ∷ f ∷ not_preserved ys tx.outputs ∷ wrong_datum tx ys ∷ [])) (same_unless tx ys m s (wrong_datum tx ys))
 
   same_whole : (tx : Tx) → AlikeMade tx.outputs → (o : Option (List (Spend × Output))) → ((ys : List (Spend × Output)) → o ≡ Some ys → AlikeSpent ys) →
       whole_fault j named tx (if_known named tx.outputs o) ≡ whole_fault j other tx (if_known other tx.outputs o)

@@ -13,4 +13,4 @@ pub ten : {V : Type 0} (j : Judges V) → TenIsOutside j
 ten j = refl
 
 pub unpublished : {V : Type 0} (j : Judges V) → UnpublishedIsUnknown j
-unpublished j script d = refl
+unpublished j script digest = refl

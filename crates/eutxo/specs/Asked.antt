@@ -12,7 +12,7 @@ use Rattle.eutxo_types.specs.declared.fault.TxFault.TheVariants.{Semantics, NotA
 use Rattle.eutxo.specs.declared.step_fault.StepFault.{StepFault}
 use Rattle.eutxo.specs.declared.step_fault.StepFault.TheVariants as steps
 
--- a step: the id of the script, the datum that is spent, the redeemer's inputs, the transaction, and all that it spends
+-- a step: the id of the script, the datum that is brought for what is spent, the redeemer's inputs, the transaction, and all that it spends
 pub record Stepping : Type 0 where
   pub script : List ℕ
   pub datum : Datum

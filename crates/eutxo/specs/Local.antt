@@ -10,21 +10,22 @@ use Rattle.eutxo.specs.Faults.{first_of, or_else}
 use Rattle.eutxo.specs.Found.{script_at, whole}
 use Rattle.eutxo.specs.declared.resolved.Resolved.{Resolved}
 use Rattle.eutxo.specs.Asked.{Judges}
-use Rattle.eutxo.specs.Rules.{no_inputs, too_many, repeated_input, not_signed, two_contracts, wrong_redeemer, role_missing, steps_of, step_fault, not_preserved}
+use Rattle.eutxo.specs.Rules.{no_inputs, too_many, repeated_input, not_signed, two_contracts, wrong_redeemer, role_missing, step_fault_unless, not_preserved, wrong_datum}
 
 -- the rules of the transaction alone, in their order: 1 to 3
 abbrev pub tx_fault : Tx → Option TxFault
 tx_fault tx = first_of (no_inputs tx ∷ too_many tx ∷ repeated_input tx ∷ [])
 
--- those of the transaction and what it spends: 8 to 18
+-- those of the transaction and what it spends: 8 to 19, but 12 to 17 only where 19 doesn't stand
 abbrev pub spent_rules : {V : Type 0} → Judges V → (List ℕ → Option V) → Tx → List (Spend × Output) → List (Option TxFault)
 spent_rules j named tx spent =
     not_signed tx.signers spent
     ∷ two_contracts spent
     ∷ wrong_redeemer spent
     ∷ role_missing j spent
-    ∷ step_fault j named tx spent (steps_of spent)
+    ∷ step_fault_unless (wrong_datum tx spent) j named tx spent
     ∷ not_preserved spent tx.outputs
+    ∷ wrong_datum tx spent
     ∷ []
 
 abbrev pub spent_fault : {V : Type 0} → Judges V → (List ℕ → Option V) → Tx → List (Spend × Output) → Option TxFault
@@ -35,7 +36,7 @@ abbrev pub whole_fault : {V : Type 0} → Judges V → (List ℕ → Option V) �
 whole_fault j named tx None = None
 whole_fault j named tx (Some spent) = spent_fault j named tx spent
 
--- THE LOCAL VERDICT: no fault, or that of the first rule that refuses, of 1 to 3 and, where nothing is missing, 8 to 18
+-- THE LOCAL VERDICT: no fault, or that of the first rule that refuses, of 1 to 3 and, where nothing is missing, 8 to 19
 abbrev pub local : {V : Type 0} → Judges V → Tx → Resolved V → Option TxFault
 local j tx found = or_else (tx_fault tx) (whole_fault j (script_at found.scripts) tx (whole tx found))
 

@@ -1,13 +1,13 @@
 -- The rules that a transaction and its resolution decide, each by itself: the fault with which it refuses, if it does (The
 -- Extended UTXO Model, "Extended UTXO model: EUTXO", on what makes a transaction valid).
-use Rattle.std.specs.Prelude.{ℕ, ◌+◌, nat_lt, Bool, true, false, not, ◌||◌, List, [], ◌∷◌, ◌++◌, length, take, count_by, Option, Some, None, option_map}
+use Rattle.std.specs.Prelude.{ℕ, ◌+◌, nat_lt, Bool, true, false, not, ◌||◌, if◌then◌else◌, List, [], ◌∷◌, ◌++◌, length, take, map, count_by, Option, Some, None, option_map}
 use Rattle.std.specs.List.{list_any}
 use Rattle.contract.specs.declared.input.Input.{Input}
 use Rattle.bundle.specs.Bundles.{Amounts}
 use Rattle.machine.specs.declared.datum.Datum.{Datum}
-use Rattle.names.specs.Equal.{same_text}
+use Rattle.names.specs.Equal.{same_text, same_bytes}
 use Rattle.eutxo_types.specs.declared.fault.TxFault.{TxFault}
-use Rattle.eutxo_types.specs.declared.fault.TxFault.TheVariants.{NoInputs, TooMany, RepeatedInput, NotSigned, TwoContracts, WrongRedeemer, RoleMissing, StrayContract, WrongStart, NotPreserved}
+use Rattle.eutxo_types.specs.declared.fault.TxFault.TheVariants.{NoInputs, TooMany, RepeatedInput, NotSigned, TwoContracts, WrongRedeemer, RoleMissing, StrayContract, WrongStart, NotPreserved, WrongDatum}
 use Rattle.eutxo_types.specs.declared.lock.Lock.{Lock}
 use Rattle.eutxo_types.specs.declared.lock.Lock.TheVariants.{Key, Payout, Contract}
 use Rattle.eutxo_types.specs.declared.output.Output.{Output}
@@ -15,6 +15,7 @@ use Rattle.eutxo_types.specs.declared.redeemer.Redeemer.{Redeemer}
 use Rattle.eutxo_types.specs.declared.redeemer.Redeemer.TheVariants as with
 use Rattle.eutxo_types.specs.declared.spend.Spend.{Spend}
 use Rattle.eutxo_types.specs.declared.tx.Tx.{Tx}
+use Rattle.eutxo_types.specs.Digests.{datum_hash}
 use Rattle.eutxo.specs.declared.validator.StepAnswer.{StepAnswer}
 use Rattle.eutxo.specs.declared.validator.StepAnswer.TheVariants as answers
 use Rattle.eutxo.specs.Faults.{fault_if, fault_at, first_index, is_empty}
@@ -84,22 +85,50 @@ lacks_role claims lock = lacks_payout claims (payout_in lock)
 abbrev pub role_missing : {V : Type 0} → Judges V → List (Spend × Output) → Option TxFault
 role_missing j spent = fault_at RoleMissing (λ x. lacks_role (j.claims spent) x.1.lock) spent
 
--- ---- of the step, if a contract is spent
+-- ---- of the data
 
--- a contract that is spent, with the inputs that it is given
+abbrev pub digest_in : Option ContractLock → List (List ℕ)
+digest_in None = []
+digest_in (Some c) = c.digest ∷ []
+
+-- the digests that contract outputs hold, in order
+abbrev pub digests_in : List Output → List (List ℕ)
+digests_in [] = []
+digests_in (o ∷ os) = digest_in (contract_in o.lock) ++ digests_in os
+
+-- those of the contract outputs that are spent, in the order of the inputs, and then of those that are made
+abbrev pub digests_held : Tx → List (Spend × Output) → List (List ℕ)
+digests_held tx spent = digests_in (map (λ x. x.1) spent) ++ digests_in tx.outputs
+
+-- the lowest place, from i on, at which a datum hasn't the digest that is held there, or one of the two lists is over
+abbrev pub first_unlike : ℕ → List (List ℕ) → List Datum → Option ℕ
+first_unlike i [] [] = None
+first_unlike i [] (d ∷ ds) = Some i
+first_unlike i (h ∷ hs) [] = Some i
+first_unlike i (h ∷ hs) (d ∷ ds) = if same_bytes (datum_hash d) h then first_unlike (i + 1) hs ds else Some i
+
+-- 19: the data that are brought aren't one for each contract output that is spent and then for each that is made, each with the
+-- digest that its output holds
+abbrev pub wrong_datum : Tx → List (Spend × Output) → Option TxFault
+wrong_datum tx spent = option_map WrongDatum (first_unlike 0 (digests_held tx spent) tx.datums)
+
+-- ---- of the step, if a contract is spent: on the data that are brought
+
+-- a contract that is spent, at the datum that is brought for it, with the inputs that it is given
 pub record Step : Type 0 where
   pub script : List ℕ
   pub datum : Datum
   pub inputs : List Input
 
-abbrev pub step_in : Option ContractLock → List Input → List Step
-step_in None xs = []
-step_in (Some c) xs = record { script = c.script; datum = c.datum; inputs = xs } ∷ []
+abbrev pub or_step : Option ContractLock → List Input → List Datum → (List Datum → List Step) → List Step
+or_step None xs ds later = later ds
+or_step (Some c) xs [] later = []
+or_step (Some c) xs (d ∷ ds) later = record { script = c.script; datum = d; inputs = xs } ∷ later ds
 
--- all contracts that are spent, in the order of the inputs
-abbrev pub steps_of : List (Spend × Output) → List Step
-steps_of [] = []
-steps_of (x ∷ xs) = step_in (contract_in x.1.lock) (inputs_of x.0.redeemer) ++ steps_of xs
+-- all contracts that are spent, in the order of the inputs, each with the next of the data
+abbrev pub steps_of : List (Spend × Output) → List Datum → List Step
+steps_of [] ds = []
+steps_of (x ∷ xs) ds = or_step (contract_in x.1.lock) (inputs_of x.0.redeemer) ds (steps_of xs)
 
 abbrev pub step_asked : Tx → List (Spend × Output) → Step → Stepping
 step_asked tx spent s = record { script = s.script; datum = s.datum; inputs = s.inputs; tx = tx; spent = spent }
@@ -134,6 +163,11 @@ wrong_start j named tx = option_map WrongStart (first_index (λ i o. starts_wron
 abbrev pub step_fault : {V : Type 0} → Judges V → (List ℕ → Option V) → Tx → List (Spend × Output) → List Step → Option TxFault
 step_fault j named tx spent [] = wrong_start j named tx
 step_fault j named tx spent (s ∷ ss) = script_fault j (named s.script) (step_asked tx spent s)
+
+-- which are judged only where 19 doesn't stand
+abbrev pub step_fault_unless : {V : Type 0} → Option TxFault → Judges V → (List ℕ → Option V) → Tx → List (Spend × Output) → Option TxFault
+step_fault_unless None j named tx spent = step_fault j named tx spent (steps_of spent tx.datums)
+step_fault_unless (Some fault) j named tx spent = None
 
 -- ---- of the sums
 

@@ -1,7 +1,6 @@
 -- Worked judgements: what the rules that read the ledger answer.
 use Rattle.std.specs.Prelude.{◌≡◌, ℕ, ℤ, pos, true, false, List, [], ◌∷◌, Some, None}
 use Rattle.std.specs.FinMap as maps
-use Rattle.machine.specs.declared.datum.Datum.{Datum}
 use Rattle.eutxo_types.specs.declared.fault.TxFault.TheVariants.{NotUnspent, IdInUse, OutsideInterval, UnknownScript}
 use Rattle.eutxo_types.specs.declared.lock.Lock.TheVariants.{Key, Contract}
 use Rattle.eutxo_types.specs.declared.output.Output.{Output}
@@ -13,7 +12,7 @@ use Rattle.eutxo.specs.Judgement.{Moment, judge}
 
 -- one input, the first output that the ledger began with, from 0 to 9, signed by nobody
 abbrev pub one_input : List Output → Tx
-one_input os = record { inputs = record { reference = Genesis 0; redeemer = with.None } ∷ []; outputs = os; interval = record { from = pos 0; to = pos 9 }; signers = [] }
+one_input os = record { inputs = record { reference = Genesis 0; redeemer = with.None } ∷ []; outputs = os; interval = record { from = pos 0; to = pos 9 }; signers = []; datums = [] }
 
 -- at a tick each reference finds a key output that holds nothing; no id is used, and nothing is published
 abbrev pub at_tick : {V : Type 0} → ℤ → Moment V
@@ -33,4 +32,4 @@ TenIsOutside j = judge j (at_tick (pos 10)) (one_input []) ≡ Some OutsideInter
 
 -- a start of a script that isn't published
 abbrev pub UnpublishedIsUnknown : {V : Type 0} → Judges V → Type 0
-UnpublishedIsUnknown j = (script : List ℕ) (d : Datum) → judge j (at_tick (pos 0)) (one_input (record { lock = Contract script d; amount = maps.empty } ∷ [])) ≡ Some (UnknownScript 0)
+UnpublishedIsUnknown j = (script digest : List ℕ) → judge j (at_tick (pos 0)) (one_input (record { lock = Contract script digest; amount = maps.empty } ∷ [])) ≡ Some (UnknownScript 0)

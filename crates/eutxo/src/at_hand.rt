@@ -56,7 +56,7 @@ fn copy_of(verdict: &Verdict) -> Result<Verdict, Memory>
     }
 }
 
-/// The verdict of rules 1 to 3 and, where nothing is missing in the resolution, 8 to 18. Where one of the checks that
+/// The verdict of rules 1 to 3 and, where nothing is missing in the resolution, 8 to 19. Where one of the checks that
 /// are lent is of this transaction with an equal resolution (`Checked::is_of`), its verdict is answered and no script
 /// is asked; where that is Accepted, no memory is taken. Else the transaction is judged. Which checks are at hand
 /// doesn't show in the verdict. `Memory` says nothing of it: a growth was refused.

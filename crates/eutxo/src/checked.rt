@@ -11,7 +11,7 @@ use eutxo_types::{Tx, TxFault, Verdict, tx_id};
 use std::alloc::Global;
 use std::marker::Model;
 
-/// A transaction with its id, its resolution, and the verdict of rules 1 to 3 and 8 to 18 on these two: that
+/// A transaction with its id, its resolution, and the verdict of rules 1 to 3 and 8 to 19 on these two: that
 /// the four belong together is known of every value. It is made by `check` alone.
 #[derive(Drop)]
 pub struct Checked<V: Validator> {
@@ -49,7 +49,7 @@ pub fn verdict_of(fault: Option<TxFault>) -> Verdict
     }
 }
 
-/// Judges a transaction by rules 1 to 3 and, where nothing is missing in its resolution, 8 to 18, and keeps
+/// Judges a transaction by rules 1 to 3 and, where nothing is missing in its resolution, 8 to 19, and keeps
 /// it with its id, the resolution and the verdict: that of the lowest rule that refuses, or Accepted. The
 /// answer depends on the transaction and the resolution alone. `Memory` says nothing of either: a growth
 /// was refused.

@@ -4,7 +4,7 @@
 //! A script is a `Validator`: it judges steps of its contracts, tells their starts and grants payouts. A
 //! transaction with its resolution, which is what is found of the outputs that it spends and of the scripts
 //! that it names, decides all rules but four: no inputs, too many, an output named twice; and then those on
-//! signatures, redeemers, payouts, the step or the starts, and sums. `check` judges by these and keeps
+//! signatures, redeemers, payouts, the step or the starts, sums, and data. `check` judges by these and keeps
 //! transaction, id, resolution and verdict as a `Checked`. The other four rules, on what is unspent,
 //! accepted and published and on the tick, read the ledger at a moment; that judgement and what is found
 //! at a moment are defined here (`specs/Judgement.antt`), and the law is that a `Checked` decides it.
@@ -13,6 +13,7 @@
 mod at_hand;
 mod changes;
 mod checked;
+mod datum_rule;
 mod laws;
 mod local;
 mod preserved;

@@ -2,7 +2,9 @@
 ghost use Rattle.std.specs.Prelude.{◌≡◌, IfOk};
 ghost use Rattle.eutxo.specs.Found.{script_at, whole};
 ghost use Rattle.eutxo.specs.Local.{spent_fault, whole_fault, local};
+ghost use Rattle.eutxo.specs.Rules.{step_fault_unless};
 
+use crate::datum_rule::wrong_datum;
 use crate::preserved::not_preserved;
 use crate::resolved::{Resolved, whole};
 use crate::scripts::Scripts;
@@ -14,6 +16,22 @@ use crate::validator::Validator;
 use collections::Memory;
 use eutxo_types::{Tx, TxFault};
 use std::alloc::Global;
+
+/// The rules of a step or of starts, which are judged only where the rule on data doesn't stand.
+fn step_fault_unless<V: Validator>(
+    wrong_datum: &Option<TxFault>,
+    alloc: Global,
+    scripts: &Scripts<V>,
+    tx: &Tx,
+    spent: &[Spent<'_>],
+) -> Result<Option<TxFault>, Memory>
+    ensures { IfOk result (λ fault. fault ≡ step_fault_unless wrong_datum.now V.judges (script_at scripts.now) tx.now spent.now) }
+{
+    match wrong_datum {
+        None => step_fault(alloc, scripts, tx, spent),
+        Some(_) => Ok(None),
+    }
+}
 
 fn first_fault<V: Validator>(
     alloc: Global,
@@ -35,15 +53,19 @@ fn first_fault<V: Validator>(
     if let Some(fault) = role_missing::<V>(spent) {
         return Ok(Some(fault));
     }
-    if let Some(fault) = step_fault(alloc, scripts, tx, spent)? {
+    let wrong_datum = wrong_datum(alloc, tx, spent)?;
+    if let Some(fault) = step_fault_unless(&wrong_datum, alloc, scripts, tx, spent)? {
         return Ok(Some(fault));
     }
-    not_preserved(alloc, spent, tx.outputs.as_slice())
+    if let Some(fault) = not_preserved(alloc, spent, tx.outputs.as_slice())? {
+        return Ok(Some(fault));
+    }
+    Ok(wrong_datum)
 }
 
-/// The rules after the resolution: the fault of the lowest of rules 8 to 18 that refuses, or `None`; also where the
-/// resolution lacks an output or a script, since these rules are not judged then. Answers `Memory` only where a growth
-/// was refused.
+/// The rules after the resolution: the fault of the lowest of rules 8 to 19 that refuses, or `None`; also where the
+/// resolution lacks an output or a script, since these rules are not judged then. Of them 12 to 17 are judged only
+/// where 19 refuses nothing. Answers `Memory` only where a growth was refused.
 pub fn spent_fault<V: Validator>(
     alloc: Global,
     tx: &Tx,
@@ -57,8 +79,9 @@ pub fn spent_fault<V: Validator>(
     }
 }
 
-/// The fault of the lowest of rules 1 to 3 and, where nothing is missing in the resolution, 8 to 18 that
-/// refuses, or `None`. Answers `Memory` only where a growth was refused.
+/// The fault of the lowest of rules 1 to 3 and, where nothing is missing in the resolution, 8 to 19 that
+/// refuses, or `None`. Of them 12 to 17 are judged only where 19 refuses nothing. Answers `Memory` only where a growth
+/// was refused.
 pub fn local_fault<V: Validator>(
     alloc: Global,
     tx: &Tx,

@@ -1,9 +1,9 @@
 //! The rules of a step, or of starts where no contract is stepped.
-ghost use Rattle.std.specs.Prelude.{◌≡◌, ◌+◌, ℕ, position, drop, not, IfOk, option_map, option_to_list, slice_get, ◌≤◌};
+ghost use Rattle.std.specs.Prelude.{◌≡◌, ◌+◌, ◌<◌, ◌≤◌, ℕ, length, take, position, drop, not, IfOk, option_map, slice_get};
 ghost use Rattle.eutxo.specs.Faults.{first_index};
 ghost use Rattle.eutxo.specs.Found.{script_at};
-ghost use Rattle.eutxo_types.specs.Parts.{is_contract, contract_in, inputs_of, contract_at};
-ghost use Rattle.eutxo.specs.Rules.{step_in, steps_of, step_asked, stray_after, after_answer, script_fault, starts_wrong, wrong_start, step_fault};
+ghost use Rattle.eutxo_types.specs.Parts.{is_contract, contract_in, inputs_of, contract_count, made_datums, contract_at};
+ghost use Rattle.eutxo.specs.Rules.{steps_of, step_asked, stray_after, after_answer, script_fault, starts_wrong, wrong_start, step_fault};
 
 use crate::scripts::Scripts;
 use crate::spent::Spent;
@@ -11,7 +11,7 @@ use crate::validator::{StepAnswer, Validator};
 use bundle::Bundle;
 use collections::Memory;
 use contract::Input;
-use eutxo_types::{Datum, Instance, Output, Tx, TxFault};
+use eutxo_types::{Datum, Instance, Output, Tx, TxFault, with_datum};
 use std::alloc::Global;
 use std::marker::Model;
 
@@ -45,7 +45,7 @@ fn after_answer(answer: StepAnswer, outputs: &[Output]) -> Option<TxFault>
     }
 }
 
-/// A contract that is spent, lent: its script, its datum, and the inputs that it is given.
+/// A contract that is spent, lent: its script, the datum that is brought for it, and the inputs that it is given.
 #[derive(Drop)]
 struct Step<'a> {
     script: &'a [u8; 32],
@@ -66,26 +66,20 @@ impl<'a> Model for Step<'a> {
     ghost view = { λ a. record { script = a.script.now; datum = a.datum.now; inputs = a.inputs.now } };
 }
 
-fn step_in<'a>(spent: &Spent<'a>) -> Option<Step<'a>>
-    ensures { step_in (contract_in spent.now.1.lock) (inputs_of spent.now.0.redeemer) ≡ option_to_list result }
-{
-    match spent.output().lock.contract() {
-        Some(lock) => Some(Step {
-            script: lock.script,
-            datum: lock.datum,
-            inputs: spent.spend().redeemer.inputs(),
-        }),
-        None => None,
-    }
-}
-
-/// The first contract that is spent.
-fn first_step<'a>(spent: &[Spent<'a>]) -> Option<Step<'a>>
-    ensures { result ≡ slice_get (steps_of spent.now) 0 }
+/// The first contract that is spent, at the first of the data.
+fn first_step<'a>(spent: &[Spent<'a>], datums: &'a [Datum]) -> Option<Step<'a>>
+    ensures { result ≡ slice_get (steps_of spent.now datums.now) 0 }
 {
     for x in spent {
-        if let Some(step) = step_in(x) {
-            return Some(step);
+        if let Some(lock) = x.output().lock.contract() {
+            return match datums.first() {
+                Some(datum) => Some(Step {
+                    script: lock.script,
+                    datum,
+                    inputs: x.spend().redeemer.inputs(),
+                }),
+                None => None,
+            };
         }
     }
     None
@@ -108,6 +102,18 @@ fn starts_wrong<V: Validator>(
     }
 }
 
+// The contract in the output at a place, before which so many outputs are contracts'.
+#[tactic(auto, using(crate::proofs::DatumLemmas::made_here))]
+fn made_at<'a>(tx: &'a Tx, datums: &'a [Datum], index: usize, count: usize) -> Option<Instance<'a>>
+    requires index { index < length tx.now.outputs }
+    requires datums { datums.now ≡ made_datums tx.now }
+    requires count { count ≡ contract_count (take index tx.now.outputs) }
+    ensures { result ≡ contract_at tx.now index }
+{
+    let output = &tx.outputs.as_slice()[index];
+    with_datum(&output.lock, datums.get(count))
+}
+
 #[tactic(auto, using(crate::proofs::FaultsLemmas::found_place, crate::proofs::FaultsLemmas::next_place))]
 fn wrong_start_index<V: Validator>(
     alloc: Global,
@@ -116,9 +122,19 @@ fn wrong_start_index<V: Validator>(
 ) -> Result<Option<usize>, Memory>
     ensures { IfOk result (λ place. place ≡ first_index (λ i o. starts_wrong V.judges (script_at scripts.now) o.amount (contract_at tx.now i)) 0 tx.now.outputs) }
 {
+    let datums = tx.made_datums();
+    let mut count = 0;
     for (i, output) in tx.outputs.as_slice().iter().enumerate() {
-        if starts_wrong(alloc, scripts, &output.amount, tx.contract_at(i as u64))? {
+        if starts_wrong(
+            alloc,
+            scripts,
+            &output.amount,
+            made_at(tx, datums, i, count),
+        )? {
             return Ok(Some(i));
+        }
+        if output.lock.is_contract() {
+            count += 1;
         }
     }
     Ok(None)
@@ -162,9 +178,9 @@ pub fn step_fault<V: Validator>(
     tx: &Tx,
     spent: &[Spent<'_>],
 ) -> Result<Option<TxFault>, Memory>
-    ensures { IfOk result (λ fault. fault ≡ step_fault V.judges (script_at scripts.now) tx.now spent.now (steps_of spent.now)) }
+    ensures { IfOk result (λ fault. fault ≡ step_fault V.judges (script_at scripts.now) tx.now spent.now (steps_of spent.now tx.now.datums)) }
 {
-    match first_step(spent) {
+    match first_step(spent, tx.datums.as_slice()) {
         Some(step) => script_fault(alloc, scripts, step, tx, spent),
         None => wrong_start(alloc, scripts, tx),
     }

@@ -31,7 +31,7 @@ pub trait Validator: Eq {
     ghost judges: { Judges Self };
 
     /// Judges a step, rules 12 to 15: it gets the id by which the output names the script, the datum that is
-    /// spent, the redeemer's inputs, the transaction and all that it spends. Answers `Memory` only where
+    /// brought for it, the redeemer's inputs, the transaction and all that it spends. Answers `Memory` only where
     /// a growth was refused.
     fn step(
         &self,
@@ -44,7 +44,7 @@ pub trait Validator: Eq {
     ) -> Result<StepAnswer, Memory>
         ensures { IfOk result (λ answer. answer ≡ judges.step self.now (record { script = script.now; datum = datum.now; inputs = inputs.now; tx = tx.now; spent = spent.now })) };
 
-    /// Whether an output with this datum and amount starts a contract, rule 17. Answers `Memory` only where
+    /// Whether an output for which this datum is brought, with this amount, starts a contract, rule 17. Answers `Memory` only where
     /// a growth was refused.
     fn start(&self, alloc: Global, datum: &Datum, amount: &Bundle) -> Result<bool, Memory>
         ensures { IfOk result (λ answer. answer ≡ judges.starts self.now datum.now amount.now) };

@@ -17,6 +17,7 @@ use Rattle.eutxo_types.specs.declared.redeemer.Redeemer.{Redeemer}
 use Rattle.eutxo_types.specs.declared.redeemer.Redeemer.TheVariants as redeemers
 use Rattle.eutxo_types.specs.declared.spend.Spend.{Spend}
 use Rattle.eutxo_types.specs.declared.tx.Tx.{Tx}
+use Rattle.machine.specs.Spelling.{datum_bytes, DatumFits}
 use Rattle.machine.proofs.SpellingLaws.{datum_tells}
 use Rattle.eutxo_types.specs.Spelling.{reference_bytes, redeemer_bytes, spend_bytes, lock_bytes, amount_bytes, output_bytes, tx_bytes}
 use Rattle.eutxo_types.specs.Fitting.{IdFits, ReferenceFits, RedeemerFits, SpendFits, LockFits, AmountFits, OutputFits, TxFits}
@@ -50,7 +51,7 @@ lock_tells : (x y : Lock) → LockFits x → LockFits y → Tells (x ≡ y) (loc
 lock_tells (locks.Key a) (locks.Key b) f g = shows (λ e. λ k. locks.Key (e k)) (tagged (text_tells a b f g))
 lock_tells (locks.Payout a r) (locks.Payout b s) f g = shows (λ e. λ k. locks.Payout (e.0 k) (e.1 k)) (tagged (both (text_tells a b f.0 g.0) (text_tells r s f.1 g.1)))
 lock_tells (locks.Contract a d) (locks.Contract b c) f g =
-    shows (λ e. λ k. locks.Contract (e.0 k) (e.1 k)) (tagged (both (id_tells a b f.0 g.0) (datum_tells d c f.1 g.1)))
+    shows (λ e. λ k. locks.Contract (e.0 k) (e.1 k)) (tagged (both (id_tells a b f.0 g.0) (id_tells d c f.1 g.1)))
 lock_tells (locks.Key a) (locks.Payout b s) f g = other refl
 lock_tells (locks.Key a) (locks.Contract b c) f g = other refl
 lock_tells (locks.Payout a r) (locks.Key b) f g = other refl
@@ -69,16 +70,18 @@ output_tells x y f g =
 tx_tells : (x y : Tx) → TxFits x → TxFits y → Tells (x ≡ y) (tx_bytes x) (tx_bytes y)
 tx_tells x y f g =
     shows (λ e. λ k. record {
-      inputs = e.0.0.0.0 k;
-      outputs = e.0.0.0.1 k;
-      interval = record { from = e.0.0.1 k; to = e.0.1 k };
-      signers = e.1 k;
+      inputs = e.0.0.0.0.0 k;
+      outputs = e.0.0.0.0.1 k;
+      interval = record { from = e.0.0.0.1 k; to = e.0.0.1 k };
+      signers = e.0.1 k;
+      datums = e.1 k;
     })
-    (both (both (both (both (list_tells SpendFits spend_bytes spend_tells x.inputs y.inputs f.0 g.0)
+    (both (both (both (both (both (list_tells SpendFits spend_bytes spend_tells x.inputs y.inputs f.0 g.0)
     (list_tells OutputFits output_bytes output_tells x.outputs y.outputs f.1 g.1))
     (time_tells x.interval.from y.interval.from f.2 g.2))
     (time_tells x.interval.to y.interval.to f.3 g.3))
     (list_tells TextFits text_bytes text_tells x.signers y.signers f.4 g.4))
+    (list_tells DatumFits datum_bytes datum_tells x.datums y.datums f.5 g.5))
 
 -- ---- the law
 

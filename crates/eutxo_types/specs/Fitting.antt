@@ -1,4 +1,4 @@
--- Which transactions fit their spelling: numbers and places their bytes, lengths 8 bytes, and ids are of 32 bytes.
+-- Which transactions fit their spelling: numbers and places their bytes, lengths 8 bytes, and ids and digests are of 32 bytes.
 use Rattle.std.specs.Prelude.{◌≡◌, ℕ, ◌<◌, ◌^◌, List, length}
 use Rattle.std.specs.FinMap.{entries}
 use Rattle.bundle.specs.Bundles.{Amounts}
@@ -37,7 +37,7 @@ SpendFits x = ReferenceFits x.reference × RedeemerFits x.redeemer
 abbrev pub LockFits : Lock → Type 0
 LockFits (locks.Key address) = TextFits address
 LockFits (locks.Payout currency role) = TextFits currency × TextFits role
-LockFits (locks.Contract script datum) = IdFits script × DatumFits datum
+LockFits (locks.Contract script digest) = IdFits script × IdFits digest
 
 abbrev pub AmountFits : Amounts → Type 0
 AmountFits m = ListFits HoldingFits (entries m)
@@ -46,4 +46,4 @@ abbrev pub OutputFits : Output → Type 0
 OutputFits o = LockFits o.lock × AmountFits o.amount
 
 abbrev pub TxFits : Tx → Type 0
-TxFits tx = ListFits SpendFits tx.inputs × ListFits OutputFits tx.outputs × TimeFits tx.interval.from × TimeFits tx.interval.to × ListFits TextFits tx.signers
+TxFits tx = ListFits SpendFits tx.inputs × ListFits OutputFits tx.outputs × TimeFits tx.interval.from × TimeFits tx.interval.to × ListFits TextFits tx.signers × ListFits DatumFits tx.datums

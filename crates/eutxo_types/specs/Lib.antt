@@ -1,3 +1,4 @@
+pub mod Digests
 pub mod Fitting
 pub mod Ids
 pub mod Parts

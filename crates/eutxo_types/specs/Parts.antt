@@ -1,5 +1,5 @@
 -- What is read of the parts of a transaction, each in one place.
-use Rattle.std.specs.Prelude.{ℕ, Bool, true, false, ◌==◌, ◌&&◌, if◌then◌else◌, List, [], ◌∷◌, drop, slice_get, Option, Some, None, option_map}
+use Rattle.std.specs.Prelude.{ℕ, Bool, true, false, ◌==◌, ◌&&◌, if◌then◌else◌, List, [], ◌∷◌, take, drop, count_by, slice_get, Option, Some, None}
 use Rattle.std.specs.List.{list_any}
 pub use Rattle.names.specs.Equal.{same_bytes}
 use Rattle.contract.specs.declared.input.Input.{Input}
@@ -13,6 +13,7 @@ use Rattle.eutxo_types.specs.declared.redeemer.Redeemer.{Redeemer}
 use Rattle.eutxo_types.specs.declared.redeemer.Redeemer.TheVariants as with
 use Rattle.eutxo_types.specs.declared.spend.Spend.{Spend}
 use Rattle.eutxo_types.specs.declared.tx.Tx.{Tx}
+use Rattle.eutxo_types.specs.Digests.{datum_hash}
 
 -- ---- references
 
@@ -49,15 +50,15 @@ script_in (Key a) = None
 script_in (Payout currency role) = None
 script_in (Contract script d) = Some script
 
--- what a contract lock holds: its script, and the datum from which the contract goes on
+-- what a contract lock holds: its script, and the digest of the datum from which the contract goes on
 pub record ContractLock : Type 0 where
   pub script : List ℕ
-  pub datum : Datum
+  pub digest : List ℕ
 
 abbrev pub contract_in : Lock → Option ContractLock
 contract_in (Key a) = None
 contract_in (Payout currency role) = None
-contract_in (Contract script d) = Some (record { script = script; datum = d })
+contract_in (Contract script d) = Some (record { script = script; digest = d })
 
 -- what a payout lock waits for: the role token of a currency
 pub record PayoutRole : Type 0 where
@@ -101,19 +102,33 @@ pub record Instance : Type 0 where
 
 -- the lock under which it stands
 abbrev pub lock_of : Instance → ContractLock
-lock_of c = record { script = c.script; datum = c.datum }
+lock_of c = record { script = c.script; digest = datum_hash c.datum }
 
-abbrev pub instance_of : ContractLock → Instance
-instance_of l = record { script = l.script; datum = l.datum }
+abbrev pub contract_of : Option Output → Option ContractLock
+contract_of None = None
+contract_of (Some o) = contract_in o.lock
 
-abbrev pub instance_in : Option Output → Option Instance
-instance_in None = None
-instance_in (Some o) = option_map instance_of (contract_in o.lock)
+-- how many of these inputs step a contract
+abbrev pub step_count : List Spend → ℕ
+step_count xs = count_by (λ x. is_step x.redeemer) xs
+
+-- how many of these outputs are a contract's
+abbrev pub contract_count : List Output → ℕ
+contract_count os = count_by (λ o. is_contract o.lock) os
+
+-- the data that a transaction brings are for the inputs that step, in order, and then for the contract outputs: those for the outputs
+abbrev pub made_datums : Tx → List Datum
+made_datums tx = drop (step_count tx.inputs) tx.datums
+
+abbrev pub with_datum : Option ContractLock → Option Datum → Option Instance
+with_datum None d = None
+with_datum (Some l) None = None
+with_datum (Some l) (Some d) = Some (record { script = l.script; datum = d })
 
 -- the contract that a transaction makes in the output at a place, with the datum that it brings for it: the one reader of a
 -- made datum
 abbrev pub contract_at : Tx → ℕ → Option Instance
-contract_at tx i = instance_in (slice_get tx.outputs i)
+contract_at tx i = with_datum (contract_of (slice_get tx.outputs i)) (slice_get (made_datums tx) (contract_count (take i tx.outputs)))
 
 -- the outputs from a place on
 abbrev pub outputs_from : ℕ → List Output → List Output

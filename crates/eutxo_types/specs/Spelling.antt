@@ -33,11 +33,11 @@ redeemer_bytes (redeemers.Step inputs) = 0x02 ∷ list_bytes input_bytes inputs
 abbrev pub spend_bytes : Spend → List ℕ
 spend_bytes x = reference_bytes x.reference ++ redeemer_bytes x.redeemer
 
--- a contract: its script's 32 bytes, its datum
+-- a contract: its script's 32 bytes, the 32 bytes of its datum's digest
 abbrev pub lock_bytes : Lock → List ℕ
 lock_bytes (locks.Key address) = 0x00 ∷ text_bytes address
 lock_bytes (locks.Payout currency role) = 0x01 ∷ text_bytes currency ++ text_bytes role
-lock_bytes (locks.Contract script datum) = 0x02 ∷ script ++ datum_bytes datum
+lock_bytes (locks.Contract script digest) = 0x02 ∷ script ++ digest
 
 -- an amount: what there is of each token, in the order of tokens
 abbrev pub amount_bytes : Amounts → List ℕ
@@ -46,6 +46,6 @@ amount_bytes m = list_bytes holding_bytes (entries m)
 abbrev pub output_bytes : Output → List ℕ
 output_bytes o = lock_bytes o.lock ++ amount_bytes o.amount
 
--- inputs, outputs, the interval's ends, the signers
+-- inputs, outputs, the interval's ends, the signers, the data
 abbrev pub tx_bytes : Tx → List ℕ
-tx_bytes tx = list_bytes spend_bytes tx.inputs ++ list_bytes output_bytes tx.outputs ++ time_bytes tx.interval.from ++ time_bytes tx.interval.to ++ list_bytes text_bytes tx.signers
+tx_bytes tx = list_bytes spend_bytes tx.inputs ++ list_bytes output_bytes tx.outputs ++ time_bytes tx.interval.from ++ time_bytes tx.interval.to ++ list_bytes text_bytes tx.signers ++ list_bytes datum_bytes tx.datums

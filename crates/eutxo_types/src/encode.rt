@@ -86,7 +86,7 @@ fn put_lock(out: &mut Vec<u8>, lock: &Lock) -> Result<(), Memory>
         Lock::Contract { script, datum } => {
             put_byte(out, 0x02)?;
             put_id(out, script)?;
-            datum.put(out)
+            put_id(out, datum)
         }
     }
 }
@@ -133,11 +133,12 @@ fn put_tx(out: &mut Vec<u8>, tx: &Tx) -> Result<(), Memory>
     put_list(out, tx.outputs.as_slice())?;
     put_time(out, tx.interval.from)?;
     put_time(out, tx.interval.to)?;
-    put_list(out, tx.signers.as_slice())
+    put_list(out, tx.signers.as_slice())?;
+    put_list(out, tx.datums.as_slice())
 }
 
-/// The spelling of a transaction: its inputs, its outputs, the ends of its interval and its signers. Answers
-/// `Memory` only where the growth of the spelling is refused.
+/// The spelling of a transaction: its inputs, its outputs, the ends of its interval, its signers and its data.
+/// Answers `Memory` only where the growth of the spelling is refused.
 pub fn encode_tx(alloc: Global, tx: &Tx) -> Result<Vec<u8>, Memory>
     ensures spelling { IfOk result (λ bytes. bytes.items ≡ tx_bytes tx.now) }
     ensures fits { IfOk result (λ bytes. TxFits tx.now) }

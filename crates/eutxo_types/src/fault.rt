@@ -3,7 +3,8 @@ use contract::{Memory, Party, Same, SemFault, Token, TryClone};
 use thiserror::Error;
 
 /// Why the ledger refuses a transaction. Where several faults stand, the one that is listed first
-/// answers, and among equals the one at the lowest place. Places count inputs or outputs from 0.
+/// answers, and among equals the one at the lowest place; but 12 to 17 are judged only where 19 doesn't stand.
+/// Places count inputs, outputs or data from 0.
 #[derive(Debug, PartialEq, Eq, Drop, Error)]
 pub enum TxFault {
     /// 1: there is no input.
@@ -62,6 +63,11 @@ pub enum TxFault {
     /// 18: the inputs' outputs hold another sum of this token than the outputs.
     #[error("the sum of a token is not preserved")]
     NotPreserved(Token),
+    /// 19: the data that are brought aren't one for each contract output that is spent, in the order of inputs, and
+    /// then one for each that is made, in the order of outputs, each with the digest that its output holds. The place
+    /// counts in that list: the first that differs, or the length of the shorter list.
+    #[error("datum {0} is not that of its output")]
+    WrongDatum(u64),
 }
 
 impl Same for TxFault {
@@ -91,6 +97,7 @@ impl TryClone for TxFault {
             TxFault::StrayContract(place) => Ok(TxFault::StrayContract(*place)),
             TxFault::WrongStart(place) => Ok(TxFault::WrongStart(*place)),
             TxFault::NotPreserved(token) => Ok(TxFault::NotPreserved(token.try_clone()?)),
+            TxFault::WrongDatum(place) => Ok(TxFault::WrongDatum(*place)),
         }
     }
 }

@@ -1,4 +1,5 @@
-//! Outputs and the transactions that spend and make them, why a transaction is refused, and its id.
+//! Outputs and the transactions that spend and make them, why a transaction is refused, its id,
+//! and the digest of a datum.
 //!
 //! Clauses see each of these values as plain data: an amount as its finite map, a state as its maps, a list
 //! as its items. So two transactions are equal there exactly when they are the same, and an id is a function
@@ -20,7 +21,7 @@ mod verdict;
 
 pub use encode::encode_tx;
 pub use fault::TxFault;
-pub use id::tx_id;
+pub use id::{datum_hash, tx_id};
 pub use laws::{no_transaction_begins_another, worked_transactions};
 pub use lock::{ContractLock, Lock, PayoutRole};
 pub use machine::Datum;
@@ -29,5 +30,5 @@ pub use output_ref::OutputRef;
 pub use redeemer::Redeemer;
 pub use spend::Spend;
 pub use table::Cont;
-pub use tx::{Instance, Tx};
+pub use tx::{Instance, Tx, with_datum};
 pub use verdict::Verdict;

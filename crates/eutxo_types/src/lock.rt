@@ -1,40 +1,35 @@
 //! Locks.
-ghost use Rattle.std.specs.Prelude.{◌≡◌, option_map};
+ghost use Rattle.std.specs.Prelude.{◌≡◌};
 ghost use Rattle.eutxo_types.specs.Parts.{is_key, is_payout, is_contract, contract_in, payout_in};
 
 use collections::{Bytes, Memory, Same, Text, TryClone};
-use machine::Datum;
 use std::marker::Model;
 
-/// What guards the spending of an output: for a contract its validator and its datum (The Extended UTXO Model,
-/// "Extended UTXO model: EUTXO"); keys and payouts are this ledger's own.
+/// What guards the spending of an output: for a contract its validator and its datum, here by the datum's digest (The
+/// Extended UTXO Model, "Extended UTXO model: EUTXO"); keys and payouts are this ledger's own.
 #[derive(Drop)]
 pub enum Lock {
     /// The signature of this address.
     Key(Text),
     /// The token of this currency symbol that is named as the role, held by another input.
     Payout { currency: Bytes, role: Text },
-    /// The published contract with this id, which goes on from the datum.
-    Contract { script: [u8; 32], datum: Datum },
+    /// The published contract with this id, which goes on from the datum with this digest (`datum_hash`).
+    Contract { script: [u8; 32], datum: [u8; 32] },
 }
 
-/// What a contract lock holds, lent: its script, and the datum from which the contract goes on.
+/// What a contract lock holds, lent: its script, and the digest of the datum from which the contract goes on.
 #[derive(Drop)]
 pub struct ContractLock<'a> {
     pub script: &'a [u8; 32],
-    pub datum: &'a Datum,
+    pub digest: &'a [u8; 32],
 }
 
 impl<'a> Model for ContractLock<'a> {
-    ghost use Rattle.std.specs.Coded.{codes};
-    ghost use Rattle.machine.specs.contracts.datum.Datum as datums;
     ghost use Rattle.eutxo_types.specs.Parts as parts;
 
     ghost Value = { parts.ContractLock };
 
-    ghost coded = { Prim.hlevel (codes, datums.the_row.coded) };
-
-    ghost view = { λ a. record { script = a.script.now; datum = a.datum.now } };
+    ghost view = { λ a. record { script = a.script.now; digest = a.digest.now } };
 }
 
 /// What a payout lock waits for, lent: the token of a currency symbol that is named as a role.
@@ -86,14 +81,17 @@ impl Lock {
         }
     }
 
-    /// The script and the datum of a contract lock; of another, none.
+    /// The script and the digest of a contract lock; of another, none.
     pub fn contract(&self) -> Option<ContractLock<'_>>
         ensures { result ≡ contract_in self.now }
     {
         match self {
             Lock::Key(_) => None,
             Lock::Payout { .. } => None,
-            Lock::Contract { script, datum } => Some(ContractLock { script, datum }),
+            Lock::Contract { script, datum } => Some(ContractLock {
+                script,
+                digest: datum,
+            }),
         }
     }
 
@@ -119,7 +117,7 @@ impl TryClone for Lock {
             }),
             Lock::Contract { script, datum } => Ok(Lock::Contract {
                 script: *script,
-                datum: datum.try_clone()?,
+                datum: *datum,
             }),
         }
     }
@@ -148,7 +146,7 @@ impl Same for Lock {
                     script: b,
                     datum: e,
                 },
-            ) => *a == *b && d.same(e),
+            ) => *a == *b && *d == *e,
             (Lock::Key(_), Lock::Payout { .. }) => false,
             (Lock::Key(_), Lock::Contract { .. }) => false,
             (Lock::Payout { .. }, Lock::Key(_)) => false,

@@ -9,7 +9,8 @@
 //! what the places of a round were answered) is defined in `specs/Replies.antt`.
 //!
 //! An `Ask` says what somebody wants to see, and a `Look` is what was shown: the tick, the unspent output of a
-//! thread with what is published under its script, and the unspent outputs under the asked locks.
+//! thread with the datum that its maker brought and what is published under its script, and the unspent outputs under
+//! the asked locks.
 //! `Look::resolve` finds there what a transaction names (`specs/Shown.antt`), so that the transaction can be
 //! made and checked without the ledger, before it is handed in.
 #![tactic(auto)]

@@ -4,7 +4,7 @@ ghost use Rattle.std.specs.Prelude.{◌≡◌, ◌↔◌, IsTrue};
 use bundle::{Bundle, Holds};
 use collections::{Items, Memory, Same, TryClone};
 use eutxo::{Shared, copy_option};
-use eutxo_types::{Output, OutputRef};
+use eutxo_types::{Datum, Output, OutputRef};
 use roles::Published;
 
 /// An unspent output with the reference that names it.
@@ -14,12 +14,13 @@ pub struct Unspent {
     pub output: Output,
 }
 
-/// The unspent output of a thread, and what is published under the script in its lock. A copy of a look
-/// shares the latter.
+/// The unspent output of a thread, the datum that the transaction that made it brought for it, and what is published under
+/// the script in its lock. A copy of a look shares the latter.
 #[derive(Drop)]
 pub struct ThreadOutput {
     pub reference: OutputRef,
     pub output: Output,
+    pub datum: Datum,
     pub published: Shared<Published>,
 }
 
@@ -76,9 +77,11 @@ impl TryClone for ThreadOutput {
     fn try_clone(&self) -> Result<ThreadOutput, Memory> {
         let published = self.published.try_clone()?;
         let output = self.output.try_clone()?;
+        let datum = self.datum.try_clone()?;
         Ok(ThreadOutput {
             reference: self.reference,
             output,
+            datum,
             published,
         })
     }
@@ -88,6 +91,7 @@ impl Same for ThreadOutput {
     fn same(&self, other: &ThreadOutput) -> bool {
         self.reference == other.reference
             && self.output.same(&other.output)
+            && self.datum.same(&other.datum)
             && self.published.same(&other.published)
     }
 }

@@ -102,7 +102,7 @@ fn fault_in(verdict: Verdict) -> Option<TxFault>
     }
 }
 
-// The fault of rules 8 to 18 on what was found, where rules 1 to 3 don't refuse: by the checks at hand, where one is of
+// The fault of rules 8 to 19 on what was found, where rules 1 to 3 don't refuse: by the checks at hand, where one is of
 // it, else by these rules alone.
 fn rest_fault<V: Validator>(
     alloc: Global,

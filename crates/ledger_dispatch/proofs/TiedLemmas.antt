@@ -1,6 +1,6 @@
 -- Of what an index is, after a transaction and after a call.
-use Rattle.std.proofs.Common.{◌≡◌, ℤ, [], ◌∷◌, sym, ◌∙◌, ap, subst, refl, Bool, true, false, Option, Some, None, Result}
-use Rattle.std.specs.Prelude.{if◌then◌else◌, int_le}
+use Rattle.std.proofs.Common.{◌≡◌, ℕ, ℤ, [], ◌∷◌, sym, ◌∙◌, ap, subst, refl, Bool, true, false, length, take, Option, Some, None, Result}
+use Rattle.std.specs.Prelude.{if◌then◌else◌, int_le, nat_lt}
 use Rattle.std.proofs.lemmas.List.Elements.{All-nil, All-cons, All-append}
 use Rattle.compiler.specs.declared.fault.CompileFault.{CompileFault}
 use Rattle.eutxo_types.specs.declared.fault.TxFault.{TxFault}
@@ -13,12 +13,12 @@ use Rattle.ledger.specs.declared.call.Call.TheVariants as on
 use Rattle.ledger.specs.declared.call.Reply.TheVariants as answer
 use Rattle.ledger_laws.specs.Laws.{AfterIsSound, LaterIsSound}
 use Rattle.ledger_spec.specs.Replay.{World, past_of, moment_of, published_at, with_object, after_call}
-use Rattle.ledger_spec.specs.Calls.{fault_on, with_accepted_unless, submit_reply}
+use Rattle.ledger_spec.specs.Calls.{most_pending, fault_on, with_accepted_unless, submit_reply, round_verdicts}
 use Rattle.ledger_spec.proofs.PublishingLaws.{with_stays}
 use Rattle.chain_index.specs.Contents.{Contents, accepting, moment_at, CanBeAdded}
 use Rattle.chain_index.specs.Laws.{ReadsAlike, AcceptsAlike, JudgedCanBeAdded}
 use Rattle.ledger_kept.specs.Kept.{IsIndexOf, world_with}
-use Rattle.ledger_dispatch.specs.DispatchSupport.{fault_in, accepting_unless, EachIsJudgedAlike}
+use Rattle.ledger_dispatch.specs.DispatchSupport.{fault_in, accepting_unless, EachIsJudgedAlike, with_places}
 
 -- ---- transactions
 
@@ -62,6 +62,18 @@ advanced_by present w t false h = h
 
 pub advanced : (present : Contents) (w : World) (t : ℤ) → IsIndexOf present w → IsIndexOf present (world_with w (on.Advance t))
 advanced present w t h = advanced_by present w t (int_le w.replay.tick t) h
+
+-- so is what waits
+enqueued_by : (present : Contents) (w : World) (tx : Tx) (b : Bool) → IsIndexOf present w →
+    IsIndexOf present (let v : World = record w { replay = after_call w.replay (on.Enqueue tx) (if b then answer.Ticket w.tickets else answer.Full) } in v)
+enqueued_by present w tx true h = record { contents = h.contents; sound = h.sound; fits = h.fits }
+enqueued_by present w tx false h = h
+
+pub enqueued : (present : Contents) (w : World) (tx : Tx) → IsIndexOf present w → IsIndexOf present (world_with w (on.Enqueue tx))
+enqueued present w tx h = enqueued_by present w tx (nat_lt (length w.replay.pending) most_pending) h
+
+pub rounded : (present : Contents) (w : World) (k : ℕ) → IsIndexOf present (with_places w (round_verdicts w (take k w.replay.pending))) → IsIndexOf present (world_with w (on.Round k))
+rounded present w k h = record { contents = h.contents; sound = h.sound; fits = h.fits }
 
 submitted_by : (present : Contents) (w : World) (tx : Tx) (f : Option TxFault) → IsIndexOf present (with_accepted_unless w tx f) →
     IsIndexOf present (let v : World = record w { replay = after_call w.replay (on.Submit tx) (submit_reply tx f) } in v)

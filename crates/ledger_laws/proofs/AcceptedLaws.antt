@@ -3,6 +3,7 @@ use Rattle.std.proofs.Common.{◌≡◌, ℕ, zero, suc, ◌+◌, ◌<◌, ◌�
 use Rattle.std.specs.Prelude.{if◌then◌else◌, nat_lt, is_some, count_by}
 use Rattle.std.specs.List.{slice_get, list_any, list_all}
 use Rattle.std.specs.Map.{lookup}
+use Rattle.eutxo_types.specs.declared.fault.TxFault.{TxFault}
 use Rattle.eutxo_types.specs.declared.fault.TxFault.TheVariants.{TwoContracts, WrongRedeemer}
 use Rattle.eutxo_types.specs.declared.lock.Lock.{Lock}
 use Rattle.eutxo_types.specs.declared.lock.Lock.TheVariants.{Key, Payout, Contract}
@@ -16,7 +17,7 @@ use Rattle.eutxo.specs.Laws.{FoundIsEnough}
 use Rattle.eutxo.specs.Asked.{Judges}
 use Rattle.eutxo.specs.Found.{is_known, all_known, if_known}
 use Rattle.eutxo.specs.Local.{spent_rules, spent_fault, whole_fault}
-use Rattle.eutxo.specs.Rules.{opens, Step, steps_of, step_asked, after_answer, script_fault, step_fault, not_preserved}
+use Rattle.eutxo.specs.Rules.{opens, digests_in, Step, steps_of, step_asked, after_answer, script_fault, step_fault, step_fault_unless, not_preserved, wrong_datum}
 use Rattle.eutxo_types.specs.Parts.{is_contract, script_in, ContractLock, contract_in, inputs_of, same_bytes, same_ref, is_key, is_step, steps}
 use Rattle.ledger_laws.specs.Past.{Past, before, with_references, created_by, created_by_all, created, is_input_of, is_spent, unspent_at, has_id}
 use Rattle.eutxo.specs.Judgement.{is_unknown}
@@ -26,7 +27,8 @@ use Rattle.ledger_laws.proofs.PlainLaws.{EachFalse, both, not_both, not_false, f
 use Rattle.ledger_laws.proofs.ReferenceLaws.{itself, unspent_so, unspent_created, output_nth, none_created, spender}
 use Rattle.ledger_laws.proofs.JudgedLemmas.{found, each_none, nowhere, unless, Passes, passes, made_known}
 use Rattle.ledger_laws.proofs.PartLaws.{script_so}
-use Rattle.ledger_laws.proofs.PairedLemmas.{Paired, paired, spent_known, pair_at, NamedAt, named_at, holds, misfits, step_opens, contract_steps, step_with, step_read}
+use Rattle.ledger_laws.proofs.PairedLemmas.{Paired, paired, spent_known, pair_at, pairs_of, NamedAt, named_at, holds, misfits, step_opens, contract_steps, step_with, ReadStep, step_read}
+use Rattle.ledger_laws.proofs.DatumLaws.{told, Tells, tells_so}
 
 key_opens : (l : Lock) → is_key l ≡ true → is_contract l ≡ true → ⊥
 key_opens (Key a) h e = cc
@@ -97,8 +99,9 @@ module _ {V : Type 0} (j : Judges V) (enough : FoundIsEnough j) (named : List �
     pub there : found (unspent_at (before past n)) tx ≡ Some ys
     pub single : count_by holds ys ≤ 1
     pub kinds : EachFalse misfits ys
-    pub step : step_fault j named tx ys (steps_of ys) ≡ None
+    pub step : step_fault j named tx ys (steps_of ys tx.datums) ≡ None
     pub sums : not_preserved ys tx.outputs ≡ None
+    pub datums : wrong_datum tx ys ≡ None
 
   from_rules : (n : ℕ) (tx : Tx) (ys : List (Spend × Output)) → Paired (unspent_at (before past n)) tx.inputs ys → found (unspent_at (before past n)) tx ≡ Some ys → spent_fault j named tx ys ≡ None → Spent n tx
   from_rules n tx ys p f h =
@@ -109,8 +112,9 @@ module _ {V : Type 0} (j : Judges V) (enough : FoundIsEnough j) (named : List �
         there = f;
         single = few (count_by holds ys) (unless (nat_lt 1 (count_by holds ys)) TwoContracts e.1.0);
         kinds = nowhere WrongRedeemer misfits ys e.1.1.0;
-        step = e.1.1.1.1.0;
+        step = subst (λ (w : Option TxFault). step_fault_unless w j named tx ys ≡ None) e.1.1.1.1.1.1.0 e.1.1.1.1.0;
         sums = e.1.1.1.1.1.0;
+        datums = e.1.1.1.1.1.1.0;
       }
 
   pub spent_at : (n : ℕ) (tx : Tx) → slice_get past.accepted n ≡ Some tx → Spent n tx
@@ -124,6 +128,10 @@ module _ {V : Type 0} (j : Judges V) (enough : FoundIsEnough j) (named : List �
       from_rules n tx q.0 q.2 q.1
       (subst (λ (b : Bool). whole_fault j named tx (if b then Some q.0 else None) ≡ None) known
       (subst (λ (o : Option (List (Spend × Output))). whole_fault j named tx (if_known named tx.outputs o) ≡ None) q.1 p.local))
+
+  -- each contract output is made at the datum whose digest it holds
+  pub tells_at : (n : ℕ) (tx : Tx) → slice_get past.accepted n ≡ Some tx → Tells tx
+  tells_at n tx at = let s = spent_at n tx at in tells_so tx s.ys (pairs_of (unspent_at (before past n)) tx.inputs s.ys s.pairs) s.kinds s.datums
 
   known_script : (l : Lock) (script : List ℕ) → script_in l ≡ Some script → is_known named l ≡ true → (v : V) × (named script ≡ Some v)
   known_script (Key a) script e h = cc
@@ -226,15 +234,22 @@ module _ {V : Type 0} (j : Judges V) (enough : FoundIsEnough j) (named : List �
   pub input_published : (n i : ℕ) (tx : Tx) (x : Spend) (o : Output) (c : ContractLock) → IsContractInput past n i tx x o → contract_in o.lock ≡ Some c → (v : V) × (named c.script ≡ Some v)
   input_published n i tx x o c k h = published n x.reference o c.script k.there (script_so o.lock c h)
 
-  -- and passes its step
-  pub step_passes : (n i : ℕ) (tx : Tx) (x : Spend) (o : Output) (c : ContractLock) (v : V) → (at : slice_get past.accepted n ≡ Some tx) → IsContractInput past n i tx x o →
-      contract_in o.lock ≡ Some c → named c.script ≡ Some v →
-      after_answer tx.outputs (j.step v (step_asked tx (spent_at n tx at).ys (step_with c (inputs_of x.redeemer)))) ≡ None
+  -- it is read at a datum that is brought with the digest that it holds
+  pub read_at : (n i : ℕ) (tx : Tx) (x : Spend) (o : Output) (c : ContractLock) → (at : slice_get past.accepted n ≡ Some tx) → IsContractInput past n i tx x o → contract_in o.lock ≡ Some c →
+      ReadStep (spent_at n tx at).ys tx.datums (x, o) c
+  read_at n i tx x o c at k h =
+      let s = spent_at n tx at in
+      step_read s.ys tx.datums (digests_in tx.outputs) i (x, o) c (told tx s.ys s.datums) s.single (beside n i tx x o at k.input k.there) h
+
+  -- and passes its step there
+  pub step_passes : (n i : ℕ) (tx : Tx) (x : Spend) (o : Output) (c : ContractLock) (v : V) → (at : slice_get past.accepted n ≡ Some tx) → (k : IsContractInput past n i tx x o) →
+      (h : contract_in o.lock ≡ Some c) → named c.script ≡ Some v →
+      after_answer tx.outputs (j.step v (step_asked tx (spent_at n tx at).ys (step_with c (read_at n i tx x o c at k h).datum (inputs_of x.redeemer)))) ≡ None
   step_passes n i tx x o c v at k h is =
       let s = spent_at n tx at in
-      let z = step_with c (inputs_of x.redeemer) in
-      let r = step_read s.ys i (x, o) c s.single (beside n i tx x o at k.input k.there) h in
-      let step : script_fault j (named c.script) (step_asked tx s.ys z) ≡ None = subst (λ (l : List Step). step_fault j named tx s.ys l ≡ None) r.1 s.step in
+      let r = read_at n i tx x o c at k h in
+      let z = step_with c r.datum (inputs_of x.redeemer) in
+      let step : script_fault j (named c.script) (step_asked tx s.ys z) ≡ None = subst (λ (l : List Step). step_fault j named tx s.ys l ≡ None) r.steps s.step in
       subst (λ (w : Option V). script_fault j w (step_asked tx s.ys z) ≡ None) is step
 
   -- ---- what it makes is new

@@ -20,10 +20,10 @@ use Rattle.ledger_laws.specs.Laws.{IsContractInput}
 use Rattle.ledger_laws.specs.Threads.{next_of}
 use Rattle.ledger_laws.proofs.PlainLaws.{not_both, each_at, any_at}
 use Rattle.ledger_laws.proofs.JudgedLemmas.{nowhere}
-use Rattle.ledger_laws.proofs.PartLaws.{contract_of_lock, is_contract_so, output_so}
+use Rattle.ledger_laws.proofs.PartLaws.{contract_of_lock, is_contract_so, under_so}
 use Rattle.ledger_laws.proofs.ReferenceLaws.{same_ref-refl, unspent_so}
 use Rattle.ledger_laws.proofs.AcceptedLaws.{one_place, named_input, input_steps, steps_one, one_input, input_published, step_passes}
-use Rattle.ledger_laws.proofs.MadeLaws.{made_of, made_output}
+use Rattle.ledger_laws.proofs.MadeLaws.{made_of, each_before, made_output}
 use Rattle.ledger_laws.proofs.SpineLaws.{next_there, next_so}
 use Rattle.ledger_laws.proofs.KernelLemmas.{IsOpen, Spends, Flow}
 
@@ -39,7 +39,7 @@ first_alone answers.Ends os h i o g c = absurd (not_both c (each_at (λ o. is_co
 module _ {V : Type 0} (j : Judges V) (enough : FoundIsEnough j) (named : List ℕ → Option V) (past : Past) (sound : IsSound j named past) where
   -- an unspent contract output is open
   pub opened : (n : ℕ) (q : OutputRef) (o : Output) → unspent_at (before past n) q ≡ Some o → is_contract o.lock ≡ true → IsOpen (before past n) q
-  opened n q o h c = let m = made_of (before past n) sound.keys q o h c in record { contract = m.0; made = m.1; unspent = (unspent_so (before past n) q o h).0 }
+  opened n q o h c = let m = made_of (before past n) sound.keys (each_before j enough named past sound n) q o h c in record { contract = m.0; made = m.1; unspent = (unspent_so (before past n) q o h).0 }
 
   -- a contract input spends its output
   pub spends_it : (n i : ℕ) (tx : Tx) (x : Spend) (o : Output) → IsContractInput past n i tx x o → is_input_of x.reference tx ≡ true
@@ -57,8 +57,8 @@ module _ {V : Type 0} (j : Judges V) (enough : FoundIsEnough j) (named : List �
   alone n i tx x o input k c h =
       let l = contract_of_lock o.lock input.contract in
       let v = input_published j enough named past sound n i tx x o l.0 input l.1 in
-      let out = output_so tx k c h in
-      first_alone (j.step v.0 _) tx.outputs (step_passes j enough named past sound n i tx x o l.0 v.0 input.accepted input l.1 v.1) k out.0 out.1 (is_contract_so (out.0).lock (lock_of c) out.2)
+      let out = under_so tx k c h in
+      first_alone (j.step v.0 _) tx.outputs (step_passes j enough named past sound n i tx x o l.0 v.0 input.accepted input l.1 v.1) k out.0 out.1 (is_contract_so (out.0).lock out.2 out.3)
 
   pub flow : Flow next_of past
   flow = record {

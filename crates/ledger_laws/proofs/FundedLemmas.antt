@@ -28,8 +28,8 @@ use Rattle.ledger_laws.proofs.PlainLaws.{and_true, not_false, same_some}
 use Rattle.ledger_laws.proofs.PartLaws.{contract_of_lock, script_so}
 use Rattle.ledger_laws.proofs.JudgedLemmas.{mapped_none, unplaced}
 use Rattle.ledger_laws.proofs.PairedLemmas.{step_with, none_steps}
-use Rattle.ledger_laws.proofs.AcceptedLaws.{spent_at, made_published, steps_one, input_published, step_passes}
-use Rattle.ledger_laws.proofs.MadeLaws.{made_of, made_unspent}
+use Rattle.ledger_laws.proofs.AcceptedLaws.{spent_at, tells_at, made_published, steps_one, input_published, read_at, step_passes}
+use Rattle.ledger_laws.proofs.MadeLaws.{made_of, each_tells, made_unspent}
 use Rattle.ledger_laws.proofs.LaidOutLemmas.{datum_after, stepped_so, continues, led_so}
 
 -- a start is at the root, and holds the sums of its accounts
@@ -50,7 +50,7 @@ module _ (enough : FoundIsEnough marlowe) (named : List ℕ → Option Published
       (p : Published) → named c.script ≡ Some p → (p.root ≡ c.datum.cont) × (o.amount ≡ sums_of c.datum.state)
   starting_at n tx at bare k o c out make p is =
       let s = spent_at marlowe enough named past sound n tx at in
-      let none = none_steps (unspent_at (before past n)) tx.inputs s.ys s.pairs s.kinds bare in
+      let none = none_steps (unspent_at (before past n)) tx.inputs s.ys tx.datums s.pairs s.kinds bare in
       let step : step_fault marlowe named tx s.ys [] ≡ None = subst (λ (l : List Step). step_fault marlowe named tx s.ys l ≡ None) none s.step in
       let here = unplaced (λ i (x : Output). starts_wrong marlowe named x.amount (contract_at tx i)) tx.outputs (mapped_none WrongStart _ step) k o out in
       let there : starts_wrong marlowe named o.amount (Some c) ≡ false = subst (λ (z : Option Instance). starts_wrong marlowe named o.amount z ≡ false) make here in
@@ -63,8 +63,9 @@ module _ (enough : FoundIsEnough marlowe) (named : List ℕ → Option Published
       let l = contract_of_lock u.lock input.contract in
       let q = input_published marlowe enough named past sound n i tx x u l.0 input l.1 in
       let ys = (spent_at marlowe enough named past sound n tx input.accepted).ys in
-      let s : Stepping = step_asked tx ys (step_with l.0 (inputs_of x.redeemer)) in
-      let z = stepped_so (terms_of q.0) s (step_passes marlowe enough named past sound n i tx x u l.0 q.0 input.accepted input l.1 q.1) in
+      let d = (read_at marlowe enough named past sound n i tx x u l.0 input.accepted input l.1).datum in
+      let s : Stepping = step_asked tx ys (step_with l.0 d (inputs_of x.redeemer)) in
+      let z = stepped_so (terms_of q.0) s (tells_at marlowe enough named past sound n tx input.accepted) (step_passes marlowe enough named past sound n i tx x u l.0 q.0 input.accepted input l.1 q.1) in
       let on = continues (terms_of q.0) s z k c make in
       let same : q.0 ≡ p = same_some q.0 p (sym q.1 ∙ ap (λ (e : Instance). named e.script) (sym on.contract) ∙ is) in
       record {
@@ -88,7 +89,7 @@ module _ (enough : FoundIsEnough marlowe) (named : List ℕ → Option Published
   stands : (q : OutputRef) (o : Output) → unspent_at past q ≡ Some o → is_contract o.lock ≡ true →
       (c : Instance) × IsMade past q c × (contract_in o.lock ≡ Some (lock_of c)) × ((p : Published) × (named c.script ≡ Some p) × Stands p o c)
   stands q o h k =
-      let m = made_of past sound.keys q o h k in
+      let m = made_of past sound.keys (each_tells marlowe enough named past sound) q o h k in
       let out = (made_unspent marlowe enough named past sound q m.0 o m.1 h).0 in
       let p = made_published marlowe enough named past sound m.1.number m.1.tx m.1.accepted m.1.index o (m.0).script out (script_so o.lock (lock_of m.0) m.2) in
       (m.0, m.1, m.2, (p.0, p.1, made_stands m.1.number m.1.tx m.1.accepted m.1.index o m.0 out m.1.contract p.0 p.1))

@@ -32,10 +32,11 @@ use Rattle.roles.specs.Terms.{Terms, IsTable}
 use Rattle.roles.specs.Sums.{sums_of}
 use Rattle.table.specs.Flat.{is_close}
 use Rattle.roles.specs.Steps.{same_output, same_datum, continuation, due_outputs, actor, authorised, unauthorised, first_unpaid, is_instance, holds_just, goes_on_in, walk_of, not_authorised, wrong_continuation, payments_from, wrong_payment, answer_by, next_datum, by_answer, step_of}
-use Rattle.eutxo_types.specs.Parts.{same_bytes, is_contract, contract_in, Instance, lock_of, contract_at}
+use Rattle.eutxo_types.specs.Parts.{same_bytes, is_contract, ContractLock, contract_in, Instance, lock_of, contract_at}
 use Rattle.ledger_laws.specs.Threads.{Effect, LaidOut}
 use Rattle.ledger_laws.proofs.PlainLaws.{and_true, not_false, not_both, same_some, each_at}
-use Rattle.ledger_laws.proofs.PartLaws.{lock_so, is_contract_so, output_so}
+use Rattle.ledger_laws.proofs.PartLaws.{lock_so, is_contract_so, under_so}
+use Rattle.ledger_laws.proofs.DatumLaws.{Tells, output_so}
 use Rattle.ledger_laws.proofs.JudgedLemmas.{each_none, nowhere, mapped_none, unless}
 
 unpaid_if : (b : Bool) (n : ℕ) (later : Option ℕ) → (if b then later else Some n) ≡ None → (b ≡ true) × (later ≡ None)
@@ -67,14 +68,14 @@ just_so : (m : Amounts) (z : Option Output) → holds_just m z ≡ true → (o :
 just_so m None h = cc
 just_so m (Some o) h = (o, refl, (same_by_decides bundles.the_row.coded o.amount m).0 h)
 
-goes_so : (tx : Tx) (i : ℕ) (script : List ℕ) (d : Datum) → goes_on_in tx i script d ≡ true →
+goes_so : (tx : Tx) → Tells tx → (i : ℕ) (script : List ℕ) (d : Datum) → goes_on_in tx i script d ≡ true →
     (contract_at tx i ≡ Some (record { script = script; datum = d })) × (slice_get tx.outputs i ≡ Some (continuation script d))
-goes_so tx i script d h =
+goes_so tx tells i script d h =
     let p = and_true (is_instance script d (contract_at tx i)) (holds_just (sums_of d.state) (slice_get tx.outputs i)) h in
     let it = instance_same script d (contract_at tx i) p.0 in
     let o = just_so (sums_of d.state) (slice_get tx.outputs i) p.1 in
-    let z = output_so tx i (record { script = script; datum = d }) it in
-    let lock = lock_so (z.0).lock (record { script = script; datum = d }) z.2 in
+    let z = output_so tx tells i (record { script = script; datum = d }) it in
+    let lock = lock_so (z.0).lock (lock_of (record { script = script; datum = d })) z.2 in
     let amount = ap (λ (x : Output). x.amount) (same_some z.0 o.0 (sym z.1 ∙ o.1)) ∙ o.2 in
     (it, z.1 ∙ (λ k. Some (let x : Output = record { lock = lock k; amount = amount k } in x)))
 
@@ -96,26 +97,28 @@ datum_after t s state = next_datum t s.datum (walk_of t s) state
 abbrev pub rules_after : Terms → Stepping → StateMaps → Bool → List (Option StepFault)
 rules_after t s state closed = not_authorised t.currency s ∷ wrong_continuation closed 0 (datum_after t s state) s ∷ wrong_payment t.currency closed 0 (walk_of t s).payments s ∷ []
 
--- it is the transaction function's, from a number of the table, and no rule refuses what it makes
+-- it is the transaction function's, from a number of the table, and no rule refuses what it makes; what is made holds the digests of
+-- its data
 pub record Stepped (t : Terms) (s : Stepping) : Type 0 where
   pub at : Standing
   pub answer : answer_of (walk_of t s) ≡ Ok at
   pub has : t.has s.datum.cont ≡ true
   pub rules : first_of (rules_after t s at.state (is_close at.contract)) ≡ None
   pub stray : stray_after (payments_from (is_close at.contract) 0) s.tx.outputs ≡ None
+  pub tells : Tells s.tx
 
-by_cases : (t : Terms) (s : Stepping) → t.has s.datum.cont ≡ true → (r : Result Standing SemFault) → answer_of (walk_of t s) ≡ r →
+by_cases : (t : Terms) (s : Stepping) → Tells s.tx → t.has s.datum.cont ≡ true → (r : Result Standing SemFault) → answer_of (walk_of t s) ≡ r →
     after_answer s.tx.outputs (by_answer t s (walk_of t s) r) ≡ None → Stepped t s
-by_cases t s has (Err f) e h = cc
-by_cases t s has (Ok a) e h =
+by_cases t s tells has (Err f) e h = cc
+by_cases t s tells has (Ok a) e h =
     let p = passed (first_of (rules_after t s a.state (is_close a.contract))) (is_close a.contract) s.tx.outputs h in
-    record { at = a; answer = e; has = has; rules = p.0; stray = p.1 }
+    record { at = a; answer = e; has = has; rules = p.0; stray = p.1; tells = tells }
 
-pub stepped_so : (t : Terms) (s : Stepping) → after_answer s.tx.outputs (step_of t s) ≡ None → Stepped t s
-stepped_so t s h = by (t.has s.datum.cont) refl h
+pub stepped_so : (t : Terms) (s : Stepping) → Tells s.tx → after_answer s.tx.outputs (step_of t s) ≡ None → Stepped t s
+stepped_so t s tells h = by (t.has s.datum.cont) refl h
   where
     by : (b : Bool) → t.has s.datum.cont ≡ b → after_answer s.tx.outputs (if b then by_answer t s (walk_of t s) (answer_of (walk_of t s)) else Refused (Semantics NoMatch)) ≡ None → Stepped t s
-    by true e h = by_cases t s e (answer_of (walk_of t s)) refl h
+    by true e h = by_cases t s tells e (answer_of (walk_of t s)) refl h
     by false e h = cc
 
 -- ---- who acts is authorised
@@ -135,11 +138,11 @@ authorised_so t s z =
 
 -- ---- its contract output is the one that goes on
 
-goes_first : (t : Terms) (s : Stepping) (state : StateMaps) → first_of (rules_after t s state false) ≡ None →
+goes_first : (t : Terms) (s : Stepping) → Tells s.tx → (state : StateMaps) → first_of (rules_after t s state false) ≡ None →
     (contract_at s.tx 0 ≡ Some (record { script = s.script; datum = datum_after t s state })) × (slice_get s.tx.outputs 0 ≡ Some (continuation s.script (datum_after t s state)))
-goes_first t s state h =
+goes_first t s tells state h =
     let d = datum_after t s state in
-    goes_so s.tx 0 s.script d (not_false (goes_on_in s.tx 0 s.script d) (unless (not (goes_on_in s.tx 0 s.script d)) WrongContinuation (each_none (rules_after t s state false) h).1.0))
+    goes_so s.tx tells 0 s.script d (not_false (goes_on_in s.tx 0 s.script d) (unless (not (goes_on_in s.tx 0 s.script d)) WrongContinuation (each_none (rules_after t s state false) h).1.0))
 
 -- a contract output of a step
 pub record Continues (t : Terms) (s : Stepping) (a : Standing) (i : ℕ) (c : Instance) : Type 0 where
@@ -154,29 +157,29 @@ later_at (x ∷ os) i o h = h
 pub continues : (t : Terms) (s : Stepping) → (z : Stepped t s) → (i : ℕ) (c : Instance) → contract_at s.tx i ≡ Some c → Continues t s z.at i c
 continues t s z i c h = by (is_close (z.at).contract) refl z.rules z.stray
   where
-    none_at : (k n : ℕ) (os : List Output) (o : Output) → option_map (λ (i : ℕ). StrayContract (n + i)) (position (λ o. is_contract o.lock) os) ≡ None → slice_get os k ≡ Some o →
-        contract_in o.lock ≡ Some (lock_of c) → ⊥
-    none_at k n os o f g l = not_both (is_contract_so o.lock (lock_of c) l) (each_at (λ o. is_contract o.lock) k os o (nowhere (λ (i : ℕ). StrayContract (n + i)) (λ o. is_contract o.lock) os f) g)
+    none_at : (k n : ℕ) (os : List Output) (o : Output) (l : ContractLock) → option_map (λ (i : ℕ). StrayContract (n + i)) (position (λ o. is_contract o.lock) os) ≡ None → slice_get os k ≡ Some o →
+        contract_in o.lock ≡ Some l → ⊥
+    none_at k n os o l f g h = not_both (is_contract_so o.lock l h) (each_at (λ o. is_contract o.lock) k os o (nowhere (λ (i : ℕ). StrayContract (n + i)) (λ o. is_contract o.lock) os f) g)
 
     first : is_close (z.at).contract ≡ false → first_of (rules_after t s (z.at).state false) ≡ None → stray_after 1 s.tx.outputs ≡ None → (i : ℕ) → contract_at s.tx i ≡ Some c → Continues t s z.at i c
     first e r f zero h =
-        let g = goes_first t s (z.at).state r in
+        let g = goes_first t s z.tells (z.at).state r in
         record { contract = same_some c _ (sym h ∙ g.0); output = g.1; goes = λ q. not_both (ap is_close q) e }
-    first e r f (suc i) h = let o = output_so s.tx (suc i) c h in absurd (none_at i 1 (drop 1 s.tx.outputs) o.0 f (later_at s.tx.outputs i o.0 o.1) o.2)
+    first e r f (suc i) h = let o = under_so s.tx (suc i) c h in absurd (none_at i 1 (drop 1 s.tx.outputs) o.0 o.2 f (later_at s.tx.outputs i o.0 o.1) o.3)
 
     by : (b : Bool) → is_close (z.at).contract ≡ b → first_of (rules_after t s (z.at).state b) ≡ None → stray_after (payments_from b 0) s.tx.outputs ≡ None → Continues t s z.at i c
-    by true e r f = let o = output_so s.tx i c h in absurd (none_at i 0 s.tx.outputs o.0 f o.1 o.2)
+    by true e r f = let o = under_so s.tx i c h in absurd (none_at i 0 s.tx.outputs o.0 o.2 f o.1 o.3)
     by false e r f = first e r f i h
 
 -- ---- how it is laid out
 
-laid_out : (t : Terms) (s : Stepping) (state : StateMaps) (c : ContractTree) → first_of (rules_after t s state (is_close c)) ≡ None →
+laid_out : (t : Terms) (s : Stepping) → Tells s.tx → (state : StateMaps) (c : ContractTree) → first_of (rules_after t s state (is_close c)) ≡ None →
     (t.has (datum_after t s state).cont ≡ true) × (t.tree (datum_after t s state).cont ≡ c) →
     LaidOut t s.script (effect_of (walk_of t s) state c) 0 s.tx
-laid_out t s state close h led =
+laid_out t s tells state close h led =
     pays 0 (due_outputs t.currency (walk_of t s).payments) s.tx.outputs (mapped_none WrongPayment _ (each_none (rules_after t s state true) h).1.1.0)
-laid_out t s state c h led =
-    let g = goes_first t s state h in
+laid_out t s tells state c h led =
+    let g = goes_first t s tells state h in
     let paid = mapped_none WrongPayment _ (each_none (rules_after t s state false) h).1.1.0 in
     ((datum_after t s state).cont, led.0, led.1, g.0, g.1, pays 1 (due_outputs t.currency (walk_of t s).payments) (drop 1 s.tx.outputs) paid)
 
@@ -193,4 +196,4 @@ led_so turns t table s z =
     table.led s.datum.cont w.turns (z.at).contract z.has (turns s.tx.interval s.datum.state (t.tree s.datum.cont) s.inputs z.at end)
 
 pub laid_so : TurnsLead → (t : Terms) → IsTable t → (s : Stepping) → (z : Stepped t s) → LaidOut t s.script (effect_of (walk_of t s) (z.at).state (z.at).contract) 0 s.tx
-laid_so turns t table s z = laid_out t s (z.at).state (z.at).contract z.rules (led_so turns t table s z)
+laid_so turns t table s z = laid_out t s z.tells (z.at).state (z.at).contract z.rules (led_so turns t table s z)

@@ -4,17 +4,18 @@ use Rattle.std.specs.Prelude.{if◌then◌else◌, is_some}
 use Rattle.std.specs.List.{list_all, position, position_from, slice_get}
 use Rattle.std.specs.Option.{option_map}
 use Rattle.std.proofs.lemmas.Iterator.Adapters.{position_from-zero}
+use Rattle.eutxo_types.specs.declared.fault.TxFault.{TxFault}
 use Rattle.eutxo_types.specs.declared.fault.TxFault.TheVariants.{UnknownScript, WrongStart}
 use Rattle.eutxo_types.specs.declared.lock.Lock.{Lock}
 use Rattle.eutxo_types.specs.declared.lock.Lock.TheVariants.{Key, Payout, Contract}
 use Rattle.eutxo_types.specs.declared.output.Output.{Output}
 use Rattle.eutxo_types.specs.declared.spend.Spend.{Spend}
 use Rattle.eutxo_types.specs.declared.tx.Tx.{Tx}
-use Rattle.eutxo_types.specs.Parts.{Instance, lock_of, contract_at}
+use Rattle.eutxo_types.specs.Parts.{Instance, contract_at}
 use Rattle.eutxo.specs.Laws.{FoundIsEnough}
 use Rattle.eutxo.specs.Faults.{first_of}
 use Rattle.eutxo.specs.Found.{is_known, all_known, if_known}
-use Rattle.eutxo.specs.Rules.{Step, steps_of, step_asked, script_fault, step_fault, starts_wrong, starts_wrong_at}
+use Rattle.eutxo.specs.Rules.{Step, steps_of, step_asked, script_fault, step_fault, step_fault_unless, starts_wrong, starts_wrong_at, wrong_datum}
 use Rattle.eutxo.specs.Local.{spent_rules, spent_fault, whole_fault}
 use Rattle.eutxo.specs.Asked.{Judges}
 use Rattle.ledger_laws.specs.Past.{Past, before, unspent_at}
@@ -22,7 +23,7 @@ use Rattle.eutxo.specs.Judgement.{is_unknown, judge}
 use Rattle.ledger_laws.specs.Sound.{moment, IsSound, IsMore}
 use Rattle.ledger_laws.specs.Laws.{LaterIsSound}
 use Rattle.ledger_laws.proofs.PlainLaws.{EachFalse, not_false, both, is_there, each_at}
-use Rattle.ledger_laws.proofs.PartLaws.{lock_so, script_so, output_so}
+use Rattle.ledger_laws.proofs.PartLaws.{lock_so, script_so, under_so}
 use Rattle.ledger_laws.proofs.JudgedLemmas.{found, all_rules, local_rules, EachNone, each_none, made_known, same_places}
 use Rattle.ledger_laws.proofs.PairedLemmas.{Paired, paired, spent_known, input_at, step_there}
 use Rattle.ledger_laws.proofs.AcceptedLaws.{passes_at, find_known, published}
@@ -56,27 +57,32 @@ module _ {V : Type 0} (j : Judges V) (enough : FoundIsEnough j) (named later : L
       by : (c : Option Instance) → contract_at tx i ≡ c → starts_wrong j later o.amount c ≡ starts_wrong j named o.amount c
       by None e = refl
       by (Some c) e =
-          let z = output_so tx i c e in
-          let l = lock_so (z.0).lock (lock_of c) z.2 in
-          let t = is_there (named c.script) (subst (λ (l : Lock). is_known named l ≡ true) l (not_false (is_known named (z.0).lock) (each_at (is_unknown named) i tx.outputs z.0 known z.1))) in
+          let z = under_so tx i c e in
+          let l = lock_so (z.0).lock z.2 z.3 in
+          let k = subst (λ (l : Lock). is_known named l ≡ true) l (not_false (is_known named (z.0).lock) (each_at (is_unknown named) i tx.outputs z.0 known z.1)) in
+          let t = is_there (named c.script) (subst (λ (id : List ℕ). is_some (named id) ≡ true) z.4 k) in
           ap (λ v. starts_wrong_at j v c.datum o.amount) (more c.script t.0 t.1 ∙ sym t.1)
 
   module _ (past : Past) (sound : IsSound j named past) (n : ℕ) (tx : Tx) (at : slice_get past.accepted n ≡ Some tx) where
-    same_step : (ys : List (Spend × Output)) → Paired (unspent_at (before past n)) tx.inputs ys → (z : List Step) → steps_of ys ≡ z → step_fault j named tx ys z ≡ None →
+    same_step : (ys : List (Spend × Output)) → Paired (unspent_at (before past n)) tx.inputs ys → (z : List Step) → steps_of ys tx.datums ≡ z → step_fault j named tx ys z ≡ None →
         step_fault j later tx ys z ≡ None
     same_step ys p [] e h =
         ap (option_map WrongStart) (same_places (λ i (o : Output). starts_wrong j later o.amount (contract_at tx i)) (λ i (o : Output). starts_wrong j named o.amount (contract_at tx i)) tx.outputs
         (same_start tx (passes_at j enough named past sound n tx at).known)) ∙ h
     same_step ys p (s ∷ ss) e h =
-        let y = step_there ys s ss e in
+        let y = step_there ys tx.datums s ss e in
         let there = (input_at (unspent_at (before past n)) y.0 y.1 tx.inputs ys p y.2).1 in
-        let t = published j enough named past sound n y.1.0.reference y.1.1 s.script there (script_so y.1.1.lock _ y.3) in
+        let t = published j enough named past sound n y.1.0.reference y.1.1 s.script there (script_so y.1.1.lock y.3 y.4 ∙ ap (λ (id : List ℕ). Some id) y.5) in
         subst (λ (v : Option V). script_fault j v (step_asked tx ys s) ≡ None) (t.1 ∙ sym (more s.script t.0 t.1)) h
+
+    same_unless : (ys : List (Spend × Output)) → Paired (unspent_at (before past n)) tx.inputs ys → (w : Option TxFault) → step_fault_unless w j named tx ys ≡ None → step_fault_unless w j later tx ys ≡ None
+    same_unless ys p None h = same_step ys p (steps_of ys tx.datums) refl h
+    same_unless ys p (Some fault) h = refl
 
     same_spent : (ys : List (Spend × Output)) → Paired (unspent_at (before past n)) tx.inputs ys → spent_fault j named tx ys ≡ None → spent_fault j later tx ys ≡ None
     same_spent ys p h =
         let e = each_none (spent_rules j named tx ys) h in
-        first_none (spent_rules j later tx ys) (e.0, (e.1.0, (e.1.1.0, (e.1.1.1.0, (same_step ys p (steps_of ys) refl e.1.1.1.1.0, (e.1.1.1.1.1.0, tt))))))
+        first_none (spent_rules j later tx ys) (e.0, (e.1.0, (e.1.1.0, (e.1.1.1.0, (same_unless ys p (wrong_datum tx ys) e.1.1.1.1.0, (e.1.1.1.1.1.0, (e.1.1.1.1.1.1.0, tt)))))))
 
     known_both : (k : List ℕ → Option V) (ys : List (Spend × Output)) → EachFalse (is_unknown k) tx.outputs → list_all (λ x. is_known k x.1.lock) ys ≡ true → all_known k tx.outputs ys ≡ true
     known_both k ys h s = both (list_all (λ o. is_known k o.lock) tx.outputs) (list_all (λ x. is_known k x.1.lock) ys) (made_known k tx.outputs h) s

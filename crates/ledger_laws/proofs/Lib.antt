@@ -3,6 +3,7 @@ pub mod PartLaws
 pub mod ReferenceLaws
 pub mod JudgedLemmas
 pub mod PairedLemmas
+pub mod DatumLaws
 pub mod AcceptedLaws
 pub mod MadeLaws
 pub mod SpineLaws

@@ -6,40 +6,52 @@ use Rattle.eutxo_types.specs.declared.output.Output.{Output}
 use Rattle.eutxo_types.specs.declared.output_ref.OutputRef.{OutputRef}
 use Rattle.eutxo_types.specs.declared.tx.Tx.{Tx}
 use Rattle.eutxo_types.specs.Ids.{id_of}
-use Rattle.eutxo_types.specs.Parts.{is_contract, contract_in, Instance, lock_of, instance_of, contract_at, same_ref}
+use Rattle.eutxo_types.specs.Parts.{is_contract, ContractLock, contract_in, Instance, lock_of, contract_at, same_ref}
 use Rattle.eutxo.specs.Laws.{FoundIsEnough}
 use Rattle.eutxo.specs.Asked.{Judges}
-use Rattle.ledger_laws.specs.Past.{Past, created, unspent_at}
+use Rattle.ledger_laws.specs.Past.{Past, before, created, unspent_at}
 use Rattle.ledger_laws.specs.Sound.{AreKeys, IsSound}
 use Rattle.ledger_laws.specs.Threads.{IsMade}
-use Rattle.ledger_laws.proofs.PlainLaws.{same_some}
-use Rattle.ledger_laws.proofs.PartLaws.{contract_of_lock, output_so, instance_so}
+use Rattle.ledger_laws.proofs.PlainLaws.{same_some, taken_at}
+use Rattle.ledger_laws.proofs.PartLaws.{contract_of_lock}
+use Rattle.ledger_laws.proofs.DatumLaws.{Tells, output_so}
 use Rattle.ledger_laws.proofs.ReferenceLaws.{same_made, maker, unspent_so}
-use Rattle.ledger_laws.proofs.AcceptedLaws.{no_contract_first, one_place, made_there}
+use Rattle.ledger_laws.proofs.AcceptedLaws.{no_contract_first, tells_at, one_place, made_there}
+
+-- each contract output of an accepted transaction is made at the datum whose digest it holds
+abbrev pub EachTells : Past → Type 0
+EachTells past = (n : ℕ) (tx : Tx) → slice_get past.accepted n ≡ Some tx → Tells tx
 
 -- an unspent contract output was made with a contract, under whose lock it stands
-pub made_of : (past : Past) → AreKeys past.genesis → (q : OutputRef) (o : Output) → unspent_at past q ≡ Some o → is_contract o.lock ≡ true →
+pub made_of : (past : Past) → AreKeys past.genesis → EachTells past → (q : OutputRef) (o : Output) → unspent_at past q ≡ Some o → is_contract o.lock ≡ true →
     (c : Instance) × IsMade past q c × (contract_in o.lock ≡ Some (lock_of c))
-made_of past keys q o h c =
+made_of past keys tells q o h c =
     elim (maker past q o (unspent_so past q o h).1) [
       | inl g ↦ absurd (no_contract_first past.genesis keys g.0 o g.1 c)
       | inr m ↦
           let l = contract_of_lock o.lock c in
-          (instance_of l.0, record { number = m.number; tx = m.tx; accepted = m.accepted; index = m.index; name = m.name; contract = instance_so m.tx m.index o l.0 m.made l.1 }, l.1)
+          let z = (tells m.number m.tx m.accepted).made m.index o l.0 m.made l.1 in
+          (z.0, record { number = m.number; tx = m.tx; accepted = m.accepted; index = m.index; name = m.name; contract = z.1 }, l.1 ∙ ap (λ (k : ContractLock). Some k) z.2)
     ]
 
 module _ {V : Type 0} (j : Judges V) (enough : FoundIsEnough j) (named : List ℕ → Option V) (past : Past) (sound : IsSound j named past) where
+  pub each_tells : EachTells past
+  each_tells n tx at = tells_at j enough named past sound n tx at
+
+  pub each_before : (n : ℕ) → EachTells (before past n)
+  each_before n m tx at = each_tells m tx (taken_at n m past.accepted tx at).0
+
   -- what is made was created, under its contract's lock
   pub made_output : (q : OutputRef) (c : Instance) → IsMade past q c → (o : Output) × (lookup (same_ref q) (created past) ≡ Some o) × (contract_in o.lock ≡ Some (lock_of c))
   made_output q c m =
-      let o = output_so m.tx m.index c m.contract in
+      let o = output_so m.tx (each_tells m.number m.tx m.accepted) m.index c m.contract in
       (o.0, ap (λ (k : OutputRef). lookup (same_ref k) (created past)) m.name ∙ made_there j enough named past sound m.number m.tx m.accepted m.index o.0 o.1, o.2)
 
   -- an unspent output is the one that was made
   pub made_unspent : (q : OutputRef) (c : Instance) (o : Output) → (m : IsMade past q c) → unspent_at past q ≡ Some o →
       (slice_get (m.tx).outputs m.index ≡ Some o) × (contract_in o.lock ≡ Some (lock_of c))
   made_unspent q c o m h =
-      let z = output_so m.tx m.index c m.contract in
+      let z = output_so m.tx (each_tells m.number m.tx m.accepted) m.index c m.contract in
       let there = made_there j enough named past sound m.number m.tx m.accepted m.index z.0 z.1 in
       let same : z.0 ≡ o = same_some z.0 o (sym there ∙ sym (ap (λ (k : OutputRef). lookup (same_ref k) (created past)) m.name) ∙ (unspent_so past q o h).1) in
       (z.1 ∙ ap (λ (x : Output). Some x) same, ap (λ (x : Output). contract_in x.lock) (sym same) ∙ z.2)

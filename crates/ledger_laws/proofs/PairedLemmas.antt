@@ -3,6 +3,7 @@ use Rattle.std.proofs.Common.{◌≡◌, ℕ, zero, suc, ◌≤◌, Bool, true, 
 use Rattle.std.specs.Prelude.{is_none, count_by, map, if◌then◌else◌}
 use Rattle.std.specs.List.{slice_get, list_any, list_all}
 use Rattle.contract.specs.declared.input.Input.{Input}
+use Rattle.machine.specs.declared.datum.Datum.{Datum}
 use Rattle.eutxo_types.specs.declared.lock.Lock.{Lock}
 use Rattle.eutxo_types.specs.declared.lock.Lock.TheVariants.{Key, Payout, Contract}
 use Rattle.eutxo_types.specs.declared.output.Output.{Output}
@@ -10,8 +11,9 @@ use Rattle.eutxo_types.specs.declared.output_ref.OutputRef.{OutputRef}
 use Rattle.eutxo_types.specs.declared.redeemer.Redeemer.{Redeemer}
 use Rattle.eutxo_types.specs.declared.redeemer.Redeemer.TheVariants as with
 use Rattle.eutxo_types.specs.declared.spend.Spend.{Spend}
+use Rattle.eutxo_types.specs.Digests.{datum_hash}
 use Rattle.eutxo.specs.Found.{with_output, with_outputs, is_known}
-use Rattle.eutxo.specs.Rules.{opens, Step, step_in, steps_of}
+use Rattle.eutxo.specs.Rules.{opens, digest_in, digests_in, Step, or_step, steps_of}
 use Rattle.eutxo_types.specs.Parts.{given_to, inputs_of, is_contract, ContractLock, contract_in, same_ref, is_step}
 use Rattle.ledger_laws.proofs.PlainLaws.{EachFalse, not_both, not_false, both, some_of, same_some, each_at, any_at, fewer, first_fails}
 use Rattle.ledger_laws.proofs.PartLaws.{no_contract_in, is_contract_so}
@@ -66,6 +68,13 @@ input_at find zero y (x ∷ xs) (z ∷ ys) p h =
     (ap (λ (w : Spend). Some w) e, ap (λ (w : Spend). find w.reference) (sym e) ∙ p.1 ∙ ap (λ (w : Spend × Output). Some w.1) q)
 input_at find (suc i) y (x ∷ xs) (z ∷ ys) p h = input_at find i y xs ys p.2 h
 
+-- the inputs are those of the pairs
+pub pairs_of : (find : OutputRef → Option Output) (xs : List Spend) (ys : List (Spend × Output)) → Paired find xs ys → xs ≡ map (λ y. y.0) ys
+pairs_of find [] [] p = refl
+pairs_of find [] (y ∷ ys) p = absurd p
+pairs_of find (x ∷ xs) [] p = absurd p
+pairs_of find (x ∷ xs) (y ∷ ys) p = ap (λ (z : Spend). z ∷ xs) (sym p.0) ∙ ap (λ (zs : List Spend). y.0 ∷ zs) (pairs_of find xs ys p.2)
+
 -- the first input that names an output
 pub record NamedAt (r : OutputRef) (xs : List Spend) : Type 0 where
   pub index : ℕ
@@ -109,46 +118,81 @@ contract_steps with.None (Contract s d) c h = cc
 contract_steps with.Claim (Contract s d) c h = cc
 contract_steps (with.Step xs) (Contract s d) c h = refl
 
--- the step of a contract that is spent
-abbrev pub step_with : ContractLock → List Input → Step
-step_with c xs = record { script = c.script; datum = c.datum; inputs = xs }
+-- the step of a contract that is spent, at a datum
+abbrev pub step_with : ContractLock → Datum → List Input → Step
+step_with c d xs = record { script = c.script; datum = d; inputs = xs }
 
--- where at most one contract is spent, a contract that is spent is the step that the rules read
-pub step_read : (ys : List (Spend × Output)) (i : ℕ) (y : Spend × Output) (c : ContractLock) → count_by holds ys ≤ 1 → slice_get ys i ≡ Some y → contract_in y.1.lock ≡ Some c →
-    (later : List Step) × (steps_of ys ≡ step_with c (inputs_of y.0.redeemer) ∷ later)
-step_read [] i y c few e h = cc
-step_read (z ∷ ys) zero y c few e h =
-    let q : z ≡ y = same_some z y e in (
-      steps_of ys,
-      ap (λ (w : Spend × Output). step_in (contract_in w.1.lock) (inputs_of w.0.redeemer) ++ steps_of ys) q ∙ ap (λ (l : Option ContractLock). step_in l (inputs_of y.0.redeemer) ++ steps_of ys) h,
-    )
-step_read (z ∷ ys) (suc i) y c few e h =
+-- a contract that is spent is the first step that the rules read, at a datum that is brought with the digest that it holds
+pub record ReadStep (ys : List (Spend × Output)) (ds : List Datum) (y : Spend × Output) (c : ContractLock) : Type 0 where
+  pub datum : Datum
+  pub later : List Step
+  pub steps : steps_of ys ds ≡ step_with c datum (inputs_of y.0.redeemer) ∷ later
+  pub digest : datum_hash datum ≡ c.digest
+  pub place : ℕ
+  pub brought : slice_get ds place ≡ Some datum
+
+-- the digests that are held where an input finds this
+abbrev held_with : Option ContractLock → List (Spend × Output) → List (List ℕ) → List (List ℕ)
+held_with l ys hs = (digest_in l ++ digests_in (map (λ x. x.1) ys)) ++ hs
+
+-- where at most one contract is spent, and the data have the digests that are held, that is so
+pub step_read : (ys : List (Spend × Output)) (ds : List Datum) (hs : List (List ℕ)) (i : ℕ) (y : Spend × Output) (c : ContractLock) → map datum_hash ds ≡ digests_in (map (λ x. x.1) ys) ++ hs →
+    count_by holds ys ≤ 1 → slice_get ys i ≡ Some y → contract_in y.1.lock ≡ Some c → ReadStep ys ds y c
+step_read [] ds hs i y c told few e h = cc
+step_read (z ∷ ys) [] hs zero y c told few e h =
+    let k : contract_in z.1.lock ≡ Some c = ap (λ (w : Spend × Output). contract_in w.1.lock) (same_some z y e) ∙ h in
+    let t : (let l : List (List ℕ) = [] in l) ≡ held_with (Some c) ys hs = told ∙ ap (λ (l : Option ContractLock). held_with l ys hs) k in
+    cc
+step_read (z ∷ ys) (d ∷ ds) hs zero y c told few e h =
+    let q : z ≡ y = same_some z y e in
+    let k : contract_in z.1.lock ≡ Some c = ap (λ (w : Spend × Output). contract_in w.1.lock) q ∙ h in
+    let t : datum_hash d ∷ map datum_hash ds ≡ held_with (Some c) ys hs = told ∙ ap (λ (l : Option ContractLock). held_with l ys hs) k in
+    let first : datum_hash d ≡ c.digest = cc in
+    record {
+      datum = d;
+      later = steps_of ys ds;
+      steps =
+          ap (λ (l : Option ContractLock). or_step l (inputs_of z.0.redeemer) (d ∷ ds) (steps_of ys)) k
+          ∙ ap (λ (w : Spend × Output). step_with c d (inputs_of w.0.redeemer) ∷ steps_of ys ds) q;
+      digest = first;
+      place = 0;
+      brought = refl;
+    }
+step_read (z ∷ ys) ds hs (suc i) y c told few e h =
     let none = no_contract_in z.1.lock (first_fails holds z ys i y few e (is_contract_so y.1.lock c h)) in
-    let s = step_read ys i y c (fewer holds z ys few) e h in
-    (s.0, ap (λ (l : Option ContractLock). step_in l (inputs_of z.0.redeemer) ++ steps_of ys) none ∙ s.1)
+    let s = step_read ys ds hs i y c (told ∙ ap (λ (l : Option ContractLock). held_with l ys hs) none) (fewer holds z ys few) e h in
+    record {
+      datum = s.datum;
+      later = s.later;
+      steps = ap (λ (l : Option ContractLock). or_step l (inputs_of z.0.redeemer) ds (steps_of ys)) none ∙ s.steps;
+      digest = s.digest;
+      place = s.place;
+      brought = s.brought;
+    }
 
 -- the first of the steps is of a contract that is spent
-pub step_there : (ys : List (Spend × Output)) (s : Step) (later : List Step) → steps_of ys ≡ s ∷ later →
-    (i : ℕ) × (y : Spend × Output) × (slice_get ys i ≡ Some y) × (contract_in y.1.lock ≡ Some (record { script = s.script; datum = s.datum }))
-step_there [] s later h = cc
-step_there (y ∷ ys) s later h = by (contract_in y.1.lock) refl h (step_there ys s later)
+pub step_there : (ys : List (Spend × Output)) (ds : List Datum) (s : Step) (later : List Step) → steps_of ys ds ≡ s ∷ later →
+    (i : ℕ) × (y : Spend × Output) × (slice_get ys i ≡ Some y) × (c : ContractLock) × (contract_in y.1.lock ≡ Some c) × (c.script ≡ s.script)
+step_there [] ds s later h = cc
+step_there (y ∷ ys) ds s later h = by (contract_in y.1.lock) refl ds h (step_there ys ds s later)
   where
-    by : (z : Option ContractLock) → contract_in y.1.lock ≡ z → step_in z (inputs_of y.0.redeemer) ++ steps_of ys ≡ s ∷ later →
-        (steps_of ys ≡ s ∷ later → (i : ℕ) × (w : Spend × Output) × (slice_get ys i ≡ Some w) × (contract_in w.1.lock ≡ Some (record { script = s.script; datum = s.datum }))) →
-        (i : ℕ) × (w : Spend × Output) × (slice_get (y ∷ ys) i ≡ Some w) × (contract_in w.1.lock ≡ Some (record { script = s.script; datum = s.datum }))
-    by None e h go = let g = go h in (suc g.0, g.1, g.2, g.3)
-    by (Some c) e h go =
-        let q : step_with c (inputs_of y.0.redeemer) ≡ s = cc in
-        (0, y, refl, e ∙ ap (λ (w : Step). Some (let l : ContractLock = record { script = w.script; datum = w.datum } in l)) q)
+    by : (z : Option ContractLock) → contract_in y.1.lock ≡ z → (es : List Datum) → or_step z (inputs_of y.0.redeemer) es (steps_of ys) ≡ s ∷ later →
+        (steps_of ys es ≡ s ∷ later → (i : ℕ) × (w : Spend × Output) × (slice_get ys i ≡ Some w) × (c : ContractLock) × (contract_in w.1.lock ≡ Some c) × (c.script ≡ s.script)) →
+        (i : ℕ) × (w : Spend × Output) × (slice_get (y ∷ ys) i ≡ Some w) × (c : ContractLock) × (contract_in w.1.lock ≡ Some c) × (c.script ≡ s.script)
+    by None e es h go = let g = go h in (suc g.0, g.1, g.2, g.3, g.4, g.5)
+    by (Some c) e [] h go = cc
+    by (Some c) e (d ∷ es) h go =
+        let q : step_with c d (inputs_of y.0.redeemer) ≡ s = cc in
+        (0, y, refl, c, e, ap (λ (w : Step). w.script) q)
 
 -- where no redeemer steps, no contract is spent
-pub none_steps : (find : OutputRef → Option Output) (xs : List Spend) (ys : List (Spend × Output)) → Paired find xs ys → EachFalse misfits ys →
-    list_any (λ x. is_step x.redeemer) xs ≡ false → steps_of ys ≡ []
-none_steps find xs ys p kinds h = by (steps_of ys) refl
+pub none_steps : (find : OutputRef → Option Output) (xs : List Spend) (ys : List (Spend × Output)) (ds : List Datum) → Paired find xs ys → EachFalse misfits ys →
+    list_any (λ x. is_step x.redeemer) xs ≡ false → steps_of ys ds ≡ []
+none_steps find xs ys ds p kinds h = by (steps_of ys ds) refl
   where
-    by : (z : List Step) → steps_of ys ≡ z → z ≡ []
+    by : (z : List Step) → steps_of ys ds ≡ z → z ≡ []
     by [] e = refl
     by (s ∷ later) e =
-        let t = step_there ys s later e in
-        let k = contract_steps t.1.0.redeemer t.1.1.lock (is_contract_so t.1.1.lock _ t.3) (not_false (opens t.1.0.redeemer t.1.1.lock) (each_at misfits t.0 ys t.1 kinds t.2)) in
+        let t = step_there ys ds s later e in
+        let k = contract_steps t.1.0.redeemer t.1.1.lock (is_contract_so t.1.1.lock t.3 t.4) (not_false (opens t.1.0.redeemer t.1.1.lock) (each_at misfits t.0 ys t.1 kinds t.2)) in
         absurd (not_both (any_at (λ (x : Spend). is_step x.redeemer) xs t.0 t.1.0 (input_at find t.0 t.1 xs ys p t.2).0 k) h)

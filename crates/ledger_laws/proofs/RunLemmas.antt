@@ -17,10 +17,11 @@ use Rattle.eutxo_types.specs.declared.output_ref.OutputRef.{OutputRef}
 use Rattle.eutxo_types.specs.declared.output_ref.OutputRef.TheVariants.{Made}
 use Rattle.eutxo_types.specs.declared.spend.Spend.{Spend}
 use Rattle.eutxo_types.specs.declared.tx.Tx.{Tx}
+use Rattle.eutxo_types.specs.Digests.{datum_hash}
 use Rattle.eutxo_types.specs.Ids.{id_of}
 use Rattle.eutxo.specs.Laws.{FoundIsEnough}
 use Rattle.eutxo.specs.Asked.{Stepping}
-use Rattle.eutxo.specs.Rules.{step_asked}
+use Rattle.eutxo.specs.Rules.{step_asked, after_answer}
 use Rattle.roles.specs.declared.published.Published.{Published}
 use Rattle.roles.specs.Terms.{Terms, terms_of}
 use Rattle.eutxo_types.specs.Parts.{inputs_of, Instance, lock_of, contract_at, given_to}
@@ -28,11 +29,11 @@ use Rattle.ledger_laws.specs.Past.{Past, is_input_of}
 use Rattle.ledger_laws.specs.Sound.{IsSound}
 use Rattle.ledger_laws.specs.Threads.{Link, Effect, Member, Gives, Run, contract_after, state_after, next_of, spine, ends, thread, LaidOut, Carries, IsMade, IsStart}
 use Rattle.roles.specs.Steps.{walk_of, marlowe}
-use Rattle.ledger_laws.specs.Laws.{AreTables, EachIsARun, ThreadsAreRuns, EndsWithItsRun, ThreadsEndWithRuns}
+use Rattle.ledger_laws.specs.Laws.{AreTables, DigestsTell, EachIsARun, ThreadsAreRuns, EndsWithItsRun, ThreadsEndWithRuns}
 use Rattle.ledger_laws.proofs.PlainLaws.{same_some, head_at}
-use Rattle.ledger_laws.proofs.PartLaws.{is_contract_so, script_so, output_so}
+use Rattle.ledger_laws.proofs.PartLaws.{is_contract_so, script_so, under_so, brought_so}
 use Rattle.ledger_laws.proofs.PairedLemmas.{step_with}
-use Rattle.ledger_laws.proofs.AcceptedLaws.{spent_at, made_published, named_input, step_passes}
+use Rattle.ledger_laws.proofs.AcceptedLaws.{spent_at, tells_at, made_published, named_input, read_at, step_passes}
 use Rattle.ledger_laws.proofs.MadeLaws.{made_output, made_once}
 use Rattle.ledger_laws.proofs.LaidOutLemmas.{effect_of, datum_after, Stepped, stepped_so, continues, led_so, laid_so}
 use Rattle.ledger_laws.proofs.FundedLemmas.{starting_at}
@@ -75,7 +76,7 @@ one_run t script (l ∷ ls) c s (x ∷ a) (y ∷ b) ra ka rb kb =
 
 -- ---- a thread
 
-module _ (turns : TurnsLead) (enough : FoundIsEnough marlowe) (named : List ℕ → Option Published) (past : Past) (tables : AreTables named) (sound : IsSound marlowe named past) where
+module _ (turns : TurnsLead) (enough : FoundIsEnough marlowe) (named : List ℕ → Option Published) (past : Past) (tables : AreTables named) (apart : DigestsTell past) (sound : IsSound marlowe named past) where
   module _ (script : List ℕ) (p : Published) (is : named script ≡ Some p) where
     abbrev t : Terms
     t = terms_of p
@@ -99,7 +100,12 @@ module _ (turns : TurnsLead) (enough : FoundIsEnough marlowe) (named : List ℕ 
       pub gone : member.outcome.contract ≡ close → next_of r tx ≡ None
 
     abbrev stepping : Tx → Datum → List (Spend × Output) → List Input → Stepping
-    stepping tx d ys xs = step_asked tx ys (step_with (lock_of (at_datum d)) xs)
+    stepping tx d ys xs = step_asked tx ys (step_with (lock_of (at_datum d)) d xs)
+
+    -- a datum that is brought with the digest of the one that the maker brought is that one
+    same_datum : (n : ℕ) (tx : Tx) → slice_get past.accepted n ≡ Some tx → (r : OutputRef) (d : Datum) → IsMade past r (at_datum d) → (k : ℕ) (e : Datum) → slice_get tx.datums k ≡ Some e →
+        datum_hash e ≡ datum_hash d → e ≡ d
+    same_datum n tx at r d made k e there h = let m = brought_so made.tx made.index (at_datum d) made.contract in apart n made.number k m.0 tx made.tx e d at made.accepted there m.1 h
 
     acts : (n : ℕ) (tx : Tx) (r : OutputRef) (d : Datum) → slice_get past.accepted n ≡ Some tx → is_input_of r tx ≡ true → IsMade past r (at_datum d) → Acts tx r d
     acts n tx r d at named_r made =
@@ -107,7 +113,10 @@ module _ (turns : TurnsLead) (enough : FoundIsEnough marlowe) (named : List ℕ 
         let k = named_input marlowe enough named past sound n tx at r o.0 named_r o.1 (is_contract_so (o.0).lock (lock_of (at_datum d)) o.2) in
         let ys = (spent_at marlowe enough named past sound n tx at).ys in
         let xs = inputs_of k.0.input.redeemer in
-        let z = stepped_so t (stepping tx d ys xs) (step_passes marlowe enough named past sound n k.0.index tx k.0.input o.0 (lock_of (at_datum d)) p at k.1 o.2 is) in
+        let read = read_at marlowe enough named past sound n k.0.index tx k.0.input o.0 (lock_of (at_datum d)) at k.1 o.2 in
+        let passes = step_passes marlowe enough named past sound n k.0.index tx k.0.input o.0 (lock_of (at_datum d)) p at k.1 o.2 is in
+        let z = stepped_so t (stepping tx d ys xs) (tells_at marlowe enough named past sound n tx at)
+        (subst (λ (e : Datum). after_answer tx.outputs (marlowe.step p (step_asked tx ys (step_with (lock_of (at_datum d)) e xs))) ≡ None) (same_datum n tx at r d made read.place read.datum read.brought read.digest) passes) in
         record {
           member = record { interval = tx.interval; inputs = xs; outcome = effect_of (walk_of t (stepping tx d ys xs)) (z.at).state (z.at).contract };
           gives = (z.answer, refl, refl);
@@ -171,15 +180,15 @@ module _ (turns : TurnsLead) (enough : FoundIsEnough marlowe) (named : List ℕ 
     one_thread : (r : OutputRef) (d : Datum) → IsStart past r (at_datum d) → Runs (Some r) (thread past r) (t.tree t.root) d.state
     one_thread r d start =
         let m = start.made in
-        let o = output_so m.tx m.index (at_datum d) m.contract in
+        let o = under_so m.tx m.index (at_datum d) m.contract in
         let root = (starting_at enough named past sound m.number m.tx m.accepted start.bare m.index o.0 (at_datum d) o.1 m.contract p is).0 in
         run_from 0 past.accepted refl (Some r) (t.tree t.root) d.state (d, m, ap t.tree (sym root), refl)
 
   pub each_is_a_run : EachIsARun named past
   each_is_a_run r c start =
       let m = start.made in
-      let o = output_so m.tx m.index c m.contract in
-      let p = made_published marlowe enough named past sound m.number m.tx m.accepted m.index o.0 c.script o.1 (script_so (o.0).lock (lock_of c) o.2) in
+      let o = under_so m.tx m.index c m.contract in
+      let p = made_published marlowe enough named past sound m.number m.tx m.accepted m.index o.0 c.script o.1 (script_so (o.0).lock o.2 o.3 ∙ ap (λ (id : List ℕ). Some id) o.4) in
       let a = one_thread c.script p.0 p.1 r c.datum start in
       (p.0, p.1, (a.run, (a.runs, a.carried), λ b h. one_run (terms_of p.0) c.script (thread past r) ((terms_of p.0).tree (p.0).root) c.datum.state a.run b a.runs a.carried h.0 h.1))
 
@@ -194,7 +203,7 @@ module _ (turns : TurnsLead) (enough : FoundIsEnough marlowe) (named : List ℕ 
       (ap (λ (z : Instance). z.script) it, ap (λ (z : Instance). (terms_of p).tree z.datum.cont) it ∙ points.2, ap (λ (z : Instance). z.datum.state) it ∙ points.3)
 
 pub threads_are_runs : TurnsLead → FoundIsEnough marlowe → ThreadsAreRuns
-threads_are_runs turns enough named past tables sound = each_is_a_run turns enough named past tables sound
+threads_are_runs turns enough named past tables apart sound = each_is_a_run turns enough named past tables apart sound
 
 pub threads_end_with_runs : TurnsLead → FoundIsEnough marlowe → ThreadsEndWithRuns
-threads_end_with_runs turns enough named past tables sound = ends_with_its_run turns enough named past tables sound
+threads_end_with_runs turns enough named past tables apart sound = ends_with_its_run turns enough named past tables apart sound

@@ -19,7 +19,7 @@ use Rattle.ledger_laws.proofs.PlainLaws.{both_false, take_some}
 use Rattle.ledger_laws.proofs.PartLaws.{is_contract_so}
 use Rattle.ledger_laws.proofs.ReferenceLaws.{unspent_so, unspent_is}
 use Rattle.ledger_laws.proofs.AcceptedLaws.{still_there, steps_contract, contract_stepped}
-use Rattle.ledger_laws.proofs.MadeLaws.{made_of, made_output}
+use Rattle.ledger_laws.proofs.MadeLaws.{made_of, each_tells, made_output}
 use Rattle.ledger_laws.proofs.SpineLaws.{led, ends_reached, next_so}
 use Rattle.ledger_laws.proofs.KernelLemmas.{inputs_stand, opens_end, ends_made}
 use Rattle.ledger_laws.proofs.FlowLemmas.{opened, spends_it, flow}
@@ -37,7 +37,7 @@ steps_are_of_contracts j enough named past sound n i tx x at in_at h = contract_
 
 pub contracts_end : {V : Type 0} (j : Judges V) → FoundIsEnough j → ContractsEndThreads j
 contracts_end j enough named past sound q o h c =
-    let m = made_of past sound.keys q o h c in
+    let m = made_of past sound.keys (each_tells j enough named past sound) q o h c in
     (m.0, m.1, m.2, opens_end next_of past (flow j enough named past sound) q (record { contract = m.0; made = m.1; unspent = (unspent_so past q o h).0 }))
 
 module _ {V : Type 0} (j : Judges V) (enough : FoundIsEnough j) (named : List ℕ → Option V) (past : Past) (sound : IsSound j named past) where

@@ -3,6 +3,7 @@ use Rattle.std.specs.Prelude.{◌≡◌, ℕ, ℤ, true, List, [], map, slice_ge
 use Rattle.std.specs.List.{filter_map}
 use Rattle.names.specs.declared.token.Token.{Token}
 use Rattle.bundle.specs.Totals.{total_of}
+use Rattle.machine.specs.declared.datum.Datum.{Datum}
 use Rattle.eutxo_types.specs.declared.output.Output.{Output}
 use Rattle.eutxo_types.specs.declared.output_ref.OutputRef.{OutputRef}
 use Rattle.eutxo_types.specs.declared.spend.Spend.{Spend}
@@ -10,6 +11,7 @@ use Rattle.eutxo_types.specs.declared.tx.Tx.{Tx}
 use Rattle.eutxo.specs.Asked.{Judges}
 use Rattle.eutxo.specs.Found.{with_outputs}
 use Rattle.eutxo.specs.Judgement.{judge}
+use Rattle.eutxo_types.specs.Digests.{datum_hash}
 use Rattle.eutxo_types.specs.Ids.{id_of}
 use Rattle.eutxo_types.specs.Parts.{is_contract, ContractLock, contract_in, is_step, inputs_of, Instance, lock_of}
 use Rattle.roles.specs.declared.published.Published.{Published}
@@ -126,15 +128,21 @@ LaterIsSound {V} j = (published later : List ℕ → Option V) (past : Past) →
 abbrev pub AreTables : (List ℕ → Option Published) → Type 0
 AreTables published = (script : List ℕ) (p : Published) → published script ≡ Some p → IsTable (terms_of p)
 
+-- THE PREMISE ON DIGESTS: no two different data that accepted transactions bring have one digest
+abbrev pub DigestsTell : Past → Type 0
+DigestsTell past =
+    (n m i k : ℕ) (s t : Tx) (d e : Datum) → slice_get past.accepted n ≡ Some s → slice_get past.accepted m ≡ Some t →
+    slice_get s.datums i ≡ Some d → slice_get t.datums k ≡ Some e → datum_hash d ≡ datum_hash e → d ≡ e
+
 -- THE THREAD OF EACH START OUTPUT IS EXACTLY ONE RUN of the contract that was published under its script, from the state in
--- the start's datum
+-- the datum that the start's transaction brought
 abbrev pub EachIsARun : (List ℕ → Option Published) → Past → Type 0
 EachIsARun published past =
     (r : OutputRef) (c : Instance) → IsStart past r c →
     (p : Published) × (published c.script ≡ Some p) × ExactlyOne (λ run. Run ((terms_of p).tree p.root) c.datum.state run × Carries (terms_of p) c.script (thread past r) run)
 
 abbrev pub ThreadsAreRuns : Type 0
-ThreadsAreRuns = (published : List ℕ → Option Published) (past : Past) → AreTables published → IsSound marlowe published past → EachIsARun published past
+ThreadsAreRuns = (published : List ℕ → Option Published) (past : Past) → AreTables published → DigestsTell past → IsSound marlowe published past → EachIsARun published past
 
 -- and where the thread has an end, that is where the run stands: of the thread's script, at a number that stands for what
 -- remains, in the run's state
@@ -146,7 +154,7 @@ EndsWithItsRun published past =
     (e.script ≡ c.script) × ((terms_of p).tree e.datum.cont ≡ contract_after ((terms_of p).tree p.root) run) × (e.datum.state ≡ state_after c.datum.state run)
 
 abbrev pub ThreadsEndWithRuns : Type 0
-ThreadsEndWithRuns = (published : List ℕ → Option Published) (past : Past) → AreTables published → IsSound marlowe published past → EndsWithItsRun published past
+ThreadsEndWithRuns = (published : List ℕ → Option Published) (past : Past) → AreTables published → DigestsTell past → IsSound marlowe published past → EndsWithItsRun published past
 
 -- each unspent contract output holds exactly the sums of its accounts
 abbrev pub AreFunded : Past → Type 0

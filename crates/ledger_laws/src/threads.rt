@@ -8,7 +8,8 @@ use semantics::turns_lead_to_the_remaining_contract;
 /// The thread of each start output is exactly one run of the contract that was published under its
 /// script, from the state in the start's datum: input for input, with the same warnings, payments, states
 /// and remaining contracts (Marlowe specification version 3, "Compute transaction"). Where the thread has
-/// an end, its datum says where that run stands.
+/// an end, its datum says where that run stands. The premise: no two different data that accepted
+/// transactions bring have one digest.
 pub fn threads_are_runs()
     ensures run { ThreadsAreRuns }
     ensures end { ThreadsEndWithRuns }

@@ -1,6 +1,7 @@
 pub mod ReplayLaws
 pub mod CallsLaws
 pub mod StartsLaws
+pub mod InstanceLaws
 pub mod LegalLaws
 pub mod PublishingLaws
 mod StandingLemmas

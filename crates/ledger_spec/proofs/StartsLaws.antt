@@ -3,6 +3,7 @@ use Rattle.std.proofs.Common.{◌≡◌, ℕ, Bool, true, false, not, ◌&&◌, 
 use Rattle.std.specs.Prelude.{if◌then◌else◌, is_some}
 use Rattle.std.specs.List.{slice_get, list_any}
 use Rattle.std.specs.Cmp.Lexicographic.{bytes_decides}
+use Rattle.machine.specs.declared.datum.Datum.{Datum}
 use Rattle.eutxo_types.specs.declared.output.Output.{Output}
 use Rattle.eutxo_types.specs.declared.output_ref.OutputRef.{OutputRef}
 use Rattle.eutxo_types.specs.declared.output_ref.OutputRef.TheVariants.{Genesis, Made}
@@ -16,7 +17,7 @@ use Rattle.ledger_laws.specs.Threads.{IsMade, StartsThread, thread, ends}
 use Rattle.ledger_laws.proofs.PlainLaws.{and_true, both, is_there, any_there, any_at}
 use Rattle.ledger_laws.proofs.ReferenceLaws.{itself}
 use Rattle.ledger_spec.specs.Replay.{World, past_of}
-use Rattle.ledger_spec.specs.Views.{starts_in, StartsAreTold, end_of, object_under, thread_output, thread_output_in, thread_output_at, thread_shown}
+use Rattle.ledger_spec.specs.Views.{starts_in, StartsAreTold, end_of, made_datum, object_under, thread_output, thread_output_in, thread_output_at, thread_shown}
 
 not_true : (b : Bool) → not b ≡ true → b ≡ false
 not_true true h = cc
@@ -77,13 +78,14 @@ end_told past r q h = if_some (list_any (starts_in r) past.accepted) (ends (Some
 pub end_starts : (past : Past) (r q : OutputRef) → end_of past r ≡ Some q → StartsThread past r × (ends (Some r) (thread past r) ≡ Some q)
 end_starts past r q h = let p = end_told past r q h in (start_told past r p.0, p.1)
 
-named_by : (q : OutputRef) (o : Output) (p : Option Published) (t : ThreadOutput) → thread_output q o p ≡ Some t → q ≡ t.reference
-named_by q o None t h = cc
-named_by q o (Some p) t h = let same : (let z : ThreadOutput = record { reference = q; output = o; published = p } in z) ≡ t = cc in ap (λ (z : ThreadOutput). z.reference) same
+named_by : (q : OutputRef) (o : Output) (d : Datum) (p : Option Published) (t : ThreadOutput) → thread_output q o d p ≡ Some t → q ≡ t.reference
+named_by q o d None t h = cc
+named_by q o d (Some p) t h = let same : (let z : ThreadOutput = record { reference = q; output = o; datum = d; published = p } in z) ≡ t = cc in ap (λ (z : ThreadOutput). z.reference) same
 
-named_in : (ps : List Published) (q : OutputRef) (o : Option Output) (t : ThreadOutput) → thread_output_in ps q o ≡ Some t → q ≡ t.reference
-named_in ps q None t h = cc
-named_in ps q (Some o) t h = named_by q o (object_under ps (script_in o.lock)) t h
+named_in : (ps : List Published) (q : OutputRef) (o : Option Output) (d : Option Datum) (t : ThreadOutput) → thread_output_in ps q o d ≡ Some t → q ≡ t.reference
+named_in ps q None d t h = cc
+named_in ps q (Some o) None t h = cc
+named_in ps q (Some o) (Some d) t h = named_by q o d (object_under ps (script_in o.lock)) t h
 
 -- so a thread that is shown is a start's, and is shown where it ends
 pub shown_starts : (w : World) (asked : Option OutputRef) (t : ThreadOutput) → thread_shown w asked ≡ Some t →
@@ -96,4 +98,4 @@ shown_starts w (Some r) t h = by (end_of (past_of w) r) refl h
     by None e k = cc
     by (Some q) e k =
         let s = end_starts (past_of w) r q e in
-        (r, refl, s.0, s.1 ∙ ap Some (named_in w.published q (unspent_at (past_of w) q) t k))
+        (r, refl, s.0, s.1 ∙ ap Some (named_in w.published q (unspent_at (past_of w) q) (made_datum (past_of w) q) t k))

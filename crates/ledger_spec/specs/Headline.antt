@@ -1,5 +1,5 @@
--- THE HEADLINE: whatever a ledger accepts, each contract's transactions are one run of that contract; and what is built of a request
--- that nothing hinders is accepted.
+-- THE HEADLINE: whatever a ledger accepts, each contract's transactions are one run of that contract, where no two different data that
+-- they bring have one digest; and what is built of a request that nothing hinders is accepted.
 use Rattle.std.specs.Prelude.{◌≡◌, ℕ, ◌≤ℤ◌, List, ◌++◌, All, Option, Some, None, ◌⊎◌}
 use Rattle.std.specs.FinMap.{entries}
 use Rattle.collections.specs.Positive.{AllPositive}
@@ -20,7 +20,7 @@ use Rattle.roles.specs.Terms.{terms_of}
 use Rattle.ledger_laws.specs.Past.{Past}
 use Rattle.ledger_laws.specs.Sound.{AreKeys}
 use Rattle.ledger_laws.specs.Threads.{thread, ends, IsStart, StartsThread, Member, Run, Carries, contract_after, state_after}
-use Rattle.ledger_laws.specs.Laws.{ExactlyOne, EndsWithItsRun, EachStepHasItsThread, ContractsAreStepped, EachIsAuthorised, EachContractEndsAThread, EachEndIsUnspent, AreFunded, AreOfTables, ReferencesAreSingle, IdsAreSingle, IsSpentOnce, IsPreserved, StepsAreOfContracts}
+use Rattle.ledger_laws.specs.Laws.{ExactlyOne, DigestsTell, EndsWithItsRun, EachStepHasItsThread, ContractsAreStepped, EachIsAuthorised, EachContractEndsAThread, EachEndIsUnspent, AreFunded, AreOfTables, ReferencesAreSingle, IdsAreSingle, IsSpentOnce, IsPreserved, StepsAreOfContracts}
 use Rattle.ledger.specs.declared.ask.Ask.{Ask}
 use Rattle.ledger.specs.declared.call.Call.TheVariants as on
 use Rattle.ledger.specs.declared.call.Entry.{Entry}
@@ -64,10 +64,10 @@ pub record IsSoundLedger (es : List Entry) (named : List ℕ → Option Publishe
   -- one contract and one currency
   pub told_apart : IdsTellContracts es
   -- the accepted transactions of each contract are one run of it, and of no other: from the state of its start, input for input,
-  -- with the run's warnings, payments, states and remaining contracts
-  pub runs : EachIsARunOfItsContract es named past
+  -- with the run's warnings, payments, states and remaining contracts. This and the next need that digests tell data apart, no other does
+  pub runs : DigestsTell past → EachIsARunOfItsContract es named past
   -- a thread that isn't over ends where its run stands: the same remaining contract, in the same state
-  pub ends_with_run : EndsWithItsRun named past
+  pub ends_with_run : DigestsTell past → EndsWithItsRun named past
   -- every contract input of an accepted transaction stands on exactly one thread
   pub steps : EachStepHasItsThread past
   -- a contract output is spent by a step alone
@@ -136,10 +136,10 @@ ShowsThreadsOfStarts c =
     (ask : Ask) (t : ThreadOutput) → thread_shown (world c) ask.thread ≡ Some t →
     (r : OutputRef) × (ask.thread ≡ Some r) × StartsThread (past_of (world c)) r × (ends (Some r) (thread (past_of (world c)) r) ≡ Some t.reference)
 
--- its datum stands where the thread's run stands
+-- its datum stands where the thread's run stands, where digests tell data apart
 abbrev pub ShowsWhereRunsStand : Course → Type 0
 ShowsWhereRunsStand c =
-    (ask : Ask) (r : OutputRef) (i : Instance) (e : Thread) → ask.thread ≡ Some r → IsStart (past_of (world c)) r i → look_thread (look (world c) ask) ≡ Some e →
+    DigestsTell (past_of (world c)) → (ask : Ask) (r : OutputRef) (i : Instance) (e : Thread) → ask.thread ≡ Some r → IsStart (past_of (world c)) r i → look_thread (look (world c) ask) ≡ Some e →
     (published_at (world c).published i.script ≡ Some e.shown.published)
     × ((run : List Member) → Run ((thread_terms e).tree e.shown.published.root) i.datum.state run → Carries (thread_terms e) i.script (thread (past_of (world c)) r) run →
     ((thread_terms e).tree e.datum.cont ≡ contract_after ((thread_terms e).tree e.shown.published.root) run) × (e.datum.state ≡ state_after i.datum.state run))
@@ -178,7 +178,7 @@ pub record SecondHalf (c : Course) : Type 0 where
   pub shown : ShowsCurrentThreads c
   -- it is the thread of a start output, and shown where it ends
   pub of_starts : ShowsThreadsOfStarts c
-  -- at the state and the contract where the thread's run stands
+  -- at the state and the contract where the thread's run stands: the one clause of this half that needs the first half's premise
   pub current : ShowsWhereRunsStand c
   -- and each thread that isn't over
   pub not_over : ShowsWhatIsNotOver c

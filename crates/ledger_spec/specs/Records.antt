@@ -5,6 +5,7 @@ use Rattle.roles.specs.declared.published.Published.{Published}
 use Rattle.roles.specs.Terms.{Terms, terms_of}
 use Rattle.ledger_laws.specs.Past.{Past}
 use Rattle.ledger_laws.specs.Threads.{IsStart, StartsThread, Link, thread, Member, Run, Carries}
+use Rattle.ledger_laws.specs.Laws.{DigestsTell}
 use Rattle.ledger_spec.specs.declared.step_record.StepRecord.{StepRecord}
 use Rattle.eutxo_types.specs.Parts.{Instance, contract_at}
 
@@ -35,7 +36,7 @@ pub record TellTheRun (published : List ℕ → Option Published) (past : Past) 
   pub numbers : All (λ x. (terms_of object).has x.number ≡ true) xs
   pub held : HoldNumbers (thread past r) xs
 
--- of a start output the records tell its run; where no thread starts, there are none
+-- of a start output the records tell its run, where digests tell data apart; where no thread starts, there are none
 pub record AreSteps (published : List ℕ → Option Published) (past : Past) (r : OutputRef) (xs : List StepRecord) : Type 0 where
-  pub thread : (c : Instance) → IsStart past r c → TellTheRun published past r c xs
+  pub thread : DigestsTell past → (c : Instance) → IsStart past r c → TellTheRun published past r c xs
   pub none : (StartsThread past r → ⊥) → xs ≡ []

@@ -6,6 +6,7 @@ use Rattle.eutxo_types.specs.declared.output_ref.OutputRef.{OutputRef}
 use Rattle.eutxo_types.specs.declared.output_ref.OutputRef.TheVariants.{Made}
 use Rattle.eutxo_types.specs.declared.tx.Tx.{Tx}
 use Rattle.eutxo_types.specs.Ids.{id_of}
+use Rattle.eutxo_types.specs.Parts.{Instance}
 use Rattle.roles.specs.declared.published.Published.{Published}
 use Rattle.ledger.specs.declared.ask.Ask.{Ask}
 use Rattle.ledger.specs.declared.call.Call.TheVariants as on
@@ -15,6 +16,7 @@ use Rattle.ledger.specs.declared.look.Look.{Look}
 use Rattle.ledger.specs.declared.look.ThreadOutput.{ThreadOutput}
 use Rattle.ledger.specs.declared.look.Unspent.{Unspent}
 use Rattle.ledger_laws.specs.Past.{Past, is_spent}
+use Rattle.ledger_laws.specs.Threads.{IsMade}
 use Rattle.ledger_spec.specs.Legal.{before_entry}
 use Rattle.ledger_spec.specs.Replay.{Course, world, past_of}
 use Rattle.ledger_spec.specs.Views.{is_key_of, is_payout_of, end_of}
@@ -23,12 +25,13 @@ use Rattle.ledger_spec.specs.Views.{is_key_of, is_payout_of, end_of}
 abbrev pub accepted_between : Course → ℕ → ℕ → List Tx
 accepted_between c n m = drop (length (world (before_entry c n)).replay.accepted) (world (before_entry c m)).replay.accepted
 
--- a look shows an output whose lock it asks for; and where it asks for a thread that ended there after this past, as that thread's
+-- a look shows an output whose lock it asks for; and where it asks for a thread that ended there after this past, as that thread's, with the
+-- datum that its maker brought
 pub record ShowsOutput (past : Past) (ask : Ask) (l : Look) (u : Unspent) : Type 0 where
   pub key : is_key_of ask.keys u.output.lock ≡ true → Contains l.keys u
   pub payout : is_payout_of ask.payouts u.output.lock ≡ true → Contains l.payouts u
   pub thread : (r : OutputRef) → ask.thread ≡ Some r → end_of past r ≡ Some u.reference →
-      (p : Published) × (let t : ThreadOutput = record { reference = u.reference; output = u.output; published = p } in l.thread ≡ Some t)
+      (i : Instance) × IsMade past u.reference i × (p : Published) × (let t : ThreadOutput = record { reference = u.reference; output = u.output; datum = i.datum; published = p } in l.thread ≡ Some t)
 
 -- WHAT WAS MADE IS SHOWN: where a Submit was accepted and a Look comes after it, the look shows each output of that transaction that it
 -- asks for, unless what was accepted between the two spent it

@@ -1,6 +1,7 @@
 -- What is shown of what stands: looks, and the front of the pool.
-use Rattle.std.specs.Prelude.{◌≡◌, ℕ, Bool, false, not, ◌&&◌, if◌then◌else◌, List, map, filter, take, Option, Some, None, is_some}
+use Rattle.std.specs.Prelude.{◌≡◌, ℕ, Bool, false, not, ◌&&◌, if◌then◌else◌, List, map, filter, take, Option, Some, None, is_some, option_map}
 use Rattle.std.specs.List.{list_any}
+use Rattle.machine.specs.declared.datum.Datum.{Datum}
 use Rattle.eutxo_types.specs.declared.lock.Lock.{Lock}
 use Rattle.eutxo_types.specs.declared.lock.Lock.TheVariants.{Key, Payout, Contract}
 use Rattle.eutxo_types.specs.declared.output.Output.{Output}
@@ -8,8 +9,9 @@ use Rattle.eutxo_types.specs.declared.output_ref.OutputRef.{OutputRef}
 use Rattle.eutxo_types.specs.declared.output_ref.OutputRef.TheVariants.{Genesis, Made}
 use Rattle.eutxo_types.specs.declared.tx.Tx.{Tx}
 use Rattle.eutxo.specs.declared.resolved.Resolved.{Resolved}
+use Rattle.eutxo.specs.Faults.{first_of}
 use Rattle.eutxo.specs.Judgement.{found}
-use Rattle.eutxo_types.specs.Parts.{same_bytes, contract_at, steps, script_in, PayoutRole, payout_in}
+use Rattle.eutxo_types.specs.Parts.{same_bytes, Instance, contract_at, steps, script_in, PayoutRole, payout_in}
 use Rattle.roles.specs.declared.published.Published.{Published}
 use Rattle.ledger.specs.declared.ask.Ask.{Ask}
 use Rattle.ledger.specs.declared.ask.PayoutLock.{PayoutLock}
@@ -62,24 +64,38 @@ StartsAreTold past =
 abbrev pub EachStartIsTold : Type 0
 EachStartIsTold = (past : Past) → StartsAreTold past
 
-abbrev pub thread_output : OutputRef → Output → Option Published → Option ThreadOutput
-thread_output r o None = None
-thread_output r o (Some p) = Some (record { reference = r; output = o; published = p })
+-- the contract that a transaction makes in the output that a reference names
+abbrev pub instance_in : OutputRef → Tx → Option Instance
+instance_in (Genesis i) tx = None
+instance_in (Made id i) tx = if has_id id tx then contract_at tx i else None
+
+-- the contract that was made there
+abbrev pub instance_at : Past → OutputRef → Option Instance
+instance_at past r = first_of (map (instance_in r) past.accepted)
+
+-- the datum that its maker brought for it
+abbrev pub made_datum : Past → OutputRef → Option Datum
+made_datum past r = option_map (λ c. c.datum) (instance_at past r)
+
+abbrev pub thread_output : OutputRef → Output → Datum → Option Published → Option ThreadOutput
+thread_output r o d None = None
+thread_output r o d (Some p) = Some (record { reference = r; output = o; datum = d; published = p })
 
 -- what is published under the script of a contract lock
 abbrev pub object_under : List Published → Option (List ℕ) → Option Published
 object_under ps None = None
 object_under ps (Some script) = published_at ps script
 
-abbrev pub thread_output_in : List Published → OutputRef → Option Output → Option ThreadOutput
-thread_output_in ps r None = None
-thread_output_in ps r (Some o) = thread_output r o (object_under ps (script_in o.lock))
+abbrev pub thread_output_in : List Published → OutputRef → Option Output → Option Datum → Option ThreadOutput
+thread_output_in ps r None d = None
+thread_output_in ps r (Some o) None = None
+thread_output_in ps r (Some o) (Some d) = thread_output r o d (object_under ps (script_in o.lock))
 
 abbrev pub thread_output_at : World → Option OutputRef → Option ThreadOutput
 thread_output_at w None = None
-thread_output_at w (Some q) = thread_output_in w.published q (unspent_at (past_of w) q)
+thread_output_at w (Some q) = thread_output_in w.published q (unspent_at (past_of w) q) (made_datum (past_of w) q)
 
--- the unspent output of the asked thread, with what is published under its script
+-- the unspent output of the asked thread, with the datum that its maker brought and what is published under its script
 abbrev pub thread_shown : World → Option OutputRef → Option ThreadOutput
 thread_shown w None = None
 thread_shown w (Some r) = thread_output_at w (end_of (past_of w) r)

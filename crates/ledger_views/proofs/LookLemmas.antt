@@ -1,25 +1,35 @@
 -- What is read off an index of what stands is what a look shows of it.
 use Rattle.std.proofs.Common.{◌≡◌, refl, ◌∙◌, ap, Option, Some, None}
+use Rattle.std.specs.Map.{lookup}
+use Rattle.eutxo_types.specs.declared.output.Output.{Output}
 use Rattle.eutxo_types.specs.declared.output_ref.OutputRef.{OutputRef}
+use Rattle.eutxo_types.specs.Parts.{same_ref}
+use Rattle.ledger_laws.specs.Past.{unspent_at}
 use Rattle.roles.specs.Steps.{marlowe}
 use Rattle.ledger.specs.declared.ask.Ask.{Ask}
 use Rattle.ledger_spec.specs.Replay.{World, past_of, published_at}
-use Rattle.ledger_spec.specs.Views.{thread_output_at, thread_shown, look}
+use Rattle.ledger_spec.specs.Views.{made_datum, thread_output_in, thread_output_at, thread_shown, look}
 use Rattle.chain_index.specs.Contents.{Contents, contents_of}
-use Rattle.chain_index.specs.Laws.{EndsAlike}
+use Rattle.chain_index.specs.Laws.{EndsAlike, DataAlike}
 use Rattle.ledger_kept.specs.Kept.{IsIndexOf}
 use Rattle.ledger_views.specs.ViewsSupport.{output_shown_in, thread_shown_in, look_in}
 
-same_output : (w : World) (at : Option OutputRef) → output_shown_in (contents_of (past_of w) w.published) at ≡ thread_output_at w at
-same_output w None = refl
-same_output w (Some q) = refl
+-- where an output is unspent, its datum is told
+same_output : DataAlike → (w : World) (at : Option OutputRef) → output_shown_in (contents_of (past_of w) w.published) at ≡ thread_output_at w at
+same_output told w None = refl
+same_output told w (Some q) = by (unspent_at (past_of w) q) refl
+  where
+    by : (o : Option Output) → unspent_at (past_of w) q ≡ o →
+        thread_output_in w.published q o (lookup (same_ref q) (contents_of (past_of w) w.published).datums) ≡ thread_output_in w.published q o (made_datum (past_of w) q)
+    by None h = refl
+    by (Some o) h = ap (thread_output_in w.published q (Some o)) (told w.published (past_of w) q o h)
 
-module _ (ends : EndsAlike marlowe) (present : Contents) (w : World) (tied : IsIndexOf present w) where
+module _ (ends : EndsAlike marlowe) (told : DataAlike) (present : Contents) (w : World) (tied : IsIndexOf present w) where
   same_thread : (asked : Option OutputRef) → thread_shown_in (contents_of (past_of w) w.published) asked ≡ thread_shown w asked
   same_thread None = refl
   same_thread (Some r) =
       ap (output_shown_in (contents_of (past_of w) w.published)) (ends (published_at w.published) w.published (past_of w) tied.sound r)
-      ∙ same_output w _
+      ∙ same_output told w _
 
   pub same_look : (ask : Ask) → look_in present w.replay.tick ask ≡ look w ask
   same_look ask =

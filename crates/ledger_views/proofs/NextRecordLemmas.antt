@@ -1,5 +1,5 @@
 -- One more record of a thread.
-use Rattle.std.proofs.Common.{◌≡◌, ℕ, zero, suc, ◌+◌, ◌-◌, ◌<◌, true, List, [], ◌∷◌, ◌++◌, refl, sym, ◌∙◌, ap, subst, arith, append_assoc, map, drop, length, get_or, length-append, Option, Some, ◌⊎◌, inl, inr, Result, Ok}
+use Rattle.std.proofs.Common.{◌≡◌, ℕ, zero, suc, ◌+◌, ◌-◌, ◌<◌, true, List, [], ◌∷◌, ◌++◌, refl, sym, ◌∙◌, ap, subst, arith, append_assoc, map, drop, length, get_or, length-append, Option, Some, None, ◌⊎◌, inl, inr, Result, Ok}
 use Rattle.std.specs.List.{All, slice_get}
 use Rattle.std.proofs.lemmas.List.{at_drop_more, map-append}
 use Rattle.std.proofs.lemmas.List.Elements.{All-append}
@@ -97,6 +97,19 @@ goes_next t p q script ls xs more i l r h e is g tells added =
     (goes_on t p script ls xs l (drop (i + 1) ls) r (subst (λ (m : List Link). Goes t p script ls xs m) (next_left ls i l h e) g)
     (subst (λ (a : Point). (x : Member) → IsStepOf t a l x → member_of t r ≡ x) is tells))
 
+-- the record that is found tells what each of them tells
+pub told_by : (t : Terms) (q : Point) (l : Link) (found : Option StepRecord) (r : StepRecord) → found ≡ Some r →
+    ((x : Member) → IsStepOf t q l x → (s : StepRecord) × (found ≡ Some s) × (member_of t s ≡ x)) → (x : Member) → IsStepOf t q l x → member_of t r ≡ x
+told_by t q l found r h tells x step = let p = tells x step in ap (member_of t) (same_some r p.0 (sym h ∙ p.1)) ∙ p.2
+
+-- and one is found
+pub none_missing : (t : Terms) (q : Point) (l : Link) (found : Option StepRecord) → found ≡ None →
+    ((x : Member) → IsStepOf t q l x → (s : StepRecord) × (found ≡ Some s) × (member_of t s ≡ x)) → (x : Member) × IsStepOf t q l x → ⊥
+none_missing t q l found h tells x =
+    let s = tells x.0 x.1 in
+    let f : (let o : Option StepRecord = None in o) ≡ Some s.0 = sym h ∙ s.1 in
+    cc
+
 pub has_next : (t : Terms) (p : Point) (xs more : List StepRecord) (r : StepRecord) → more ≡ xs ++ r ∷ [] → t.has r.number ≡ true → t.has (stands_after p more).0 ≡ true
 has_next t p xs more r added h = ap (λ (m : List StepRecord). t.has (stands_after p m).0) added ∙ ap (λ (q : Point). t.has q.0) (stands_at p xs r) ∙ h
 
@@ -130,9 +143,6 @@ hold_next ls xs more i l r h e count added old new = subst (λ (m : List StepRec
 
 pub count_next : {A : Type 0} (xs more : List A) (i : ℕ) (x : A) → length xs ≡ i → more ≡ xs ++ x ∷ [] → length more ≡ i + 1
 count_next xs more i x count added = ap length added ∙ length-append xs (x ∷ []) ∙ ap (λ (n : ℕ). n + 1) count
-
-pub holds : (l : Link) (r : StepRecord) (place : Cont) → r.number ≡ number_after (contract_at l.tx 0) place → HoldsNumber l r
-holds l r place e i h = ap (λ (o : Option Instance). number_after o place) (sym h) ∙ sym e
 
 -- it is one of the table's, and stands for what remains
 goes_at : (t : Terms) (p : Point) (l : Link) (x : Member) (place : Cont) → IsStepOf t p l x → t.has place ≡ true → t.tree place ≡ x.outcome.contract →

@@ -1,4 +1,4 @@
--- The records of a thread tell its run.
+-- The records of a thread tell its run, where digests tell data apart.
 use Rattle.std.proofs.Common.{◌≡◌, ℕ, true, List, sym, ◌∙◌, subst, Option, Some, None, map, Result, Ok, Err}
 use Rattle.std.specs.Prelude.{IfOk}
 use Rattle.std.specs.List.{All}
@@ -9,25 +9,25 @@ use Rattle.roles.specs.Terms.{terms_of}
 use Rattle.ledger_laws.specs.Past.{Past}
 use Rattle.ledger_laws.specs.Sound.{IsSound}
 use Rattle.roles.specs.Steps.{marlowe}
-use Rattle.ledger_laws.specs.Laws.{AreTables, ThreadsAreRuns}
+use Rattle.ledger_laws.specs.Laws.{AreTables, DigestsTell, ThreadsAreRuns}
 use Rattle.ledger_laws.specs.Threads.{IsStart, Member, thread}
 use Rattle.ledger_laws.proofs.PlainLaws.{same_some}
 use Rattle.ledger_spec.specs.declared.step_record.StepRecord.{StepRecord}
 use Rattle.ledger_spec.specs.Records.{member_of, TellTheRun, HoldNumbers}
 use Rattle.ledger_views.specs.RecordsSupport.{point, IsRunOf}
 
-module _ (law : ThreadsAreRuns) (named : List ℕ → Option Published) (past : Past) (tables : AreTables named) (sound : IsSound marlowe named past) where
+module _ (law : ThreadsAreRuns) (named : List ℕ → Option Published) (past : Past) (tables : AreTables named) (sound : IsSound marlowe named past) (apart : DigestsTell past) where
   module _ (r : OutputRef) (c : Instance) (start : IsStart past r c) where
     -- something is published under the script of a start
     pub is_named : named c.script ≡ None → ⊥
     is_named h =
-        let a = law named past tables sound r c start in
+        let a = law named past tables apart sound r c start in
         let f : (let q : Option Published = None in q) ≡ Some a.0 = sym h ∙ a.1 in
         cc
 
     pub run_there : (p : Published) → named c.script ≡ Some p → (run : List Member) × IsRunOf (terms_of p) (point p.root c.datum.state) c.script (thread past r) run
     run_there p h =
-        let a = law named past tables sound r c start in
+        let a = law named past tables apart sound r c start in
         let run : IsRunOf (terms_of a.0) (point (a.0).root c.datum.state) c.script (thread past r) a.2.0 = record { runs = a.2.1.0; carried = a.2.1.1 } in
         (a.2.0, subst (λ (q : Published). IsRunOf (terms_of q) (point q.root c.datum.state) c.script (thread past r) a.2.0) (same_some a.0 p (sym a.1 ∙ h)) run)
 

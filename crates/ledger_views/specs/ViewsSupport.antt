@@ -9,10 +9,10 @@ use Rattle.ledger.specs.declared.look.ThreadOutput.{ThreadOutput}
 use Rattle.ledger_spec.specs.Views.{is_key_of, is_payout_of, thread_output_in}
 use Rattle.chain_index.specs.Contents.{Contents, end_in, under_locks_in}
 
--- the unspent output of a thread, with what is published under its script
+-- the unspent output of a thread, with its datum and what is published under its script
 abbrev pub output_shown_in : Contents → Option OutputRef → Option ThreadOutput
 output_shown_in c None = None
-output_shown_in c (Some q) = thread_output_in c.published q (lookup (same_ref q) c.unspent)
+output_shown_in c (Some q) = thread_output_in c.published q (lookup (same_ref q) c.unspent) (lookup (same_ref q) c.datums)
 
 abbrev pub thread_shown_in : Contents → Option OutputRef → Option ThreadOutput
 thread_shown_in c None = None

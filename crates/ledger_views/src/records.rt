@@ -1,9 +1,10 @@
 //! The records of a thread.
-ghost use Rattle.std.specs.Prelude.{◌≡◌, true, All, List, IfOk, map};
+ghost use Rattle.std.specs.Prelude.{◌≡◌, true, All, List, Some, IfOk, map};
 ghost use Rattle.eutxo_types.specs.Parts.{contract_at};
 ghost use Rattle.roles.specs.Terms.{terms_of};
-ghost use Rattle.ledger_laws.specs.Laws.{AreTables};
+ghost use Rattle.ledger_laws.specs.Laws.{AreTables, DigestsTell};
 ghost use Rattle.ledger_laws.specs.Threads.{IsStart, Member};
+ghost use Rattle.ledger_spec.specs.declared.step_record.StepRecord.{StepRecord as ARecord};
 ghost use Rattle.ledger_spec.specs.Replay.{past_of, published_at, world};
 ghost use Rattle.ledger_spec.specs.Records.{member_of, HoldsNumber, TellTheRun, AreSteps, HoldNumbers};
 ghost use Rattle.ledger_kept.specs.Kept.{IsIndexOf};
@@ -67,21 +68,21 @@ fn number_after(tx: &Tx, place: Cont) -> Cont
     }
 }
 
-// The record of one transaction of a thread, which stands at this number, in this state. Since the step was
-// accepted, only memory can be wanting.
+// The record of one transaction of a thread, which stands at this number, in this state. None where the contract makes
+// no such step from there: then the transaction brought another datum, with the digest of the one that was made.
 fn recorded(
     alloc: Global,
     published: &Published,
     at: (Cont, &State),
     link: &ThreadLink<'_>,
-) -> Result<StepRecord, Memory>
-    requires has { (terms_of published.now).has at.0 ≡ true }
-    requires step { (x : Member) × IsStepOf (terms_of published.now) (point at.0 at.1.now) link.now x }
-    ensures record { IfOk result (λ r. (x : Member) →
+) -> Result<Option<StepRecord>, Memory>
+    requires { (terms_of published.now).has at.0 ≡ true }
+    ensures record { IfOk result (λ found. (x : Member) →
         IsStepOf (terms_of published.now) (point at.entry.0 at.entry.1.now) link.now x →
-        member_of (terms_of published.now) r ≡ x) }
-    ensures number { IfOk result (λ r. (terms_of published.now).has r.number ≡ true) }
-    ensures held { IfOk result (λ r. HoldsNumber link.now r) }
+        (r : ARecord) × (found ≡ Some r) × (member_of (terms_of published.now) r ≡ x)) }
+    ensures number { IfOk result (λ found. (r : ARecord) → found ≡ Some r →
+        (terms_of published.now).has r.number ≡ true) }
+    ensures held { IfOk result (λ found. (r : ARecord) → found ≡ Some r → HoldsNumber link.now r) }
 {
     let tx = link.tx();
     let (number, state) = at;
@@ -90,22 +91,28 @@ fn recorded(
     // touch: turns lead to a number
     table.turns_lead();
     match table.compute(alloc, &number, state, tx.interval, inputs.as_slice()) {
-        Ok(outcome) => Ok(StepRecord {
-            interval: tx.interval,
-            inputs,
-            warnings: outcome.warnings,
-            payments: outcome.payments,
-            state: outcome.state,
-            number: number_after(tx, outcome.place),
-        }),
+        Ok(outcome) => {
+            let number = number_after(tx, outcome.place);
+            if !table.contains(number) {
+                return Ok(None);
+            }
+            Ok(Some(StepRecord {
+                interval: tx.interval,
+                inputs,
+                warnings: outcome.warnings,
+                payments: outcome.payments,
+                state: outcome.state,
+                number,
+            }))
+        }
         Err(SemFault::Memory) => Err(AllocError),
-        Err(_) => unreachable!(),
+        Err(_) => Ok(None),
     }
 }
 
 // ---- a thread
 
-// The records of the transactions of a thread.
+// The records of the transactions of a thread, up to the first that the contract doesn't make from where it stands.
 fn records_of(
     alloc: Global,
     published: &Published,
@@ -113,19 +120,22 @@ fn records_of(
     links: &[ThreadLink<'_>],
 ) -> Result<Items<StepRecord>, Memory>
     requires root { (terms_of published.now).has published.now.root ≡ true }
-    requires run { (run : List Member) × IsRunOf (terms_of published.now)
-        (point published.now.root start.now.datum.state) start.now.script links.now run }
-    ensures run { IfOk result (λ xs. IsRunOf (terms_of published.now)
-        (point published.now.root start.now.datum.state) start.now.script links.now
-        (map (member_of (terms_of published.now)) xs)) }
+    ensures run { IfOk result (λ xs. (run : List Member) →
+        IsRunOf (terms_of published.now) (point published.now.root start.now.datum.state) start.now.script
+        links.now run →
+        IsRunOf (terms_of published.now) (point published.now.root start.now.datum.state) start.now.script
+        links.now (map (member_of (terms_of published.now)) xs)) }
     ensures numbers { IfOk result (λ xs. All (λ x. (terms_of published.now).has x.number ≡ true) xs) }
     ensures held { IfOk result (λ xs. HoldNumbers links.now xs) }
 {
     let mut records = Items::new(alloc);
     for link in links {
         let at = stands_after(published.root, &start.datum.state, records.as_slice());
-        let record = recorded(alloc, published, at, link)?;
-        records.push(record)?;
+        let found = recorded(alloc, published, at, link)?;
+        match found {
+            Some(record) => records.push(record)?,
+            None => return Ok(records),
+        }
     }
     Ok(records)
 }
@@ -141,23 +151,24 @@ fn steps_from(
     requires tied { IsIndexOf index.now.present (world kept.now) }
     requires tables { AreTables (published_at (world kept.now).published) }
     requires start { IsStart (past_of (world kept.now)) reference.now start.now }
-    ensures { IfOk result (λ xs. TellTheRun (published_at (world kept.now).published) (past_of (world kept.now))
-        reference.now start.now xs) }
+    ensures { IfOk result (λ xs. DigestsTell (past_of (world kept.now)) →
+        TellTheRun (published_at (world kept.now).published) (past_of (world kept.now)) reference.now start.now xs) }
 {
-    // touch: the thread is a run
+    // touch: the thread is a run, where digests tell data apart
     threads_are_runs();
     match index.published_at(start.script) {
         Some(object) => {
             let links = thread(alloc, kept, index, reference)?;
             records_of(alloc, object.get(), start, &links)
         }
-        None => unreachable!(),
+        None => Ok(Items::new(alloc)),
     }
 }
 
 /// The records of the thread that starts at an output, in order: the thread's one run, with as many records as the
-/// thread has transactions. Where no thread starts there are none. Each record costs two look-ups and one step that is
-/// computed anew, however long the history is. Answers `Memory` only where a growth was refused.
+/// thread has transactions, where no two different data that accepted transactions bring have one digest. Where two
+/// have, the records may end early. Where no thread starts there are none. Each record costs two look-ups and one step
+/// that is computed anew, however long the history is. Answers `Memory` only where a growth was refused.
 pub fn steps_of(
     alloc: Global,
     kept: &Kept<'_>,

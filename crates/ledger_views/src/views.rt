@@ -6,10 +6,10 @@ ghost use Rattle.ledger_spec.specs.Views.{object_under, thread_output, thread_ou
 ghost use Rattle.ledger_kept.specs.Kept.{IsIndexOf};
 ghost use Rattle.ledger_views.specs.ViewsSupport.{output_shown_in, thread_shown_in, look_in};
 
-use chain_index::{Index, index_follows_threads};
+use chain_index::{Index, index_follows_threads, index_tells_data};
 use collections::{Memory, TryClone};
 use eutxo::Shared;
-use eutxo_types::{Lock, Output, OutputRef};
+use eutxo_types::{Datum, Lock, Output, OutputRef};
 use ledger::{Ask, Look, ThreadOutput};
 use ledger_kept::Kept;
 use roles::Published;
@@ -29,17 +29,20 @@ fn object_under<'a>(index: &'a Index, lock: &Lock) -> Option<&'a Shared<Publishe
 fn thread_output(
     reference: OutputRef,
     output: &Output,
+    datum: &Datum,
     object: Option<&Shared<Published>>,
 ) -> Result<Option<ThreadOutput>, Memory>
-    ensures { IfOk result (λ x. x ≡ thread_output reference output.now (option_copied object.entry)) }
+    ensures { IfOk result (λ x. x ≡ thread_output reference output.now datum.now (option_copied object.entry)) }
 {
     match object {
         Some(object) => {
             let output = output.try_clone()?;
+            let datum = datum.try_clone()?;
             let published = object.try_clone()?;
             Ok(Some(ThreadOutput {
                 reference,
                 output,
+                datum,
                 published,
             }))
         }
@@ -51,22 +54,30 @@ fn thread_output_in(
     index: &Index,
     reference: OutputRef,
     output: Option<&Output>,
+    datum: Option<&Datum>,
 ) -> Result<Option<ThreadOutput>, Memory>
-    ensures { IfOk result (λ x. x
-        ≡ thread_output_in index.now.present.published reference (option_copied output.entry)) }
+    ensures { IfOk result (λ x. x ≡ thread_output_in index.now.present.published reference
+        (option_copied output.entry) (option_copied datum.entry)) }
 {
-    match output {
-        Some(output) => thread_output(reference, output, object_under(index, &output.lock)),
-        None => Ok(None),
+    match (output, datum) {
+        (Some(output), Some(datum)) => {
+            thread_output(reference, output, datum, object_under(index, &output.lock))
+        }
+        _ => Ok(None),
     }
 }
 
-// The unspent output that a thread has here, with what is published under its script.
+// The unspent output that a thread has here, with its datum and what is published under its script.
 fn output_shown(index: &Index, at: Option<OutputRef>) -> Result<Option<ThreadOutput>, Memory>
     ensures { IfOk result (λ x. x ≡ output_shown_in index.now.present at) }
 {
     match at {
-        Some(reference) => thread_output_in(index, reference, index.unspent_at(&reference)),
+        Some(reference) => thread_output_in(
+            index,
+            reference,
+            index.unspent_at(&reference),
+            index.datum_at(&reference),
+        ),
         None => Ok(None),
     }
 }
@@ -103,7 +114,8 @@ pub fn show(alloc: Global, kept: &Kept<'_>, index: &Index, ask: &Ask) -> Result<
     requires tied { IsIndexOf index.now.present (world kept.now) }
     ensures { IfOk result (λ shown. shown ≡ look (world kept.now) ask.now) }
 {
-    // touch: where threads end
+    // touch: where threads end, and with which data
     index_follows_threads();
+    index_tells_data();
     look_at(alloc, index, kept.tick(), ask)
 }

@@ -27,6 +27,7 @@ pub(crate) fn tx_fault_text(alloc: Global, fault: &TxFault) -> Result<String, Me
         TxFault::StrayContract(place) => at_place(alloc, "StrayContract", *place),
         TxFault::WrongStart(place) => at_place(alloc, "WrongStart", *place),
         TxFault::NotPreserved(token) => of_term(alloc, "NotPreserved", token),
+        TxFault::WrongDatum(place) => at_place(alloc, "WrongDatum", *place),
     }
 }
 

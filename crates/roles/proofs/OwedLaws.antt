@@ -15,10 +15,11 @@ use Rattle.eutxo_types.specs.declared.lock.Lock.{Lock}
 use Rattle.eutxo_types.specs.declared.lock.Lock.TheVariants.{Key, Payout, Contract}
 use Rattle.eutxo_types.specs.declared.output.Output.{Output}
 use Rattle.eutxo_types.specs.declared.tx.Tx.{Tx}
-use Rattle.eutxo_types.specs.Parts.{instance_in}
+use Rattle.eutxo_types.specs.Digests.{datum_hash}
+use Rattle.eutxo_types.specs.Parts.{ContractLock, contract_in, Instance, lock_of, contract_at}
 use Rattle.roles.specs.Sums.{sums_of}
-use Rattle.roles.specs.Steps.{same_output, same_amounts, same_datum, continuation, is_instance, holds_just, goes_on_in, first_unpaid}
-use Rattle.roles.specs.Owed.{GoesOnInContinuations, PaidInDueOutputs}
+use Rattle.roles.specs.Steps.{same_output, same_amounts, same_datum, is_instance, holds_just, goes_on_in, first_unpaid}
+use Rattle.roles.specs.Owed.{standing_at, IsMadeWithSums, GoesOnWhereMade, MadeAreContinuations, PaidInDueOutputs}
 
 pub same_amounts_itself : (m : Amounts) → same_amounts m m ≡ true
 same_amounts_itself m = (same_by_decides bundles.the_row.coded m m).1 refl
@@ -33,38 +34,48 @@ together false b h k = cc
 
 -- ---- the output in which a contract goes on
 
--- there may be an output, and a contract goes on in it
-abbrev goes_on_by : List ℕ → Datum → Option Output → Bool
-goes_on_by script d o = is_instance script d (instance_in o) && holds_just (sums_of d.state) o
+instance_so : (script : List ℕ) (d : Datum) (c : Option Instance) → is_instance script d c ≡ true → c ≡ Some (standing_at script d)
+instance_so script d None h = cc
+instance_so script d (Some c) h =
+    let made = both (same_bytes c.script script) (same_datum c.datum d) h in
+    ap (λ (z : List ℕ). Some (standing_at z c.datum)) ((bytes_decides c.script script).0 made.0)
+    ∙ ap (λ (z : Datum). Some (standing_at script z)) ((same_by_decides datums.the_row.coded c.datum d).0 made.1)
 
-goes_on_made : (script : List ℕ) (d : Datum) → goes_on_by script d (Some (continuation script d)) ≡ true
-goes_on_made script d =
-    together (same_bytes script script && same_datum d d) (same_amounts (sums_of d.state) (sums_of d.state))
-    (together (same_bytes script script) (same_datum d d) ((bytes_decides script script).1 refl) ((same_by_decides datums.the_row.coded d d).1 refl))
-    (same_amounts_itself (sums_of d.state))
+instance_itself : (script : List ℕ) (d : Datum) → is_instance script d (Some (standing_at script d)) ≡ true
+instance_itself script d = together (same_bytes script script) (same_datum d d) ((bytes_decides script script).1 refl) ((same_by_decides datums.the_row.coded d d).1 refl)
+
+holds_so : (m : Amounts) (o : Option Output) → holds_just m o ≡ true → (x : Output) × (o ≡ Some x) × (x.amount ≡ m)
+holds_so m None h = cc
+holds_so m (Some o) h = (o, refl, (same_by_decides bundles.the_row.coded o.amount m).0 h)
+
+made_so : (tx : Tx) (i : ℕ) (script : List ℕ) (d : Datum) → goes_on_in tx i script d ≡ true → IsMadeWithSums tx i (standing_at script d)
+made_so tx i script d h =
+    let all = both (is_instance script d (contract_at tx i)) (holds_just (sums_of d.state) (slice_get tx.outputs i)) h in
+    let out = holds_so (sums_of d.state) (slice_get tx.outputs i) all.1 in
+    (instance_so script d (contract_at tx i) all.0, out.0, out.1, out.2)
+
+-- a contract goes on in its continuation for which its datum is brought
+pub goes_on_there : (tx : Tx) (i : ℕ) (script : List ℕ) (d : Datum) → IsMadeWithSums tx i (standing_at script d) → goes_on_in tx i script d ≡ true
+goes_on_there tx i script d h =
+    together (is_instance script d (contract_at tx i)) (holds_just (sums_of d.state) (slice_get tx.outputs i))
+    (ap (is_instance script d) h.0 ∙ instance_itself script d)
+    (ap (holds_just (sums_of d.state)) h.2 ∙ (same_by_decides bundles.the_row.coded (h.1).amount (sums_of d.state)).1 h.3)
+
+pub goes_on_where_made : GoesOnWhereMade
+goes_on_where_made tx i script d = (made_so tx i script d, goes_on_there tx i script d)
+
+under : (l : Lock) (c : Instance) → contract_in l ≡ Some (lock_of c) → l ≡ Contract c.script (datum_hash c.datum)
+under (Key a) c h = cc
+under (Payout r s) c h = cc
+under (Contract s e) c h =
+    let same : (let l : ContractLock = record { script = s; digest = e } in l) ≡ lock_of c = cc in
+    ap (λ (z : ContractLock). Contract z.script z.digest) same
 
 abbrev output_of : Lock → Amounts → Output
 output_of lock m = record { lock = lock; amount = m }
 
-made_under : (script : List ℕ) (d : Datum) (lock : Lock) (m : Amounts) → goes_on_by script d (Some (output_of lock m)) ≡ true → output_of lock m ≡ continuation script d
-made_under script d (Key a) m h = cc
-made_under script d (Payout c r) m h = cc
-made_under script d (Contract s e) m h =
-    let all = both (same_bytes s script && same_datum e d) (same_amounts m (sums_of d.state)) h in
-    let made = both (same_bytes s script) (same_datum e d) all.0 in
-    ap (λ z. output_of (Contract z e) m) ((bytes_decides s script).0 made.0)
-    ∙ ap (λ z. output_of (Contract script z) m) ((same_by_decides datums.the_row.coded e d).0 made.1)
-    ∙ ap (output_of (Contract script d)) ((same_by_decides bundles.the_row.coded m (sums_of d.state)).0 all.1)
-
-made_so : (script : List ℕ) (d : Datum) (o : Option Output) → goes_on_by script d o ≡ true → o ≡ Some (continuation script d)
-made_so script d None h = cc
-made_so script d (Some o) h = ap Some (made_under script d o.lock o.amount h)
-
-pub goes_on_there : (tx : Tx) (i : ℕ) (script : List ℕ) (d : Datum) → slice_get tx.outputs i ≡ Some (continuation script d) → goes_on_in tx i script d ≡ true
-goes_on_there tx i script d h = ap (goes_on_by script d) h ∙ goes_on_made script d
-
-pub goes_on_in_continuations : GoesOnInContinuations
-goes_on_in_continuations tx i script d = (made_so script d (slice_get tx.outputs i), goes_on_there tx i script d)
+pub made_are_continuations : MadeAreContinuations
+made_are_continuations o c h m = ap (λ (l : Lock). output_of l o.amount) (under o.lock c h) ∙ ap (output_of (Contract c.script (datum_hash c.datum))) m
 
 -- ---- the outputs that are due
 

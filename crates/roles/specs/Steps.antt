@@ -33,6 +33,7 @@ use Rattle.eutxo_types.specs.declared.spend.Spend.{Spend}
 use Rattle.eutxo_types.specs.declared.tx.Tx.{Tx}
 use Rattle.eutxo.specs.declared.validator.StepAnswer.{StepAnswer}
 use Rattle.eutxo.specs.declared.validator.StepAnswer.TheVariants as answers
+use Rattle.eutxo_types.specs.Digests.{datum_hash}
 use Rattle.eutxo_types.specs.Parts.{is_key, Instance, contract_at, outputs_from}
 use Rattle.eutxo.specs.Faults.{fault_if, first_of, is_empty}
 use Rattle.eutxo.specs.Rules.{has_signed}
@@ -82,9 +83,9 @@ unauthorised currency signers spent xs = find (λ p. not (authorised currency si
 
 -- ---- the outputs that a step has to make
 
--- the output in which a contract goes on from a datum
+-- the output in which a contract goes on from a datum, with the datum's digest
 abbrev pub continuation : List ℕ → Datum → Output
-continuation script d = record { lock = Contract script d; amount = sums_of d.state }
+continuation script d = record { lock = Contract script (datum_hash d); amount = sums_of d.state }
 
 -- what is owed to a party: under its key, or for whoever holds its role's token
 abbrev pub lock_for : List ℕ → Party → Lock
@@ -131,7 +132,8 @@ abbrev pub holds_just : Amounts → Option Output → Bool
 holds_just m None = false
 holds_just m (Some o) = same_amounts o.amount m
 
--- whether a contract goes on from a datum in the output at a place: it is made there, with exactly the sums of its accounts
+-- whether a contract goes on from a datum in the output at a place: it is made there from this datum, which is brought for it, with
+-- exactly the sums of its accounts
 abbrev pub goes_on_in : Tx → ℕ → List ℕ → Datum → Bool
 goes_on_in tx i script d = is_instance script d (contract_at tx i) && holds_just (sums_of d.state) (slice_get tx.outputs i)
 

@@ -1,7 +1,7 @@
 //! What holds of every published contract: laws, each the contract of a function that does nothing.
 ghost use Rattle.roles.specs.Publications.{PublishedAreTables, PublishedTellApart};
 ghost use Rattle.roles.specs.Sums.{SumsAreTotals};
-ghost use Rattle.roles.specs.Owed.{GoesOnInContinuations, PaidInDueOutputs};
+ghost use Rattle.roles.specs.Owed.{GoesOnWhereMade, MadeAreContinuations, PaidInDueOutputs};
 ghost use Rattle.roles.specs.Worked.{EqualPaymentsAreTwo, NothingIsDue, PaidUnderLocks, TokensGrantInKeys, EmptyStartsHoldNothing};
 
 use crate::published::Published;
@@ -32,10 +32,12 @@ pub fn sums_are_of_each_token()
     ensures { SumsAreTotals }
 {}
 
-/// What a step owes is recognised exactly where it stands as it is made: the output in which a contract goes on
-/// (rule 14), which `continuation` makes, and those that are due for payments (rule 15), which `put_due` makes.
+/// What a step owes is recognised exactly where it stands as it is made: the output in which a contract goes on from the
+/// datum that is brought for it (rule 14), which is the one that `continuation` makes where it holds the datum's digest,
+/// and those that are due for payments (rule 15), which `put_due` makes.
 pub fn owed_as_made()
-    ensures continuation { GoesOnInContinuations }
+    ensures made { GoesOnWhereMade }
+    ensures continuation { MadeAreContinuations }
     ensures payments { PaidInDueOutputs }
 {}
 

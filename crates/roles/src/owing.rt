@@ -8,19 +8,26 @@ use crate::amounts::{holds_sums, is_only, only};
 use bundle::Bundle;
 use collections::{Bytes, Items, Memory, Same, TryClone};
 use contract::{Party, Payee, Payment, State};
-use eutxo_types::{Cont, Datum, Instance, Lock, Output, Tx};
+use eutxo_types::{Cont, Datum, Instance, Lock, Output, Tx, datum_hash};
 use std::alloc::Global;
 
-/// The output in which a contract goes on from a datum, with the sums of its accounts.
-pub fn continuation(script: &[u8; 32], datum: Datum, sums: Bundle) -> Output
-    requires { sums ≡ sums_of datum.state }
-    ensures { result ≡ continuation script.now datum }
+/// The output in which a contract goes on from a datum, with the datum's digest and the sums of its accounts. Answers
+/// `Memory` only where a growth was refused.
+pub fn continuation(
+    alloc: Global,
+    script: &[u8; 32],
+    datum: &Datum,
+    sums: Bundle,
+) -> Result<Output, Memory>
+    requires { sums ≡ sums_of datum.now.state }
+    ensures { IfOk result (λ output. output ≡ continuation script.now datum.now) }
 {
+    let digest = datum_hash(alloc, datum)?;
     let lock = Lock::Contract {
         script: *script,
-        datum,
+        datum: digest,
     };
-    Output { lock, amount: sums }
+    Ok(Output { lock, amount: sums })
 }
 
 // Whether a contract is one of a script, at a number and a state.
@@ -54,7 +61,8 @@ fn holds_just(alloc: Global, state: &State, output: Option<&Output>) -> Result<b
     }
 }
 
-/// Whether a contract goes on from a number, in a state, in output 0.
+/// Whether a contract goes on from a number, in a state, in output 0: by the datum that is brought for it, not by its
+/// digest.
 pub fn goes_on_in(
     alloc: Global,
     tx: &Tx,

@@ -4,7 +4,7 @@ use crate::shown::put_output;
 use chain::Entry;
 use collections::Memory;
 use eutxo::{Resolved, Scripts};
-use eutxo_types::{Output, Spend, Tx};
+use eutxo_types::{Output, OutputRef, Spend, Tx};
 use rows_text::{Known, word_of_reference};
 use std::alloc::{AllocError, Global};
 
@@ -68,7 +68,7 @@ pub fn put_found(
         lines.push_str("\n ")?;
         lines.push_str(reference.as_str())?;
         lines.push(' ')?;
-        put_one_found(alloc, lines, known, output)?;
+        put_one_found(alloc, lines, known, &input.reference, output)?;
     }
     Ok(())
 }
@@ -77,10 +77,11 @@ fn put_one_found(
     alloc: Global,
     lines: &mut String,
     known: &Known,
+    reference: &OutputRef,
     output: &Option<Output>,
 ) -> Result<(), AllocError> {
     match output {
-        Some(output) => put_output(alloc, lines, known, output),
+        Some(output) => put_output(alloc, lines, known, output, known.datum_at(reference)),
         None => lines.push_str("nothing"),
     }
 }

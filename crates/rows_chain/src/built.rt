@@ -5,7 +5,7 @@ use crate::shown::put_output;
 use builder::{BuildFault, build_claim, build_start, build_step};
 use collections::{Items, Text};
 use contract::{Input, State};
-use eutxo_types::{Output, Spend, Tx, TxFault};
+use eutxo_types::{Datum, Instance, Spend, Tx, TxFault};
 use ledger::Look;
 use roles::Published;
 use rows_text::{
@@ -199,7 +199,7 @@ impl Laid for Tx {
     fn lines(&self, alloc: Global, known: &Known) -> Result<String, AllocError> {
         let mut lines = String::from_str(alloc, "built from")?;
         put_inputs(alloc, &mut lines, known, self.inputs.as_slice())?;
-        put_outputs(alloc, &mut lines, known, self.outputs.as_slice())?;
+        put_outputs(alloc, &mut lines, known, self)?;
         Ok(lines)
     }
 }
@@ -222,11 +222,20 @@ fn put_outputs(
     alloc: Global,
     lines: &mut String,
     known: &Known,
-    outputs: &[Output],
+    tx: &Tx,
 ) -> Result<(), AllocError> {
-    for output in outputs {
+    for (place, output) in tx.outputs.as_slice().iter().enumerate() {
         lines.push_str("\n ")?;
-        put_output(alloc, lines, known, output)?;
+        let datum = datum_of(tx.contract_at(place as u64));
+        put_output(alloc, lines, known, output, datum)?;
     }
     Ok(())
+}
+
+// The datum of a contract that is made, if one is.
+fn datum_of(made: Option<Instance<'_>>) -> Option<&Datum> {
+    match made {
+        Some(made) => Some(made.datum),
+        None => None,
+    }
 }

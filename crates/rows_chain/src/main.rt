@@ -16,7 +16,8 @@
 //! - `offer REFERENCE` offers what the last look shows under the reference, and `offer REFERENCE OUTPUT` that output, whether it
 //!   is there or not;
 //! - `offers COUNT OUTPUT` offers the first outputs that the chain began with, each as that output;
-//! - `claim REFERENCE` and `claim REFERENCE OUTPUT` hand in a payout so.
+//! - `claim REFERENCE` and `claim REFERENCE OUTPUT` hand in a payout so;
+//! - `datum NUMBER STATE` has the last look show its thread with this datum, in place of the one that its maker brought.
 //!
 //! What is built stands in place of what was written, and can be submitted; where nothing is built, nothing is written, and in
 //! both cases nothing is offered or claimed any more.
@@ -28,8 +29,8 @@
 //!   notifies, each followed by close, which no text of the greatest length has: `published` and the id, or `refused FAULT`;
 //! - `advance SEAT TICK`: `advanced` or `backward`;
 //! - `look SEAT`, and in any number `thread REFERENCE`, `key ADDRESS` and `payout CURRENCY.ROLE`: prints `tick TICK`, then a
-//!   line for each output that is shown, with its reference: the thread's and what is published under its script, or
-//!   `no thread`, then those of keys, then payouts;
+//!   line for each output that is shown, with its reference: the thread's, with its datum, and what is published under its
+//!   script, or `no thread`, then those of keys, then payouts;
 //! - `submit SEAT NAME` hands in the transaction that is written, under this name: `accepted NAME`, or `refused FAULT`;
 //! - `enqueue SEAT NAME` enqueues it: `ticket N` or `full`. `enqueues SEAT COUNT` enqueues so many copies of it, and prints the
 //!   last reply;
@@ -38,8 +39,8 @@
 //! These are questions:
 //!
 //! - `tick` prints it;
-//! - `resolve` prints what is found of what the transaction names that is written: a line for each input, and one for each
-//!   script; it leaves the transaction as it is;
+//! - `resolve` prints what is found of what the transaction names that is written: a line for each input, a contract's with the
+//!   datum that it was made with, and one for each script; it leaves the transaction as it is;
 //! - `seen` prints, of the same, what the last look holds;
 //! - `check` prints the verdict on that transaction and what is found, and keeps both at hand for the calls below, as a cache;
 //! - `recheck` prints the verdict on the same by the checks at hand, behind `at hand` where one is of this transaction with an equal

@@ -11,12 +11,12 @@ use crate::started::started;
 use chain::Chain;
 use collections::Items;
 use eutxo::Checked;
-use eutxo_types::{Output, Tx};
-use ledger::Look;
+use eutxo_types::{Cont, Datum, Output, Tx};
+use ledger::{Look, ThreadOutput};
 use roles::Published;
 use rows_text::{
-    Answers, Known, RowFault, check_copies, first, in_bytes, keep_check, named_text_of, nothing,
-    number, output_of, parts, put, put_in, recheck_line, reference_of, replace, write,
+    Answers, Known, RowFault, check_copies, datum_of, first, in_bytes, keep_check, named_text_of,
+    nothing, number, output_of, parts, put, put_in, recheck_line, reference_of, replace, write,
 };
 use std::alloc::Global;
 use std::mem;
@@ -90,6 +90,8 @@ fn taken(alloc: Global, session: &mut Session, line: &str) -> Result<Option<Stri
         | "out"
         | "from"
         | "signer"
+        | "datums"
+        | "datum"
         | "offer"
         | "offers"
         | "claim" => {
@@ -128,6 +130,7 @@ fn written(alloc: Global, desk: &mut Desk, word: &str, rest: &str) -> Result<(),
         "let" => put_in(&mut desk.known.texts, named_text_of(alloc, rest)),
         "genesis" => put(&mut desk.genesis, output_of(alloc, &desk.known, rest)),
         "geneses" => put_copies(alloc, &desk.known, &mut desk.genesis, rest),
+        "datum" => put_datum(alloc, &desk.known, &mut desk.look, rest),
         "offer" | "offers" | "claim" => hand_in(
             alloc,
             &desk.known,
@@ -137,6 +140,31 @@ fn written(alloc: Global, desk: &mut Desk, word: &str, rest: &str) -> Result<(),
             rest,
         ),
         _ => write(alloc, &desk.known, &mut desk.tx, word, rest),
+    }
+}
+
+// From `NUMBER STATE`: has the last look show its thread with this datum.
+fn put_datum(
+    alloc: Global,
+    known: &Known,
+    look: &mut Option<Look>,
+    rest: &str,
+) -> Result<(), RowFault> {
+    let (cont, state) = parts(rest)?;
+    let datum = datum_of(alloc, known, Cont(number(cont)?), state)?;
+    match look {
+        Some(look) => put_in_place(&mut look.thread, datum),
+        None => Err(RowFault::NoSuchRow),
+    }
+}
+
+fn put_in_place(thread: &mut Option<ThreadOutput>, datum: Datum) -> Result<(), RowFault> {
+    match thread {
+        Some(thread) => {
+            replace(&mut thread.datum, datum);
+            Ok(())
+        }
+        None => Err(RowFault::NoSuchRow),
     }
 }
 

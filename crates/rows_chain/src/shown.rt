@@ -28,7 +28,15 @@ fn put_thread(
     match thread {
         Some(thread) => {
             lines.push_str("\n thread")?;
-            put_one(alloc, lines, known, &thread.reference, &thread.output)?;
+            let datum = Some(&thread.datum);
+            put_one(
+                alloc,
+                lines,
+                known,
+                &thread.reference,
+                &thread.output,
+                datum,
+            )?;
             let script = known.word_of_script(alloc, &thread.published.get().id)?;
             lines.push_str("\n published ")?;
             lines.push_str(script.as_str())
@@ -45,7 +53,14 @@ fn put_unspent(
 ) -> Result<(), AllocError> {
     for unspent in outputs {
         lines.push('\n')?;
-        put_one(alloc, lines, known, &unspent.reference, &unspent.output)?;
+        put_one(
+            alloc,
+            lines,
+            known,
+            &unspent.reference,
+            &unspent.output,
+            None,
+        )?;
     }
     Ok(())
 }
@@ -56,34 +71,44 @@ fn put_one(
     known: &Known,
     reference: &OutputRef,
     output: &Output,
+    datum: Option<&Datum>,
 ) -> Result<(), AllocError> {
     let reference = word_of_reference(alloc, &known.sent, reference)?;
     line.push(' ')?;
     line.push_str(reference.as_str())?;
     line.push(' ')?;
-    put_output(alloc, line, known, output)
+    put_output(alloc, line, known, output, datum)
 }
 
-/// Puts an output at the end, as it is written.
+/// Puts an output at the end, as it is written: a contract's with its datum, or where none is given with the digest.
 pub fn put_output(
     alloc: Global,
     line: &mut String,
     known: &Known,
     output: &Output,
+    datum: Option<&Datum>,
 ) -> Result<(), AllocError> {
-    let lock = lock_words(alloc, known, &output.lock)?;
+    let lock = lock_words(alloc, known, &output.lock, datum)?;
     line.push_str(lock.as_str())?;
     put_amounts(alloc, line, &output.amount)
 }
 
-fn lock_words(alloc: Global, known: &Known, lock: &Lock) -> Result<String, AllocError> {
+fn lock_words(
+    alloc: Global,
+    known: &Known,
+    lock: &Lock,
+    datum: Option<&Datum>,
+) -> Result<String, AllocError> {
     match lock {
         Lock::Key(address) => format!(in alloc; "key {}", address.as_str()),
         Lock::Payout { currency, role } => {
             let currency = hex::encode(alloc, currency.as_slice())?;
             format!(in alloc; "payout {currency} {}", role.as_str())
         }
-        Lock::Contract { script, datum } => contract_words(alloc, known, script, datum),
+        Lock::Contract {
+            script,
+            datum: digest,
+        } => contract_words(alloc, known, script, digest, datum),
     }
 }
 
@@ -91,11 +116,20 @@ fn contract_words(
     alloc: Global,
     known: &Known,
     script: &[u8; 32],
-    datum: &Datum,
+    digest: &[u8; 32],
+    datum: Option<&Datum>,
 ) -> Result<String, AllocError> {
     let script = known.word_of_script(alloc, script)?;
-    let state = state_word(alloc, &datum.state)?;
-    format!(in alloc; "contract {script} {} {state}", datum.cont.0)
+    match datum {
+        Some(datum) => {
+            let state = state_word(alloc, &datum.state)?;
+            format!(in alloc; "contract {script} {} {state}", datum.cont.0)
+        }
+        None => {
+            let digest = hex::encode(alloc, digest.as_slice())?;
+            format!(in alloc; "contract {script} {digest}")
+        }
+    }
 }
 
 /// The word for a state: `empty` for the one without entries at time 0, else JSON.

@@ -1,12 +1,13 @@
 //! Transactions as they are written.
+use crate::datums::{bring_for_input, datums_of};
 use crate::fault::RowFault;
 use crate::known::Known;
-use crate::outputs::output_of;
+use crate::outputs::{Written, written_of};
 use crate::spends::{put_keys, spend_of};
-use crate::words::{number, parts, put, text};
-use collections::Items;
+use crate::words::{number, parts, put, replace, text};
+use collections::{Items, TryClone};
 use contract::Interval;
-use eutxo_types::Tx;
+use eutxo_types::{Spend, Tx};
 use std::alloc::Global;
 
 /// A transaction of nothing, from 0 to 0. Takes no memory.
@@ -16,6 +17,7 @@ pub fn nothing(alloc: Global) -> Tx {
         outputs: Items::new(alloc),
         interval: Interval { from: 0, to: 0 },
         signers: Items::new(alloc),
+        datums: Items::new(alloc),
     }
 }
 
@@ -28,13 +30,42 @@ pub fn write(
     rest: &str,
 ) -> Result<(), RowFault> {
     match word {
-        "in" => put(&mut tx.inputs, spend_of(alloc, known, rest)),
+        "in" => put_spend(alloc, known, tx, spend_of(alloc, known, rest)),
         "keys" => put_keys(&mut tx.inputs, number(rest)?),
-        "out" => put(&mut tx.outputs, output_of(alloc, known, rest)),
+        "out" => put_output(tx, written_of(alloc, known, rest)),
         "from" => set_interval(tx, rest),
         "signer" => put(&mut tx.signers, text(alloc, rest)),
+        "datums" => {
+            let datums = datums_of(alloc, known, rest)?;
+            replace(&mut tx.datums, datums);
+            Ok(())
+        }
         _ => Err(RowFault::NoSuchRow),
     }
+}
+
+// Puts an input behind the others, and brings the datum with which a named transaction made what it spends.
+fn put_spend(
+    alloc: Global,
+    known: &Known,
+    tx: &mut Tx,
+    spend: Result<Spend, RowFault>,
+) -> Result<(), RowFault> {
+    let spend = spend?;
+    if let Some(datum) = known.datum_at(&spend.reference) {
+        bring_for_input(alloc, tx, datum.try_clone()?)?;
+    }
+    put(&mut tx.inputs, Ok(spend))
+}
+
+// Puts an output behind the others, and brings its datum behind the other data.
+fn put_output(tx: &mut Tx, written: Result<Written, RowFault>) -> Result<(), RowFault> {
+    let Written { output, datum } = written?;
+    tx.outputs.push(output)?;
+    if let Some(datum) = datum {
+        tx.datums.push(datum)?;
+    }
+    Ok(())
 }
 
 // From `FROM to TO`.

@@ -1,8 +1,9 @@
 //! What has a name.
 use crate::fault::RowFault;
 use crate::publications::Named;
-use crate::references::Sent;
+use crate::references::{Sent, datum_among};
 use crate::words::parts;
+use eutxo_types::{Datum, OutputRef};
 use std::alloc::{AllocError, Global};
 
 /// A text, under the name that the rows give it.
@@ -61,6 +62,11 @@ impl Known {
             .iter()
             .find(|named| named.name() == word)
             .ok_or(RowFault::NoSuchRow)
+    }
+
+    /// The datum with which a transaction that has a name made an output, if one did.
+    pub fn datum_at(&self, reference: &OutputRef) -> Option<&Datum> {
+        datum_among(&self.sent, reference)
     }
 
     /// The word for a script: `@` and the name that it was first published under, else its id.

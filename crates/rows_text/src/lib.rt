@@ -14,15 +14,18 @@
 //! These lines write a transaction, and answer nothing:
 //!
 //! - `in REFERENCE REDEEMER` puts an input behind the others. A reference is `ORIGIN.PLACE`: the origin is `genesis`, the
-//!   name of a transaction or an id. The redeemer is `none`, `claim`, `step` and inputs of the contract, each in JSON
-//!   without spaces, as the word `notify`, or as `deposit:PARTY:ACCOUNT:AMOUNT`, a deposit of ada by an address into the
-//!   account of an address, of any amount; or `notifies` and their number;
+//!   name of a transaction or an id. Where a transaction of a name made that output with a datum, the datum is brought, before
+//!   those of outputs. The redeemer is `none`, `claim`, `step` and inputs of the contract, each in JSON without spaces, as the
+//!   word `notify`, or as `deposit:PARTY:ACCOUNT:AMOUNT`, a deposit of ada by an address into the account of an address, of any
+//!   amount; or `notifies` and their number;
 //! - `keys COUNT` puts so many inputs behind the others, which give nothing: the first outputs that the ledger began with;
 //! - `out key ADDRESS AMOUNTS`, `out payout CURRENCY ROLE AMOUNTS` and `out contract SCRIPT CONTINUATION STATE AMOUNTS` put an
 //!   output behind the others. The script is an id, or `@` and the name of what is published, whose root `root` is. The
-//!   state is in JSON without spaces, or the word `empty` for the state without entries at time 0;
+//!   state is in JSON without spaces, or the word `empty` for the state without entries at time 0. The output holds the
+//!   digest of the datum of this number and state, and the transaction brings that datum;
 //! - `from TIME to TIME` sets the interval;
-//! - `signer ADDRESS` puts a signer behind the others.
+//! - `signer ADDRESS` puts a signer behind the others;
+//! - `datums NUMBER STATE ..` has the transaction bring just these data, in place of those that it brought so far.
 //!
 //! Amounts are `TOKEN AMOUNT ..` in any order, each token once and each amount above 0; a token is `ada` or `SYMBOL.NAME`.
 //! Ids, scripts, currencies and symbols are in hexadecimal. In place of a contract, a state or an input `$` and the name of a text stands
@@ -33,6 +36,7 @@ mod amounts;
 mod answers;
 mod checks;
 mod copied;
+mod datums;
 mod drafts;
 mod fault;
 mod known;
@@ -52,11 +56,12 @@ pub use copied::{
     apart_of, fault_copies, put_beside, put_copies, put_copy, put_same, put_same_copy,
     same_or_other, texts_of,
 };
+pub use datums::{bring_for_input, bring_for_outputs, data_for_outputs, datum_of};
 pub use drafts::{nothing, write};
 pub use fault::RowFault;
 pub use known::{Known, NamedText, named_text_of};
 pub use large::{nested, wide};
-pub use outputs::{locked, output_of, state_of};
+pub use outputs::{Written, locked, output_of, state_of, written_of};
 pub use publications::{Named, named_of};
 pub use references::{Sent, reference_of, sent_of, word_of_id, word_of_reference};
 pub use report::Report;

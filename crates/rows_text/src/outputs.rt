@@ -1,22 +1,43 @@
 //! Outputs of a transaction.
 use crate::amounts::bundle_of;
+use crate::datums::datum_of;
 use crate::fault::RowFault;
 use crate::known::Known;
 use crate::words::{bytes, first, id, number, parts, text};
 use contract::State;
 use contract_json::read_state;
-use eutxo_types::{Cont, Datum, Lock, Output};
+use eutxo_types::{Cont, Datum, Lock, Output, datum_hash};
 use std::alloc::Global;
+
+/// An output as it is written, with the datum that a contract's is written with.
+#[derive(Drop)]
+pub struct Written {
+    pub output: Output,
+    pub datum: Option<Datum>,
+}
 
 /// An output, from `SORT` and what follows it.
 pub fn output_of(alloc: Global, known: &Known, rest: &str) -> Result<Output, RowFault> {
+    let Written { output, .. } = written_of(alloc, known, rest)?;
+    Ok(output)
+}
+
+/// An output with its datum, from the same.
+pub fn written_of(alloc: Global, known: &Known, rest: &str) -> Result<Written, RowFault> {
     let (sort, rest) = parts(rest)?;
     match sort {
-        "key" => key(alloc, rest),
-        "payout" => payout(alloc, rest),
+        "key" => without_datum(key(alloc, rest)),
+        "payout" => without_datum(payout(alloc, rest)),
         "contract" => contract(alloc, known, rest),
         _ => Err(RowFault::NoSuchRow),
     }
+}
+
+fn without_datum(output: Result<Output, RowFault>) -> Result<Written, RowFault> {
+    Ok(Written {
+        output: output?,
+        datum: None,
+    })
 }
 
 // From `ADDRESS TOKEN AMOUNT ..`.
@@ -36,13 +57,39 @@ fn payout(alloc: Global, rest: &str) -> Result<Output, RowFault> {
 }
 
 // From `SCRIPT CONTINUATION STATE TOKEN AMOUNT ..`.
-fn contract(alloc: Global, known: &Known, rest: &str) -> Result<Output, RowFault> {
+fn contract(alloc: Global, known: &Known, rest: &str) -> Result<Written, RowFault> {
     let (script, rest) = parts(rest)?;
     let (cont, rest) = parts(rest)?;
     let (state, amounts) = first(rest);
     let (script, root) = script_of(known, script)?;
-    let datum = datum_of(alloc, known, root, cont, state)?;
-    locked(alloc, Lock::Contract { script, datum }, amounts)
+    let cont = cont_of(root, cont)?;
+    at_datum(alloc, script, datum_of(alloc, known, cont, state)?, amounts)
+}
+
+fn at_datum(
+    alloc: Global,
+    script: [u8; 32],
+    datum: Datum,
+    amounts: &str,
+) -> Result<Written, RowFault> {
+    let digest = datum_hash(alloc, &datum)?;
+    let lock = Lock::Contract {
+        script,
+        datum: digest,
+    };
+    let output = locked(alloc, lock, amounts)?;
+    Ok(Written {
+        output,
+        datum: Some(datum),
+    })
+}
+
+// The number of a continuation, or the root's.
+fn cont_of(root: Cont, word: &str) -> Result<Cont, RowFault> {
+    match word {
+        "root" => Ok(root),
+        _ => Ok(Cont(number(word)?)),
+    }
 }
 
 // The id of a script and its root, from `@` and the name of what is published, or from an id.
@@ -54,21 +101,6 @@ fn script_of(known: &Known, word: &str) -> Result<([u8; 32], Cont), RowFault> {
         }
         None => Ok((id(word)?, Cont(0))),
     }
-}
-
-fn datum_of(
-    alloc: Global,
-    known: &Known,
-    root: Cont,
-    cont: &str,
-    state: &str,
-) -> Result<Datum, RowFault> {
-    let cont = match cont {
-        "root" => root,
-        _ => Cont(number(cont)?),
-    };
-    let state = state_of(alloc, known, state)?;
-    Ok(Datum { cont, state })
 }
 
 /// The state that a word stands for: JSON, or `empty` for the state without entries at time 0.

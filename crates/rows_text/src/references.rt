@@ -1,14 +1,26 @@
 //! References of outputs.
 use crate::fault::RowFault;
 use crate::words::{id, number};
-use eutxo_types::{OutputRef, Tx, tx_id};
+use collections::TryClone;
+use eutxo_types::{Datum, OutputRef, Tx, tx_id};
 use std::alloc::{AllocError, Global};
 
-/// A transaction's id, under the name that the rows give it.
+/// A transaction with its id, under the name that the rows give it.
 #[derive(Drop)]
 pub struct Sent {
     name: String,
     id: [u8; 32],
+    tx: Tx,
+}
+
+impl Sent {
+    /// The datum that it brings for the contract output at a place, if it does.
+    fn datum_at(&self, index: u64) -> Option<&Datum> {
+        match self.tx.contract_at(index) {
+            Some(made) => Some(made.datum),
+            None => None,
+        }
+    }
 }
 
 /// A transaction under a name.
@@ -17,7 +29,19 @@ pub fn sent_of(alloc: Global, name: &str, tx: &Tx) -> Result<Sent, RowFault> {
     Ok(Sent {
         name: String::from_str(alloc, name)?,
         id,
+        tx: tx.try_clone()?,
     })
+}
+
+/// The datum with which one of these transactions made an output, if one did.
+pub fn datum_among<'a>(sent: &'a [Sent], reference: &OutputRef) -> Option<&'a Datum> {
+    match reference {
+        OutputRef::Genesis { .. } => None,
+        OutputRef::Made { id, index } => match sent.iter().find(|x| x.id == *id) {
+            Some(maker) => maker.datum_at(*index),
+            None => None,
+        },
+    }
 }
 
 /// An output, from `ORIGIN.PLACE`: the origin is `genesis`, the name of a transaction, or an id.

@@ -3,6 +3,7 @@ use crate::fault::RowFault;
 use collections::{Bytes, Items, Text};
 use hex::FromHex;
 use std::alloc::Global;
+use std::mem;
 use std::str::FromStr;
 
 /// The first word of a line, and the rest of it.
@@ -44,6 +45,21 @@ pub fn id(word: &str) -> Result<[u8; 32], RowFault> {
 /// Puts what was read behind the others. It is generic in it, so that no proof walks through its drop.
 pub fn put<T: Drop>(items: &mut Items<T>, item: Result<T, RowFault>) -> Result<(), RowFault> {
     items.push(item?)?;
+    Ok(())
+}
+
+/// Puts something at a place, or behind the others where there is no such place. It is generic in it, so that no proof walks
+/// through its drop.
+pub fn put_at<T: Drop>(
+    alloc: Global,
+    items: &mut Items<T>,
+    place: usize,
+    item: T,
+) -> Result<(), RowFault> {
+    let mut vec = mem::replace(items, Items::new(alloc)).into_vec();
+    let place = place.min(vec.len());
+    vec.insert(place, item)?;
+    *items = Items::from_vec(vec);
     Ok(())
 }
 

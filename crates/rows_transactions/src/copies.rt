@@ -1,9 +1,10 @@
 //! Copies of what is written, beside what they are of.
 use collections::{Items, Memory, Same, Text, TryClone};
 use eutxo::Resolved;
-use eutxo_types::{Lock, Output, Spend, Tx};
+use eutxo_types::{Datum, Lock, Spend, Tx};
 use rows_text::{
-    Named, RowFault, amounts_of, put_beside, put_copies, put_copy, put_same, put_same_copy,
+    Named, RowFault, amounts_of, data_for_outputs, put_beside, put_copies, put_copy, put_same,
+    put_same_copy,
 };
 use std::alloc::{AllocError, Global};
 
@@ -12,7 +13,7 @@ pub fn tx_copies(alloc: Global, tx: &Tx) -> Result<String, AllocError> {
     let mut lines = String::from_str(alloc, "transaction")?;
     put_copy(&mut lines, tx)?;
     put_inputs(&mut lines, tx.inputs.as_slice())?;
-    put_outputs(&mut lines, tx.outputs.as_slice())?;
+    put_outputs(&mut lines, tx)?;
     lines.push_str("\nsigners")?;
     put_copies(&mut lines, tx.signers.as_slice())?;
     put_beside(&mut lines, tx.signers.as_slice())?;
@@ -32,27 +33,31 @@ fn put_inputs(lines: &mut String, inputs: &[Spend]) -> Result<(), Memory> {
     Ok(())
 }
 
-fn put_outputs(lines: &mut String, outputs: &[Output]) -> Result<(), Memory> {
+fn put_outputs(lines: &mut String, tx: &Tx) -> Result<(), Memory> {
+    let outputs = tx.outputs.as_slice();
     lines.push_str("\noutputs")?;
     put_copies(lines, outputs)?;
     put_beside(lines, outputs)?;
+    let mut datums = data_for_outputs(tx).iter();
     for output in outputs {
         lines.push_str("\n lock")?;
         put_copy(lines, &output.lock)?;
         lines.push_str(" amount")?;
         put_copy(lines, &output.amount)?;
-        put_datum(lines, &output.lock)?;
+        if output.lock.is_contract() {
+            put_datum(lines, datums.next())?;
+        }
     }
     Ok(())
 }
 
-fn put_datum(lines: &mut String, lock: &Lock) -> Result<(), Memory> {
-    match lock {
-        Lock::Contract { datum, .. } => {
+fn put_datum(lines: &mut String, datum: Option<&Datum>) -> Result<(), Memory> {
+    match datum {
+        Some(datum) => {
             lines.push_str(" datum")?;
             put_copy(lines, datum)
         }
-        _ => Ok(()),
+        None => Ok(()),
     }
 }
 

@@ -1,8 +1,9 @@
 //! What is written for the next row, and what is printed for lines.
 use crate::checks::{check_line, rules_line};
 use crate::copies::{amounts_room, found_copies, published_copies, rooms, tx_copies};
+use crate::data::datum_row;
 use crate::faults::{apart_row, copies_row, texts_row};
-use crate::finds::{found_of, put_found};
+use crate::finds::{found_of, put_find, put_found};
 use crate::found::found;
 use crate::sums::{added, are_sums, subtracted, totals};
 use collections::Items;
@@ -10,8 +11,8 @@ use eutxo::Checked;
 use eutxo_types::{Output, Tx, encode_tx, tx_id};
 use roles::Published;
 use rows_text::{
-    Answers, Known, Named, RowFault, check_copies, first, in_bytes, keep_check, named_of, nothing,
-    number, parts, put, put_in, put_keys, recheck_line, replace, write,
+    Answers, Known, Named, RowFault, bring_for_outputs, check_copies, first, in_bytes, keep_check,
+    named_of, nothing, number, parts, put_in, put_keys, recheck_line, replace, write,
 };
 use std::alloc::{AllocError, Global};
 use std::mem;
@@ -49,6 +50,7 @@ fn answered(alloc: Global, desk: &mut Desk, line: &str) -> Result<Option<String>
     match word {
         "" | "#" => Ok(None),
         "transaction" => Ok(Some(finished(alloc, &mut desk.tx)?)),
+        "datum" => Ok(Some(datum_row(alloc, &desk.known, rest)?)),
         "check" => Ok(Some(checked(alloc, desk, rest)?)),
         "keep" | "recheck" => Ok(Some(at_hand(alloc, desk, word)?)),
         "copies" => Ok(Some(copies(alloc, desk, rest)?)),
@@ -129,9 +131,12 @@ fn written(alloc: Global, desk: &mut Desk, word: &str, rest: &str) -> Result<(),
         "instead" => put_in(&mut desk.others, named_of(alloc, &desk.known, rest)),
         "again" => {
             replace(&mut desk.finds, Items::new(alloc));
-            Ok(())
+            bring_for_outputs(alloc, &mut desk.tx)
         }
-        "finds" => put(&mut desk.finds, found_of(alloc, &desk.known, rest)),
+        "finds" => {
+            let found = found_of(alloc, &desk.known, rest);
+            put_find(alloc, &mut desk.tx, &mut desk.finds, found)
+        }
         "many" => many(alloc, desk, rest),
         _ => write(alloc, &desk.known, &mut desk.tx, word, rest),
     }

@@ -108,6 +108,7 @@ fn after_tx(alloc: Global, fault: &TxFault) -> Option<TxFault> {
         TxFault::WrongPayment(_) => Some(TxFault::StrayContract(8)),
         TxFault::StrayContract(_) => Some(TxFault::WrongStart(9)),
         TxFault::WrongStart(_) => Some(TxFault::NotPreserved(ada(alloc))),
-        TxFault::NotPreserved(_) => None,
+        TxFault::NotPreserved(_) => Some(TxFault::WrongDatum(10)),
+        TxFault::WrongDatum(_) => None,
     }
 }

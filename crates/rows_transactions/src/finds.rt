@@ -1,14 +1,33 @@
 //! What inputs find.
 use collections::Items;
-use eutxo_types::{Lock, Output};
-use rows_text::{Known, RowFault, locked, output_of, put, text};
+use eutxo_types::{Lock, Output, Tx};
+use rows_text::{Known, RowFault, Written, bring_for_input, locked, put, text, written_of};
 use std::alloc::Global;
 
 /// What an input finds: an output, or `nothing`.
-pub fn found_of(alloc: Global, known: &Known, rest: &str) -> Result<Option<Output>, RowFault> {
+pub fn found_of(alloc: Global, known: &Known, rest: &str) -> Result<Option<Written>, RowFault> {
     match rest {
         "nothing" => Ok(None),
-        _ => Ok(Some(output_of(alloc, known, rest)?)),
+        _ => Ok(Some(written_of(alloc, known, rest)?)),
+    }
+}
+
+/// Puts what an input finds behind the others, and brings its datum.
+pub fn put_find(
+    alloc: Global,
+    tx: &mut Tx,
+    finds: &mut Items<Option<Output>>,
+    found: Result<Option<Written>, RowFault>,
+) -> Result<(), RowFault> {
+    match found? {
+        Some(Written { output, datum }) => {
+            put(finds, Ok(Some(output)))?;
+            match datum {
+                Some(datum) => bring_for_input(alloc, tx, datum),
+                None => Ok(()),
+            }
+        }
+        None => put(finds, Ok(None)),
     }
 }
 

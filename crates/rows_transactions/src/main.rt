@@ -4,7 +4,8 @@
 //! A transaction is written as `rows_text` says, and begins without anything, from 0 to 0. These lines print nothing
 //! either:
 //!
-//! - `finds` and an output, or `finds nothing`, says what the next input spends, for a check;
+//! - `finds` and an output, or `finds nothing`, says what the next input spends, for a check. The datum of a contract is brought,
+//!   before those of outputs;
 //! - `many COUNT ADDRESS` puts so many inputs behind the others, each of which finds 1 lovelace under the key of the address;
 //! - `publish NAME CURRENCY CONTRACT` publishes a contract, in JSON, which all checks below it in the file find;
 //! - `instead NAME CURRENCY CONTRACT` has `keep` and `recheck` find that contract under the id of the one with this name.
@@ -12,6 +13,7 @@
 //! These are rows:
 //!
 //! - `transaction` prints the bytes of the transaction and below them its id, in hexadecimal, and begins the next one;
+//! - `datum NUMBER STATE` prints the bytes of a datum and below them its digest, in hexadecimal;
 //! - `check` prints the verdict on the transaction and what its inputs find, and begins the next one. `check stubborn` does so
 //!   by a validator that refuses each step, under the ids of what is published;
 //! - `keep` prints the same verdict and keeps the check at hand, and `recheck` prints the verdict by the checks at hand, behind
@@ -37,6 +39,7 @@
 
 mod checks;
 mod copies;
+mod data;
 mod desk;
 mod faults;
 mod finds;

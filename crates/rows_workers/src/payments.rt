@@ -61,6 +61,7 @@ fn payment_by(
             to: i64::MAX,
         },
         signers,
+        datums: Items::new(alloc),
     })
 }
 

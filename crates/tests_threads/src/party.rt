@@ -76,6 +76,7 @@ pub fn payment(alloc: Global, index: u64) -> Option<Tx> {
         outputs,
         interval: Interval { from: 0, to: 1_000 },
         signers: one_text(alloc, "bank")?,
+        datums: Items::new(alloc),
     })
 }
 

@@ -25,10 +25,11 @@ use Rattle.eutxo.specs.declared.validator.StepAnswer.TheVariants.{Refused, Ends}
 use Rattle.eutxo.specs.Faults.{or_else}
 use Rattle.eutxo.specs.Found.{script_at, whole}
 use Rattle.eutxo.specs.Local.{tx_fault, spent_rules, whole_fault, local, verdict_of}
-use Rattle.eutxo.specs.Rules.{has_signed, Step, script_fault, step_fault, step_asked, after_answer}
+use Rattle.eutxo.specs.Rules.{has_signed, digests_in, wrong_datum, Step, steps_of, script_fault, step_fault, step_fault_unless, step_asked, after_answer}
 use Rattle.ledger_laws.proofs.PlainLaws.{and_true, few}
 use Rattle.ledger_laws.proofs.JudgedLemmas.{each_none, unless}
 use Rattle.ledger_laws.proofs.PairedLemmas.{holds, step_with, step_read}
+use Rattle.ledger_laws.proofs.DatumLaws.{told}
 use Rattle.uses.specs.declared.other_script.TimeLock.{TimeLock}
 use Rattle.uses.specs.Resolutions.{resolution_of}
 use Rattle.uses.specs.TimeLocks.{may_open, time_locks, KeepsTheLock}
@@ -53,7 +54,7 @@ found_lock id l = get-insert bytes_total map.empty id l id ∙ ap (λ (b : Bool)
 held_by : (k : Lock) (id : List ℕ) → script_in k ≡ Some id → (c : ContractLock) × (contract_in k ≡ Some c) × (c.script ≡ id)
 held_by (Key a) id h = cc
 held_by (Payout currency role) id h = cc
-held_by (Contract script d) id h = (record { script = script; datum = d }, refl, let same : script ≡ id = cc in same)
+held_by (Contract script d) id h = (record { script = script; digest = d }, refl, let same : script ≡ id = cc in same)
 
 pub keeps : (id : List ℕ) (l : TimeLock) (tx : Tx) (outputs : List (Option Output)) (v : Verdict) → v ≡ verdict_of (local time_locks tx (resolution_of outputs id l)) → KeepsTheLock id l tx outputs v
 keeps id l tx outputs v h spent n x a w at s =
@@ -62,10 +63,12 @@ keeps id l tx outputs v h spent n x a w at s =
     let of_spent : whole_fault time_locks named tx (Some spent) ≡ None =
     subst (λ (o : Option (List (Spend × Output))). whole_fault time_locks named tx o ≡ None) w (later_clear (tx_fault tx) (whole_fault time_locks named tx (whole tx (resolution_of outputs id l))) clear) in
     let rules = each_none (spent_rules time_locks named tx spent) of_spent in
+    let brought : wrong_datum tx spent ≡ None = rules.1.1.1.1.1.1.0 in
+    let judged : step_fault time_locks named tx spent (steps_of spent tx.datums) ≡ None = ap (λ (o : Option TxFault). step_fault_unless o time_locks named tx spent) (sym brought) ∙ rules.1.1.1.1.0 in
     let c = held_by x.1.lock id s in
-    let read = step_read spent n x c.0 (few (count_by holds spent) (unless (nat_lt 1 (count_by holds spent)) TwoContracts rules.1.0)) at c.1 in
-    let own = step_with c.0 (inputs_of x.0.redeemer) in
-    let of_script : step_fault time_locks named tx spent (own ∷ read.0) ≡ None = subst (λ (ss : List Step). step_fault time_locks named tx spent ss ≡ None) read.1 rules.1.1.1.1.0 in
+    let read = step_read spent tx.datums (digests_in tx.outputs) n x c.0 (told tx spent brought) (few (count_by holds spent) (unless (nat_lt 1 (count_by holds spent)) TwoContracts rules.1.0)) at c.1 in
+    let own = step_with c.0 read.datum (inputs_of x.0.redeemer) in
+    let of_script : step_fault time_locks named tx spent (own ∷ read.later) ≡ None = subst (λ (ss : List Step). step_fault time_locks named tx spent ss ≡ None) read.steps judged in
     let of_lock : script_fault time_locks (Some l) (step_asked tx spent own) ≡ None =
     subst (λ (o : Option TimeLock). script_fault time_locks o (step_asked tx spent own) ≡ None) (ap named c.2 ∙ found_lock id l) of_script in
     let p = and_true (has_signed tx.signers l.owner) (int_le l.from tx.interval.from) (opens l tx.outputs (may_open l tx) of_lock) in

@@ -26,7 +26,7 @@ use Rattle.ledger.specs.declared.look.Unspent.{Unspent}
 use Rattle.ledger_spec.specs.Open.{IsAlone}
 use Rattle.ledger_spec.specs.Replay.{Replay, Course, World, replay, count_of, published_after, published_from, published, published_at, world, past_of}
 use Rattle.ledger_spec.specs.Legal.{entry_of}
-use Rattle.ledger_spec.specs.Views.{thread_output, object_under, thread_output_in, thread_output_at, end_of, thread_shown}
+use Rattle.ledger_spec.specs.Views.{thread_output, made_datum, object_under, thread_output_in, thread_output_at, end_of, thread_shown}
 use Rattle.ledger_spec.specs.Calls.{submit_reply, reply_to}
 use Rattle.ledger_spec.specs.Headline.{SecondHalf, IsOpenAfter}
 use Rattle.ledger_spec.proofs.ReplayLaws.{replay_after}
@@ -72,7 +72,7 @@ of_shown_if t d e false k = cc
 
 of_shown : (t : ThreadOutput) (c : Option ContractLock) (e : Thread) → thread_in t c ≡ Some e → e.shown ≡ t
 of_shown t None e h = cc
-of_shown t (Some c) e h = of_shown_if t c.datum e (is_current t c) h
+of_shown t (Some c) e h = of_shown_if t t.datum e (is_current t c) h
 
 look_shows : (o : Option ThreadOutput) (e : Thread) → thread_of o ≡ Some e → o ≡ Some e.shown
 look_shows None e h = cc
@@ -83,23 +83,24 @@ record IsThere (w : World) (t : ThreadOutput) : Type 0 where
   unspent : unspent_at (past_of w) t.reference ≡ Some t.output
   named : published_at w.published t.published.id ≡ Some t.published
 
-with_so : (w : World) (q : OutputRef) (o : Output) → unspent_at (past_of w) q ≡ Some o → (c : Option (List ℕ)) → (t : ThreadOutput) → thread_output q o (object_under w.published c) ≡ Some t → IsThere w t
-with_so w q o h None t k = cc
-with_so w q o h (Some c) t k = by (published_at w.published c) refl k
+with_so : (w : World) (q : OutputRef) (o : Output) (d : Datum) → unspent_at (past_of w) q ≡ Some o → (c : Option (List ℕ)) → (t : ThreadOutput) → thread_output q o d (object_under w.published c) ≡ Some t → IsThere w t
+with_so w q o d h None t k = cc
+with_so w q o d h (Some c) t k = by (published_at w.published c) refl k
   where
-    by : (v : Option Published) → published_at w.published c ≡ v → thread_output q o v ≡ Some t → IsThere w t
+    by : (v : Option Published) → published_at w.published c ≡ v → thread_output q o d v ≡ Some t → IsThere w t
     by None f m = cc
     by (Some p) f m =
-        let same : (let z : ThreadOutput = record { reference = q; output = o; published = p } in z) ≡ t = cc in
+        let same : (let z : ThreadOutput = record { reference = q; output = o; datum = d; published = p } in z) ≡ t = cc in
         subst (λ (z : ThreadOutput). IsThere w z) same (record { unspent = h; named = ap (published_at w.published) (under_id w.published c p f) ∙ f })
 
-output_so : (w : World) (q : OutputRef) (o : Option Output) → unspent_at (past_of w) q ≡ o → (t : ThreadOutput) → thread_output_in w.published q o ≡ Some t → IsThere w t
-output_so w q None h t k = cc
-output_so w q (Some o) h t k = with_so w q o h (script_in o.lock) t k
+output_so : (w : World) (q : OutputRef) (o : Option Output) (d : Option Datum) → unspent_at (past_of w) q ≡ o → (t : ThreadOutput) → thread_output_in w.published q o d ≡ Some t → IsThere w t
+output_so w q None d h t k = cc
+output_so w q (Some o) None h t k = cc
+output_so w q (Some o) (Some d) h t k = with_so w q o d h (script_in o.lock) t k
 
 at_so : (w : World) (q : Option OutputRef) (t : ThreadOutput) → thread_output_at w q ≡ Some t → IsThere w t
 at_so w None t k = cc
-at_so w (Some q) t k = output_so w q (unspent_at (past_of w) q) refl t k
+at_so w (Some q) t k = output_so w q (unspent_at (past_of w) q) (made_datum (past_of w) q) refl t k
 
 shown_so : (w : World) (r : Option OutputRef) (t : ThreadOutput) → thread_shown w r ≡ Some t → IsThere w t
 shown_so w None t k = cc

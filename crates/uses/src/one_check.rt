@@ -13,7 +13,7 @@ use std::sync::Arc;
 
 /// Judges one transaction by hand: on the outputs that its inputs spend, in order, `None` where one isn't known, and
 /// on one published contract. The verdict is that of the rules which these decide, 1 to 3 and, where nothing is
-/// missing, 8 to 18. What is unspent, published and accepted on a ledger, and its tick, isn't asked.
+/// missing, 8 to 19. What is unspent, published and accepted on a ledger, and its tick, isn't asked.
 pub fn check_one(
     alloc: Global,
     tx: &Tx,

@@ -13,7 +13,7 @@ use contract_json::{read_contract, read_state};
 use eutxo_types::{Output, OutputRef, Redeemer, Spend, Tx, TxFault, Verdict};
 use ledger::{Ask, Look, PayoutLock};
 use roles::publish;
-use rows_text::{Known, output_of};
+use rows_text::{Known, Written, output_of, written_of};
 use std::process::Abort;
 
 const BANK: &str = "key ann ada 60";
@@ -53,6 +53,13 @@ fn currency<R: Abort + AllocGlobal>(rt: &R) -> Bytes {
 fn output<R: Abort + AllocGlobal>(rt: &R, words: &str) -> Output {
     let known = Known::new(rt.alloc());
     output_of(rt.alloc(), &known, words)
+        .ok()
+        .expect(rt, "an output")
+}
+
+fn written<R: Abort + AllocGlobal>(rt: &R, words: &str) -> Written {
+    let known = Known::new(rt.alloc());
+    written_of(rt.alloc(), &known, words)
         .ok()
         .expect(rt, "an output")
 }
@@ -169,6 +176,7 @@ fn spending<R: Abort + AllocGlobal>(
         outputs: one(rt, output(rt, made)),
         interval: Interval { from, to: 100 },
         signers: one(rt, text(rt, signer)),
+        datums: Items::new(rt.alloc()),
     }
 }
 
@@ -275,8 +283,10 @@ fn opened_by<R: Abort + AllocGlobal>(rt: &R, signer: &str, from: i64) -> (bool, 
     let owner = text(rt, "ann");
     let lock = TimeLock { owner, from: 50 };
     let inputs: Items<Input> = Items::new(rt.alloc());
-    let tx = spending(rt, Redeemer::Step(inputs), "key bob ada 5", from, signer);
-    let outputs = one(rt, Some(output(rt, LOCKED)));
+    let mut tx = spending(rt, Redeemer::Step(inputs), "key bob ada 5", from, signer);
+    let Written { output, datum } = written(rt, LOCKED);
+    tx.datums = one(rt, datum.expect(rt, "a datum"));
+    let outputs = one(rt, Some(output));
     let verdict = check_lock(rt.alloc(), &tx, outputs, [7; 32], lock).expect(rt, "memory");
     (is_of_accepted(&verdict), is_not_authorised(&verdict, "ann"))
 }

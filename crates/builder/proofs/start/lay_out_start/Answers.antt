@@ -8,8 +8,8 @@ use Rattle.builder.specs.FundsSupport.{Funds}
 use Rattle.builder.proofs.CoveredLemmas.{start_room, start_covers}
 use Rattle.builder.proofs.start.lay_out_start.Goals as goal
 
-pub start_output-requires : goal.start_output-requires
-start_output-requires c =
+pub start_output-requires-clause-room : goal.start_output-requires-clause-room
+start_output-requires-clause-room c =
     let us = c.args.funds.front in
     let all : c.funds.inside.all ≡ sums amount_in us = ap (λ (f : Funds). f.all) c.funds.view_is ∙ c.requires.all ∙ ap (sums amount_in) (sym c.requires.front) in
     start_room c.args.asked.now.state us c.requires.bundles c.requires.covered (subst (λ m. is_much m ≡ false) all c.see_room.ensures)

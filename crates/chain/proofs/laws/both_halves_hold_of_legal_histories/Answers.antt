@@ -29,8 +29,8 @@ returns c whole all_legal begins all_fit = (both whole all_legal begins all_fit,
             published = published;
             stands = c.publications_are_entries.ensures.stands d legal;
             told_apart = c.publications_are_entries.ensures.told_apart d legal;
-            runs = runs_of_contracts _ _ _ published (c.threads_are_runs.ensures.run _ _ kept.tables sound);
-            ends_with_run = c.threads_are_runs.ensures.end _ _ kept.tables sound;
+            runs = λ apart. runs_of_contracts _ _ _ published (c.threads_are_runs.ensures.run _ _ kept.tables apart sound);
+            ends_with_run = λ apart. c.threads_are_runs.ensures.end _ _ kept.tables apart sound;
             steps = c.steps_stand_on_threads.ensures.thread _ _ sound;
             stepped = c.steps_stand_on_threads.ensures.spends _ _ sound;
             of_contracts = c.steps_stand_on_threads.ensures.names _ _ sound;
@@ -53,10 +53,10 @@ returns c whole all_legal begins all_fit = (both whole all_legal begins all_fit,
             shown = shows_standing current d kept;
             of_starts = λ ask t h. shown_starts (world d) ask.thread t h;
             current =
-                shows_where_runs_stand c.threads_are_runs.ensures.run c.threads_are_runs.ensures.end c.contracts_end_threads.ensures.thread c.contracts_end_threads.ensures.unspent c.starts_are_told.ensures
+                shows_where_runs_stand c.threads_are_runs.ensures.run c.threads_are_runs.ensures.end c.contracts_are_funded.ensures.number c.contracts_end_threads.ensures.unspent c.found_is_enough.ensures c.starts_are_told.ensures
                 current d kept;
             not_over =
-                shows_what_is_not_over c.threads_are_runs.ensures.run c.threads_are_runs.ensures.end c.contracts_end_threads.ensures.thread c.contracts_end_threads.ensures.unspent c.starts_are_told.ensures
+                shows_what_is_not_over c.threads_are_runs.ensures.run c.threads_are_runs.ensures.end c.contracts_are_funded.ensures.number c.contracts_end_threads.ensures.unspent c.found_is_enough.ensures c.starts_are_told.ensures
                 current d kept;
             closes = closes_shown current d kept c.anyone_closes_after_the_last_timeout.ensures.closes c.steps_are_accepted.ensures.after;
             step_change = c.change_is_the_rest.ensures.step;

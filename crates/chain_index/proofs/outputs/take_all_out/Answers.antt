@@ -15,9 +15,20 @@ loop-reference-preserved c =
           ∙ ap (λ (rs : List OutputRef). staying rs (live old.outputs)) (sym keys)
           ∙ old.invariant.live;
       keys = c.take_out.ensures.keys ∙ old.invariant.keys;
+      live_datums =
+          ap (staying c.pop.new.self.keys) c.take_out-in-Some.ensures.live
+          ∙ staying_more c.pop.new.self.keys c.in-Some.reference (live old.datums.entries)
+          ∙ ap (λ (rs : List OutputRef). staying rs (live old.datums.entries)) (sym keys)
+          ∙ old.invariant.live_datums;
+      datum_keys = c.take_out-in-Some.ensures.keys ∙ old.invariant.datum_keys;
     }
 
 pub returns-clause-live : goal.returns-clause-live
 returns-clause-live c =
     let old = c.loop-reference in
     sym (none_leave (live old.outputs)) ∙ ap (λ (rs : List OutputRef). staying rs (live old.outputs)) (sym (no_keys old.set.keys c.in_default.ensures.found.1)) ∙ old.invariant.live
+
+pub returns-clause-live_datums : goal.returns-clause-live_datums
+returns-clause-live_datums c =
+    let old = c.loop-reference in
+    sym (none_leave (live old.datums.entries)) ∙ ap (λ (rs : List OutputRef). staying rs (live old.datums.entries)) (sym (no_keys old.set.keys c.in_default.ensures.found.1)) ∙ old.invariant.live_datums

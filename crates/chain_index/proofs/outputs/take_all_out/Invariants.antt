@@ -5,6 +5,8 @@ use Rattle.chain_index.proofs.outputs.take_all_out.Given as goal
 
 abbrev pub invariant-loop-reference : goal.invariant-loop-reference
 invariant-loop-reference l = record {
+  live_datums : staying l.set.keys (live l.datums.entries) ≡ staying l.initial.set.keys (live l.initial.datums.entries);
+  datum_keys : keys_of l.datums.entries ≡ keys_of l.initial.datums.entries;
   live : staying l.set.keys (live l.outputs) ≡ staying l.initial.set.keys (live l.initial.outputs);
   keys : keys_of l.outputs ≡ keys_of l.initial.outputs;
 }

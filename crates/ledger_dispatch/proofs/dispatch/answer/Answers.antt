@@ -3,7 +3,7 @@ use Rattle.std.proofs.lemmas.Result.{on_ok_weaker}
 use Rattle.ledger.specs.declared.call.Call.{Call}
 use Rattle.ledger_spec.specs.Replay.{world}
 use Rattle.ledger_kept.specs.Kept.{IsIndexOf, world_with}
-use Rattle.ledger_dispatch.proofs.TiedLemmas.{advanced, submitted}
+use Rattle.ledger_dispatch.proofs.TiedLemmas.{advanced, submitted, enqueued, rounded}
 use Rattle.ledger_dispatch.proofs.dispatch.answer.Goals as goal
 
 pub returns-in-Publish-clause-tied : goal.returns-in-Publish-clause-tied
@@ -22,3 +22,14 @@ returns-in-Submit-clause-tied c =
     let w = world c.args.kept.now in
     let next = c.submit.new.index.present in
     on_ok_weaker c.submit.result (λ tied. subst (λ (k : Call). IsIndexOf next (world_with w k)) (sym c.in-Submit.is) (submitted next w c.in-Submit.tx tied)) c.submit.ensures.tied
+
+pub returns-in-Enqueue-clause-tied : goal.returns-in-Enqueue-clause-tied
+returns-in-Enqueue-clause-tied c =
+    let w = world c.args.kept.now in
+    subst (λ (k : Call). IsIndexOf c.args.index.now.present (world_with w k)) (sym c.in-Enqueue.is) (enqueued c.args.index.now.present w c.in-Enqueue.field-0 c.requires.tied)
+
+pub returns-in_ok-round-in-Round-clause-tied : goal.returns-in_ok-round-in-Round-clause-tied
+returns-in_ok-round-in-Round-clause-tied c =
+    let w = world c.args.kept.now in
+    let next = c.round.new.index.present in
+    subst (λ (k : Call). IsIndexOf next (world_with w k)) (sym c.in-Round.is) (rounded next w c.in-Round.count c.in_ok-round-in-Round.ensures.tied)

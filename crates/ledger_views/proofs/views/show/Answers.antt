@@ -12,5 +12,5 @@ returns c =
     let present = c.args.index.now.present in
     let tick : to_z w64 (of_z w64 c.tick.result) ≡ c.tick.result = omega (arith, ints) in
     IfOk-weaker c.look_at.result _ _
-    (λ x is. is ∙ ap (λ (t : ℤ). look_in present t c.args.ask.now) (tick ∙ c.tick.ensures) ∙ same_look c.index_follows_threads.ensures.ends present w c.requires.tied c.args.ask.now)
+    (λ x is. is ∙ ap (λ (t : ℤ). look_in present t c.args.ask.now) (tick ∙ c.tick.ensures) ∙ same_look c.index_follows_threads.ensures.ends c.index_tells_data.ensures present w c.requires.tied c.args.ask.now)
     c.look_at.ensures

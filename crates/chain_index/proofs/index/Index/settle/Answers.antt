@@ -9,7 +9,7 @@ pub invariant_of-self : goal.invariant_of-self
 invariant_of-self c =
     let s = c.self.inside in
     subst (λ (z : Sizes). IsIndex c.settle.new.self z) (sym c.sizes-self-inside.ensures)
-    (index_settled s.parts c.settle.new.self s.settled c.self.invariant c.settle.ensures.same c.settle.ensures.leaving c.settle.ensures.known)
+    (index_settled s.parts c.settle.new.self s.settled c.self.invariant c.settle.ensures.same c.settle.ensures.leaving c.settle.ensures.known c.settle.ensures.known_datums)
 
 pub returns : goal.returns
 returns c =

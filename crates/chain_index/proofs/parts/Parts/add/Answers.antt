@@ -26,5 +26,6 @@ returns-clause-ok c =
       objects = refl;
       moves = c.in_ok-move_all.ensures.ok ∙ ap (λ n. s.moves.entries ++ moves_in n tx) c.len-number.ensures.len;
       starts = c.in_ok-start_all.ensures.ok;
+      datums = c.in_ok-bring_all.ensures.ok;
     }))
     c.put_id.ensures.ok

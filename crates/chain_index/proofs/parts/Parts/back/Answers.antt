@@ -18,5 +18,6 @@ returns c =
       objects = o i;
       moves = c.truncate-5.ensures.entries i;
       starts = c.truncate-6.ensures.keys i;
+      datums = c.truncate-7.ensures.entries i;
     })
     ∙ ap (front z) c.self.view_is

@@ -1,0 +1,18 @@
+use Rattle.std.proofs.Common.{◌∙◌, ap, sym}
+use Rattle.std.specs.Map.{lookup}
+use Rattle.eutxo_types.specs.Parts.{same_ref}
+use Rattle.chain_index.specs.PartsSupport.{Parts, contents_in}
+use Rattle.chain_index.proofs.LiveLemmas.{unspent_none, unspent_some}
+use Rattle.chain_index.proofs.parts.Parts.datum_at.Goals as goal
+
+pub returns-then-is_noted : goal.returns-then-is_noted
+returns-then-is_noted c =
+    let s = c.self.inside in
+    unspent_none s.leaving.keys s.datums.entries c.args.reference.now (sym c.is_noted.ensures ∙ c.if-is_noted.true)
+    ∙ ap (λ (p : Parts). lookup (same_ref c.args.reference.now) (contents_in p).datums) c.self.view_is
+
+pub returns-else-is_noted : goal.returns-else-is_noted
+returns-else-is_noted c =
+    let s = c.self.inside in
+    c.value_at.ensures ∙ unspent_some s.leaving.keys s.datums.entries c.args.reference.now (sym c.is_noted.ensures ∙ c.if-is_noted.false)
+    ∙ ap (λ (p : Parts). lookup (same_ref c.args.reference.now) (contents_in p).datums) c.self.view_is
