@@ -5,13 +5,13 @@ both with their ratios to those after the first.
 Needs    the program that ledger_program.py makes, and valgrind with its vgdb
 Usage    chain_growth.py PROGRAM [ENTRIES ..]   (a copy of ledger_bench; other numbers of entries are multiples of 200)
 Expect   for each number of entries a line for each call, and ratios of instructions of at most GREATEST; else status 1. The calls are a Submit and an Enqueue of
-         a payment of one input and two outputs, a Round of ten such, a Look of a key with ten outputs, a Look of a thread of one step, `resolve` of a payment,
-         and a Look of a thread of 400 steps (`long`). The last line of each number is what an entry of the history took, with the growth of all that is kept:
-         a part of the processor time of the whole run. README.md has what was measured.
+         a payment of one input and two outputs, a Round of ten such, a Look of a key with ten outputs, a Look of the bank's key, whose outputs were all spent
+         but one (`spent`), a Look of a thread of one step, `resolve` of a payment, and a Look of a thread of 400 steps (`long`). The last line of each number is
+         what an entry of the history took, with the growth of all that is kept: a part of the processor time of the whole run. README.md has what was measured.
 Mind     a history has, of each twenty entries, ten payments by Submit, one by Enqueue and Round, a Publish, two starts, three steps, a Look and an Advance, by
-         sixteen seats. Half of the payments go to the bank's own key, whose output each payment spends; of the others each to a key of its own, and ten to
-         the key that is looked at, evenly over the history. So each is longer by that: what is unspent, under one key and under many; the ids, what is published,
-         the threads, the entries and those of each seat.
+         sixteen seats. Each payment and start spends the one output under the bank's key and puts another there. Half of the payments go to the shop's key; of
+         the others each to a key of its own, and ten to the key that is looked at, evenly over the history. So each is longer by that: what is unspent, under
+         one key and under many, and what was spent under one; the ids, what is published, the threads, the entries and those of each seat.
          Calls are measured in windows of some at once, made ready before. Instructions: callgrind runs without counting, the program waits for a line before
          and after each window, and there counting is switched on and off; a window without calls, which has all but the calls, is taken off. That is exact but for
          a few instructions a window. Of WINDOWS windows the least counts, and of RUNS runs the least time: where a list or a map happens to be doubled within a
@@ -25,7 +25,7 @@ import sys
 import tempfile
 
 ENTRIES = [1_000, 10_000, 100_000]
-CALLS = {"submit": 20, "enqueue": 20, "round": 4, "look": 20, "thread": 20, "resolve": 20, "long": 20}
+CALLS = {"submit": 20, "enqueue": 20, "round": 4, "look": 20, "spent": 20, "thread": 20, "resolve": 20, "long": 20}
 WINDOWS = 3
 RUNS = 3
 GREATEST = 1.2

@@ -142,13 +142,17 @@ none_cond : {A : Type 0} (b : Bool) (x : A) (o : Option A) → cond b (Some x) o
 none_cond true x o h = cc
 none_cond false x o h = (refl, h)
 
--- where the reference isn't there, nothing is taken out
+absent : {V : Type 0} (r : OutputRef) (es : Slots V) → lookup (same_ref r) es ≡ None → Absent r es
+absent r [] h = tt
+absent r (e ∷ es) h = let p = none_cond (same_ref r e.0) e.1 (lookup (same_ref r) es) h in (p.0, absent r es p.1)
+
+-- where the reference isn't there, nothing is there under it
+pub none_live : {V : Type 0} (r : OutputRef) (es : Slots V) → lookup (same_ref r) es ≡ None → lookup (same_ref r) (live es) ≡ None
+none_live r es h = absent_live r es (absent r es h)
+
+-- and nothing is taken out
 pub kept_without : {V : Type 0} (r : OutputRef) (es : Slots V) → lookup (same_ref r) es ≡ None → filter (λ e. not (same_ref r e.0)) (live es) ≡ live es
-kept_without r es h = kept_all r es (absent es h)
-  where
-    absent : {V : Type 0} (fs : Slots V) → lookup (same_ref r) fs ≡ None → Absent r fs
-    absent [] k = tt
-    absent (f ∷ fs) k = let p = none_cond (same_ref r f.0) f.1 (lookup (same_ref r) fs) k in (p.0, absent fs p.1)
+kept_without r es h = kept_all r es (absent r es h)
 
 -- what a map of slots answers
 pub value_so : {V : Type 0} (r : OutputRef) (es : Slots V) (o : Option (Option V)) → IsDistinct ghosts.eq (keys_of es) → o ≡ lookup (ghosts.eq r) es → inside o ≡ lookup (same_ref r) (live es)

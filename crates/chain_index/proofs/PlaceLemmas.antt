@@ -14,6 +14,7 @@ use Rattle.eutxo_types.specs.declared.output.Output.{Output}
 use Rattle.eutxo_types.specs.declared.output_ref.OutputRef.{OutputRef}
 use Rattle.eutxo_types.specs.Parts.{same_ref}
 use Rattle.eutxo_types.specs.contracts.output_ref.OutputRefPartialEq.TheImpl.{ghosts}
+use Rattle.indexmap.specs.IndexSet.{IndexSet}
 use Rattle.ledger.specs.declared.ask.PayoutLock.{PayoutLock}
 use Rattle.ledger_laws.proofs.PlainLaws.{same_some, not_both}
 use Rattle.ledger_laws.proofs.ReferenceLaws.{same_ref_so, same_ref-refl}
@@ -21,11 +22,11 @@ use Rattle.ledger_spec.specs.Views.{is_key_of, is_payout_of}
 use Rattle.chain_index.specs.declared.lock_name.LockName.{LockName}
 use Rattle.chain_index.specs.declared.lock_name.LockName.TheVariants.{Address, Role}
 use Rattle.chain_index.specs.Contents.{is_among}
-use Rattle.chain_index.specs.HolesSupport.{live, with_live}
-use Rattle.chain_index.specs.LocksSupport.{is_named, AreListed}
+use Rattle.chain_index.specs.HolesSupport.{live}
+use Rattle.chain_index.specs.LocksSupport.{is_named, is_under, is_listed, AreListed}
 use Rattle.chain_index.specs.UnderLocksSupport.{is_asked, is_shown, passes, passes_at}
-use Rattle.chain_index.proofs.LockLemmas.{named_so}
-use Rattle.chain_index.proofs.RefLemmas.{eq_same, flips}
+use Rattle.chain_index.proofs.LiveLemmas.{inside, lookup_live}
+use Rattle.chain_index.proofs.RefLemmas.{eq_same, flips, and_none, and_one}
 
 abbrev Entry : Type 0
 Entry = OutputRef × Option Output
@@ -40,14 +41,6 @@ passes_same p q h (Some e) = h e
 passes_or : (p q s : Entry → Bool) → ((e : Entry) → p e ≡ (q e || s e)) → (o : Option Entry) → passes p o ≡ (passes q o || passes s o)
 passes_or p q s h None = refl
 passes_or p q s h (Some e) = h e
-
-and_none : (b : Bool) → b && false ≡ false
-and_none true = refl
-and_none false = refl
-
-and_one : (b : Bool) → b && true ≡ b
-and_one true = refl
-and_one false = refl
 
 or_and : (a b c : Bool) → (a || b) && c ≡ (a && c) || (b && c)
 or_and true true true = refl
@@ -170,28 +163,37 @@ none_named p (Some e) b = refl
 
 -- ---- listed under a name
 
+-- what an entry has is found by its reference
+there_at : (es : List Entry) (i : ℕ) (e : Entry) → IsDistinct same_ref (keys_of es) → slice_get es i ≡ Some e → lookup (same_ref e.0) es ≡ Some e.1
+there_at [] i e u at = cc
+there_at (x ∷ xs) zero e u at =
+    ap (λ (y : Entry). cond (same_ref e.0 y.0) (Some y.1) (lookup (same_ref e.0) xs)) (same_some x e at)
+    ∙ ap (λ b. cond b (Some e.1) (lookup (same_ref e.0) xs)) (same_ref-refl e.0)
+there_at (x ∷ xs) (suc i) e u at =
+    ap (λ b. cond b (Some x.1) (lookup (same_ref e.0) xs)) (flips e.0 x.0 ∙ apart_at x.0 xs i e (IsDistinct-head same_ref x.0 (keys_of xs) u) at)
+    ∙ there_at xs i e (IsDistinct-tail same_ref x.0 (keys_of xs) u) at
+
 -- all that is under the lock of a name is among the references listed there
-pub all_named : (refs : LockName → List OutputRef) (n : LockName) (leaving : List OutputRef) (es : List Entry) (i : ℕ) → AreListed refs (live es) →
-    passes_at (λ e. is_among (refs n) e.0 && is_shown (is_named n) leaving e) es i ≡ passes_at (is_shown (is_named n) leaving) es i
-all_named refs n leaving [] i h = refl
-all_named refs n leaving (x ∷ xs) i h = by x.1 h i (λ k q. all_named refs n leaving xs k q)
+pub all_named : {S : Type 0} (m : List (LockName × IndexSet OutputRef S)) (n : LockName) (leaving : List OutputRef) (es : List Entry) (i : ℕ) → IsDistinct ghosts.eq (keys_of es) → AreListed m (live es) →
+    passes_at (λ e. is_listed m n e.0 && is_shown (is_named n) leaving e) es i ≡ passes_at (is_shown (is_named n) leaving) es i
+all_named m n leaving es i u h = by (slice_get es i) refl
   where
-    test : Entry → Bool
-    test = λ e. is_among (refs n) e.0 && is_shown (is_named n) leaving e
+    distinct : IsDistinct same_ref (keys_of es)
+    distinct = subst (λ q. IsDistinct q (keys_of es)) eq_same u
 
-    first : (o : Output) → AreListed refs ((x.0, o) ∷ live xs) → (b : Bool) → is_named n o.lock ≡ b → is_among (refs n) x.0 && (b && not (is_among leaving x.0)) ≡ (b && not (is_among leaving x.0))
-    first o k true e = ap (λ b. b && not (is_among leaving x.0)) (k.0 n (named_so n o.lock e))
-    first o k false e = and_none (is_among (refs n) x.0)
+    twice : (o : Option Output) (s : Bool) → is_under n o && (is_asked (is_named n) o && s) ≡ is_asked (is_named n) o && s
+    twice None s = refl
+    twice (Some o) s = same (is_named n o.lock)
+      where
+        same : (b : Bool) → b && (b && s) ≡ b && s
+        same true = refl
+        same false = refl
 
-    rest : (o : Option Output) → AreListed refs (with_live x.0 o (live xs)) → AreListed refs (live xs)
-    rest None k = k
-    rest (Some v) k = k.1
-
-    by : (o : Option Output) → AreListed refs (with_live x.0 o (live xs)) → (k : ℕ) → ((k : ℕ) → AreListed refs (live xs) → passes_at test xs k ≡ passes_at (is_shown (is_named n) leaving) xs k) →
-        passes_at test ((x.0, o) ∷ xs) k ≡ passes_at (is_shown (is_named n) leaving) ((x.0, o) ∷ xs) k
-    by None k zero go = and_none (is_among (refs n) x.0)
-    by (Some o) k zero go = first o k (is_named n o.lock) refl
-    by o k (suc j) go = go j (rest o k)
+    by : (o : Option Entry) → slice_get es i ≡ o → passes (λ e. is_listed m n e.0 && is_shown (is_named n) leaving e) o ≡ passes (is_shown (is_named n) leaving) o
+    by None at = refl
+    by (Some e) at =
+        ap (λ b. b && is_shown (is_named n) leaving e) (h n e.0 ∙ ap (is_under n) (lookup_live e.0 es distinct ∙ ap inside (there_at es i e distinct at)))
+        ∙ twice e.1 (not (is_among leaving e.0))
 
 -- ---- locks, one after another
 

@@ -1,5 +1,5 @@
 -- Equality of references, and lists of them.
-use Rattle.std.proofs.Common.{◌≡◌, Bool, true, false, ◌||◌, List, [], ◌∷◌, ◌++◌, refl, sym, ◌∙◌, ap, subst}
+use Rattle.std.proofs.Common.{◌≡◌, Bool, true, false, ◌&&◌, ◌||◌, List, [], ◌∷◌, ◌++◌, refl, sym, ◌∙◌, ap, subst}
 use Rattle.std.specs.Prelude.{if◌then◌else◌}
 use Rattle.std.proofs.lemmas.List.Folds.{list_any-append}
 use Rattle.eutxo_types.specs.contracts.output_ref.OutputRefPartialEq.TheImpl.{ghosts}
@@ -31,7 +31,15 @@ flips a b = by (same_ref a b) (same_ref b a) refl refl
 
 -- ---- tests
 
-or_none : (b : Bool) → b || false ≡ b
+pub and_none : (b : Bool) → b && false ≡ false
+and_none true = refl
+and_none false = refl
+
+pub and_one : (b : Bool) → b && true ≡ b
+and_one true = refl
+and_one false = refl
+
+pub or_none : (b : Bool) → b || false ≡ b
 or_none true = refl
 or_none false = refl
 

@@ -1,6 +1,5 @@
 -- No reader needs this file: references of outputs, listed by the locks that the outputs are under.
-use Rattle.std.specs.Prelude.{◌≡◌, Bool, true, false, ◌&&◌, List, [], Option, Some, None}
-use Rattle.std.specs.List.{AllByRecursion}
+use Rattle.std.specs.Prelude.{◌≡◌, Bool, false, not, ◌&&◌, ◌||◌, List, [], Option, Some, None}
 use Rattle.std.specs.Map.{lookup}
 use Rattle.eutxo_types.specs.declared.lock.Lock.{Lock}
 use Rattle.eutxo_types.specs.declared.lock.Lock.TheVariants.{Key, Payout, Contract}
@@ -34,6 +33,14 @@ is_name n (Some m) = same_name n m
 abbrev pub is_named : LockName → Lock → Bool
 is_named n lock = is_name n (name_in lock)
 
+-- the name that an output is under, where it is there
+abbrev pub name_under : Option Output → Option LockName
+name_under None = None
+name_under (Some o) = name_in o.lock
+
+abbrev pub is_under : LockName → Option Output → Bool
+is_under n o = is_name n (name_under o)
+
 -- ---- what is listed
 
 abbrev pub refs_in : {S : Type 0} → Option (IndexSet OutputRef S) → List OutputRef
@@ -44,17 +51,21 @@ refs_in (Some refs) = refs.keys
 abbrev pub refs_under : {S : Type 0} → List (LockName × IndexSet OutputRef S) → LockName → List OutputRef
 refs_under m n = refs_in (lookup (same_name n) m)
 
--- an output is listed under its lock
-abbrev pub Listed : (LockName → List OutputRef) → OutputRef × Output → Type 0
-Listed refs e = (n : LockName) → name_in e.1.lock ≡ Some n → is_among (refs n) e.0 ≡ true
+abbrev pub is_listed : {S : Type 0} → List (LockName × IndexSet OutputRef S) → LockName → OutputRef → Bool
+is_listed m n r = is_among (refs_under m n) r
 
-abbrev pub AreListed : (LockName → List OutputRef) → List (OutputRef × Output) → Type 0
-AreListed refs es = AllByRecursion (Listed refs) es
+-- listed are just the outputs that are there, each under its name
+abbrev pub AreListed : {S : Type 0} → List (LockName × IndexSet OutputRef S) → List (OutputRef × Output) → Type 0
+AreListed m es = (n : LockName) (r : OutputRef) → is_listed m n r ≡ is_under n (lookup (same_ref r) es)
 
--- what was listed still is
-abbrev pub Keeps : (LockName → List OutputRef) → (LockName → List OutputRef) → Type 0
-Keeps old new = (n : LockName) (r : OutputRef) → is_among (old n) r ≡ true → is_among (new n) r ≡ true
+-- the same is listed
+abbrev pub IsListedAlike : {S : Type 0} → List (LockName × IndexSet OutputRef S) → List (LockName × IndexSet OutputRef S) → Type 0
+IsListedAlike old new = (n : LockName) (r : OutputRef) → is_listed new n r ≡ is_listed old n r
 
--- but maybe this reference
-abbrev pub KeepsBut : OutputRef → (LockName → List OutputRef) → (LockName → List OutputRef) → Type 0
-KeepsBut q old new = (n : LockName) (r : OutputRef) → same_ref q r ≡ false → is_among (old n) r ≡ true → is_among (new n) r ≡ true
+-- and under this name, where it is one, a reference more
+abbrev pub ListsMore : {S : Type 0} → Option LockName → OutputRef → List (LockName × IndexSet OutputRef S) → List (LockName × IndexSet OutputRef S) → Type 0
+ListsMore name q old new = (n : LockName) (r : OutputRef) → is_listed new n r ≡ ((is_name n name && same_ref q r) || is_listed old n r)
+
+-- but under this name, where it is one, no more a reference
+abbrev pub ListsLess : {S : Type 0} → Option LockName → OutputRef → List (LockName × IndexSet OutputRef S) → List (LockName × IndexSet OutputRef S) → Type 0
+ListsLess name q old new = (n : LockName) (r : OutputRef) → is_listed new n r ≡ (not (is_name n name && same_ref q r) && is_listed old n r)

@@ -1,10 +1,8 @@
-//! References of outputs, listed by the locks that the outputs are under. That none lacks is all that clauses say: what
-//! else is listed a look passes over, since it asks each output.
-ghost use Rattle.std.specs.Prelude.{◌≡◌, [], true, None, OnOk};
+//! References of outputs, listed by the locks that the outputs are under.
+ghost use Rattle.std.specs.Prelude.{◌≡◌, [], true, Some, None, OnOk, OnErr};
 ghost use Rattle.std.specs.Map.{lookup};
-ghost use Rattle.eutxo_types.specs.declared.lock.Lock.{Lock};
-ghost use Rattle.chain_index.specs.Contents.{is_among};
-ghost use Rattle.chain_index.specs.LocksSupport.{same_name, refs_under, Listed, Keeps, KeepsBut};
+ghost use Rattle.chain_index.specs.LocksSupport.{name_in, name_under, same_name, refs_under};
+ghost use Rattle.chain_index.specs.LocksSupport.{IsListedAlike, ListsMore, ListsLess};
 
 use crate::holes::note;
 use crate::lock_name::{LockName, into_name, name_of};
@@ -30,8 +28,8 @@ pub(crate) fn refs_under<'a>(by_lock: &'a ByLock, name: &LockName) -> &'a [Outpu
 // Lists a reference under a name that has none yet.
 fn list_first(by_lock: &mut ByLock, name: LockName, reference: OutputRef) -> Result<(), Memory>
     requires { lookup (same_name name) by_lock.old.entries ≡ None }
-    ensures ok { OnOk result (is_among (refs_under by_lock.new.entries name) reference ≡ true) }
-    ensures keeps { Keeps (refs_under by_lock.old.entries) (refs_under by_lock.new.entries) }
+    ensures ok { OnOk result (ListsMore (Some name) reference by_lock.old.entries by_lock.new.entries) }
+    ensures err { OnErr result (IsListedAlike by_lock.old.entries by_lock.new.entries) }
 {
     let mut refs = IndexSet::new(*by_lock.allocator());
     note(&mut refs, reference)?;
@@ -42,8 +40,8 @@ fn list_first(by_lock: &mut ByLock, name: LockName, reference: OutputRef) -> Res
 }
 
 fn list_under(by_lock: &mut ByLock, name: LockName, reference: OutputRef) -> Result<(), Memory>
-    ensures ok { OnOk result (is_among (refs_under by_lock.new.entries name) reference ≡ true) }
-    ensures keeps { Keeps (refs_under by_lock.old.entries) (refs_under by_lock.new.entries) }
+    ensures ok { OnOk result (ListsMore (Some name) reference by_lock.old.entries by_lock.new.entries) }
+    ensures err { OnErr result (IsListedAlike by_lock.old.entries by_lock.new.entries) }
 {
     match by_lock.get_mut(&name) {
         Some(refs) => note(refs, reference),
@@ -51,14 +49,14 @@ fn list_under(by_lock: &mut ByLock, name: LockName, reference: OutputRef) -> Res
     }
 }
 
-/// Lists an output under its lock. Where memory is refused, what was listed still is.
+/// Lists an output under its lock. A refusal for memory changes nothing.
 pub(crate) fn list(
     by_lock: &mut ByLock,
     reference: OutputRef,
     output: &Output,
 ) -> Result<(), Memory>
-    ensures ok { OnOk result (Listed (refs_under by_lock.new.entries) (reference, output.now)) }
-    ensures keeps { Keeps (refs_under by_lock.old.entries) (refs_under by_lock.new.entries) }
+    ensures ok { OnOk result (ListsMore (name_in output.now.lock) reference by_lock.old.entries by_lock.new.entries) }
+    ensures err { OnErr result (IsListedAlike by_lock.old.entries by_lock.new.entries) }
 {
     match name_of(&output.lock)? {
         Some(name) => list_under(by_lock, name, reference),
@@ -71,7 +69,7 @@ pub(crate) fn list(
 // Takes a reference out of those under a name, and answers whether it was the last.
 fn take_off(by_lock: &mut ByLock, name: &LockName, reference: &OutputRef) -> bool
     ensures none { result ≡ true → refs_under by_lock.new.entries name.now ≡ [] }
-    ensures keeps { KeepsBut reference.now (refs_under by_lock.old.entries) (refs_under by_lock.new.entries) }
+    ensures less { ListsLess (Some name.now) reference.now by_lock.old.entries by_lock.new.entries }
 {
     match by_lock.get_mut(name) {
         Some(refs) => {
@@ -84,7 +82,7 @@ fn take_off(by_lock: &mut ByLock, name: &LockName, reference: &OutputRef) -> boo
 
 // A name with no references goes, so that there are no more names than unspent outputs.
 fn unlist_under(by_lock: &mut ByLock, name: &LockName, reference: &OutputRef)
-    ensures { KeepsBut reference.now (refs_under by_lock.old.entries) (refs_under by_lock.new.entries) }
+    ensures { ListsLess (Some name.now) reference.now by_lock.old.entries by_lock.new.entries }
 {
     if take_off(by_lock, name, reference) {
         by_lock.swap_remove(name);
@@ -93,7 +91,7 @@ fn unlist_under(by_lock: &mut ByLock, name: &LockName, reference: &OutputRef)
 
 /// Lists an output no more. Each other reference stays. Takes no memory.
 pub(crate) fn unlist(by_lock: &mut ByLock, reference: &OutputRef, output: Option<Output>)
-    ensures { KeepsBut reference.now (refs_under by_lock.old.entries) (refs_under by_lock.new.entries) }
+    ensures { ListsLess (name_under output) reference.now by_lock.old.entries by_lock.new.entries }
 {
     let Some(output) = output else {
         return;

@@ -1,8 +1,10 @@
 //! Values by reference, in the order in which they came, with holes where some were taken out. So nothing moves but
 //! where holes are closed, and each change costs the same whatever there is, taken over many.
-ghost use Rattle.std.specs.Prelude.{◌≡◌, ◌++◌, ◌∷◌, [], false, not, filter, is_some, Some, OnOk, OnErr, option_copied};
+ghost use Rattle.std.specs.Prelude.{◌≡◌, ◌++◌, ◌∷◌, [], ◌<◌, false, not, filter, is_some, Some};
+ghost use Rattle.std.specs.Prelude.{IsOk, OnOk, OnErr, option_copied};
 ghost use Rattle.std.specs.Map.{lookup, keys_of};
 ghost use Rattle.eutxo_types.specs.Parts.{same_ref};
+ghost use Rattle.indexmap.specs.IndexMap.{spare};
 ghost use Rattle.chain_index.specs.Contents.{is_among};
 ghost use Rattle.chain_index.specs.HolesSupport.{live, known, with_key, AreAmong};
 
@@ -26,7 +28,7 @@ pub(crate) fn value_at<'a, V>(slots: &'a Slots<V>, reference: &OutputRef) -> Opt
     }
 }
 
-/// Puts a value under a new reference. A refusal for memory changes nothing.
+/// Puts a value under a new reference. A refusal for memory changes nothing; where there is room, nothing is refused.
 pub(crate) fn put<V: Drop>(
     slots: &mut Slots<V>,
     reference: OutputRef,
@@ -35,6 +37,7 @@ pub(crate) fn put<V: Drop>(
     requires { is_among (known slots.old.entries) reference ≡ false }
     ensures ok { OnOk result (slots.new.entries ≡ slots.old.entries ++ (reference, Some value) ∷ []) }
     ensures err { OnErr result (slots.new.entries ≡ slots.old.entries) }
+    ensures succeeds { 0 < spare slots.old → IsOk result }
 {
     match slots.insert(reference, Some(value)) {
         Ok(_) => Ok(()),
@@ -62,6 +65,7 @@ pub(crate) fn is_noted(set: &IndexSet<OutputRef>, reference: &OutputRef) -> bool
 
 /// Makes a hole at a reference, and answers what was there. Takes no memory.
 pub(crate) fn take_out<V: Drop>(slots: &mut Slots<V>, reference: &OutputRef) -> Option<V>
+    ensures value { result ≡ lookup (same_ref reference.now) (live slots.old.entries) }
     ensures live { live slots.new.entries ≡ filter (λ e. not (same_ref reference.now e.0)) (live slots.old.entries) }
     ensures keys { keys_of slots.new.entries ≡ keys_of slots.old.entries }
 {

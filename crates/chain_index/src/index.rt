@@ -45,8 +45,14 @@ impl Model for Index {
 
     ghost Value = { Indexed };
 
-    ghost coded = { Prim.hlevel
-        (codes, brought.the_row.coded, outputs.the_row.coded, references.the_row.coded, publications.the_row.coded, move_rows.the_row.coded) };
+    ghost coded = { Prim.hlevel (
+      codes,
+      brought.the_row.coded,
+      outputs.the_row.coded,
+      references.the_row.coded,
+      publications.the_row.coded,
+      move_rows.the_row.coded,
+    ) };
 
     ghost view = { λ a. indexed a.parts a.settled };
 

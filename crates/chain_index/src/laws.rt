@@ -1,6 +1,7 @@
 //! Laws of what is indexed, each the contract of a function that does nothing.
 ghost use Rattle.roles.specs.Steps.{marlowe};
-ghost use Rattle.chain_index.specs.Laws.{ReadsAlike, AcceptsAlike, JudgedCanBeAdded, ThreadsAlike, EndsAlike, StartsAlike, DataAlike};
+ghost use Rattle.chain_index.specs.Laws.{ReadsAlike, AcceptsAlike, JudgedCanBeAdded};
+ghost use Rattle.chain_index.specs.Laws.{ThreadsAlike, EndsAlike, StartsAlike, DataAlike};
 
 use eutxo::found_is_enough;
 use ledger_laws::accepting_is_sound;

@@ -1,11 +1,10 @@
-//! The ledger by indexes: what is unspent and with which data, which ids are in use, what is published, and where threads
-//! start and go on, after outputs, publications and accepted transactions that were handed in, in order.
+//! The ledger by indexes: what is unspent and with which data, which ids are in use, what is published, and where
+//! threads start and go on, after outputs, publications and accepted transactions that were handed in, in order.
 //!
 //! `specs/Moves.antt` says where the moves of contracts lead, `specs/Data.antt` which data were brought for contract
-//! outputs, `specs/Contents.antt` what is indexed of a past, and
-//! `specs/Laws.antt` that the rules and the threads read the same there as of the past. What is handed in is only added;
-//! `cut` takes back what came since the last `settle`, and `settle` lets go of what was spent. Each look-up answers by
-//! the definitions at every moment, also in between.
+//! outputs, `specs/Contents.antt` what is indexed of a past, and `specs/Laws.antt` that the rules and the threads read
+//! the same there as of the past. What is handed in is only added; `cut` takes back what came since the last `settle`,
+//! and `settle` lets go of what was spent. Each look-up answers by the definitions at every moment, also in between.
 #![tactic(auto)]
 
 mod additions;

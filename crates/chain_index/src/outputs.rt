@@ -20,8 +20,8 @@ use std::alloc::Global;
 use std::collections::BTreeSet;
 use std::marker::Model;
 
-/// Outputs by reference, in order, with holes; clauses see these entries. Each output that is there is listed under its
-/// lock, too.
+/// Outputs by reference, in order, with holes; clauses see these entries. Just those that are there are listed by their
+/// locks.
 #[derive(Drop)]
 pub(crate) struct Outputs {
     entries: Slots<Output>,
@@ -36,7 +36,7 @@ impl Model for Outputs {
     ghost use Rattle.eutxo_types.specs.contracts.output.Output as outputs;
     ghost use Rattle.eutxo_types.specs.contracts.output_ref.OutputRef as references;
     ghost use Rattle.chain_index.specs.HolesSupport.{live};
-    ghost use Rattle.chain_index.specs.LocksSupport.{refs_under, AreListed};
+    ghost use Rattle.chain_index.specs.LocksSupport.{AreListed};
 
     ghost Value = { List (OutputRef × Option Output) };
 
@@ -44,7 +44,7 @@ impl Model for Outputs {
 
     ghost view = { λ a. a.entries.entries };
 
-    ghost invariant = { λ a. AreListed (refs_under a.by_lock.entries) (live a.entries.entries) };
+    ghost invariant = { λ a. AreListed a.by_lock.entries (live a.entries.entries) };
 }
 
 impl Outputs {
@@ -71,7 +71,7 @@ impl Outputs {
         ensures ok { OnOk result (self.new ≡ self.old ++ (reference, Some output) ∷ []) }
         ensures err { OnErr result (self.new ≡ self.old) }
     {
-        // room first: what is listed has its entry
+        // room first: what is listed gets its entry
         self.entries.reserve(1)?;
         list(&mut self.by_lock, reference, &output)?;
         put(&mut self.entries, reference, output)
@@ -123,6 +123,8 @@ impl Outputs {
         ensures { OnOk result ((i : ℕ) → has_place places.new.keys i
             ≡ (passes_at (is_shown (is_named name.now) leaving.now.keys) self.now i || has_place places.old.keys i)) }
     {
+        // touch: keys differ
+        let _len = self.entries.len();
         collect(
             &self.entries,
             leaving,

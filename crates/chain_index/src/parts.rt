@@ -68,8 +68,14 @@ impl Model for Parts {
 
     ghost Value = { Parts };
 
-    ghost coded = { Prim.hlevel
-        (codes, brought.the_row.coded, made.the_row.coded, references.the_row.coded, publications.the_row.coded, move_rows.the_row.coded) };
+    ghost coded = { Prim.hlevel (
+      codes,
+      brought.the_row.coded,
+      made.the_row.coded,
+      references.the_row.coded,
+      publications.the_row.coded,
+      move_rows.the_row.coded,
+    ) };
 
     ghost view = { λ a.
         record {
@@ -159,7 +165,8 @@ impl Parts {
         self.datums.truncate(sizes.datums);
     }
 
-    // Adds what a transaction makes, spends, moves, starts and brings. Where memory is refused, what came so far is there.
+    // Adds what a transaction makes, spends, moves, starts and brings. Where memory is refused, what came so far is
+    // there.
     fn add(&mut self, tx: &Tx, id: &[u8; 32]) -> Result<(), Memory>
         requires named { id.now ≡ id_of tx.now }
         requires absent { (i : ℕ) → is_among (known self.old.entries) (Made id.now i) ≡ false }

@@ -1,12 +1,19 @@
-use Rattle.std.proofs.Common.{◌∙◌, ap, subst, None}
+use Rattle.std.proofs.Common.{◌∙◌, ap, subst, Some, None}
 use Rattle.std.specs.List.{IsDistinct}
 use Rattle.std.specs.Option.{option_copied_mut}
 use Rattle.std.specs.Map.{keys_of, set_value}
 use Rattle.eutxo_types.specs.contracts.output_ref.OutputRefPartialEq.TheImpl.{ghosts}
 use Rattle.chain_index.specs.HolesSupport.{live}
 use Rattle.chain_index.proofs.RefLemmas.{eq_same}
-use Rattle.chain_index.proofs.LiveLemmas.{removed, without_so}
+use Rattle.chain_index.proofs.LiveLemmas.{removed, value_so, without_so}
 use Rattle.chain_index.proofs.holes.take_out.Goals as goal
+
+pub returns-in-Some-clause-value : goal.returns-in-Some-clause-value
+returns-in-Some-clause-value g c =
+    c.take.ensures.value ∙ value_so c.args.reference.now c.args.slots.now.entries (Some c.in-Some.slot.now) c.get_mut.ensures.unique c.in-Some.ensures.value
+
+pub returns-in-None-clause-value : goal.returns-in-None-clause-value
+returns-in-None-clause-value g c = value_so c.args.reference.now c.args.slots.now.entries None c.get_mut.ensures.unique c.in-None.ensures.value
 
 pub returns-in-Some-clause-live : goal.returns-in-Some-clause-live
 returns-in-Some-clause-live g c =
