@@ -203,11 +203,11 @@ impl Chain {
     /// So a Submit of what a builder answers to a request that nothing hinders (`builder`) is accepted, whatever other
     /// entries there are: where what it spends is unspent as it was handed in, no accepted transaction of other bytes
     /// has its id, the tick lies in its interval and its script is published as the request has it. A Look shows each
-    /// thread that isn't over, and none but one that stands, where the thread's run stands. From the last timeout on
-    /// anyone closes a thread that a Look shows, without inputs and offers, in an interval that ends neither before
-    /// its start nor before the minimum time: the parties are paid all that the thread's output held, and what is
-    /// built is accepted like any step, unless a number leaves 128 bits or nothing is left to do. The change of a step
-    /// is what its front holds above the deposits. What is published stays published.
+    /// thread that isn't over, and none but one that stands, at its end. From the last timeout on anyone closes a
+    /// thread that a Look shows, without inputs and offers, in an interval that ends neither before its start nor
+    /// before the minimum time: the parties are paid all that the thread's output held, and what is built is accepted
+    /// like any step, unless a number leaves 128 bits or nothing is left to do. The change of a step is what its front
+    /// holds above the deposits. What is published stays published.
     pub fn step(
         &mut self,
         alloc: Global,
@@ -274,21 +274,21 @@ impl Chain {
     ///
     /// And whatever was called, this holds of what was accepted. Where no two different data that accepted transactions
     /// bring have one digest, the thread of each start output is exactly one run of the contract that was published
-    /// under its script, and where the thread has an end, its datum says where that run stands. Nothing else needs that
-    /// of digests. Every input that spends a contract output stands on exactly one thread; a contract output is spent
-    /// by a step alone, and a step spends one. Each party that a step's inputs need is authorised: an address among
-    /// the signers, or a role whose token a key input's output holds. Each unspent contract output is the end of
-    /// exactly one thread, and each thread's end is an unspent contract output. Such an output holds just the sums of
-    /// its accounts, and stands at a number of the table that was published under its script. No two outputs ever had
-    /// one reference, no two accepted transactions one id, and no output is spent twice. Of each token the unspent
-    /// outputs hold together what the first outputs held. The first outputs are keys, whose sums fit an amount; the
-    /// accepted transactions fit their spelling.
+    /// under its script, and where the thread has an end, its datum says where that run stands, and so does a Look that
+    /// shows the thread. Nothing else needs that of digests. Every input that spends a contract output stands on
+    /// exactly one thread; a contract output is spent by a step alone, and a step spends one. Each party that a step's
+    /// inputs need is authorised: an address among the signers, or a role whose token a key input's output holds. Each
+    /// unspent contract output is the end of exactly one thread, and each thread's end is an unspent contract output.
+    /// Such an output holds just the sums of its accounts, and stands at a number of the table that was published under
+    /// its script. No two outputs ever had one reference, no two accepted transactions one id, and no output is spent
+    /// twice. Of each token the unspent outputs hold together what the first outputs held. The first outputs are keys,
+    /// whose sums fit an amount; the accepted transactions fit their spelling.
     ///
     /// What is built of a request that nothing hinders is accepted now where it is open, as `step` says. All of this
     /// held before each entry too (`throughout`): a Look in the middle of the history showed each thread that wasn't
-    /// over, where its run stood, and what was built of it was accepted where it was open at its Submit. And a Look
-    /// that comes after an accepted Submit shows what that made, where it asks for it and nothing that was accepted
-    /// between the two spent it.
+    /// over, under that premise where its run stood, and what was built of it was accepted where it was open at its
+    /// Submit. And a Look that comes after an accepted Submit shows what that made, where it asks for it and nothing
+    /// that was accepted between the two spent it.
     pub fn history(&self) -> &[Entry]
         ensures all { result.now ≡ self.now.entries }
         ensures legal { IsLegal self.now }

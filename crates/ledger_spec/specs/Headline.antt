@@ -97,9 +97,18 @@ pub record IsSoundLedger (es : List Entry) (named : List ℕ → Option Publishe
   -- of each token the unspent outputs hold together what the first outputs held
   pub preserved : IsPreserved past
 
--- HOWEVER CALLS INTERLEAVE: so it is after this history
-abbrev pub FirstHalf : Course → Type 0
-FirstHalf c = IsSoundLedger c.entries (published_at (published c.entries)) (past_of (world c))
+-- a look shows the thread of a start output at the state and the contract where the thread's run stands, where digests tell data apart
+abbrev pub ShowsWhereRunsStand : Course → Type 0
+ShowsWhereRunsStand c =
+    DigestsTell (past_of (world c)) → (ask : Ask) (r : OutputRef) (i : Instance) (e : Thread) → ask.thread ≡ Some r → IsStart (past_of (world c)) r i → look_thread (look (world c) ask) ≡ Some e →
+    (published_at (world c).published i.script ≡ Some e.shown.published)
+    × ((run : List Member) → Run ((thread_terms e).tree e.shown.published.root) i.datum.state run → Carries (thread_terms e) i.script (thread (past_of (world c)) r) run →
+    ((thread_terms e).tree e.datum.cont ≡ contract_after ((thread_terms e).tree e.shown.published.root) run) × (e.datum.state ≡ state_after i.datum.state run))
+
+-- HOWEVER CALLS INTERLEAVE: so it is after this history, and so looks show it
+pub record FirstHalf (c : Course) : Type 0 where
+  pub ledger : IsSoundLedger c.entries (published_at (published c.entries)) (past_of (world c))
+  pub shown : ShowsWhereRunsStand c
 
 -- ---- THE SECOND HALF
 
@@ -136,14 +145,6 @@ ShowsThreadsOfStarts c =
     (ask : Ask) (t : ThreadOutput) → thread_shown (world c) ask.thread ≡ Some t →
     (r : OutputRef) × (ask.thread ≡ Some r) × StartsThread (past_of (world c)) r × (ends (Some r) (thread (past_of (world c)) r) ≡ Some t.reference)
 
--- its datum stands where the thread's run stands, where digests tell data apart
-abbrev pub ShowsWhereRunsStand : Course → Type 0
-ShowsWhereRunsStand c =
-    DigestsTell (past_of (world c)) → (ask : Ask) (r : OutputRef) (i : Instance) (e : Thread) → ask.thread ≡ Some r → IsStart (past_of (world c)) r i → look_thread (look (world c) ask) ≡ Some e →
-    (published_at (world c).published i.script ≡ Some e.shown.published)
-    × ((run : List Member) → Run ((thread_terms e).tree e.shown.published.root) i.datum.state run → Carries (thread_terms e) i.script (thread (past_of (world c)) r) run →
-    ((thread_terms e).tree e.datum.cont ≡ contract_after ((thread_terms e).tree e.shown.published.root) run) × (e.datum.state ≡ state_after i.datum.state run))
-
 -- and a thread that isn't over is shown
 abbrev pub ShowsWhatIsNotOver : Course → Type 0
 ShowsWhatIsNotOver c =
@@ -178,9 +179,7 @@ pub record SecondHalf (c : Course) : Type 0 where
   pub shown : ShowsCurrentThreads c
   -- it is the thread of a start output, and shown where it ends
   pub of_starts : ShowsThreadsOfStarts c
-  -- at the state and the contract where the thread's run stands: the one clause of this half that needs the first half's premise
-  pub current : ShowsWhereRunsStand c
-  -- and each thread that isn't over
+  -- and each thread that isn't over is shown
   pub not_over : ShowsWhatIsNotOver c
   -- from the last timeout on anyone closes it
   pub closes : AnyoneClosesShown c

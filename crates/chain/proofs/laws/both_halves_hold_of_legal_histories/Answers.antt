@@ -26,25 +26,30 @@ returns c whole all_legal begins all_fit = (both whole all_legal begins all_fit,
         let names = c.names_are_single.ensures _ _ sound in
         let current = c.shown_threads_are_current.ensures in (
           record {
-            published = published;
-            stands = c.publications_are_entries.ensures.stands d legal;
-            told_apart = c.publications_are_entries.ensures.told_apart d legal;
-            runs = λ apart. runs_of_contracts _ _ _ published (c.threads_are_runs.ensures.run _ _ kept.tables apart sound);
-            ends_with_run = λ apart. c.threads_are_runs.ensures.end _ _ kept.tables apart sound;
-            steps = c.steps_stand_on_threads.ensures.thread _ _ sound;
-            stepped = c.steps_stand_on_threads.ensures.spends _ _ sound;
-            of_contracts = c.steps_stand_on_threads.ensures.names _ _ sound;
-            authorised = c.parties_are_authorised.ensures _ _ sound;
-            ends = c.contracts_end_threads.ensures.thread _ _ sound;
-            unspent = c.contracts_end_threads.ensures.unspent _ _ sound;
-            funded = c.contracts_are_funded.ensures.sums _ _ sound;
-            sums = c.sums_are_of_each_token.ensures;
-            positive = λ s h. positive_sums (entries s.accounts) h;
-            numbers = c.contracts_are_funded.ensures.number _ _ kept.tables sound;
-            references = names.0;
-            ids = names.1;
-            once = c.outputs_are_spent_once.ensures _ _ sound;
-            preserved = c.tokens_are_preserved.ensures _ _ sound;
+            ledger = record {
+              published = published;
+              stands = c.publications_are_entries.ensures.stands d legal;
+              told_apart = c.publications_are_entries.ensures.told_apart d legal;
+              runs = λ apart. runs_of_contracts _ _ _ published (c.threads_are_runs.ensures.run _ _ kept.tables apart sound);
+              ends_with_run = λ apart. c.threads_are_runs.ensures.end _ _ kept.tables apart sound;
+              steps = c.steps_stand_on_threads.ensures.thread _ _ sound;
+              stepped = c.steps_stand_on_threads.ensures.spends _ _ sound;
+              of_contracts = c.steps_stand_on_threads.ensures.names _ _ sound;
+              authorised = c.parties_are_authorised.ensures _ _ sound;
+              ends = c.contracts_end_threads.ensures.thread _ _ sound;
+              unspent = c.contracts_end_threads.ensures.unspent _ _ sound;
+              funded = c.contracts_are_funded.ensures.sums _ _ sound;
+              sums = c.sums_are_of_each_token.ensures;
+              positive = λ s h. positive_sums (entries s.accounts) h;
+              numbers = c.contracts_are_funded.ensures.number _ _ kept.tables sound;
+              references = names.0;
+              ids = names.1;
+              once = c.outputs_are_spent_once.ensures _ _ sound;
+              preserved = c.tokens_are_preserved.ensures _ _ sound;
+            };
+            shown =
+                shows_where_runs_stand c.threads_are_runs.ensures.run c.threads_are_runs.ensures.end c.contracts_are_funded.ensures.number c.contracts_end_threads.ensures.unspent c.found_is_enough.ensures c.starts_are_told.ensures
+                current d kept;
           },
           record {
             steps = accepts_steps c.steps_are_accepted.ensures.after d kept;
@@ -52,9 +57,6 @@ returns c whole all_legal begins all_fit = (both whole all_legal begins all_fit,
             claims = accepts_claims c.claims_are_accepted.ensures.after d kept;
             shown = shows_standing current d kept;
             of_starts = λ ask t h. shown_starts (world d) ask.thread t h;
-            current =
-                shows_where_runs_stand c.threads_are_runs.ensures.run c.threads_are_runs.ensures.end c.contracts_are_funded.ensures.number c.contracts_end_threads.ensures.unspent c.found_is_enough.ensures c.starts_are_told.ensures
-                current d kept;
             not_over =
                 shows_what_is_not_over c.threads_are_runs.ensures.run c.threads_are_runs.ensures.end c.contracts_are_funded.ensures.number c.contracts_end_threads.ensures.unspent c.found_is_enough.ensures c.starts_are_told.ensures
                 current d kept;
