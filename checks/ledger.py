@@ -2,7 +2,7 @@
 
 Needs    interpreter.py and transactions.py beside it; it has no code of the program, and shares none of its definitions.
 Usage    plays.py imports it.
-Expect   `Chain.call` to give the reply to a call, and `built_step`, `built_start` and `built_claim` a transaction, or the `Hindered` that
+Expect   `Chain.call` to give the reply to a call, and `built_steps`, `built_start` and `built_claim` a transaction, or the `Hindered` that
          stands in its way. An output is named by the place of its transaction among the accepted ones, and not by a hash; a chain judges only
          what a built transaction can be refused for.
 """
@@ -15,13 +15,14 @@ import transactions
 from interpreter import has
 
 GREATEST = 2**127 - 1
-INPUTS, PENDING = 256, 1024
+INPUTS, PARTS, PENDING = 256, 8, 1024
 ADA = (b"", b"")
 
+# A transaction tells of each contract that it spends the place of the output in which it goes on, by the reference, or None where it is over.
 # A lock is ("key", address), ("payout", currency, role) or ("contract", script, contract, state): the last has its datum where the ledger's has
 # the datum's digest, so that a transaction lists no data. An amount maps tokens to numbers above 0.
 Output = namedtuple("Output", "lock amount")
-Transaction = namedtuple("Transaction", "inputs outputs interval signers")
+Transaction = namedtuple("Transaction", "inputs outputs interval signers goes_on", defaults=({},))
 Published = namedtuple("Published", "script contract currency")
 Ask = namedtuple("Ask", "thread keys payouts")
 Look = namedtuple("Look", "tick thread keys payouts")
@@ -211,40 +212,66 @@ def payment_output(currency, payment):
     return Output(lock, {(symbol, name.encode()): paid})
 
 
-def built_step(look, interval, inputs, signers, offered, change):
-    if look.thread is None:
-        raise Hindered("NoThread")
-    reference, output, published = look.thread
-    _, script, contract, state = output.lock
+def too_many_in(parts):
+    return len(parts) > PARTS or any(len(inputs) > INPUTS for _, inputs in parts)
+
+
+def check_actors(currency, inputs, signers, held):
+    """Whether each party of a part may act, by a signature or by a role token of the part's currency."""
+    for party in filter(None, map(needed, inputs)):
+        signs = "address" in party and party["address"] in signers
+        if not signs and ("address" in party or not held.get(role_token(currency, party))):
+            raise not_authorised(party)
+
+
+def run_of(thread, interval, inputs):
+    """What a thread's contract makes of its inputs, and what is left of it."""
+    _, output, _ = thread
+    _, _, contract, state = output.lock
     try:
-        run, left = interpreter.finished(contract, state, {"tx_interval": interval, "tx_inputs": inputs})
+        return interpreter.finished(contract, state, {"tx_interval": interval, "tx_inputs": inputs})
     except interpreter.Refused as fault:
         raise Hindered(f"Semantics {fault}") from None
+
+
+def block_of(thread, run, left):
+    """The outputs of a part: the one in which the contract goes on, where it isn't over, and the payments."""
+    _, output, published = thread
+    outputs = [each for each in (payment_output(published.currency, payment) for payment in run.payments) if each]
+    if left == "close":
+        return outputs
+    state = interpreter.state_json(run, int)
+    return [Output(("contract", output.lock[1], left, state), sums(state))] + outputs
+
+
+def built_steps(parts, interval, signers, offered, change):
+    """Steps of the threads that looks show, each with its inputs, in one transaction."""
+    threads = [look.thread for look, _ in parts]
+    if not threads or None in threads:
+        raise Hindered("NoThread")
+    runs = [run_of(thread, interval, inputs) for thread, (_, inputs) in zip(threads, parts)]
     if not signed_by(offered, signers):
         raise Hindered("NotSigned")
-    parties = [party for party in map(needed, inputs) if party]
     held = added(*(each.amount for _, each in offered))
-    for party in parties:
-        signs = "address" in party and party["address"] in signers
-        if not signs and ("address" in party or not held.get(role_token(published.currency, party))):
-            raise not_authorised(party)
-    wanted = deposits(inputs)
+    for (_, _, published), (_, inputs) in zip(threads, parts):
+        check_actors(published.currency, inputs, signers, held)
+    wanted = added(*(deposits(inputs) for _, inputs in parts))
     lacking = least_lacking(offered, wanted)
     if lacking is not None:
         raise no_funds(lacking)
-    roles = {role_token(published.currency, party) for party in parties if "role_token" in party}
+    roles = {role_token(published.currency, party) for (_, _, published), (_, inputs) in zip(threads, parts)
+             for party in map(needed, inputs) if party and "role_token" in party}
     front = shortest_front(offered, 0, roles, wanted)
-    spent = [(reference, output)] + front
-    if too_many(spent) or len(inputs) > INPUTS:
+    own = [(reference, output) for reference, output, _ in threads]
+    if too_many_in(parts) or too_many(own + front):
         raise Hindered("TooMany")
-    if names_twice([reference] + [each for each, _ in offered]):
+    if names_twice([each for each, _ in own + offered]):
         raise Hindered("Repeated")
-    outputs = [payment_output(published.currency, payment) for payment in run.payments]
-    outputs = [each for each in outputs if each]
-    if left != "close":
-        new_state = interpreter.state_json(run, int)
-        outputs.insert(0, Output(("contract", script, left, new_state), sums(new_state)))
-    return laid_out(spent, outputs, interval, signers, change)
+    outputs, goes_on = [], {}
+    for (reference, _, _), thread, (run, left) in zip(threads, threads, runs):
+        goes_on[reference] = None if left == "close" else len(outputs)
+        outputs += block_of(thread, run, left)
+    return laid_out(own + front, outputs, interval, signers, change)._replace(goes_on=goes_on)
 
 
 def laid_out(spent, outputs, interval, signers, change):
@@ -331,8 +358,8 @@ class Chain:
         steps, end = 0, start
         while end in self.spender:
             place = self.spender[end]
-            first = self.accepted[place].outputs[:1]
-            steps, end = steps + 1, (place, 0) if first and first[0].lock[0] == "contract" else None
+            index = self.accepted[place].goes_on[end]
+            steps, end = steps + 1, None if index is None else (place, index)
         return steps, end
 
     def submit(self, transaction):

@@ -104,31 +104,41 @@ class Play:
             yield from self.tried(plan, intent)
 
     def tried(self, plan, intent):
-        """Looks, builds and submits, again where an output was spent meanwhile; or enqueues, once."""
+        """Looks at all that is asked for, builds and submits, again where an output was spent meanwhile; or enqueues, once."""
         pool = intent.get("pool", False)
         for _ in range(1 + AGAIN):
-            reply = yield "look", self.ask(plan, intent)
+            looks = []
+            for ask in self.asks(plan, intent):
+                reply = yield "look", ask
+                looks.append(reply.look)
             try:
-                transaction = built(plan, intent, reply.look)
+                transaction = built(plan, intent, looks)
             except ledger.Hindered:
                 return
             reply = yield "enqueue" if pool else "submit", transaction
             if pool or not (reply.fault or "").startswith("NotUnspent"):
                 return
 
-    def ask(self, plan, intent):
-        if "step" in intent:
-            return ledger.Ask(self.starts[intent["step"]], plan["keys"], [])
-        currency = bytes.fromhex(self.scenario["contracts"][intent["claim"]]["currency"])
-        return ledger.Ask(None, plan["keys"], [(currency, intent["role"])])
+    def asks(self, plan, intent):
+        """What an intent asks to be shown: several steps ask for each of their threads."""
+        if "claim" in intent:
+            currency = bytes.fromhex(self.scenario["contracts"][intent["claim"]]["currency"])
+            return [ledger.Ask(None, plan["keys"], [(currency, intent["role"])])]
+        return [ledger.Ask(self.starts[step["step"]], plan["keys"], []) for step in steps_of(intent)]
 
 
-def built(plan, intent, look):
-    """The transaction of a step or of a claim."""
+def steps_of(intent):
+    return intent["steps"] if "steps" in intent else [intent]
+
+
+def built(plan, intent, looks):
+    """The transaction of a step, of several at once or of a claim: the key outputs of the first look are offered."""
     interval = {"from": intent["from"], "to": intent["to"]}
-    if "step" in intent:
-        return ledger.built_step(look, interval, intent["inputs"], plan["keys"], look.keys, plan["change"])
-    return ledger.built_claim(look.payouts, interval, plan["keys"], look.keys, plan["change"], plan["change"])
+    offered = looks[0].keys if looks else []
+    if "claim" in intent:
+        return ledger.built_claim(looks[0].payouts, interval, plan["keys"], offered, plan["change"], plan["change"])
+    parts = [(look, step["inputs"]) for look, step in zip(looks, steps_of(intent))]
+    return ledger.built_steps(parts, interval, plan["keys"], offered, plan["change"])
 
 
 def stopped(calls, limit):

@@ -141,9 +141,16 @@ def guided(scenario, play_of):
 def follow(scenario, play, place, made, own):
     """Plays one intent, as far as its plan goes on."""
     if play.answered[place + 1] < made.get("stop_after", 100):
-        by_place = {"step": "threads", "claim": "contracts"}
-        read = {key: [each["name"] for each in scenario[by_place[key]]].index(told) if key in by_place else told for key, told in own.items()}
-        run(play, place + 1, play.intent(made, read))
+        run(play, place + 1, play.intent(made, placed(scenario, own)))
+
+
+def placed(scenario, told):
+    """An intent, or a step of several, with places for names."""
+    by_place = {"step": "threads", "claim": "contracts"}
+    read = {key: [each["name"] for each in scenario[by_place[key]]].index(each) if key in by_place else each for key, each in told.items()}
+    if "steps" in told:
+        read["steps"] = [placed(scenario, step) for step in told["steps"]]
+    return read
 
 
 def run(play, seat, calls):
@@ -168,14 +175,23 @@ def intent(scenario, play, starts):
         return {**R.choice(claims), **interval(play)}
     if sort < 0.2 or not scenario["threads"]:
         return {"claim": R.choice(scenario["contracts"])["name"], "role": R.choice(ROLES), **interval(play)}
-    place = R.randrange(len(scenario["threads"]))
-    if place in starts and play.chain.spine(play.starts[place])[1] is None:
-        place = R.randrange(len(scenario["threads"]))
-    made = {"step": scenario["threads"][place]["name"], **interval(play)}
-    made["inputs"] = fitting(play, place, made) if place in starts and R.random() < 0.85 else wrong()
+    told = interval(play)
+    if R.random() < 0.3:
+        made = {"steps": [step(scenario, play, starts, told) for _ in range(R.choice([1, 2, 2, 2, 3, 0, 9]))], **told}
+    else:
+        made = {**step(scenario, play, starts, told), **told}
     if R.random() < 0.35:
         made["pool"] = R.random() < 0.8
     return made
+
+
+def step(scenario, play, starts, told):
+    """A thread and inputs for it."""
+    place = R.randrange(len(scenario["threads"]))
+    if place in starts and play.chain.spine(play.starts[place])[1] is None:
+        place = R.randrange(len(scenario["threads"]))
+    inputs = fitting(play, place, told) if place in starts and R.random() < 0.85 else wrong()
+    return {"step": scenario["threads"][place]["name"], "inputs": inputs}
 
 
 def due(scenario, play):

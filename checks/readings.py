@@ -374,15 +374,20 @@ class Scenario:
         return plan
 
     def intent(self, json):
-        keys = first_form(json, "step inputs from to", "claim role from to", "round workers", "advance")
-        own = {"step": self.threads.place, "inputs": lambda given_inputs: [given(item) for item in items(given_inputs)], "from": time, "to": time,
+        keys = first_form(json, "step inputs from to", "steps from to", "claim role from to", "round workers", "advance")
+        own = {"step": self.threads.place, "inputs": inputs, "steps": lambda steps: [self.step_item(item) for item in items(steps)],
+               "from": time, "to": time,
                "claim": self.contracts.place, "role": text, "round": lambda count: within(count, 0, GREATEST_NUMBER), "workers": workers,
                "advance": time}
         intent = {key: own[key](json[key]) for key in keys.split()}
-        if "step" in intent:
+        if "step" in intent or "steps" in intent:
             intent["pool"] = json.get("pool", False)
             no_form(not isinstance(intent["pool"], bool))
         return intent
+
+    def step_item(self, json):
+        first_form(json, "step inputs")
+        return {"step": self.threads.place(json["step"]), "inputs": inputs(json["inputs"])}
 
     def whole(self, json):
         first_form(json, "tick genesis contracts threads plans")
@@ -391,6 +396,10 @@ class Scenario:
                 "contracts": [self.contract(item) for item in items(json["contracts"])],
                 "threads": [self.thread(item) for item in items(json["threads"])],
                 "plans": [self.plan(item) for item in items(json["plans"])]}
+
+
+def inputs(json):
+    return [given(item) for item in items(json)]
 
 
 def workers(json):

@@ -6,7 +6,7 @@ Needs    plays.py and readings.py beside it, and nothing built.
 Usage    scenario_rows.py                compares all files
          scenario_rows.py --write FILE   writes each answer below its row, in place of what stood there
          scenario_rows.py --random [COUNT [SEED [FILE]]]   writes short random scenarios as rows, each above its answer
-Expect   `FILE ok N rows` for each file. The random rows of 100 by seed 1 are those that are there, in `compared.txt`.
+Expect   `FILE ok N rows` for each file. The random rows of 100 by seed 1 are the first that are there, in `compared.txt`.
 Else     the first row that differs, with what is written and what comes here, and status 1.
 """
 import os
@@ -83,6 +83,12 @@ def intent_lines(intent):
         yield f" {'pooled step' if intent['pool'] else 'step'} {intent['step']} from {intent['from']} to {intent['to']}"
         for given in intent["inputs"]:
             yield "  " + compact(given)
+    elif "steps" in intent:
+        yield f" {'pooled steps' if intent['pool'] else 'steps'} from {intent['from']} to {intent['to']}"
+        for step in intent["steps"]:
+            yield f"  step {step['step']}"
+            for given in step["inputs"]:
+                yield "  " + compact(given)
     elif "claim" in intent:
         yield f" claim {intent['claim']} {intent['role']} from {intent['from']} to {intent['to']}"
     elif "round" in intent:

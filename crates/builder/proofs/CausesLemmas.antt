@@ -1,82 +1,67 @@
--- Which clause answers, and what is known of a thread that stands.
-use Rattle.std.proofs.Common.{◌≡◌, ℕ, ℤ, Bool, true, false, if◌then◌else◌, List, [], ◌∷◌, Option, Some, None, refl, sym, ◌∙◌, ap, subst}
-use Rattle.collections.proofs.SameLaws.{same_by_decides}
+-- Which clause of a request of parts answers, and what funds it.
+use Rattle.std.proofs.Common.{◌≡◌, ℕ, ℤ, ◌+◌, ◌<◌, Bool, true, List, [], ◌∷◌, ◌++◌, map, length, drop, get_or, is_none, Option, Some, None, refl, sym, ◌∙◌, ap, subst}
+use Rattle.std.specs.List.{list_all, filter_map}
 use Rattle.names.specs.declared.token.Token.{Token}
-use Rattle.bundle.specs.contracts.bundle.Bundle as bundles
-use Rattle.machine.specs.declared.datum.Datum.{Datum}
-use Rattle.eutxo_types.specs.Digests.{datum_hash}
-use Rattle.eutxo_types.specs.Parts.{same_bytes, ContractLock}
+use Rattle.bundle.specs.Bundles.{Amounts}
 use Rattle.eutxo.specs.Faults.{first_of}
-use Rattle.roles.specs.declared.published.Published.{Published}
-use Rattle.roles.specs.Sums.{sums_of}
-use Rattle.roles.specs.Steps.{same_amounts}
+use Rattle.roles.specs.Steps.{actor}
 use Rattle.ledger.specs.declared.look.Unspent.{Unspent}
-use Rattle.builder_spec.specs.declared.fault.BuildFault.{BuildFault}
-use Rattle.builder_spec.specs.Requests.{StepRequest}
+use Rattle.builder_spec.specs.declared.fault.BuildFault.TheVariants.{NotAuthorised, NoFunds}
+use Rattle.builder_spec.specs.Requests.{StepsRequest}
+use Rattle.builder_spec.specs.Holding.{sums, amount_in, holds_token, least_lacking, AreBundles}
 use Rattle.builder_spec.specs.Fronts.{front}
-use Rattle.builder_spec.specs.Causes.{signature_cause, funds_cause, repeat_cause}
-use Rattle.builder_spec.specs.Steps.{Thread, thread_terms, is_current, thread_in, roles_of, deposits, authority_cause, own_output, step_front, step_limit_cause}
-use Rattle.builder_spec.proofs.SufficesLaws.{and_so}
-use Rattle.builder.specs.CausesSupport.{causes_after_contract}
+use Rattle.builder_spec.specs.Causes.{funds_cause}
+use Rattle.builder_spec.specs.Steps.{Stepped, roles_of, authority_cause}
+use Rattle.builder_spec.specs.Parts.{all_roles, all_deposits, own_outputs, parts_front, parts_authority_cause}
+use Rattle.builder_spec.proofs.SufficesLaws.{and_so, and_true, front_suffices}
+use Rattle.coin_selection.proofs.ListLaws.{here}
+use Rattle.builder.specs.PartsSupport.{ArePartsFunds}
+use Rattle.builder.proofs.CoveredLemmas.{roles_offered, unmapped}
 
-pub fourth : {A : Type 0} (a b c d e : Option A) (x : A) → a ≡ None → b ≡ None → c ≡ None → d ≡ Some x → first_of (a ∷ b ∷ c ∷ d ∷ e ∷ []) ≡ Some x
-fourth a b c d e x h k l m = rw (h, k, l, m) refl
+-- ---- one clause of all parts
 
-pub fifth : {A : Type 0} (a b c d e : Option A) (x : A) → a ≡ None → b ≡ None → c ≡ None → d ≡ None → e ≡ Some x → first_of (a ∷ b ∷ c ∷ d ∷ e ∷ []) ≡ Some x
-fifth a b c d e x h k l m n = rw (h, k, l, m, n) refl
+pub cause_passes : {A B : Type 0} (f : A → Option B) (xs : List A) (i : ℕ) (x : A) → i < length xs → x ≡ get_or xs i x → f x ≡ None → first_of (map f (drop i xs)) ≡ first_of (map f (drop (i + 1) xs))
+cause_passes f xs i x l is h = ap (λ ys. first_of (map f ys)) (here xs i x l is) ∙ ap (λ o. first_of (o ∷ map f (drop (i + 1) xs))) h
 
-pub no_clause : {A : Type 0} (a b c d e : Option A) → a ≡ None → b ≡ None → c ≡ None → d ≡ None → e ≡ None → first_of (a ∷ b ∷ c ∷ d ∷ e ∷ []) ≡ None
-no_clause a b c d e h k l m n = rw (h, k, l, m, n) refl
+pub cause_stops : {A B : Type 0} (f : A → Option B) (xs : List A) (i : ℕ) (x : A) (b : B) → i < length xs → x ≡ get_or xs i x → f x ≡ Some b → first_of (map f (drop i xs)) ≡ Some b
+cause_stops f xs i x b l is h = ap (λ ys. first_of (map f ys)) (here xs i x l is) ∙ ap (λ o. first_of (o ∷ map f (drop (i + 1) xs))) h
 
--- the front of a step, by the tokens and amounts at hand
-pub front_is : (r s : StepRequest) (e t : Thread) (p : Published) (roles : List Token) (ns : List (Token × ℤ)) (taken : List Unspent) → s ≡ r → t ≡ e → p ≡ t.shown.published → roles ≡ roles_of p.currency s.inputs → ns ≡ deposits s.inputs → taken ≡ front roles ns s.offered → taken ≡ step_front r e
-front_is r s e t p roles ns taken same k q h w f =
-    let currency = ap (λ (x : Published). x.currency) (q ∙ ap (λ (x : Thread). x.shown.published) k) in
-    f ∙ ap (λ rs. front rs ns s.offered) (h ∙ ap (λ c. roles_of c s.inputs) currency) ∙ ap (λ ms. front (roles_of e.shown.published.currency s.inputs) ms s.offered) w ∙ ap (λ (x : StepRequest). step_front x e) same
+neither : {A : Type 0} (o : Option A) (os : List (Option A)) → first_of (o ∷ os) ≡ None → (o ≡ None) × (first_of os ≡ None)
+neither None os h = (refl, h)
+neither (Some x) os h = absurd (cc)
 
-abbrev causes_by : StepRequest → List ℕ → List (Token × ℤ) → Unspent → List Unspent → Option BuildFault
-causes_by r currency ns own taken =
-    first_of
-    (signature_cause r.signers r.offered
-    ∷ authority_cause currency r.signers r.offered r.inputs
-    ∷ funds_cause ns r.offered
-    ∷ step_limit_cause r.inputs (own ∷ taken)
-    ∷ repeat_cause (own ∷ r.offered)
-    ∷ [])
+-- ---- what funds them
 
--- the clauses, by what is at hand
-pub causes_are : (r s : StepRequest) (e t : Thread) (p : Published) (roles : List Token) (ns ms : List (Token × ℤ)) (own : Unspent) (taken : List Unspent) → s ≡ r → t ≡ e → p ≡ t.shown.published → roles ≡ roles_of p.currency s.inputs → ns ≡ deposits s.inputs → ms ≡ deposits s.inputs →
-    own ≡ own_output e → taken ≡ front roles ns s.offered → causes_after_contract r e ≡ causes_by s p.currency ms own taken
-causes_are r s e t p roles ns ms own taken same k q h w v o f =
-    let currency = ap (λ (x : Published). x.currency) (q ∙ ap (λ (x : Thread). x.shown.published) k) in
-    let mine = e.shown.published.currency in
-    sym (ap (λ c. causes_by s c ms own taken) currency
-    ∙ ap (λ us. causes_by s mine ms own us) (front_is r s e t p roles ns taken same k q h w f)
-    ∙ ap (λ xs. causes_by s mine xs own (step_front r e)) v
-    ∙ ap (λ u. causes_by s mine (deposits s.inputs) u (step_front r e)) o
-    ∙ ap (λ (x : StepRequest). causes_by x mine (deposits x.inputs) (own_output e) (step_front r e)) same)
+all-append : {A : Type 0} (p : A → Bool) (xs ys : List A) → list_all p xs ≡ true → list_all p ys ≡ true → list_all p (xs ++ ys) ≡ true
+all-append p [] ys h k = k
+all-append p (x ∷ xs) ys h k = let two = and_so (p x) (list_all p xs) h in and_true (p x) (list_all p (xs ++ ys)) two.0 (all-append p xs ys two.1 k)
 
-abbrev datum_or : Datum → Option Thread → Datum
-datum_or d None = d
-datum_or d (Some e) = e.datum
+-- where each party may act, what is offered holds the tokens of all roles
+all_offered : (r : StepsRequest) (ss : List Stepped) → parts_authority_cause r ss ≡ None → list_all (holds_token r.offered) (all_roles ss) ≡ true
+all_offered r [] h = refl
+all_offered r (s ∷ ss) h =
+    let currency = s.thread.shown.published.currency in
+    let two = neither (authority_cause currency r.signers r.offered s.inputs) (map (λ (x : Stepped). authority_cause x.thread.shown.published.currency r.signers r.offered x.inputs) ss) h in
+    all-append (holds_token r.offered) (roles_of currency s.inputs) (all_roles ss) (roles_offered currency r.signers r.offered (filter_map actor s.inputs) (unmapped NotAuthorised _ two.0)) (all_offered r ss two.1)
 
--- a thread that stands is at a number of its table, and its output holds the sums of its accounts
-pub record IsStanding (e : Thread) : Type 0 where
-  pub has : (thread_terms e).has e.datum.cont ≡ true
-  pub held : e.shown.output.amount ≡ sums_of e.datum.state
+-- so their front covers the deposits
+front_covers : (r : StepsRequest) (ss : List Stepped) → parts_authority_cause r ss ≡ None → funds_cause (all_deposits ss) r.offered ≡ None → is_none (least_lacking (all_deposits ss) (parts_front r ss)) ≡ true
+front_covers r ss h k =
+    let some = and_true (list_all (holds_token r.offered) (all_roles ss)) (is_none (least_lacking (all_deposits ss) r.offered)) (all_offered r ss h) (ap is_none (unmapped NoFunds _ k)) in
+    (and_so (list_all (holds_token (parts_front r ss)) (all_roles ss)) _ (front_suffices (all_roles ss) (all_deposits ss) r.offered some)).1
 
-pub stands : (e : Thread) (o : Option ContractLock) → thread_in e.shown o ≡ Some e → IsStanding e
-stands e None h = absurd (cc)
-stands e (Some c) h = by (is_current e.shown c) refl h
-  where
-    by : (b : Bool) → is_current e.shown c ≡ b → if◌then◌else◌ {A = Option Thread} b (Some (record { shown = e.shown; datum = e.shown.datum })) None ≡ Some e → IsStanding e
-    by false t k = absurd (cc)
-    by true t k =
-        let shown = e.shown.datum in
-        let both = and_so (same_bytes c.script e.shown.published.id) _ t in
-        let told = and_so (same_bytes (datum_hash shown) c.digest) _ both.1 in
-        let last = and_so ((thread_terms e).has shown.cont) (same_amounts e.shown.output.amount (sums_of shown.state)) told.1 in
-        let same : shown ≡ e.datum = ap (datum_or e.datum) k in record {
-          has = subst (λ (d : Datum). (thread_terms e).has d.cont ≡ true) same last.0;
-          held = subst (λ (d : Datum). e.shown.output.amount ≡ sums_of d.state) same ((same_by_decides bundles.the_row.coded e.shown.output.amount (sums_of shown.state)).0 last.1);
-        }
+front_is : (r s : StepsRequest) (ss : List Stepped) (roles : List Token) (ns : List (Token × ℤ)) (taken : List Unspent) → s ≡ r → roles ≡ all_roles ss → ns ≡ all_deposits ss → taken ≡ front roles ns s.offered → taken ≡ parts_front r ss
+front_is r s ss roles ns taken same h w f =
+    f ∙ ap (λ rs. front rs ns s.offered) h ∙ ap (λ xs. front (all_roles ss) xs s.offered) w ∙ ap (λ (x : StepsRequest). parts_front x ss) same
+
+pub funds_are : (r s : StepsRequest) (ss : List Stepped) (roles : List Token) (ns ms : List (Token × ℤ)) (owns taken : List Unspent) (all : Amounts) → s ≡ r → roles ≡ all_roles ss → ns ≡ all_deposits ss → ms ≡ all_deposits ss → owns ≡ own_outputs ss → taken ≡ front roles ns s.offered →
+    parts_authority_cause r ss ≡ None → funds_cause ms s.offered ≡ None → all ≡ sums amount_in (owns ++ taken) → AreBundles amount_in taken → ArePartsFunds r ss (record { all = all; front = taken })
+funds_are r s ss roles ns ms owns taken all same h w v o f may held is b =
+    let part = front_is r s ss roles ns taken same h w f in
+    let enough = front_covers r ss may (subst (λ (x : StepsRequest). funds_cause (all_deposits ss) x.offered ≡ None) same (subst (λ xs. funds_cause xs s.offered ≡ None) v held)) in
+    record {
+      all = is ∙ ap (λ us. sums amount_in (us ++ taken)) o ∙ ap (λ us. sums amount_in (own_outputs ss ++ us)) part;
+      front = part;
+      covered = subst (λ us. is_none (least_lacking (all_deposits ss) us) ≡ true) (sym part) enough;
+      bundles = b;
+    }

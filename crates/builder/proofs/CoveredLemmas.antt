@@ -1,5 +1,5 @@
 -- What is spent covers what is made.
-use Rattle.std.proofs.Common.{◌≡◌, ℕ, ℤ, pos, ◌+ℤ◌, ◌<ℤ◌, ◌≤ℤ◌, Bool, true, false, cond, not, ◌&&◌, List, [], ◌∷◌, is_none, Option, Some, None, Result, Ok, Err, refl, sym, ◌∙◌, ap, subst, arith}
+use Rattle.std.proofs.Common.{◌≡◌, ℕ, ℤ, pos, ◌+ℤ◌, ◌<ℤ◌, ◌≤ℤ◌, Bool, true, false, cond, not, ◌&&◌, List, [], ◌∷◌, is_none, Option, Some, None, refl, sym, ◌∙◌, ap, subst, arith}
 use Rattle.std.proofs.lemmas.Int.{ints}
 use Rattle.std.specs.List.{list_all, find, filter_map}
 use Rattle.std.specs.Option.{option_map}
@@ -11,38 +11,26 @@ use Rattle.names.specs.declared.payee.Payee.TheVariants as to
 use Rattle.names.specs.declared.party.Party.TheVariants.{Address, Role}
 use Rattle.names.specs.declared.token.Token.{Token}
 use Rattle.names.specs.Orders.{token_cmp}
-use Rattle.contract.specs.declared.fault.SemFault.{SemFault}
-use Rattle.contract.specs.declared.fault.SemFault.TheVariants.{Leaves128}
-use Rattle.contract.specs.declared.input.Input.{Input}
 use Rattle.contract.specs.declared.payment.Payment.{Payment}
-use Rattle.states.specs.States as states
 use Rattle.states.specs.States.{StateMaps, counted}
-use Rattle.semantics.specs.Walk.{Standing, answer_of}
-use Rattle.semantics.specs.Laws.{EndsQuiet}
-use Rattle.semantics.specs.Money.{deposited, taken_out, paid_out, MoneyIsKept}
-use Rattle.semantics.specs.Naturals.{AreNatural, PaymentsAreNatural}
+use Rattle.semantics.specs.Money.{taken_out, paid_out}
+use Rattle.semantics.specs.Naturals.{AreNatural}
 use Rattle.bundle.specs.Bundles.{Amounts, amount_of, covers, AllPositive}
-use Rattle.bundle.specs.Totals.{total_of}
 use Rattle.bundle.proofs.CoverLaws.{covers_each_token, each_token_is_covered}
 use Rattle.eutxo_types.specs.declared.output.Output.{Output}
 use Rattle.eutxo.specs.Faults.{is_empty}
 use Rattle.roles.specs.Sums.{sums_of}
-use Rattle.roles.specs.Steps.{role_token, actor}
-use Rattle.roles.specs.declared.published.Published.{Published}
+use Rattle.roles.specs.Steps.{role_token}
 use Rattle.ledger.specs.declared.look.Unspent.{Unspent}
-use Rattle.builder_spec.specs.Requests.{StepRequest}
 use Rattle.builder_spec.specs.Holding.{sums, amount_in, holds_token, wanted, least_lacking, AreBundles}
-use Rattle.builder_spec.specs.Fronts.{shortest, suffices, front}
-use Rattle.builder_spec.specs.declared.fault.BuildFault.TheVariants.{NotAuthorised, NoFunds}
-use Rattle.builder_spec.specs.Causes.{is_much, funds_cause}
-use Rattle.builder_spec.specs.Steps.{Thread, thread_terms, step_walk, token_of, roles_of, may_act, deposits, authority_cause, own_output, step_outputs_of}
+use Rattle.builder_spec.specs.Fronts.{shortest, suffices}
+use Rattle.builder_spec.specs.Causes.{is_much}
+use Rattle.builder_spec.specs.Steps.{token_of, may_act}
 use Rattle.builder_spec.specs.Starts.{accounts_of, fresh_state, covers_accounts}
 use Rattle.builder_spec.proofs.HoldingLaws.{amount_of-sums, positive_sums, much_at, much_of, most}
-use Rattle.builder_spec.proofs.SufficesLaws.{and_so, and_true, front_suffices}
+use Rattle.builder_spec.proofs.SufficesLaws.{and_so, and_true}
 use Rattle.builder_spec.proofs.FrontsLaws.{shortest_passes}
-use Rattle.builder_spec.proofs.FundsLaws.{amount, funded, all_covered, wanted-accounts, amount_of-sums_in}
-use Rattle.builder.specs.FundsSupport.{AreStepFunds}
-use Rattle.builder.proofs.CausesLemmas.{front_is}
+use Rattle.builder_spec.proofs.FundsLaws.{amount, all_covered, wanted-accounts, amount_of-sums_in}
 
 not_so : (b : Bool) → (b ≡ true → true ≡ false) → b ≡ false
 not_so true h = absurd (cc (h refl))
@@ -50,7 +38,7 @@ not_so false h = refl
 
 -- ---- room for what is covered
 
-more : (a b : ℤ) → most <ℤ b → b ≤ℤ a → most <ℤ a
+pub more : (a b : ℤ) → most <ℤ b → b ≤ℤ a → most <ℤ a
 more a b h k = omega (arith, ints, h, k)
 
 -- what has room covers nothing that hasn't
@@ -62,62 +50,24 @@ covered_room a b p h c = room_below a b h (λ t k. more (amount_of a t) (amount_
 
 -- ---- steps
 
-zero_counted : (b : Bool) (n : ℤ) → pos 0 ≤ℤ n → pos 0 ≤ℤ cond b n (pos 0)
+pub zero_counted : (b : Bool) (n : ℤ) → pos 0 ≤ℤ n → pos 0 ≤ℤ cond b n (pos 0)
 zero_counted true n h = h
 zero_counted false n h = omega (arith, ints)
 
 natural_out : (y : Payee) (n : ℤ) → pos 0 ≤ℤ n → pos 0 ≤ℤ taken_out y n
 natural_out y n h = elim y as (λ z. pos 0 ≤ℤ taken_out z n) [ to.Account q ↦ omega (arith, ints) | to.Party q ↦ h ]
 
-both_natural : (a b : ℤ) → pos 0 ≤ℤ a → pos 0 ≤ℤ b → pos 0 ≤ℤ (a +ℤ b)
+pub both_natural : (a b : ℤ) → pos 0 ≤ℤ a → pos 0 ≤ℤ b → pos 0 ≤ℤ (a +ℤ b)
 both_natural a b h k = omega (arith, ints, h, k)
 
-paid_natural : (t : Token) (ps : List Payment) → AreNatural ps → pos 0 ≤ℤ paid_out t ps
+pub paid_natural : (t : Token) (ps : List Payment) → AreNatural ps → pos 0 ≤ℤ paid_out t ps
 paid_natural t [] h = omega (arith, ints)
 paid_natural t (p ∷ ps) h =
     both_natural (taken_out p.to (counted t p.token p.amount)) (paid_out t ps)
     (natural_out p.to (counted t p.token p.amount) (zero_counted (eq_by_cmp token_cmp t p.token) p.amount h.0)) (paid_natural t ps h.1)
 
-ended_well : (b : Bool) (end : Result Standing SemFault) (a : Standing) → cond b end (Err Leaves128) ≡ Ok a → end ≡ Ok a
-ended_well true end a h = h
-ended_well false end a h = absurd (cc)
-
-spent_more : (s d t p f all : ℤ) → s +ℤ d ≡ t +ℤ p → pos 0 ≤ℤ p → d ≤ℤ f → all ≡ s +ℤ f → most <ℤ t → most <ℤ all
-spent_more s d t p f all h k l m n = omega (arith, ints, h, k, l, m, n)
-
--- what a step starts from: its thread's output holds the sums of its accounts, it succeeds, and its front covers the deposits
-pub record IsFunded (r : StepRequest) (e : Thread) (a : Standing) (us : List Unspent) : Type 0 where
-  pub sums : e.shown.output.amount ≡ sums_of e.datum.state
-  pub ended : answer_of (step_walk r e) ≡ Ok a
-  pub accounts : states.AllPositive (entries e.datum.state.accounts)
-  pub covered : is_none (least_lacking (deposits r.inputs) us) ≡ true
-  pub bundles : AreBundles amount_in (own_output e ∷ us)
-
-pub step_covers : MoneyIsKept → EndsQuiet → PaymentsAreNatural → (r : StepRequest) (e : Thread) (a : Standing) (us : List Unspent) → IsFunded r e a us → covers (sums amount_in (own_output e ∷ us)) (sums amount (step_outputs_of e (step_walk r e) (Ok a))) ≡ true
-step_covers money quiet natural r e a us f =
-    let spent = own_output e ∷ us in
-    let out = step_outputs_of e (step_walk r e) (Ok a) in
-    each_token_is_covered (sums amount_in spent) (sums amount out) (positive_sums amount_in spent f.bundles) (λ t.
-    subst (λ n. n ≤ℤ amount_of (sums amount_in spent) t) (sym (amount_of-sums amount out t)) (subst (λ n. total_of amount t out ≤ℤ n) (sym (amount_of-sums amount_in spent t))
-    (funded money quiet natural r e a us f.sums f.ended f.accounts f.covered f.bundles.1 t).there))
-
-pub step_room : MoneyIsKept → EndsQuiet → PaymentsAreNatural → (r : StepRequest) (e : Thread) (a : Standing) (us : List Unspent) → IsFunded r e a us → is_much (sums amount_in (own_output e ∷ us)) ≡ false → is_much (sums_of a.state) ≡ false
-step_room money quiet natural r e a us f room =
-    let w = step_walk r e in
-    let c = (thread_terms e).tree e.datum.cont in
-    let well : w.end ≡ Ok a = ended_well _ w.end a f.ended in
-    room_below (sums amount_in (own_output e ∷ us)) (sums_of a.state) room (λ t k.
-    let all : amount_of (sums amount_in (own_output e ∷ us)) t ≡ states.total_of t e.datum.state +ℤ total_of amount_in t us = amount_of-sums amount_in (own_output e ∷ us) t
-    ∙ ap (λ n. n +ℤ total_of amount_in t us) (ap (λ m. amount_of m t) f.sums ∙ amount_of-sums_in (entries e.datum.state.accounts) t) in
-    spent_more (states.total_of t e.datum.state) (deposited t r.inputs) (states.total_of t a.state) (paid_out t w.payments) (total_of amount_in t us) (amount_of (sums amount_in (own_output e ∷ us)) t)
-    (money t r.interval e.datum.state c r.inputs a well)
-    (paid_natural t w.payments (natural r.interval e.datum.state c r.inputs f.accounts))
-    (funded money quiet natural r e a us f.sums f.ended f.accounts f.covered f.bundles.1 t).covered
-    all
-    (subst (λ n. most <ℤ n) (amount_of-sums_in (entries a.state.accounts) t) k))
-
 -- where each party may act, what is offered holds the tokens of the roles
-roles_offered : (currency : List ℕ) (signers : List (List ℕ)) (us : List Unspent) (ps : List Party) → find (λ p. not (may_act currency signers us p)) ps ≡ None → list_all (holds_token us) (filter_map (token_of currency) ps) ≡ true
+pub roles_offered : (currency : List ℕ) (signers : List (List ℕ)) (us : List Unspent) (ps : List Party) → find (λ p. not (may_act currency signers us p)) ps ≡ None → list_all (holds_token us) (filter_map (token_of currency) ps) ≡ true
 roles_offered currency signers us [] h = refl
 roles_offered currency signers us (Address a ∷ ps) h = by (may_act currency signers us (Address a)) (roles_offered currency signers us ps) h
   where
@@ -132,31 +82,9 @@ roles_offered currency signers us (Role r ∷ ps) h = by (holds_token us (role_t
     by true f k = f k
     by false f k = absurd (cc)
 
-unmapped : {A B : Type 0} (f : A → B) (o : Option A) → option_map f o ≡ None → o ≡ None
+pub unmapped : {A B : Type 0} (f : A → B) (o : Option A) → option_map f o ≡ None → o ≡ None
 unmapped f None h = refl
 unmapped f (Some x) h = absurd (cc)
-
--- where nothing hinders it, the front of a step covers the deposits
-pub front_covers : {F G : Type 0} (f : Party → F) (g : Token → G) (currency : List ℕ) (signers : List (List ℕ)) (us : List Unspent) (xs : List Input) → option_map f (find (λ p. not (may_act currency signers us p)) (filter_map actor xs)) ≡ None →
-    option_map g (least_lacking (deposits xs) us) ≡ None → is_none (least_lacking (deposits xs) (front (roles_of currency xs) (deposits xs) us)) ≡ true
-front_covers f g currency signers us xs h k =
-    let all = roles_offered currency signers us (filter_map actor xs) (unmapped f _ h) in
-    let some = and_true (list_all (holds_token us) (roles_of currency xs)) (is_none (least_lacking (deposits xs) us)) all (ap is_none (unmapped g _ k)) in
-    (and_so (list_all (holds_token (front (roles_of currency xs) (deposits xs) us)) (roles_of currency xs)) _ (front_suffices (roles_of currency xs) (deposits xs) us some)).1
-
--- so what is at hand funds the step
-pub step_funds_are : (r s : StepRequest) (e t : Thread) (p : Published) (roles : List Token) (ns ms : List (Token × ℤ)) (own : Unspent) (taken : List Unspent) (all : Amounts) → s ≡ r → t ≡ e → p ≡ t.shown.published → roles ≡ roles_of p.currency s.inputs → ns ≡ deposits s.inputs → ms ≡ deposits s.inputs →
-    own ≡ own_output e → taken ≡ front roles ns s.offered → authority_cause p.currency s.signers s.offered s.inputs ≡ None → funds_cause ms s.offered ≡ None → all ≡ sums amount_in (own ∷ taken) → AreBundles amount_in taken → AreStepFunds r e (record { all = all; front = taken })
-step_funds_are r s e t p roles ns ms own taken all same k q h w v o f may held is b =
-    let part = front_is r s e t p roles ns taken same k q h w f in
-    let here = f ∙ ap (λ rs. front rs ns s.offered) h ∙ ap (λ xs. front (roles_of p.currency s.inputs) xs s.offered) w in
-    let enough = front_covers NotAuthorised NoFunds p.currency s.signers s.offered s.inputs may (subst (λ xs. funds_cause xs s.offered ≡ None) v held) in
-    record {
-      all = is ∙ ap (λ u. sums amount_in (u ∷ taken)) o ∙ ap (λ us. sums amount_in (own_output e ∷ us)) part;
-      front = part;
-      covered = subst (λ (x : StepRequest). is_none (least_lacking (deposits x.inputs) taken) ≡ true) same (subst (λ us. is_none (least_lacking (deposits s.inputs) us) ≡ true) (sym here) enough);
-      bundles = b;
-    }
 
 -- ---- starts
 

@@ -1,4 +1,8 @@
+pub mod ClashLemmas
 pub mod CausesLemmas
 pub mod CopyLemmas
 pub mod CoveredLemmas
+pub mod StandingLemmas
+pub mod OutcomesLemmas
+pub mod PartsCoveredLemmas
 pub mod FinishedLemmas

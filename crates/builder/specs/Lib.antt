@@ -1,3 +1,4 @@
-pub mod CausesSupport
+pub mod ClashSupport
 pub mod FundsSupport
 pub mod OutputsSupport
+pub mod PartsSupport

@@ -1,5 +1,5 @@
-//! Transactions for a request: a step of a thread, a start of a contract, a claim of payouts (The Extended UTXO
-//! Model, "Extended UTXO model: EUTXO").
+//! Transactions for a request: a step of a thread, steps of several threads at once, a start of a contract, a claim of
+//! payouts (The Extended UTXO Model, "Extended UTXO model: EUTXO").
 //!
 //! What hinders a request, and how its transaction is laid out, is defined in `builder_spec`. Each call answers the
 //! fault of the first clause that the request fails, or its layout, unless memory is refused. None of them reads a
@@ -12,13 +12,17 @@ mod fresh;
 mod funds;
 mod inputs;
 mod outputs;
+mod parts;
 mod payouts;
 mod start;
 mod step;
+mod steps;
 mod thread;
 
 pub use builder_spec::BuildFault;
 pub use claim::build_claim;
 pub use ledger::{Ask, Look, PayoutLock, ThreadOutput, Unspent};
+pub use parts::{Part, resolve_parts};
 pub use start::build_start;
 pub use step::build_step;
+pub use steps::build_steps;

@@ -19,8 +19,8 @@ use eutxo_types::{Cont, Datum, Lock, Output};
 use roles::{Published, continuation, put_due};
 use std::alloc::Global;
 
-/// The output in which a contract goes on from a datum, with the sums of its accounts, none of which is too large for an
-/// amount. It is refused only for memory.
+/// The output in which a contract goes on from a datum, with the sums of its accounts, none of which is too large for
+/// an amount. It is refused only for memory.
 pub(crate) fn continuing_output(
     alloc: Global,
     script: &[u8; 32],
@@ -61,18 +61,19 @@ pub(crate) fn put_paid(
     outputs.push(Output { lock, amount })
 }
 
-/// The output in which a published contract goes on, unless it is closed, and those that are due for the payments. The
-/// datum from which it goes on is put behind others. No sum of its accounts is too large for an amount, and it is
-/// refused only for memory.
-pub(crate) fn step_outputs(
+/// Puts the block of a part behind others: the output in which a published contract goes on, unless it is closed, and
+/// those that are due for the payments. The datum from which it goes on is put behind others, too. No sum of its
+/// accounts is too large for an amount, and it is refused only for memory.
+pub(crate) fn put_block(
     alloc: Global,
+    outputs: &mut Items<Output>,
     datums: &mut Items<Datum>,
     published: &Published,
     closed: bool,
     outcome: Outcome<Cont>,
-) -> Result<Items<Output>, BuildFault>
+) -> Result<(), BuildFault>
     requires { is_much (sums_of outcome.state) ≡ false }
-    ensures ok { IfOk result (λ outputs. outputs ≡ outcome_outputs published.now closed outcome) }
+    ensures ok { OnOk result (outputs.new ≡ outputs.old ++ outcome_outputs published.now closed outcome) }
     ensures brought { OnOk result (datums.new ≡ datums.old ++ data_left closed outcome) }
     ensures err { IfErr result (λ fault. fault ≡ BuildFault.Memory) }
 {
@@ -82,15 +83,14 @@ pub(crate) fn step_outputs(
         place,
         ..
     } = outcome;
-    let mut outputs = Items::new(alloc);
     if !closed {
         let datum = Datum { cont: place, state };
         outputs.push(continuing_output(alloc, &published.id, &datum)?)?;
         datums.push(datum)?;
     }
     let currency = &published.currency;
-    put_due(alloc, &mut outputs, currency, payments.as_slice())?;
-    Ok(outputs)
+    put_due(alloc, outputs, currency, payments.as_slice())?;
+    Ok(())
 }
 
 // What is left of a bundle that covers another.

@@ -1,9 +1,9 @@
 //! The thread that a look shows.
-ghost use Rattle.std.specs.Prelude.{◌≡◌, [], ◌∷◌, Some, IfOk};
+ghost use Rattle.std.specs.Prelude.{◌≡◌, Some, IfOk};
 ghost use Rattle.builder_spec.specs.Steps.{is_current, thread_of, own_output};
 
 use coin_selection::OwnOutput;
-use collections::{Items, Memory, TryClone};
+use collections::Memory;
 use eutxo_types::{ContractLock, Datum, datum_hash};
 use ledger::ThreadOutput;
 use roles::holds_sums;
@@ -40,15 +40,6 @@ impl<'a> ThreadAt<'a> {
             reference: shown.reference,
             output: &shown.output,
         }
-    }
-
-    /// The data that a step of it brings first: its own datum.
-    pub fn datums(&self, alloc: Global) -> Result<Items<Datum>, Memory>
-        ensures { IfOk result (λ datums. datums ≡ self.now.datum ∷ []) }
-    {
-        let mut datums = Items::new(alloc);
-        datums.push(self.datum.try_clone()?)?;
-        Ok(datums)
     }
 }
 

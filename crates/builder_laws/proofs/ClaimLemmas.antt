@@ -16,7 +16,8 @@ use Rattle.eutxo.specs.Laws.{FoundIsEnough}
 use Rattle.eutxo.specs.Local.{tx_fault, spent_fault}
 use Rattle.eutxo_types.specs.Parts.{is_contract, contract_in, is_key, is_payout}
 use Rattle.eutxo.specs.Faults.{is_empty}
-use Rattle.eutxo.specs.Rules.{lacks_role, opens, steps_of, step_fault, wrong_datum}
+use Rattle.eutxo.specs.Blocks.{step_fault}
+use Rattle.eutxo.specs.Rules.{lacks_role, opens, steps_of, wrong_datum}
 use Rattle.roles.specs.declared.published.Published.{Published}
 use Rattle.roles.specs.Steps.{holds_role, role_token, marlowe}
 use Rattle.ledger.specs.declared.look.Unspent.{Unspent}
@@ -133,9 +134,9 @@ module _ (r : ClaimRequest) (clear : hinders_claim r ≡ None) where
       each_so (λ (u : Unspent). (is_key u.output.lock ≡ false) × (opens with.Claim u.output.lock ≡ true) × (contract_in u.output.lock ≡ None)) (λ (u : Unspent). contract_in u.output.lock ≡ None)
       (λ u h. h.2) us payouts
 
-  none_counted_is : nat_lt 1 (count_by (λ (x : Spend × Output). is_contract x.1.lock) ys) ≡ false
+  none_counted_is : nat_lt 8 (count_by (λ (x : Spend × Output). is_contract x.1.lock) ys) ≡ false
   none_counted_is =
-      ap (nat_lt 1) (none_counted (λ (x : Spend × Output). is_contract x.1.lock) ys
+      ap (nat_lt 8) (none_counted (λ (x : Spend × Output). is_contract x.1.lock) ys
       (each-append (λ (x : Spend × Output). is_contract x.1.lock ≡ false) (paired with.Claim us) (paired with.None fs)
       (nowhere_paired with.Claim (λ (x : Spend × Output). is_contract x.1.lock) us (each_so (λ (u : Unspent). contract_in u.output.lock ≡ None) (λ (u : Unspent). is_contract u.output.lock ≡ false) (λ u h. not_contract u.output.lock h) us no_contracts))
       (nowhere_keys r.signers (λ (x : Spend × Output). is_contract x.1.lock) (λ u k. ap is_contract k.lock) fs signed)))

@@ -1,5 +1,5 @@
 -- The data that layouts bring have the digests that their outputs hold.
-use Rattle.std.proofs.Common.{◌≡◌, ℕ, ◌+◌, false, List, [], ◌∷◌, ◌++◌, map, refl, sym, ap, ◌∙◌, Some, None}
+use Rattle.std.proofs.Common.{◌≡◌, ℕ, ◌+◌, false, List, [], ◌∷◌, ◌++◌, map, refl, sym, ap, ◌∙◌, append_assoc, Some, None}
 use Rattle.std.specs.Prelude.{if◌then◌else◌}
 use Rattle.std.specs.List.{AllByRecursion}
 use Rattle.std.specs.Cmp.Lexicographic.{bytes_decides}
@@ -42,6 +42,10 @@ none_made (o ∷ os) h = ap (λ c. digest_in c ++ digests_in os) (no_contract_in
 pub digests_made : (script : List ℕ) (ds : List Datum) (os : List Output) → AllByRecursion (λ (o : Output). is_contract o.lock ≡ false) os → digests_in (map (continuation script) ds ++ os) ≡ map datum_hash ds
 digests_made script [] os h = none_made os h
 digests_made script (d ∷ ds) os h = ap (λ hs. datum_hash d ∷ hs) (digests_made script ds os h)
+
+pub digests_append : (xs ys : List Output) → digests_in (xs ++ ys) ≡ digests_in xs ++ digests_in ys
+digests_append [] ys = refl
+digests_append (x ∷ xs) ys = ap (λ hs. digest_in (contract_in x.lock) ++ hs) (digests_append xs ys) ∙ sym (append_assoc (digest_in (contract_in x.lock)) (digests_in xs) (digests_in ys))
 
 -- ---- data that are brought
 

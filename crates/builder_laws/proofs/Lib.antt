@@ -10,6 +10,10 @@ pub mod OutputLemmas
 pub mod LookThreadLemmas
 pub mod CausesLemmas
 pub mod AfterPastsLemmas
+pub mod ActingLemmas
+pub mod PartPairLemmas
+pub mod BlockLemmas
+pub mod PartsLemmas
 pub mod StepLemmas
 pub mod ClaimLemmas
 pub mod StartLemmas

@@ -1,5 +1,5 @@
 -- The outputs that layouts make.
-use Rattle.std.proofs.Common.{◌≡◌, ℕ, ◌+◌, Bool, true, false, ◌||◌, List, [], ◌∷◌, ◌++◌, map, take, refl, ap, ◌∙◌, arith, Option, Some, None}
+use Rattle.std.proofs.Common.{◌≡◌, ℕ, ◌+◌, Bool, true, false, List, [], ◌∷◌, map, take, ap, ◌∙◌, arith, Option, Some, None}
 use Rattle.std.specs.Prelude.{if◌then◌else◌}
 use Rattle.std.specs.List.{slice_get, AllByRecursion}
 use Rattle.std.specs.FinMap.{entries}
@@ -14,13 +14,12 @@ use Rattle.eutxo_types.specs.declared.lock.Lock.TheVariants.{Key, Payout, Contra
 use Rattle.eutxo_types.specs.declared.output.Output.{Output}
 use Rattle.eutxo_types.specs.declared.tx.Tx.{Tx}
 use Rattle.eutxo_types.specs.Digests.{datum_hash}
-use Rattle.eutxo_types.specs.Parts.{is_contract, ContractLock, contract_in, contract_of, contract_count, made_datums, with_datum, contract_at, outputs_from}
+use Rattle.eutxo_types.specs.Parts.{is_contract, ContractLock, contract_in, contract_of, contract_count, made_datums, with_datum, contract_at}
 use Rattle.eutxo.specs.Faults.{is_empty}
-use Rattle.eutxo.specs.Rules.{stray_after, after_answer, starts_wrong, wrong_start}
+use Rattle.eutxo.specs.Rules.{starts_wrong, wrong_start}
 use Rattle.roles.specs.declared.published.Published.{Published}
-use Rattle.roles.specs.Steps.{lock_for, continuation, due_to, and_owed_output, due_outputs, goes_on_in, payments_from, answer_by, marlowe}
+use Rattle.roles.specs.Steps.{lock_for, continuation, due_to, and_owed_output, due_outputs, marlowe}
 use Rattle.roles.specs.Owed.{standing_at}
-use Rattle.roles.proofs.OwedLaws.{goes_on_there}
 use Rattle.ledger_laws.proofs.PartLaws.{no_contract_in}
 use Rattle.builder_spec.specs.Laying.{paid_to}
 use Rattle.builder_laws.proofs.TestLemmas.{each_at, no_place, mapped}
@@ -74,25 +73,12 @@ none_starts_wrong named tx h =
 pub no_starts : (named : List ℕ → Option Published) (tx : Tx) → AllByRecursion (λ (o : Output). is_contract o.lock ≡ false) tx.outputs → wrong_start marlowe named tx ≡ None
 no_starts named tx h = none_starts_wrong named tx (λ i o at. no_wrong_start named tx i o at (each_at (λ (x : Output). is_contract x.lock ≡ false) tx.outputs h i o at))
 
--- a contract is made in the first output, at the first datum that is brought for outputs
+-- a contract is made in an output, at the datum that is brought for it
+pub made_at : (tx : Tx) (i : ℕ) (script : List ℕ) (d : Datum) → slice_get tx.outputs i ≡ Some (continuation script d) → slice_get (made_datums tx) (contract_count (take i tx.outputs)) ≡ Some d → contract_at tx i ≡ Some (standing_at script d)
+made_at tx i script d at h =
+    ap (λ (x : Option Output). with_datum (contract_of x) (slice_get (made_datums tx) (contract_count (take i tx.outputs)))) at
+    ∙ ap (with_datum (contract_in (Contract script (datum_hash d)))) h
+
+-- in the first, at the first datum that is brought for outputs
 pub made_first : (tx : Tx) (script : List ℕ) (d : Datum) (ds : List Datum) → slice_get tx.outputs 0 ≡ Some (continuation script d) → made_datums tx ≡ d ∷ ds → contract_at tx 0 ≡ Some (standing_at script d)
-made_first tx script d ds at h =
-    ap (λ (x : Option Output). with_datum (contract_of x) (slice_get (made_datums tx) (contract_count (take 0 tx.outputs)))) at
-    ∙ ap (λ (ys : List Datum). with_datum (contract_in (Contract script (datum_hash d))) (slice_get ys (contract_count (take 0 tx.outputs)))) h
-
--- ---- the step's
-
-pub after_first : (b : Bool) (script : List ℕ) (d : Datum) (xs ys : List Output) → outputs_from (payments_from b 0) ((map (continuation script) (if b then [] else d ∷ []) ++ xs) ++ ys) ≡ xs ++ ys
-after_first true script d xs ys = refl
-after_first false script d xs ys = refl
-
-pub goes_on_first : (b : Bool) (tx : Tx) (script : List ℕ) (d : Datum) (xs ys : List Output) → tx.outputs ≡ (map (continuation script) (if b then [] else d ∷ []) ++ xs) ++ ys → made_datums tx ≡ (if b then [] else d ∷ []) → b || goes_on_in tx 0 script d ≡ true
-goes_on_first true tx script d xs ys h k = refl
-goes_on_first false tx script d xs ys h k =
-    let at : slice_get tx.outputs 0 ≡ Some (continuation script d) = ap (λ (os : List Output). slice_get os 0) h in
-    goes_on_there tx 0 script d (made_first tx script d [] at k, continuation script d, at, refl)
-
--- where no rule of the script refuses, those on stray contracts follow
-pub after_passing : (b : Bool) (os : List Output) → after_answer os (answer_by None b) ≡ stray_after (payments_from b 0) os
-after_passing true os = refl
-after_passing false os = refl
+made_first tx script d ds at h = made_at tx 0 script d at (ap (λ (ys : List Datum). slice_get ys (contract_count (take 0 tx.outputs))) h)

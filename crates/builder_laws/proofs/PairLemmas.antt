@@ -3,7 +3,6 @@ use Rattle.std.proofs.Common.{◌≡◌, ℕ, ◌+ℤ◌, Bool, true, false, ◌
 use Rattle.std.specs.Prelude.{int_lt, ◌&&◌, pos}
 use Rattle.std.specs.List.{AllByRecursion}
 use Rattle.std.specs.Option.{option_map}
-use Rattle.contract.specs.declared.input.Input.{Input}
 use Rattle.contract.specs.declared.interval.Interval.{Interval}
 use Rattle.names.specs.declared.token.Token.{Token}
 use Rattle.bundle.specs.Bundles.{amount_of}
@@ -18,7 +17,7 @@ use Rattle.eutxo_types.specs.declared.redeemer.Redeemer.TheVariants as with
 use Rattle.eutxo_types.specs.declared.spend.Spend.{Spend}
 use Rattle.eutxo_types.specs.declared.tx.Tx.{Tx}
 use Rattle.eutxo.specs.Found.{with_outputs}
-use Rattle.eutxo_types.specs.Parts.{inputs_of, contract_in, is_key, is_step, step_count}
+use Rattle.eutxo_types.specs.Parts.{contract_in, is_key, is_step, step_count}
 use Rattle.eutxo.specs.Rules.{has_signed, or_step, steps_of}
 use Rattle.roles.specs.Steps.{role_token, holds_role}
 use Rattle.ledger.specs.declared.look.Unspent.{Unspent}
@@ -26,7 +25,7 @@ use Rattle.builder_spec.specs.Causes.{is_signed}
 use Rattle.builder_spec.specs.Holding.{amount_in, holds_token}
 use Rattle.builder_spec.specs.Laying.{spend_with, by_key}
 use Rattle.builder_laws.specs.Accepting.{contents}
-use Rattle.builder_laws.proofs.TestLemmas.{Nowhere, each-append, none_counted, one_counted}
+use Rattle.builder_laws.proofs.TestLemmas.{Nowhere, each-append, none_counted}
 use Rattle.builder_laws.proofs.NamedLemmas.{refs}
 
 -- a transaction that spends the first of these with a redeemer, and the others by their keys, and brings data
@@ -47,7 +46,7 @@ each_paired : (w : Redeemer) (us : List Unspent) (xs : List Spend) (os : List (O
 each_paired w [] xs os zs h = h
 each_paired w (u ∷ us) xs os zs h = ap (option_map (λ ys. (spend_with w u, u.output) ∷ ys)) (each_paired w us xs os zs h)
 
-keys_paired : (fs : List Unspent) → with_outputs (map by_key fs) (contents fs) ≡ Some (paired with.None fs)
+pub keys_paired : (fs : List Unspent) → with_outputs (map by_key fs) (contents fs) ≡ Some (paired with.None fs)
 keys_paired [] = refl
 keys_paired (f ∷ fs) = ap (option_map (λ ys. (by_key f, f.output) ∷ ys)) (keys_paired fs)
 
@@ -62,7 +61,7 @@ refs_front : (w : Redeemer) (us : List Unspent) (xs : List Spend) → refs (map 
 refs_front w [] xs = refl
 refs_front w (u ∷ us) xs = ap (λ rs. u.reference ∷ rs) (refs_front w us xs)
 
-refs_keys : (fs : List Unspent) → refs (map by_key fs) ≡ names fs
+pub refs_keys : (fs : List Unspent) → refs (map by_key fs) ≡ names fs
 refs_keys [] = refl
 refs_keys (f ∷ fs) = ap (λ rs. f.reference ∷ rs) (refs_keys fs)
 
@@ -101,7 +100,7 @@ nowhere_paired w test (u ∷ us) g = (g.0, nowhere_paired w test us g.1)
 
 -- ---- what they hold
 
-keys_hold : (signers : List (List ℕ)) (c r : List ℕ) (fs : List Unspent) → AreKeyed signers fs → holds_role (paired with.None fs) c r ≡ holds_token fs (role_token c r)
+pub keys_hold : (signers : List (List ℕ)) (c r : List ℕ) (fs : List Unspent) → AreKeyed signers fs → holds_role (paired with.None fs) c r ≡ holds_token fs (role_token c r)
 keys_hold signers c r [] g = refl
 keys_hold signers c r (f ∷ fs) g =
     ap (λ l. (is_key l && int_lt (pos 0) (amount_of f.output.amount (role_token c r))) || holds_role (paired with.None fs) c r) g.0.lock
@@ -113,7 +112,7 @@ front_holds w signers c r [] fs h g = keys_hold signers c r fs g
 front_holds w signers c r (u ∷ us) fs h g =
     ap (λ b. (b && int_lt (pos 0) (amount_of u.output.amount (role_token c r))) || holds_role (pairs w us fs) c r) h.0 ∙ front_holds w signers c r us fs h.1 g
 
-total_paired : (w : Redeemer) (t : Token) (us : List Unspent) → total_of (λ (x : Spend × Output). x.1.amount) t (paired w us) ≡ total_of amount_in t us
+pub total_paired : (w : Redeemer) (t : Token) (us : List Unspent) → total_of (λ (x : Spend × Output). x.1.amount) t (paired w us) ≡ total_of amount_in t us
 total_paired w t [] = refl
 total_paired w t (u ∷ us) = ap (λ n. amount_of u.output.amount t +ℤ n) (total_paired w t us)
 
@@ -126,15 +125,15 @@ total_pairs w t (u ∷ us) fs = ap (λ n. amount_of u.output.amount t +ℤ n) (t
 
 pub no_keys_step : (signers : List (List ℕ)) (fs : List Unspent) (ds : List Datum) → AreKeyed signers fs → steps_of (paired with.None fs) ds ≡ []
 no_keys_step signers [] ds g = refl
-no_keys_step signers (f ∷ fs) ds g = ap (λ l. or_step (contract_in l) [] ds (steps_of (paired with.None fs))) g.0.lock ∙ no_keys_step signers fs ds g.1
+no_keys_step signers (f ∷ fs) ds g = ap (λ l. or_step (contract_in l) (by_key f) ds (steps_of (paired with.None fs))) g.0.lock ∙ no_keys_step signers fs ds g.1
 
 -- where none of the others is a contract, nothing is stepped
 pub no_step : (w : Redeemer) (signers : List (List ℕ)) (us fs : List Unspent) (ds : List Datum) → AllByRecursion (λ u. contract_in u.output.lock ≡ None) us → AreKeyed signers fs → steps_of (pairs w us fs) ds ≡ []
 no_step w signers [] fs ds h g = no_keys_step signers fs ds g
-no_step w signers (u ∷ us) fs ds h g = ap (λ c. or_step c (inputs_of w) ds (steps_of (pairs w us fs))) h.0 ∙ no_step w signers us fs ds h.1 g
+no_step w signers (u ∷ us) fs ds h g = ap (λ c. or_step c (spend_with w u) ds (steps_of (pairs w us fs))) h.0 ∙ no_step w signers us fs ds h.1 g
 
 -- and where the first are no steps, none of the inputs is one
-none_steps : (w : Redeemer) → is_step w ≡ false → (us : List Unspent) → Nowhere (λ (x : Spend). is_step x.redeemer) (map (spend_with w) us)
+pub none_steps : (w : Redeemer) → is_step w ≡ false → (us : List Unspent) → Nowhere (λ (x : Spend). is_step x.redeemer) (map (spend_with w) us)
 none_steps w h [] = tt
 none_steps w h (u ∷ us) = (h, none_steps w h us)
 
@@ -142,7 +141,3 @@ pub no_steps : (w : Redeemer) → is_step w ≡ false → (us fs : List Unspent)
 no_steps w h us fs =
     none_counted (λ (x : Spend). is_step x.redeemer) (map (spend_with w) us ++ map by_key fs)
     (each-append (λ (x : Spend). is_step x.redeemer ≡ false) (map (spend_with w) us) (map by_key fs) (none_steps w h us) (none_steps with.None refl fs))
-
--- where one is stepped, there is one step
-pub one_step : (xs : List Input) (u : Unspent) (fs : List Unspent) → step_count (spend_with (with.Step xs) u ∷ map by_key fs) ≡ 1
-one_step xs u fs = one_counted (λ (x : Spend). is_step x.redeemer) (spend_with (with.Step xs) u) (map by_key fs) refl (none_steps with.None refl fs)

@@ -1,5 +1,5 @@
 -- The rules that every layout meets alike.
-use Rattle.std.proofs.Common.{◌≡◌, ℕ, nat_lt, Bool, true, false, not, ◌||◌, List, [], ◌∷◌, ◌++◌, map, length, refl, sym, ap, ◌∙◌, Option, None}
+use Rattle.std.proofs.Common.{◌≡◌, ℕ, nat_lt, Bool, true, false, not, ◌||◌, List, [], ◌∷◌, ◌++◌, map, length, refl, sym, ap, ◌∙◌, subst, Option, None}
 use Rattle.std.specs.Prelude.{count_by}
 use Rattle.std.specs.List.{AllByRecursion, list_any}
 use Rattle.std.proofs.lemmas.List.{length-map}
@@ -7,7 +7,7 @@ use Rattle.contract.specs.declared.interval.Interval.{Interval}
 use Rattle.names.specs.declared.token.Token.{Token}
 use Rattle.bundle.specs.Totals.{total_of}
 use Rattle.machine.specs.declared.datum.Datum.{Datum}
-use Rattle.eutxo_types.specs.declared.fault.TxFault.TheVariants.{NoInputs, TooMany, RepeatedInput, NotSigned, TwoContracts, WrongRedeemer, RoleMissing}
+use Rattle.eutxo_types.specs.declared.fault.TxFault.TheVariants.{NoInputs, TooMany, RepeatedInput, NotSigned, TooManyContracts, WrongRedeemer, RoleMissing}
 use Rattle.eutxo_types.specs.declared.lock.Lock.{Lock}
 use Rattle.eutxo_types.specs.declared.lock.Lock.TheVariants.{Key, Payout, Contract}
 use Rattle.eutxo_types.specs.declared.output.Output.{Output}
@@ -18,7 +18,8 @@ use Rattle.eutxo_types.specs.declared.tx.Tx.{Tx}
 use Rattle.eutxo.specs.Local.{tx_fault, spent_fault, spent_rules}
 use Rattle.eutxo_types.specs.Parts.{inputs_of, is_contract, is_key}
 use Rattle.eutxo.specs.Faults.{is_empty}
-use Rattle.eutxo.specs.Rules.{no_inputs, too_many, has_too_many, repeated_input, lacks_signer, not_signed, opens, wrong_redeemer, lacks_role, role_missing, steps_of, step_fault, step_fault_unless, wrong_datum}
+use Rattle.eutxo.specs.Blocks.{step_fault, step_fault_unless}
+use Rattle.eutxo.specs.Rules.{no_inputs, too_many, has_too_many, repeated_input, lacks_signer, opens, lacks_role, steps_of, wrong_datum}
 use Rattle.roles.specs.declared.published.Published.{Published}
 use Rattle.roles.specs.Steps.{holds_role, marlowe}
 use Rattle.ledger.specs.declared.look.Unspent.{Unspent}
@@ -26,11 +27,27 @@ use Rattle.builder_spec.specs.Causes.{has_repeat}
 use Rattle.builder_spec.specs.Holding.{amount_in}
 use Rattle.builder_spec.specs.Laying.{spend_with, by_key}
 use Rattle.builder_laws.proofs.TestLemmas.{Nowhere, each-append, each_so, not_any, none_of_two, none_of, no_fault, if_not, mapped}
-use Rattle.builder_laws.proofs.NamedLemmas.{fresh}
+use Rattle.builder_laws.proofs.NamedLemmas.{refs, fresh}
 use Rattle.builder_laws.proofs.PairLemmas.{laid, paired, pairs, names, all_named, AreKeyed, IsKeyed, nowhere_keys, nowhere_paired, total_pairs}
 use Rattle.builder_laws.proofs.SumsLemmas.{preserved}
 
 -- ---- of the transaction alone
+
+-- where there are inputs, not too many, and none names what another one names
+pub tx_passes : (tx : Tx) → is_empty tx.inputs ≡ false → nat_lt 256 (length tx.inputs) ≡ false → Nowhere has_too_many tx.inputs → has_repeat (refs tx.inputs) ≡ false → tx_fault tx ≡ None
+tx_passes tx some few given once =
+    none_of (no_inputs tx ∷ too_many tx ∷ repeated_input tx ∷ []) (
+      if_not (is_empty tx.inputs) NoInputs some,
+      (
+        if_not (nat_lt 256 (length tx.inputs) || list_any has_too_many tx.inputs) TooMany (none_of_two (nat_lt 256 (length tx.inputs)) (list_any has_too_many tx.inputs) few (not_any has_too_many tx.inputs given)),
+        (mapped RepeatedInput _ (fresh tx.inputs once), tt),
+      ),
+    )
+
+-- keys are given nothing
+pub keys_few : (xs : List Unspent) → Nowhere has_too_many (map by_key xs)
+keys_few [] = tt
+keys_few (x ∷ xs) = (refl, keys_few xs)
 
 module _ (w : Redeemer) (us fs : List Unspent) (os : List Output) (i : Interval) (signers : List (List ℕ)) (ds : List Datum) where
   abbrev tx : Tx
@@ -44,22 +61,31 @@ module _ (w : Redeemer) (us fs : List Unspent) (os : List Output) (i : Interval)
   given_few h [] = tt
   given_few h (x ∷ xs) = (h, given_few h xs)
 
-  keys_few : (xs : List Unspent) → Nowhere has_too_many (map by_key xs)
-  keys_few [] = tt
-  keys_few (x ∷ xs) = (refl, keys_few xs)
-
   pub first_rules : is_empty tx.inputs ≡ false → nat_lt 256 (length (us ++ fs)) ≡ false → nat_lt 256 (length (inputs_of w)) ≡ false → has_repeat (names (us ++ fs)) ≡ false → tx_fault tx ≡ None
   first_rules some few given once =
-      none_of (no_inputs tx ∷ too_many tx ∷ repeated_input tx ∷ []) (
-        if_not (is_empty tx.inputs) NoInputs some,
-        (
-          if_not (nat_lt 256 (length tx.inputs) || list_any has_too_many tx.inputs) TooMany (none_of_two (nat_lt 256 (length tx.inputs)) (list_any has_too_many tx.inputs)
-              (ap (nat_lt 256) all_counted ∙ few) (not_any has_too_many tx.inputs (each-append (λ x. has_too_many x ≡ false) (map (spend_with w) us) (map by_key fs) (given_few given us) (keys_few fs)))),
-          (mapped RepeatedInput _ (fresh tx.inputs (ap has_repeat (all_named w us fs) ∙ once)), tt),
-        ),
-      )
+      tx_passes tx some (ap (nat_lt 256) all_counted ∙ few) (each-append (λ x. has_too_many x ≡ false) (map (spend_with w) us) (map by_key fs) (given_few given us) (keys_few fs))
+      (ap has_repeat (all_named w us fs) ∙ once)
 
 -- ---- of what it spends
+
+-- where no test of it refuses, at most 8 contracts are spent, no datum is wrong, the steps are taken and sums are kept
+pub spent_passes : (named : List ℕ → Option Published) (tx : Tx) (ys : List (Spend × Output)) → Nowhere (λ (x : Spend × Output). lacks_signer tx.signers x.1.lock) ys → nat_lt 8 (count_by (λ (x : Spend × Output). is_contract x.1.lock) ys) ≡ false →
+    Nowhere (λ (x : Spend × Output). not (opens x.0.redeemer x.1.lock)) ys → Nowhere (λ (x : Spend × Output). lacks_role (holds_role ys) x.1.lock) ys → wrong_datum tx ys ≡ None → step_fault marlowe named tx ys (steps_of ys tx.datums) ≡ None →
+    ((t : Token) → total_of (λ (x : Spend × Output). x.1.amount) t ys ≡ total_of (λ (o : Output). o.amount) t tx.outputs) → spent_fault marlowe named tx ys ≡ None
+spent_passes named tx ys signed few opened granted brought step kept =
+    none_of (spent_rules marlowe named tx ys) (
+      no_fault NotSigned (λ (x : Spend × Output). lacks_signer tx.signers x.1.lock) ys signed,
+      (
+        if_not (nat_lt 8 (count_by (λ (x : Spend × Output). is_contract x.1.lock) ys)) TooManyContracts few,
+        (
+          no_fault WrongRedeemer (λ (x : Spend × Output). not (opens x.0.redeemer x.1.lock)) ys opened,
+          (
+            no_fault RoleMissing (λ (x : Spend × Output). lacks_role (holds_role ys) x.1.lock) ys granted,
+            (ap (λ f. step_fault_unless f marlowe named tx ys) brought ∙ step, (preserved ys tx.outputs kept, (brought, tt))),
+          ),
+        ),
+      ),
+    )
 
 unsigned : (signers : List (List ℕ)) (l : Lock) → is_key l ≡ false → lacks_signer signers l ≡ false
 unsigned signers (Key a) h = cc
@@ -78,39 +104,17 @@ module _ (w : Redeemer) (signers : List (List ℕ)) (us fs : List Unspent) (h : 
   nowhere : (test : Spend × Output → Bool) → AllByRecursion (λ u. test (spend_with w u, u.output) ≡ false) us → ((u : Unspent) → IsKeyed signers u → test (by_key u, u.output) ≡ false) → Nowhere test ys
   nowhere test k f = each-append (λ x. test x ≡ false) (paired w us) (paired with.None fs) (nowhere_paired w test us k) (nowhere_keys signers test f fs g)
 
-  all_signed : not_signed signers ys ≡ None
-  all_signed =
-      no_fault NotSigned (λ (x : Spend × Output). lacks_signer signers x.1.lock) ys
-      (nowhere (λ (x : Spend × Output). lacks_signer signers x.1.lock) (each_so (IsOpened w) (λ u. lacks_signer signers u.output.lock ≡ false) (λ u k. unsigned signers u.output.lock k.unkeyed) us h)
-      (λ u k. ap (lacks_signer signers) k.lock ∙ ap not k.signed))
-
-  all_opened : wrong_redeemer ys ≡ None
-  all_opened =
-      no_fault WrongRedeemer (λ (x : Spend × Output). not (opens x.0.redeemer x.1.lock)) ys
-      (nowhere (λ (x : Spend × Output). not (opens x.0.redeemer x.1.lock)) (each_so (IsOpened w) (λ u. not (opens w u.output.lock) ≡ false) (λ u k. ap not k.opened) us h)
-      (λ u k. ap (λ l. not (opens with.None l)) k.lock))
-
-  all_granted : AllByRecursion (λ u. lacks_role (holds_role ys) u.output.lock ≡ false) us → role_missing marlowe ys ≡ None
-  all_granted k =
-      no_fault RoleMissing (λ (x : Spend × Output). lacks_role (holds_role ys) x.1.lock) ys
-      (nowhere (λ (x : Spend × Output). lacks_role (holds_role ys) x.1.lock) k (λ u k. ap (lacks_role (holds_role ys)) k.lock))
-
-  -- the others are met too, where one contract at most is spent, each payout is granted, no datum is wrong, the step is taken and sums
-  -- are kept
-  pub passing : (named : List ℕ → Option Published) (tx : Tx) → tx.signers ≡ signers → nat_lt 1 (count_by (λ (x : Spend × Output). is_contract x.1.lock) ys) ≡ false →
+  -- where few contracts are spent, each payout is granted, no datum is wrong, the steps are taken and sums are kept
+  pub passing : (named : List ℕ → Option Published) (tx : Tx) → tx.signers ≡ signers → nat_lt 8 (count_by (λ (x : Spend × Output). is_contract x.1.lock) ys) ≡ false →
       AllByRecursion (λ u. lacks_role (holds_role ys) u.output.lock ≡ false) us → wrong_datum tx ys ≡ None → step_fault marlowe named tx ys (steps_of ys tx.datums) ≡ None →
       ((t : Token) → total_of amount_in t (us ++ fs) ≡ total_of (λ (o : Output). o.amount) t tx.outputs) → spent_fault marlowe named tx ys ≡ None
-  passing named tx s one granted brought step kept =
-      none_of (spent_rules marlowe named tx ys) (
-        ap (λ ss. not_signed ss ys) s ∙ all_signed,
-        (
-          if_not (nat_lt 1 (count_by (λ (x : Spend × Output). is_contract x.1.lock) ys)) TwoContracts one,
-          (
-            all_opened,
-            (
-              all_granted granted,
-              (ap (λ f. step_fault_unless f marlowe named tx ys) brought ∙ step, (preserved ys tx.outputs (λ t. total_pairs w t us fs ∙ kept t), (brought, tt))),
-            ),
-          ),
-        ),
-      )
+  passing named tx s few granted brought step kept =
+      spent_passes named tx ys
+      (subst (λ ss. Nowhere (λ (x : Spend × Output). lacks_signer ss x.1.lock) ys) (sym s)
+      (nowhere (λ (x : Spend × Output). lacks_signer signers x.1.lock) (each_so (IsOpened w) (λ u. lacks_signer signers u.output.lock ≡ false) (λ u k. unsigned signers u.output.lock k.unkeyed) us h)
+      (λ u k. ap (lacks_signer signers) k.lock ∙ ap not k.signed)))
+      few
+      (nowhere (λ (x : Spend × Output). not (opens x.0.redeemer x.1.lock)) (each_so (IsOpened w) (λ u. not (opens w u.output.lock) ≡ false) (λ u k. ap not k.opened) us h)
+      (λ u k. ap (λ l. not (opens with.None l)) k.lock))
+      (nowhere (λ (x : Spend × Output). lacks_role (holds_role ys) x.1.lock) granted (λ u k. ap (lacks_role (holds_role ys)) k.lock))
+      brought step (λ t. total_pairs w t us fs ∙ kept t)

@@ -18,7 +18,8 @@ use Rattle.eutxo.specs.Local.{tx_fault, spent_fault}
 use Rattle.eutxo_types.specs.Digests.{datum_hash}
 use Rattle.eutxo_types.specs.Parts.{is_contract, made_datums, contract_at}
 use Rattle.eutxo.specs.Faults.{is_empty}
-use Rattle.eutxo.specs.Rules.{starts_wrong, starts_wrong_at, steps_of, step_fault, wrong_datum}
+use Rattle.eutxo.specs.Blocks.{step_fault}
+use Rattle.eutxo.specs.Rules.{starts_wrong, starts_wrong_at, steps_of, wrong_datum}
 use Rattle.roles.specs.declared.published.Published.{Published}
 use Rattle.roles.specs.Sums.{sums_of}
 use Rattle.roles.specs.Steps.{same_cont, is_fresh, same_amounts, starts_from, marlowe}
@@ -131,7 +132,7 @@ module _ (r : StartRequest) (clear : hinders_start r ≡ None) where
     rules : spent_fault marlowe named tx ys ≡ None
     rules =
         passing with.None r.signers [] fs tt signed named tx refl
-        (ap (nat_lt 1) (none_counted (λ (x : Spend × Output). is_contract x.1.lock) ys (nowhere_keys r.signers (λ (x : Spend × Output). is_contract x.1.lock) (λ u k. ap is_contract k.lock) fs signed)))
+        (ap (nat_lt 8) (none_counted (λ (x : Spend × Output). is_contract x.1.lock) ys (nowhere_keys r.signers (λ (x : Spend × Output). is_contract x.1.lock) (λ u k. ap is_contract k.lock) fs signed)))
         tt brought steps (λ t. sym (total-changed r.change fs (output ∷ []) t))
 
     clean : IsClean named (layout_start r) fs ys

@@ -1,9 +1,10 @@
 -- Tests that hold nowhere, or everywhere, and the first of several.
-use Rattle.std.proofs.Common.{◌≡◌, ℕ, zero, suc, ◌+◌, Bool, true, false, ◌&&◌, ◌||◌, not, cond, List, [], ◌∷◌, ◌++◌, refl, ◌∙◌, ap, subst, arith, Option, Some, None}
+use Rattle.std.proofs.Common.{◌≡◌, ℕ, zero, suc, ◌+◌, Bool, true, false, ◌&&◌, ◌||◌, not, cond, List, [], ◌∷◌, ◌++◌, map, refl, ◌∙◌, ap, subst, arith, Option, Some, None}
 use Rattle.std.specs.Prelude.{if◌then◌else◌, count_by, fold, All}
 use Rattle.std.specs.List.{list_any, list_all, find, filter, position, position_from, slice_get, AllByRecursion}
 use Rattle.std.specs.Option.{option_map}
 use Rattle.std.proofs.lemmas.Iterator.Adapters.{position_from-zero}
+use Rattle.std.proofs.lemmas.List.Sums.{sum_by-cons}
 use Rattle.eutxo.specs.Faults.{first_of, first_index}
 
 -- ---- two tests
@@ -50,6 +51,10 @@ pub each_front : {A : Type 0} (P : A → Type 0) (xs ys : List A) → AllByRecur
 each_front P [] ys h = tt
 each_front P (x ∷ xs) ys h = (h.0, each_front P xs ys h.1)
 
+pub each_back : {A : Type 0} (P : A → Type 0) (xs ys : List A) → AllByRecursion P (xs ++ ys) → AllByRecursion P ys
+each_back P [] ys h = h
+each_back P (x ∷ xs) ys h = each_back P xs ys h.1
+
 pub each_so : {A : Type 0} (P Q : A → Type 0) → ((x : A) → P x → Q x) → (xs : List A) → AllByRecursion P xs → AllByRecursion Q xs
 each_so P Q f [] h = tt
 each_so P Q f (x ∷ xs) h = (f x h.0, each_so P Q f xs h.1)
@@ -88,8 +93,9 @@ count_from test n (x ∷ xs) h = ap (λ b. fold (λ a y. a + cond (test y) 1 0) 
 pub none_counted : {A : Type 0} (test : A → Bool) (xs : List A) → Nowhere test xs → count_by test xs ≡ 0
 none_counted test xs h = count_from test 0 xs h
 
-pub one_counted : {A : Type 0} (test : A → Bool) (x : A) (xs : List A) → test x ≡ true → Nowhere test xs → count_by test (x ∷ xs) ≡ 1
-one_counted test x xs e h = ap (λ b. fold (λ a y. a + cond (test y) 1 0) (0 + cond b 1 0) xs) e ∙ count_from test 1 xs h
+-- one more that passes
+pub one_more : {A : Type 0} (test : A → Bool) (x : A) (xs : List A) → test x ≡ true → count_by test (x ∷ xs) ≡ suc (count_by test xs)
+one_more test x xs e = sum_by-cons (λ y. cond (test y) 1 0) x xs ∙ ap (λ b. cond b 1 0 + count_by test xs) e ∙ (let n = count_by test xs in let k : 1 + n ≡ suc n = omega arith in k)
 
 no_place_if : (b : Bool) (i : ℕ) (later : Option ℕ) → b ≡ false → later ≡ None → cond b (Some i) later ≡ None
 no_place_if true i later h k = cc
@@ -141,6 +147,14 @@ each_none (Some x ∷ xs) h = cc
 pub none_of : {A : Type 0} (xs : List (Option A)) → AllByRecursion (λ x. x ≡ None) xs → first_of xs ≡ None
 none_of [] h = refl
 none_of (x ∷ xs) h = ap (λ o. first_of (o ∷ xs)) h.0 ∙ none_of xs h.1
+
+-- of what is made of each
+pub each_mapped : {A B : Type 0} (f : A → Option B) (xs : List A) → first_of (map f xs) ≡ None → AllByRecursion (λ x. f x ≡ None) xs
+each_mapped {A} {B} f xs h = by xs (each_none (map f xs) h)
+  where
+    by : (ys : List A) → AllByRecursion (λ (o : Option B). o ≡ None) (map f ys) → AllByRecursion (λ y. f y ≡ None) ys
+    by [] k = tt
+    by (y ∷ ys) k = (k.0, by ys k.1)
 
 pub unless : {A : Type 0} (b : Bool) (x : A) → (if b then Some x else None) ≡ None → b ≡ false
 unless true x h = cc

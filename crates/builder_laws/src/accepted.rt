@@ -1,7 +1,8 @@
 //! That layouts are accepted.
-ghost use Rattle.builder_laws.specs.Accepting.{StepsPass, StartsPass, ClaimsPass, StepsAreAccepted, StartsAreAccepted, ClaimsAreAccepted};
-ghost use Rattle.builder_laws.specs.AfterPasts.{StepsAreAcceptedAfter, StartsAreAcceptedAfter, ClaimsAreAcceptedAfter, BytesTellApart};
+ghost use Rattle.builder_laws.specs.Accepting.{StepsPass, PartsPass, StartsPass, ClaimsPass, StepsAreAccepted, PartsAreAccepted, StartsAreAccepted, ClaimsAreAccepted};
+ghost use Rattle.builder_laws.specs.AfterPasts.{StepsAreAcceptedAfter, PartsAreAcceptedAfter, StartsAreAcceptedAfter, ClaimsAreAcceptedAfter, BytesTellApart};
 
+use builder_spec::one_part_is_one_step;
 use eutxo::found_is_enough;
 use eutxo_types::no_transaction_begins_another;
 use roles::Published;
@@ -15,6 +16,18 @@ pub fn steps_are_accepted()
     ensures passes { StepsPass }
     ensures accepted { StepsAreAccepted }
     ensures after { StepsAreAcceptedAfter }
+{
+    one_part_is_one_step();
+    found_is_enough::<Published>();
+    no_transaction_begins_another();
+}
+
+/// So is the layout of steps of several threads that nothing hinders, where each thread's script is published as its
+/// look shows it.
+pub fn parts_are_accepted()
+    ensures passes { PartsPass }
+    ensures accepted { PartsAreAccepted }
+    ensures after { PartsAreAcceptedAfter }
 {
     found_is_enough::<Published>();
     no_transaction_begins_another();

@@ -3,8 +3,8 @@ ghost use Rattle.builder_spec.specs.Change.{StepChangeIsTheRest, StartChangeIsTh
 
 use semantics::{money_is_kept, payments_are_natural, transactions_end_quiet};
 
-/// The change of a step that nothing hinders is what its front holds above the deposits, token by token, and never below
-/// 0; that of a start is what its front holds above the accounts.
+/// The change of a step that nothing hinders is what its front holds above the deposits, token by token, and never
+/// below 0; that of a start is what its front holds above the accounts.
 pub fn change_is_the_rest()
     ensures step { StepChangeIsTheRest }
     ensures start { StartChangeIsTheRest }

@@ -7,9 +7,10 @@ use ledger_laws::contracts_are_funded;
 use roles::Published;
 use semantics::contracts_close_after_the_last_timeout;
 
-/// A look that shows an unspent contract output of a ledger, with the datum that its maker brought and what is published
-/// there under its script, shows a thread that stands: it is of that script, holds the datum's digest, is at a number of
-/// the table, and holds just the sums of its accounts. So such a look fails the first clause only where it shows no thread.
+/// A look that shows an unspent contract output of a ledger, with the datum that its maker brought and what is
+/// published there under its script, shows a thread that stands: it is of that script, holds the datum's digest, is at
+/// a number of the table, and holds just the sums of its accounts. So such a look fails the first clause only where it
+/// shows no thread.
 pub fn shown_threads_are_current()
     ensures { ShownThreadsAreCurrent }
 {

@@ -152,7 +152,7 @@ amount_of-sums_in (e ∷ es) t =
 
 -- ---- what a step makes
 
-quiet_total : (u : Token) (a : Standing) (to : ℤ) → ((a.contract ≡ close) × (entries a.state.accounts ≡ [])) ⊎ ((ks : CaseTrees) × (timeout : ℤ) × (then : ContractTree) × (a.contract ≡ when ks timeout then) × (to <ℤ timeout)) → is_close a.contract ≡ true → states.total_of u a.state ≡ pos 0
+pub quiet_total : (u : Token) (a : Standing) (to : ℤ) → ((a.contract ≡ close) × (entries a.state.accounts ≡ [])) ⊎ ((ks : CaseTrees) × (timeout : ℤ) × (then : ContractTree) × (a.contract ≡ when ks timeout then) × (to <ℤ timeout)) → is_close a.contract ≡ true → states.total_of u a.state ≡ pos 0
 quiet_total u a to (inl h) e = ap (total (in_token u)) h.1
 quiet_total u a to (inr h) e = absurd (let k : is_close a.contract ≡ false = ap is_close h.3 in cc)
 
@@ -171,7 +171,7 @@ made_sum u e w a h n =
     ∙ ap (λ x. x +ℤ total_of amount u (due_outputs e.shown.published.currency w.payments)) (goes_on_by u e.shown.published.id (next_datum (thread_terms e) e.datum w a.state) (is_close a.contract) h)
     ∙ ap (λ x. states.total_of u a.state +ℤ x) (due_sum u e.shown.published.currency w.payments n)
 
-ended_well : (b : Bool) (end : Result Standing SemFault) (a : Standing) → cond b end (Err Leaves128) ≡ Ok a → end ≡ Ok a
+pub ended_well : (b : Bool) (end : Result Standing SemFault) (a : Standing) → cond b end (Err Leaves128) ≡ Ok a → end ≡ Ok a
 ended_well true end a h = h
 ended_well false end a h = absurd (cc)
 

@@ -4,6 +4,7 @@ pub mod Fronts
 pub mod Causes
 pub mod Laying
 pub mod Steps
+pub mod Parts
 pub mod Closings
 pub mod Starts
 pub mod Change

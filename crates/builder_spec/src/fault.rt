@@ -8,12 +8,14 @@ use names::{Party, Token};
 use std::alloc::{AllocError, AllocFailed};
 use thiserror::Error;
 
-/// Why a transaction isn't built. Where several faults stand, the one that is listed first answers.
+/// Why a transaction isn't built. Where several faults stand, the one that is listed first answers, and where several
+/// parts have that fault, the first part's.
 #[derive(Debug, PartialEq, Eq, Drop, Error)]
 pub enum BuildFault {
     /// 1: the look shows no thread, or one whose output isn't of the published script or doesn't hold its datum's
     /// digest, whose datum has a number outside of the table, or whose output doesn't hold exactly the sums of its
-    /// accounts. Of a claim: there is no payout, or an output under another lock is among them.
+    /// accounts. Of parts also: there are none, or two looks show different publications under one script. Of a claim:
+    /// there is no payout, or an output under another lock is among them.
     #[error("there is no thread")]
     NoThread,
     /// 2: the contract refuses the inputs.
@@ -30,11 +32,11 @@ pub enum BuildFault {
     /// several the least. A start that is offered nothing lacks ada.
     #[error("the offered outputs do not cover a token")]
     NoFunds(Token),
-    /// 6: the transaction would have more than 256 inputs, the contract more than 256, or what is spent would hold
-    /// more than 2^127 - 1 of a token.
+    /// 6: there are more than 8 parts, the transaction would have more than 256 inputs, a contract more than 256, or
+    /// what is spent would hold more than 2^127 - 1 of a token.
     #[error("there are too many inputs, or too much is spent")]
     TooMany,
-    /// 7: an output is handed in twice.
+    /// 7: an output is handed in twice; so also a thread.
     #[error("an output is handed in twice")]
     Repeated,
     /// 8: memory was refused.

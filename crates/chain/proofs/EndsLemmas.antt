@@ -10,7 +10,7 @@ use Rattle.roles.specs.Steps.{marlowe}
 use Rattle.ledger.specs.declared.ask.Ask.{Ask}
 use Rattle.ledger_laws.specs.Laws.{DigestsTell, ThreadsAreRuns, ThreadsEndWithRuns, ContractsAreOfTables, EndsAreUnspent}
 use Rattle.ledger_laws.specs.Past.{Past, unspent_at}
-use Rattle.ledger_laws.specs.Threads.{thread, ends, IsMade, IsStart, StartsThread, Member, Run, Carries, contract_after, state_after}
+use Rattle.ledger_laws.specs.Threads.{thread, thread_end, IsMade, IsStart, StartsThread, Member, Run, Carries, contract_after, state_after}
 use Rattle.ledger_laws.proofs.PartLaws.{script_so}
 use Rattle.ledger_laws.proofs.PlainLaws.{same_some}
 use Rattle.builder_spec.specs.Steps.{Thread, thread_terms, thread_of, look_thread}
@@ -41,7 +41,7 @@ thread_at known past q s = record { shown = record { reference = q; output = s.o
 abbrev StandsWithItsRun : World → OutputRef → Instance → Thread → Type 0
 StandsWithItsRun w r i e =
     (published_at w.published i.script ≡ Some e.shown.published)
-    × ((run : List Member) → Run ((thread_terms e).tree e.shown.published.root) i.datum.state run → Carries (thread_terms e) i.script (thread (past_of w) r) run →
+    × ((run : List Member) → Run ((thread_terms e).tree e.shown.published.root) i.datum.state run → Carries (published_at w.published) (past_of w) (thread_terms e) i.script (thread marlowe (published_at w.published) (past_of w) r) run →
     ((thread_terms e).tree e.datum.cont ≡ contract_after ((thread_terms e).tree e.shown.published.root) run) × (e.datum.state ≡ state_after i.datum.state run))
 
 module _ (run_law : ThreadsAreRuns) (end_law : ThreadsEndWithRuns) (table_law : ContractsAreOfTables) (unspent_law : EndsAreUnspent marlowe) (enough : FoundIsEnough marlowe) (told : EachStartIsTold) (current : ShownThreadsAreCurrent) (c : Course) (kept : IsSoundCourse c) where
@@ -51,14 +51,14 @@ module _ (run_law : ThreadsAreRuns) (end_law : ThreadsEndWithRuns) (table_law : 
   abbrev past : Past
   past = past_of (world c)
 
-  end_stands : (r q : OutputRef) → StartsThread past r → ends (Some r) (thread past r) ≡ Some q → EndStands known past q
+  end_stands : (r q : OutputRef) → StartsThread past r → thread_end marlowe known past r ≡ Some q → EndStands known past q
   end_stands r q start h =
       let u = unspent_law known past kept.sound r q start h in
       let m = table_law known past kept.tables kept.sound q u.0 u.1 u.2 in
       record { output = u.0; unspent = u.1; instance = m.0; made = m.1; contract = m.2; object = m.3.0; named = m.3.1 }
 
   -- a look that asks for the thread shows its end
-  shown_end : (ask : Ask) (r q : OutputRef) → ask.thread ≡ Some r → end_of past r ≡ Some q → (s : EndStands known past q) → look_thread (look (world c) ask) ≡ Some (thread_at known past q s)
+  shown_end : (ask : Ask) (r q : OutputRef) → ask.thread ≡ Some r → end_of known past r ≡ Some q → (s : EndStands known past q) → look_thread (look (world c) ask) ≡ Some (thread_at known past q s)
   shown_end ask r q a h s =
       let lock : ContractLock = lock_of s.instance in
       let under : object_under (published c.entries) (script_in s.output.lock) ≡ Some s.object = ap (object_under (published c.entries)) (script_so s.output.lock lock s.contract) ∙ s.named in
@@ -68,14 +68,14 @@ module _ (run_law : ThreadsAreRuns) (end_law : ThreadsEndWithRuns) (table_law : 
       (record { lock = lock; instance = s.instance; unspent = s.unspent; contract = s.contract; made = s.made; datum = refl; named = s.named })
 
   pub shows_what_is_not_over : ShowsWhatIsNotOver c
-  shows_what_is_not_over ask r a start = by (ends (Some r) (thread past r)) refl
+  shows_what_is_not_over ask r a start = by (thread_end marlowe known past r) refl
     where
-      by : (z : Option OutputRef) → ends (Some r) (thread past r) ≡ z → (z ≡ None) ⊎ ((e : Thread) × (look_thread (look (world c) ask) ≡ Some e))
+      by : (z : Option OutputRef) → thread_end marlowe known past r ≡ z → (z ≡ None) ⊎ ((e : Thread) × (look_thread (look (world c) ask) ≡ Some e))
       by None h = inl refl
-      by (Some q) h = let s = end_stands r q start h in inr (thread_at known past q s, shown_end ask r q a ((told past r).0 start ∙ h) s)
+      by (Some q) h = let s = end_stands r q start h in inr (thread_at known past q s, shown_end ask r q a ((told known past r).0 start ∙ h) s)
 
   -- where digests tell data apart, its datum stands where a run of the thread stands
-  stands_with_run : DigestsTell past → (r : OutputRef) (i : Instance) → IsStart past r i → (q : OutputRef) → ends (Some r) (thread past r) ≡ Some q → (s : EndStands known past q) → StandsWithItsRun (world c) r i (thread_at known past q s)
+  stands_with_run : DigestsTell past → (r : OutputRef) (i : Instance) → IsStart past r i → (q : OutputRef) → thread_end marlowe known past r ≡ Some q → (s : EndStands known past q) → StandsWithItsRun (world c) r i (thread_at known past q s)
   stands_with_run apart r i start q h s =
       let a = run_law known past kept.tables apart kept.sound r i start in
       let end = end_law known past kept.tables apart kept.sound r i start in
@@ -84,16 +84,16 @@ module _ (run_law : ThreadsAreRuns) (end_law : ThreadsEndWithRuns) (table_law : 
       (named, λ run g k. let z = end s.object named run g k q s.instance h s.made in (z.1, z.2))
 
   pub shows_where_runs_stand : ShowsWhereRunsStand c
-  shows_where_runs_stand apart ask r i e a start shown = by (ends (Some r) (thread past r)) refl
+  shows_where_runs_stand apart ask r i e a start shown = by (thread_end marlowe known past r) refl
     where
-      by : (z : Option OutputRef) → ends (Some r) (thread past r) ≡ z → StandsWithItsRun (world c) r i e
+      by : (z : Option OutputRef) → thread_end marlowe known past r ≡ z → StandsWithItsRun (world c) r i e
       by None h =
-          let over : end_of past r ≡ None = (told past r).0 (i, start) ∙ h in
+          let over : end_of known past r ≡ None = (told known past r).0 (i, start) ∙ h in
           let none : look_thread (look (world c) ask) ≡ None =
           ap (λ (z : Option OutputRef). thread_of (thread_shown (world c) z)) a ∙ ap (λ (z : Option OutputRef). thread_of (thread_output_at (world c) z)) over in
           let no : (let z : Option Thread = Some e in z) ≡ None = sym shown ∙ none in
           cc
       by (Some q) h =
           let s = end_stands r q (i, start) h in
-          let same : thread_at known past q s ≡ e = same_some (thread_at known past q s) e (sym (shown_end ask r q a ((told past r).0 (i, start) ∙ h) s) ∙ shown) in
+          let same : thread_at known past q s ≡ e = same_some (thread_at known past q s) e (sym (shown_end ask r q a ((told known past r).0 (i, start) ∙ h) s) ∙ shown) in
           subst (λ (x : Thread). StandsWithItsRun (world c) r i x) same (stands_with_run apart r i start q h s)

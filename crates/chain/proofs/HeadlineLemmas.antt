@@ -13,17 +13,18 @@ use Rattle.ledger.specs.declared.look.ThreadOutput.{ThreadOutput}
 use Rattle.ledger_laws.specs.Laws.{AreTables}
 use Rattle.ledger_laws.specs.Past.{Past, unspent_at}
 use Rattle.ledger_laws.specs.Sound.{IsSound}
+use Rattle.builder_spec.specs.Parts.{layout_steps}
 use Rattle.builder_spec.specs.Steps.{layout_step}
 use Rattle.builder_spec.specs.Starts.{layout_start}
 use Rattle.builder_spec.specs.Claims.{layout_claim}
-use Rattle.builder_laws.specs.AfterPasts.{StepsAreAcceptedAfter, StartsAreAcceptedAfter, ClaimsAreAcceptedAfter}
+use Rattle.builder_laws.specs.AfterPasts.{StepsAreAcceptedAfter, PartsAreAcceptedAfter, StartsAreAcceptedAfter, ClaimsAreAcceptedAfter}
 use Rattle.builder_laws.specs.ShownThreads.{IsShown, ShownThreadsAreCurrent}
 use Rattle.ledger_spec.specs.Replay.{Course, World, world, past_of, published, published_at}
 use Rattle.ledger_spec.specs.Views.{instance_at, thread_output, object_under, thread_output_in, thread_output_at, end_of, thread_shown, look}
 use Rattle.ledger_spec.specs.Calls.{submit_reply}
 use Rattle.ledger_spec.proofs.InstanceLaws.{instance_made}
 use Rattle.ledger_spec.proofs.PublishingLaws.{found_under}
-use Rattle.ledger_spec.specs.Headline.{AcceptsSteps, AcceptsStarts, AcceptsClaims, ShowsCurrentThreads}
+use Rattle.ledger_spec.specs.Headline.{AcceptsSteps, AcceptsParts, AcceptsStarts, AcceptsClaims, ShowsCurrentThreads}
 
 -- what a course accepted is sound and fits its spelling, and what it published are tables
 pub record IsSoundCourse (c : Course) : Type 0 where
@@ -35,6 +36,9 @@ pub record IsSoundCourse (c : Course) : Type 0 where
 
 pub accepts_steps : StepsAreAcceptedAfter → (c : Course) → IsSoundCourse c → AcceptsSteps c
 accepts_steps law c kept look r e shown clear script is = ap (submit_reply (layout_step look r)) (law look r e (published_at (world c).published) (past_of (world c)) (world c).replay.tick shown clear script (record { fits = is.0; accepted = kept.fits }) is.1)
+
+pub accepts_parts : PartsAreAcceptedAfter → (c : Course) → IsSoundCourse c → AcceptsParts c
+accepts_parts law c kept r ss shown clear scripts is = ap (submit_reply (layout_steps r)) (law r ss (published_at (world c).published) (past_of (world c)) (world c).replay.tick shown clear scripts (record { fits = is.0; accepted = kept.fits }) is.1)
 
 pub accepts_starts : StartsAreAcceptedAfter → (c : Course) → IsSoundCourse c → AcceptsStarts c
 accepts_starts law c kept r clear script is = ap (submit_reply (layout_start r)) (law r (published_at (world c).published) (past_of (world c)) (world c).replay.tick clear script (record { fits = is.0; accepted = kept.fits }) is.1)
@@ -69,7 +73,7 @@ at_so w (Some q) t k = output_so w.published (past_of w) q (unspent_at (past_of 
 
 pub shown_so : (w : World) (r : Option OutputRef) (t : ThreadOutput) → thread_shown w r ≡ Some t → IsShown (published_at w.published) (past_of w) t
 shown_so w None t k = cc
-shown_so w (Some r) t k = at_so w (end_of (past_of w) r) t k
+shown_so w (Some r) t k = at_so w (end_of (published_at w.published) (past_of w) r) t k
 
 pub shows_standing : ShownThreadsAreCurrent → (c : Course) → IsSoundCourse c → ShowsCurrentThreads c
 shows_standing law c kept ask t h =

@@ -1,11 +1,10 @@
 -- One more entry of a course.
-use Rattle.std.proofs.Common.{◌≡◌, ℕ, zero, suc, ℤ, Bool, true, false, List, [], ◌∷◌, ◌++◌, refl, sym, ◌∙◌, ap, subst, arith, Option, Some, None, inl, inr, map, take, length, All, Result, Ok, Err}
-use Rattle.std.specs.Prelude.{if◌then◌else◌, is_some, OnErr}
+use Rattle.std.proofs.Common.{◌≡◌, ℕ, zero, suc, Bool, true, false, List, [], ◌∷◌, ◌++◌, refl, sym, ◌∙◌, ap, subst, arith, Option, Some, None, inl, inr, take, length, All, Result, Ok, Err}
+use Rattle.std.specs.Prelude.{if◌then◌else◌, is_some}
 use Rattle.std.specs.List.{slice_get}
 use Rattle.std.proofs.Math.Seq.{take-append_seam}
 use Rattle.std.proofs.lemmas.List.Elements.{All-take}
 use Rattle.compiler.specs.declared.fault.CompileFault.{CompileFault}
-use Rattle.eutxo_types.specs.declared.output.Output.{Output}
 use Rattle.eutxo_types.specs.declared.tx.Tx.{Tx}
 use Rattle.eutxo_types.specs.Fitting.{TxFits}
 use Rattle.roles.specs.declared.published.Published.{Published}

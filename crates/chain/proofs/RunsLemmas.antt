@@ -1,9 +1,8 @@
 -- The run of a thread is one of the contract that an entry published.
 use Rattle.std.proofs.Common.{◌≡◌, ℕ, List, subst, Option, Some}
 use Rattle.contract.specs.Tree.{ContractTree}
-use Rattle.eutxo_types.specs.declared.output_ref.OutputRef.{OutputRef}
-use Rattle.eutxo_types.specs.Parts.{Instance}
 use Rattle.roles.specs.declared.published.Published.{Published}
+use Rattle.roles.specs.Steps.{marlowe}
 use Rattle.roles.specs.Terms.{terms_of}
 use Rattle.ledger.specs.declared.call.Entry.{Entry}
 use Rattle.ledger_laws.specs.Laws.{ExactlyOne, EachIsARun}
@@ -17,4 +16,4 @@ pub runs_of_contracts : (es : List Entry) (known : List ℕ → Option Published
 runs_of_contracts es known past published runs r i start =
     let a = runs r i start in
     let x = published i.script a.0 a.1 in
-    (a.0, a.1, x, subst (λ (c : ContractTree). ExactlyOne (λ run. Run c i.datum.state run × Carries (terms_of a.0) i.script (thread past r) run)) x.tree a.2)
+    (a.0, a.1, x, subst (λ (c : ContractTree). ExactlyOne (λ run. Run c i.datum.state run × Carries known past (terms_of a.0) i.script (thread marlowe known past r) run)) x.tree a.2)

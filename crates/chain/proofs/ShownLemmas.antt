@@ -1,5 +1,5 @@
 -- What looks show of what was made before them.
-use Rattle.std.proofs.Common.{◌≡◌, ℕ, zero, suc, ◌+◌, ◌<◌, Bool, true, false, ◌||◌, cond, List, [], ◌∷◌, ◌++◌, refl, sym, ◌∙◌, ap, subst, arith, append_assoc, Option, Some, None, map, take, drop, length}
+use Rattle.std.proofs.Common.{◌≡◌, ℕ, zero, suc, ◌+◌, ◌<◌, Bool, true, false, ◌||◌, cond, List, [], ◌∷◌, ◌++◌, refl, sym, ◌∙◌, ap, subst, arith, append_assoc, append-nil, take-append-drop, ◌≤◌, Option, Some, None, map, take, drop, length}
 use Rattle.std.specs.Prelude.{if◌then◌else◌, filter}
 use Rattle.std.specs.List.{slice_get, list_any, Contains, slice_index_or}
 use Rattle.std.specs.Map.{lookup}
@@ -26,23 +26,25 @@ use Rattle.ledger.specs.declared.look.Look.{Look}
 use Rattle.ledger.specs.declared.look.ThreadOutput.{ThreadOutput}
 use Rattle.ledger.specs.declared.look.Unspent.{Unspent}
 use Rattle.ledger_laws.specs.Past.{Past, unspent, unspent_at, is_input_of, is_spent}
-use Rattle.ledger_laws.specs.Sound.{AreKeys, IsSound}
+use Rattle.ledger_laws.specs.Sound.{AreKeys, IsAdmitted, IsSound, IsMore}
 use Rattle.roles.specs.Steps.{marlowe}
-use Rattle.ledger_laws.specs.Laws.{StartIsSound, AfterIsSound, LaterIsSound, EndsAreUnspent}
-use Rattle.ledger_laws.specs.Threads.{next_of, thread, ends, IsMade}
+use Rattle.ledger_laws.specs.Laws.{StartIsSound, AfterIsSound, LaterIsSound, EndsAreUnspent, ThreadsStay}
+use Rattle.ledger_laws.specs.Threads.{next_of, IsMade}
 use Rattle.ledger_laws.proofs.AcceptedLaws.{made_there, still_there, made_published}
 use Rattle.ledger_laws.proofs.MadeLaws.{each_tells}
 use Rattle.ledger_laws.proofs.PartLaws.{contract_of_lock}
-use Rattle.ledger_laws.proofs.PlainLaws.{both_false, same_some, cut_at, take_some}
+use Rattle.ledger_laws.proofs.PlainLaws.{both_false, same_some, cut_at, take_some, take_twice}
 use Rattle.ledger_laws.proofs.ReferenceLaws.{same_ref_so, unspent_is}
 use Rattle.ledger_laws.proofs.SpineLaws.{reached, reached_append, ends_reached, stays}
 use Rattle.ledger_spec.specs.Legal.{IsLegal, before_entry}
 use Rattle.ledger_spec.specs.Calls.{reply_to}
-use Rattle.ledger_spec.specs.Replay.{Replay, World, Course, after_call, replay_from, world, past_of, published, published_at}
+use Rattle.ledger_spec.specs.Replay.{Replay, World, Course, after_call, replay_from, world, past_of, published, published_from, published_at}
 use Rattle.ledger_spec.specs.Shown.{ShowsOutput, ShowsWhatWasMade}
 use Rattle.ledger_spec.specs.Views.{is_key_of, is_payout_of, unspent_of, under_locks, starts_in, end_of, made_datum, thread_output, thread_output_at, thread_output_in, object_under, thread_shown, look}
 use Rattle.ledger_spec.proofs.CallsLaws.{GoesOn, accepted_on}
 use Rattle.ledger_spec.proofs.InstanceLaws.{made_instance}
+use Rattle.ledger_spec.proofs.PublishingLaws.{published_two}
+use Rattle.ledger_spec.proofs.PublishingLaws as publishing
 use Rattle.ledger_spec.proofs.ReplayLaws.{replay_two}
 use Rattle.ledger_spec.proofs.StartsLaws.{end_told, end_starts}
 use Rattle.chain.proofs.LegalLemmas.{sound_at}
@@ -69,6 +71,15 @@ submitted c n e tx at call reply =
     ∙ ap (λ (r : Replay). r.accepted) (replay_two (begun c) (take n c.entries) (e ∷ []))
     ∙ ap (λ (k : Call). (after_call s k e.reply).accepted) call
     ∙ ap (λ (r : Reply). (after_call s (on.Submit tx) r).accepted) reply
+
+-- what is published stays so
+published_between : (c : Course) (n m : ℕ) → n ≤ m → IsMore (published_at (published (before_entry c n).entries)) (published_at (published (before_entry c m).entries))
+published_between c n m le script v h =
+    let es = take m c.entries in
+    let front : take n es ≡ take n c.entries = take_twice n m c.entries le in
+    let all : published es ≡ published_from (published (take n c.entries)) (drop n es) =
+    ap published (sym (take-append-drop n es)) ∙ published_two [] (take n es) (drop n es) ∙ ap (λ (xs : List Entry). published_from (published xs) (drop n es)) front in
+    ap (λ (ps : List Published). published_at ps script) all ∙ publishing.stays (published (take n c.entries)) (drop n es) script v h
 
 -- ---- elements of lists
 
@@ -137,13 +148,62 @@ list_some test xs ys h = list_any-append test xs ys ∙ by (list_any test xs) h
     by true e = refl
     by false e = cc
 
--- a thread that ended at an output ends there while nobody spends it
-end_stays : (genesis : List Output) (txs more : List Tx) (r q : OutputRef) → end_of (record { genesis = genesis; accepted = txs }) r ≡ Some q → is_spent more q ≡ false → end_of (record { genesis = genesis; accepted = txs ++ more }) r ≡ Some q
-end_stays genesis txs more r q h free =
-    let p = end_told (record { genesis = genesis; accepted = txs }) r q h in
-    let at : reached next_of (Some r) txs ≡ Some q = sym (ends_reached next_of (Some r) txs) ∙ p.1 in
-    let on : reached next_of (Some r) (txs ++ more) ≡ Some q = reached_append next_of (Some r) txs more ∙ ap (λ (s : Option OutputRef). reached next_of s more) at ∙ stays next_of q more free in
-    rw (list_some (starts_in r) txs more p.0) (ends_reached next_of (Some r) (txs ++ more) ∙ on)
+get_front : {A : Type 0} (xs ys : List A) (n : ℕ) (x : A) → slice_get xs n ≡ Some x → slice_get (xs ++ ys) n ≡ Some x
+get_front [] ys n x h = cc
+get_front (z ∷ xs) ys zero x h = h
+get_front (z ∷ xs) ys (suc n) x h = get_front xs ys n x h
+
+take_front : {A : Type 0} (xs ys : List A) (n : ℕ) (x : A) → slice_get xs n ≡ Some x → take n (xs ++ ys) ≡ take n xs
+take_front [] ys n x h = cc
+take_front (z ∷ xs) ys zero x h = refl
+take_front (z ∷ xs) ys (suc n) x h = ap (λ (zs : List _). z ∷ zs) (take_front xs ys n x h)
+
+abbrev these : List Output → List Tx → Past
+these genesis txs = record { genesis = genesis; accepted = txs }
+
+-- what was accepted first is sound by itself
+front_sound : (known : List ℕ → Option Published) (genesis : List Output) (txs more : List Tx) → IsSound marlowe known (these genesis (txs ++ more)) → IsSound marlowe known (these genesis txs)
+front_sound known genesis txs more sound = record {
+  keys = sound.keys;
+  admitted = λ n tx at. subst (λ (l : List Tx). IsAdmitted marlowe known (these genesis l) tx) (take_front txs more n tx at) (sound.admitted n tx (get_front txs more n tx at));
+}
+
+reached_alike : (f g : OutputRef → Tx → Option OutputRef) (s : Option OutputRef) (txs : List Tx) → ((n : ℕ) (tx : Tx) → slice_get txs n ≡ Some tx → (r : OutputRef) → f r tx ≡ g r tx) → reached f s txs ≡ reached g s txs
+reached_alike f g None txs h = refl
+reached_alike f g (Some r) [] h = refl
+reached_alike f g (Some r) (x ∷ xs) h = by (is_input_of r x) (reached_alike f g (f r x) xs later ∙ ap (λ (s : Option OutputRef). reached g s xs) (h 0 x refl r)) (reached_alike f g (Some r) xs later)
+  where
+    later : (n : ℕ) (tx : Tx) → slice_get xs n ≡ Some tx → (q : OutputRef) → f q tx ≡ g q tx
+    later n tx at q = h (suc n) tx at q
+
+    by : (b : Bool) → reached f (f r x) xs ≡ reached g (g r x) xs → reached f (Some r) xs ≡ reached g (Some r) xs → (if b then reached f (f r x) xs else reached f (Some r) xs) ≡ (if b then reached g (g r x) xs else reached g (Some r) xs)
+    by true k l = k
+    by false k l = l
+
+module _ (stay : ThreadsStay marlowe) where
+  -- where a thread goes on stays where more is accepted
+  next_stays : (known : List ℕ → Option Published) (genesis : List Output) (txs more : List Tx) → IsSound marlowe known (these genesis (txs ++ more)) → (n : ℕ) (tx : Tx) → slice_get txs n ≡ Some tx → (r : OutputRef) →
+      next_of marlowe known (these genesis (txs ++ more)) r tx ≡ next_of marlowe known (these genesis txs) r tx
+  next_stays known genesis txs [] sound n tx at r = ap (λ (l : List Tx). next_of marlowe known (these genesis l) r tx) (append-nil txs)
+  next_stays known genesis txs (s ∷ more) sound n tx at r =
+      let here : txs ++ (s ∷ more) ≡ (txs ++ (s ∷ [])) ++ more = sym (append_assoc txs (s ∷ []) more) in
+      let all = subst (λ (l : List Tx). IsSound marlowe known (these genesis l)) here sound in
+      let further = next_stays known genesis (txs ++ (s ∷ [])) more all n tx (get_front txs (s ∷ []) n tx at) r in
+      ap (λ (l : List Tx). next_of marlowe known (these genesis l) r tx) here ∙ further
+      ∙ (stay known known (these genesis txs) (λ script v h. h) (front_sound known genesis txs (s ∷ more) sound) n tx at).accepted s r
+
+  -- a thread that ended at an output ends there while nobody spends it, whatever else is published and accepted
+  end_stays : (known later : List ℕ → Option Published) (genesis : List Output) (txs more : List Tx) (r q : OutputRef) → IsMore known later → IsSound marlowe known (these genesis txs) → IsSound marlowe later (these genesis (txs ++ more)) →
+      end_of known (these genesis txs) r ≡ Some q → is_spent more q ≡ false → end_of later (these genesis (txs ++ more)) r ≡ Some q
+  end_stays known later genesis txs more r q is_more sound grown h free =
+      let first = next_of marlowe known (these genesis txs) in
+      let next = next_of marlowe later (these genesis (txs ++ more)) in
+      let p = end_told known (these genesis txs) r q h in
+      let alike : reached next (Some r) txs ≡ reached first (Some r) txs =
+      reached_alike next first (Some r) txs (λ n tx at s. next_stays later genesis txs more grown n tx at s ∙ (stay known later (these genesis txs) is_more sound n tx at).more s) in
+      let at : reached next (Some r) txs ≡ Some q = alike ∙ sym (ends_reached first (Some r) txs) ∙ p.1 in
+      let on : reached next (Some r) (txs ++ more) ≡ Some q = reached_append next (Some r) txs more ∙ ap (λ (s : Option OutputRef). reached next s more) at ∙ stays next q more free in
+      rw (list_some (starts_in r) txs more p.0) (ends_reached next (Some r) (txs ++ more) ∙ on)
 
 -- what is published under the script of an output
 published_so : (ps : List Published) (lock : Lock) → ((script : List ℕ) → script_in lock ≡ Some script → (p : Published) × (published_at ps script ≡ Some p)) → is_contract lock ≡ true → (p : Published) × (object_under ps (script_in lock) ≡ Some p)
@@ -175,7 +235,7 @@ look_of : (a b : Look) → answer.Look a ≡ answer.Look b → a ≡ b
 look_of a b h = same_some a b (ap look_in h)
 
 -- the unspent end of a thread is shown with the datum that its maker brought and what is published under its script
-pub shown_thread : (w : World) (asked : Option OutputRef) (s r : OutputRef) (o : Output) (d : Datum) (p : Published) → asked ≡ Some s → end_of (past_of w) s ≡ Some r → unspent_at (past_of w) r ≡ Some o →
+pub shown_thread : (w : World) (asked : Option OutputRef) (s r : OutputRef) (o : Output) (d : Datum) (p : Published) → asked ≡ Some s → end_of (published_at w.published) (past_of w) s ≡ Some r → unspent_at (past_of w) r ≡ Some o →
     made_datum (past_of w) r ≡ Some d → object_under w.published (script_in o.lock) ≡ Some p → (let t : ThreadOutput = record { reference = r; output = o; datum = d; published = p } in thread_shown w asked ≡ Some t)
 shown_thread w asked s r o d p a e u m k =
     ap (λ (z : Option OutputRef). thread_shown w z) a ∙ ap (λ (z : Option OutputRef). thread_output_at w z) e ∙ ap (λ (z : Option Output). thread_output_in w.published r z (made_datum (past_of w) r)) u
@@ -183,12 +243,12 @@ shown_thread w asked s r o d p a e u m k =
 
 -- ---- the law
 
-module _ (enough : FoundIsEnough marlowe) (start : StartIsSound marlowe) (after : AfterIsSound marlowe) (later : LaterIsSound marlowe) (ends_unspent : EndsAreUnspent marlowe) where
+module _ (enough : FoundIsEnough marlowe) (start : StartIsSound marlowe) (after : AfterIsSound marlowe) (later : LaterIsSound marlowe) (ends_unspent : EndsAreUnspent marlowe) (stay : ThreadsStay marlowe) where
   -- after a sound course, what a look shows of an output that is unspent
   shown_now : (c : Course) (k i : ℕ) (tx : Tx) (o : Output) (ask : Ask) → IsSound marlowe (published_at (published c.entries)) (past_of (world c)) → slice_get (world c).replay.accepted k ≡ Some tx → slice_get tx.outputs i ≡ Some o →
-      is_spent (drop (suc k) (world c).replay.accepted) (Made (id_of tx) i) ≡ false → (earlier : Past) (n : ℕ) → slice_get earlier.accepted n ≡ Some tx → ((r : OutputRef) → end_of earlier r ≡ Some (Made (id_of tx) i) → end_of (past_of (world c)) r ≡ Some (Made (id_of tx) i)) →
-      ShowsOutput earlier ask (look (world c) ask) (record { reference = Made (id_of tx) i; output = o })
-  shown_now c k i tx o ask sound at made free earlier n made_then same =
+      is_spent (drop (suc k) (world c).replay.accepted) (Made (id_of tx) i) ≡ false → (known : List ℕ → Option Published) (earlier : Past) (n : ℕ) → slice_get earlier.accepted n ≡ Some tx →
+      ((r : OutputRef) → end_of known earlier r ≡ Some (Made (id_of tx) i) → end_of (published_at (published c.entries)) (past_of (world c)) r ≡ Some (Made (id_of tx) i)) → ShowsOutput known earlier ask (look (world c) ask) (record { reference = Made (id_of tx) i; output = o })
+  shown_now c k i tx o ask sound at made free known earlier n made_then same =
       record {
         key = under (is_key_of ask.keys) past r o there;
         payout = under (is_payout_of ask.payouts) past r o there;
@@ -213,11 +273,11 @@ module _ (enough : FoundIsEnough marlowe) (start : StartIsSound marlowe) (after 
       there : unspent_at past r ≡ Some o
       there = unspent_is past r ∙ rw unspent_r (made_there marlowe enough named past sound k tx at i o made)
 
-      as_thread : (s : OutputRef) → ask.thread ≡ Some s → end_of earlier s ≡ Some r →
+      as_thread : (s : OutputRef) → ask.thread ≡ Some s → end_of known earlier s ≡ Some r →
           (z : Instance) × IsMade earlier r z × (p : Published) × (let t : ThreadOutput = record { reference = r; output = o; datum = z.datum; published = p } in (look (world c) ask).thread ≡ Some t)
       as_thread s asked ended =
-          let e : end_of past s ≡ Some r = same s ended in
-          let q = end_starts past s r e in
+          let e : end_of named past s ≡ Some r = same s ended in
+          let q = end_starts named past s r e in
           let z = ends_unspent named past sound s r q.0 q.1 in
           let is : is_contract o.lock ≡ true = subst (λ (x : Output). is_contract x.lock ≡ true) (same_some z.0 o (sym z.1 ∙ there)) z.2 in
           let p = published_so (published c.entries) o.lock (λ script l. made_published marlowe enough named past sound k tx at i o script made l) is in
@@ -229,7 +289,7 @@ module _ (enough : FoundIsEnough marlowe) (start : StartIsSound marlowe) (after 
 
   pub shows : (c : Course) → AreKeys c.genesis → IsLegal c → ShowsWhatWasMade c
   shows c keys legal n m i e f tx ask l o before at_n call_n reply_n at_m call_m reply_m made free =
-      subst (λ (x : Look). ShowsOutput (past_of (world (before_entry c (n + 1)))) ask x u) is (shown_now d k i tx o ask sound at made free' (past_of (world (before_entry c (n + 1)))) k made_then same)
+      subst (λ (x : Look). ShowsOutput known (past_of (world (before_entry c (n + 1)))) ask x u) is (shown_now d k i tx o ask sound at made free' known (past_of (world (before_entry c (n + 1)))) k made_then same)
     where
       d : Course
       d = before_entry c m
@@ -267,8 +327,23 @@ module _ (enough : FoundIsEnough marlowe) (start : StartIsSound marlowe) (after 
       free' : is_spent (drop (suc k) (accepted_at_entry c m)) (Made (id_of tx) i) ≡ false
       free' = ap (λ (xs : List Tx). is_spent (drop (suc k) xs) (Made (id_of tx) i)) all ∙ ap (λ (xs : List Tx). is_spent xs (Made (id_of tx) i)) (drop_middle (accepted_at_entry c n) tx on.0) ∙ free_on
 
-      same : (r : OutputRef) → end_of (past_of (world (before_entry c (n + 1)))) r ≡ Some (Made (id_of tx) i) → end_of (past_of (world d)) r ≡ Some (Made (id_of tx) i)
-      same r h = subst (λ (xs : List Tx). end_of (record { genesis = c.genesis; accepted = xs }) r ≡ Some (Made (id_of tx) i)) (sym on.1) (end_stays c.genesis (accepted_at_entry c (n + 1)) on.0 r (Made (id_of tx) i) h free_on)
+      known : List ℕ → Option Published
+      known = published_at (published (before_entry c (n + 1)).entries)
+
+      later_known : List ℕ → Option Published
+      later_known = published_at (published d.entries)
+
+      published_more : IsMore known later_known
+      published_more = published_between c (n + 1) m (omega (arith, before))
+
+      then_sound : IsSound marlowe known (these c.genesis (accepted_at_entry c (n + 1)))
+      then_sound = sound_at start after later c keys legal (n + 1)
+
+      same : (r : OutputRef) → end_of known (past_of (world (before_entry c (n + 1)))) r ≡ Some (Made (id_of tx) i) → end_of later_known (past_of (world d)) r ≡ Some (Made (id_of tx) i)
+      same r h =
+          subst (λ (xs : List Tx). end_of later_known (these c.genesis xs) r ≡ Some (Made (id_of tx) i)) (sym on.1)
+          (end_stays stay known later_known c.genesis (accepted_at_entry c (n + 1)) on.0 r (Made (id_of tx) i) published_more then_sound
+          (subst (λ (xs : List Tx). IsSound marlowe later_known (these c.genesis xs)) on.1 sound) h free_on)
 
       is : look (world d) ask ≡ l
       is = look_of (look (world d) ask) l (ap (λ (x : Call). reply_to (world d) x) (sym call_m) ∙ sym (legal m f at_m).reply ∙ reply_m)

@@ -24,7 +24,7 @@ use ledger::{Call, Entry, Reply};
 use ledger_dispatch::{answer, front, resolution};
 use ledger_kept::{Kept, Tally, check_genesis};
 use ledger_laws::{
-    accepting_is_sound, contracts_end_threads, publishing_is_sound, starting_is_sound,
+    accepting_is_sound, contracts_end_threads, publishing_is_sound, starting_is_sound, threads_stay,
 };
 use ledger_spec::{GenesisFault, StepRecord, legal_histories_stand, publications_are_entries};
 use ledger_views::steps_of;
@@ -62,16 +62,18 @@ impl Model for Chain {
     ghost invariant = { λ a. IsKept a.tally a.index (record { genesis = a.genesis; first_tick = a.first_tick; entries = a.entries.items }) };
 }
 
-// Dropped once: the drop is written, not derived, so that no crate above proves it again.
+// Dropped once: the drop is written, not derived, so that no crate above proves it again. The index is carried
+// generically to where it is dropped, so that this proof doesn't walk through its maps.
 impl Drop for Chain {
     fn drop(self) {
         let Chain {
             genesis: _,
             first_tick: _,
             entries: _,
-            index: _,
+            index,
             tally: _,
         } = self;
+        drop(index);
     }
 }
 
@@ -307,6 +309,7 @@ impl Chain {
         accepting_is_sound::<Published>();
         publishing_is_sound::<Published>();
         contracts_end_threads::<Published>();
+        threads_stay::<Published>();
         legal_histories_stand();
         publications_are_entries();
         &self.entries

@@ -3,7 +3,8 @@ ghost use Rattle.ledger_spec.specs.Headline.{LegalHistoriesHaveBothHalves};
 
 use builder_laws::{
     anyone_closes_after_the_last_timeout, bytes_tell_accepted_apart, change_is_the_rest,
-    claims_are_accepted, shown_threads_are_current, starts_are_accepted, steps_are_accepted,
+    claims_are_accepted, parts_are_accepted, shown_threads_are_current, starts_are_accepted,
+    steps_are_accepted,
 };
 use eutxo::found_is_enough;
 use ledger_laws::{
@@ -35,6 +36,7 @@ pub fn both_halves_hold_of_legal_histories()
     outputs_are_spent_once::<Published>();
     tokens_are_preserved::<Published>();
     steps_are_accepted();
+    parts_are_accepted();
     starts_are_accepted();
     claims_are_accepted();
     bytes_tell_accepted_apart();

@@ -4,6 +4,7 @@ pub mod LockLemmas
 pub mod FrontLemmas
 pub mod OutputLemmas
 pub mod MoveLemmas
+pub mod MovedLemmas
 pub mod StartLemmas
 pub mod DataLemmas
 pub mod ObjectLemmas

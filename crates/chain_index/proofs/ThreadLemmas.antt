@@ -10,24 +10,26 @@ use Rattle.eutxo_types.specs.declared.output_ref.OutputRef.{OutputRef}
 use Rattle.eutxo_types.specs.declared.spend.Spend.{Spend}
 use Rattle.eutxo_types.specs.declared.tx.Tx.{Tx}
 use Rattle.eutxo_types.specs.Parts.{same_ref, is_step, is_contract, Instance, lock_of}
-use Rattle.eutxo.specs.Asked.{Judges}
+use Rattle.eutxo.specs.Blocks.{goes_on_at}
 use Rattle.eutxo.specs.Laws.{FoundIsEnough}
 use Rattle.roles.specs.declared.published.Published.{Published}
+use Rattle.roles.specs.Steps.{marlowe}
 use Rattle.ledger_laws.specs.Past.{Past, created, is_input_of, is_spent}
 use Rattle.ledger_laws.specs.Sound.{IsSound}
-use Rattle.ledger_laws.specs.Threads.{Link, next_of, spine, ends, thread, IsMade}
+use Rattle.ledger_laws.specs.Threads.{blocks_of, Link, next_of, spine_by, thread_end, IsMade}
 use Rattle.ledger_laws.proofs.PlainLaws.{or_false, both_false, not_both, same_some, head_at, take_some, no_more}
 use Rattle.ledger_laws.proofs.PartLaws.{under_so, is_contract_so}
 use Rattle.ledger_laws.proofs.ReferenceLaws.{same_ref_so, same_ref-refl, lookup_front, lookup_back, spent_more}
 use Rattle.ledger_laws.proofs.AcceptedLaws.{named_input, steps_contract, made_there, still_there}
 use Rattle.ledger_laws.proofs.MadeLaws.{made_output}
 use Rattle.ledger_laws.proofs.SpineLaws.{reached, ends_reached, next_so}
+use Rattle.ledger_spec.specs.Replay.{published_at}
 use Rattle.ledger_spec.specs.Views.{starts_in}
 use Rattle.ledger_spec.proofs.StartsLaws.{start_told}
 use Rattle.chain_index.specs.declared.moves.Move.{Move}
-use Rattle.chain_index.specs.Contents.{is_among}
+use Rattle.chain_index.specs.Contents.{next_after, is_among}
 use Rattle.chain_index.specs.Laws.{link_at, TellsThread, ThreadsAlike, EndsAlike}
-use Rattle.chain_index.specs.Moves.{move_to, moves_by, moves_in, moves_from, place_of, step_at, steps_after, steps_within, leads_after, leads_within, leads}
+use Rattle.chain_index.specs.Moves.{Next, move_to, moves_by, moves_in, moves_from, place_of, step_at, steps_after, steps_within, leads_after, leads_within, leads}
 use Rattle.chain_index.proofs.LiveLemmas.{absent_lookup}
 use Rattle.chain_index.proofs.MoveLemmas.{Listed}
 use Rattle.chain_index.proofs.PastLemmas.{false_if, moves_spend, moved_spent, starts_alike}
@@ -35,48 +37,48 @@ use Rattle.chain_index.proofs.PastLemmas.{false_if, moves_spend, moved_spent, st
 -- ---- where a move is
 
 -- that of an input, which is a step
-move_of_input : (n : ℕ) (tx : Tx) (r : OutputRef) (xs : List Spend) (i : ℕ) (x : Spend) → slice_get xs i ≡ Some x → x.reference ≡ r → is_step x.redeemer ≡ true →
-    lookup (same_ref r) (moves_by n tx xs) ≡ Some (move_to n (next_of r tx))
-move_of_input n tx r [] i x at name step = cc
-move_of_input n tx r (y ∷ xs) i x at name step = by (is_step y.redeemer) refl (same_ref r y.reference) refl i at (λ k h. move_of_input n tx r xs k x h name step)
+move_of_input : (next : Next) (n : ℕ) (tx : Tx) (r : OutputRef) (xs : List Spend) (i : ℕ) (x : Spend) → slice_get xs i ≡ Some x → x.reference ≡ r → is_step x.redeemer ≡ true →
+    lookup (same_ref r) (moves_by next n tx xs) ≡ Some (move_to n (next r tx))
+move_of_input next n tx r [] i x at name step = cc
+move_of_input next n tx r (y ∷ xs) i x at name step = by (is_step y.redeemer) refl (same_ref r y.reference) refl i at (λ k h. move_of_input next n tx r xs k x h name step)
   where
     m : OutputRef × Move
-    m = (y.reference, move_to n (next_of y.reference tx))
+    m = (y.reference, move_to n (next y.reference tx))
 
     by : (b : Bool) → is_step y.redeemer ≡ b → (c : Bool) → same_ref r y.reference ≡ c → (k : ℕ) → slice_get (y ∷ xs) k ≡ Some x →
-        ((k : ℕ) → slice_get xs k ≡ Some x → lookup (same_ref r) (moves_by n tx xs) ≡ Some (move_to n (next_of r tx))) → lookup (same_ref r) (moves_by n tx (y ∷ xs)) ≡ Some (move_to n (next_of r tx))
+        ((k : ℕ) → slice_get xs k ≡ Some x → lookup (same_ref r) (moves_by next n tx xs) ≡ Some (move_to n (next r tx))) → lookup (same_ref r) (moves_by next n tx (y ∷ xs)) ≡ Some (move_to n (next r tx))
     by true e true f k h go =
-        ap (λ b. lookup (same_ref r) (if b then m ∷ moves_by n tx xs else moves_by n tx xs)) e
-        ∙ ap (λ b. if b then Some m.1 else lookup (same_ref r) (moves_by n tx xs)) f
-        ∙ ap (λ (q : OutputRef). Some (move_to n (next_of q tx))) (sym (same_ref_so r y.reference f))
+        ap (λ b. lookup (same_ref r) (if b then m ∷ moves_by next n tx xs else moves_by next n tx xs)) e
+        ∙ ap (λ b. if b then Some m.1 else lookup (same_ref r) (moves_by next n tx xs)) f
+        ∙ ap (λ (q : OutputRef). Some (move_to n (next q tx))) (sym (same_ref_so r y.reference f))
     by true e false f zero h go =
         let same : y ≡ x = same_some y x h in
         absurd (not_both (ap (same_ref r) (ap (λ (s : Spend). s.reference) same ∙ name) ∙ same_ref-refl r) f)
     by false e c f zero h go = absurd (not_both (ap (λ (s : Spend). is_step s.redeemer) (same_some y x h) ∙ step) e)
     by true e false f (suc k) h go =
-        ap (λ b. lookup (same_ref r) (if b then m ∷ moves_by n tx xs else moves_by n tx xs)) e
-        ∙ ap (λ b. if b then Some m.1 else lookup (same_ref r) (moves_by n tx xs)) f
+        ap (λ b. lookup (same_ref r) (if b then m ∷ moves_by next n tx xs else moves_by next n tx xs)) e
+        ∙ ap (λ b. if b then Some m.1 else lookup (same_ref r) (moves_by next n tx xs)) f
         ∙ go k h
-    by false e c f (suc k) h go = ap (λ b. lookup (same_ref r) (if b then m ∷ moves_by n tx xs else moves_by n tx xs)) e ∙ go k h
+    by false e c f (suc k) h go = ap (λ b. lookup (same_ref r) (if b then m ∷ moves_by next n tx xs else moves_by next n tx xs)) e ∙ go k h
 
-none_of_tx : (n : ℕ) (tx : Tx) (r : OutputRef) → is_input_of r tx ≡ false → lookup (same_ref r) (moves_in n tx) ≡ None
-none_of_tx n tx r h = absent_lookup r (moves_in n tx) (false_if (is_among (keys_of (moves_in n tx)) r) (λ k. not_both (moves_spend n tx tx.inputs r k) h))
+none_of_tx : (next : Next) (n : ℕ) (tx : Tx) (r : OutputRef) → is_input_of r tx ≡ false → lookup (same_ref r) (moves_in next n tx) ≡ None
+none_of_tx next n tx r h = absent_lookup r (moves_in next n tx) (false_if (is_among (keys_of (moves_in next n tx)) r) (λ k. not_both (moves_spend next n tx tx.inputs r k) h))
 
-none_moved : (n : ℕ) (txs : List Tx) (r : OutputRef) → is_spent txs r ≡ false → lookup (same_ref r) (moves_from n txs) ≡ None
-none_moved n txs r h = absent_lookup r (moves_from n txs) (false_if (is_among (keys_of (moves_from n txs)) r) (λ k. not_both (moved_spent n txs r k) h))
+none_moved : (next : Next) (n : ℕ) (txs : List Tx) (r : OutputRef) → is_spent txs r ≡ false → lookup (same_ref r) (moves_from next n txs) ≡ None
+none_moved next n txs r h = absent_lookup r (moves_from next n txs) (false_if (is_among (keys_of (moves_from next n txs)) r) (λ k. not_both (moved_spent next n txs r k) h))
 
 -- that of the n-th transaction, where none before spends the output
-move_of_tx : (k : ℕ) (txs : List Tx) (n : ℕ) (tx : Tx) (r : OutputRef) (m : Move) → slice_get txs n ≡ Some tx → is_spent (take n txs) r ≡ false → lookup (same_ref r) (moves_in (k + n) tx) ≡ Some m →
-    lookup (same_ref r) (moves_from k txs) ≡ Some m
-move_of_tx k [] n tx r m at free h = cc
-move_of_tx k (t ∷ txs) zero tx r m at free h =
-    lookup_front (same_ref r) (moves_in k t) (moves_from (k + 1) txs) m
-    (let e : k ≡ k + 0 = omega arith in ap (λ (z : Tx). lookup (same_ref r) (moves_in k z)) (same_some t tx at) ∙ ap (λ i. lookup (same_ref r) (moves_in i tx)) e ∙ h)
-move_of_tx k (t ∷ txs) (suc n) tx r m at free h =
+move_of_tx : (next : Next) (k : ℕ) (txs : List Tx) (n : ℕ) (tx : Tx) (r : OutputRef) (m : Move) → slice_get txs n ≡ Some tx → is_spent (take n txs) r ≡ false → lookup (same_ref r) (moves_in next (k + n) tx) ≡ Some m →
+    lookup (same_ref r) (moves_from next k txs) ≡ Some m
+move_of_tx next k [] n tx r m at free h = cc
+move_of_tx next k (t ∷ txs) zero tx r m at free h =
+    lookup_front (same_ref r) (moves_in next k t) (moves_from next (k + 1) txs) m
+    (let e : k ≡ k + 0 = omega arith in ap (λ (z : Tx). lookup (same_ref r) (moves_in next k z)) (same_some t tx at) ∙ ap (λ i. lookup (same_ref r) (moves_in next i tx)) e ∙ h)
+move_of_tx next k (t ∷ txs) (suc n) tx r m at free h =
     let p = or_false (is_input_of r t) (is_spent (take n txs) r) free in
     let e : (k + 1) + n ≡ k + suc n = omega arith in
-    lookup_back (same_ref r) (moves_in k t) (moves_from (k + 1) txs) (none_of_tx k t r p.0)
-    ∙ move_of_tx (k + 1) txs n tx r m at p.1 (ap (λ i. lookup (same_ref r) (moves_in i tx)) e ∙ h)
+    lookup_back (same_ref r) (moves_in next k t) (moves_from next (k + 1) txs) (none_of_tx next k t r p.0)
+    ∙ move_of_tx next (k + 1) txs n tx r m at p.1 (ap (λ i. lookup (same_ref r) (moves_in next i tx)) e ∙ h)
 
 -- ---- nowhere to go
 
@@ -91,9 +93,12 @@ some_there : (ms : Listed) (r : OutputRef) (m : Move) → lookup (same_ref r) ms
 some_there [] r m h = cc
 some_there (x ∷ ms) r m h = omega arith
 
-module _ {V : Type 0} (j : Judges V) (enough : FoundIsEnough j) (named : List ℕ → Option V) (past : Past) (sound : IsSound j named past) where
+module _ (enough : FoundIsEnough marlowe) (named : List ℕ → Option Published) (past : Past) (sound : IsSound marlowe named past) where
+  abbrev next : Next
+  next = next_of marlowe named past
+
   abbrev all : Listed
-  all = moves_from 0 past.accepted
+  all = moves_from next 0 past.accepted
 
   -- a contract output, which none of the first n transactions spends
   record Open (n : ℕ) (r : OutputRef) : Type 0 where
@@ -118,38 +123,38 @@ module _ {V : Type 0} (j : Judges V) (enough : FoundIsEnough j) (named : List �
         ∙ both_false (is_spent (take n past.accepted) r) (is_input_of r tx) o.free other;
   }
 
-  opened_next : (n : ℕ) (tx : Tx) (r : OutputRef) → slice_get past.accepted n ≡ Some tx → IsOpen (n + 1) (next_of r tx)
+  opened_next : (n : ℕ) (tx : Tx) (r : OutputRef) → slice_get past.accepted n ≡ Some tx → IsOpen (n + 1) (next r tx)
   opened_next n tx r at q h =
-      let x = next_so r tx q h in
-      let o = under_so tx 0 x.1.0 x.1.1 in
+      let x = next_so tx (goes_on_at (blocks_of marlowe named past tx) r) q h in
+      let o = under_so tx x.place x.made x.contract in
       record {
         output = o.0;
-        there = ap (λ (k : OutputRef). lookup (same_ref k) (created past)) x.0 ∙ made_there j enough named past sound n tx at 0 o.0 o.1;
+        there = ap (λ (k : OutputRef). lookup (same_ref k) (created past)) x.name ∙ made_there marlowe enough named past sound n tx at x.place o.0 o.1;
         contract = is_contract_so (o.0).lock o.2 o.3;
-        free = ap (λ (l : List Tx). is_spent l q) (one_more n tx at) ∙ ap (is_spent (take n past.accepted ++ tx ∷ [])) x.0 ∙ still_there j enough named past sound n tx at 0;
+        free = ap (λ (l : List Tx). is_spent l q) (one_more n tx at) ∙ ap (is_spent (take n past.accepted ++ tx ∷ [])) x.name ∙ still_there marlowe enough named past sound n tx at x.place;
       }
 
   -- what a transaction that spends it does is a move
-  move_there : (n : ℕ) (tx : Tx) (r : OutputRef) → slice_get past.accepted n ≡ Some tx → is_input_of r tx ≡ true → Open n r → lookup (same_ref r) (moves_in n tx) ≡ Some (move_to n (next_of r tx))
+  move_there : (n : ℕ) (tx : Tx) (r : OutputRef) → slice_get past.accepted n ≡ Some tx → is_input_of r tx ≡ true → Open n r → lookup (same_ref r) (moves_in next n tx) ≡ Some (move_to n (next r tx))
   move_there n tx r at spent o =
-      let k = named_input j enough named past sound n tx at r o.output spent o.there o.contract in
-      move_of_input n tx r tx.inputs k.0.index k.0.input k.0.at k.0.name (steps_contract j enough named past sound n k.0.index tx k.0.input o.output k.1)
+      let k = named_input marlowe enough named past sound n tx at r o.output spent o.there o.contract in
+      move_of_input next n tx r tx.inputs k.0.index k.0.input k.0.at k.0.name (steps_contract marlowe enough named past sound n k.0.index tx k.0.input o.output k.1)
 
   record Follows (f : ℕ) (s : Option OutputRef) (txs : List Tx) : Type 0 where
-    pub steps : map (link_at past.accepted) (steps_within f all s) ≡ map (λ (l : Link). Some l) (spine s txs)
-    pub end : leads_within f all s ≡ reached next_of s txs
+    pub steps : map (link_at past.accepted) (steps_within f all s) ≡ map (λ (l : Link). Some l) (spine_by next s txs)
+    pub end : leads_within f all s ≡ reached next s txs
 
   abbrev Later : List Tx → Type 0
-  Later txs = (m g : ℕ) (s : Option OutputRef) → drop m past.accepted ≡ txs → IsOpen m s → length (moves_from m txs) ≤ g → Follows g s txs
+  Later txs = (m g : ℕ) (s : Option OutputRef) → drop m past.accepted ≡ txs → IsOpen m s → length (moves_from next m txs) ≤ g → Follows g s txs
 
   nowhere : (f : ℕ) (txs : List Tx) → Follows f None txs
   nowhere f txs = let p = stops f all None refl in record { steps = ap (map (link_at past.accepted)) p.0; end = p.1 }
 
-  follows : (txs : List Tx) (n f : ℕ) (s : Option OutputRef) → drop n past.accepted ≡ txs → IsOpen n s → length (moves_from n txs) ≤ f → Follows f s txs
+  follows : (txs : List Tx) (n f : ℕ) (s : Option OutputRef) → drop n past.accepted ≡ txs → IsOpen n s → length (moves_from next n txs) ≤ f → Follows f s txs
   follows txs n f None e o l = nowhere f txs
   follows [] n f (Some r) e o l =
       let whole : take n past.accepted ≡ past.accepted = sym (no_more (take n past.accepted)) ∙ ap (λ (x : List Tx). take n past.accepted ++ x) (sym e) ∙ take-append-drop n past.accepted in
-      let none : step_at (Some r) all ≡ None = ap (option_map (λ (m : Move). (place_of r m.number, m.next))) (none_moved 0 past.accepted r (ap (λ (x : List Tx). is_spent x r) (sym whole) ∙ (o r refl).free)) in
+      let none : step_at (Some r) all ≡ None = ap (option_map (λ (m : Move). (place_of r m.number, m.next))) (none_moved next 0 past.accepted r (ap (λ (x : List Tx). is_spent x r) (sym whole) ∙ (o r refl).free)) in
       let p = stops f all (Some r) none in
       record { steps = ap (map (link_at past.accepted)) p.0; end = p.1 }
   follows (tx ∷ txs) n f (Some r) e o l = by (is_input_of r tx) refl (λ m g s a b c. follows txs m g s a b c)
@@ -160,52 +165,52 @@ module _ {V : Type 0} (j : Judges V) (enough : FoundIsEnough j) (named : List �
       rest : drop (n + 1) past.accepted ≡ txs
       rest = let k : n + 1 ≡ suc n = omega arith in ap (λ i. drop i past.accepted) k ∙ (head_at n past.accepted tx txs e).1
 
-      long : length (moves_in n tx) + length (moves_from (n + 1) txs) ≤ f
-      long = let a = length-append (moves_in n tx) (moves_from (n + 1) txs) in omega (arith, a, l)
+      long : length (moves_in next n tx) + length (moves_from next (n + 1) txs) ≤ f
+      long = let a = length-append (moves_in next n tx) (moves_from next (n + 1) txs) in omega (arith, a, l)
 
-      goes : Later txs → is_input_of r tx ≡ true → (g : ℕ) → length (moves_in n tx) + length (moves_from (n + 1) txs) ≤ g → Follows g (Some r) (tx ∷ txs)
+      goes : Later txs → is_input_of r tx ≡ true → (g : ℕ) → length (moves_in next n tx) + length (moves_from next (n + 1) txs) ≤ g → Follows g (Some r) (tx ∷ txs)
       goes go spent zero k =
-          let a = some_there (moves_in n tx) r (move_to n (next_of r tx)) (move_there n tx r at spent (o r refl)) in
-          absurd (none_left (length (moves_in n tx)) (length (moves_from (n + 1) txs)) a k)
+          let a = some_there (moves_in next n tx) r (move_to n (next r tx)) (move_there n tx r at spent (o r refl)) in
+          absurd (none_left (length (moves_in next n tx)) (length (moves_from next (n + 1) txs)) a k)
       goes go spent (suc g) k =
           let here = move_there n tx r at spent (o r refl) in
-          let a = some_there (moves_in n tx) r (move_to n (next_of r tx)) here in
+          let a = some_there (moves_in next n tx) r (move_to n (next r tx)) here in
           let zero_plus : n ≡ 0 + n = omega arith in
-          let there = move_of_tx 0 past.accepted n tx r (move_to n (next_of r tx)) at (o r refl).free (ap (λ i. lookup (same_ref r) (moves_in i tx)) (sym zero_plus) ∙ here) in
-          let step : step_at (Some r) all ≡ Some (place_of r n, next_of r tx) = ap (option_map (λ (m : Move). (place_of r m.number, m.next))) there in
-          let next = go (n + 1) g (next_of r tx) rest (opened_next n tx r at) (omega (arith, a, k)) in
+          let there = move_of_tx next 0 past.accepted n tx r (move_to n (next r tx)) at (o r refl).free (ap (λ i. lookup (same_ref r) (moves_in next i tx)) (sym zero_plus) ∙ here) in
+          let step : step_at (Some r) all ≡ Some (place_of r n, next r tx) = ap (option_map (λ (m : Move). (place_of r m.number, m.next))) there in
+          let after = go (n + 1) g (next r tx) rest (opened_next n tx r at) (omega (arith, a, k)) in
           record {
             steps =
                 ap (λ x. map (link_at past.accepted) (steps_after x (λ q. steps_within g all q))) step
-                ∙ (λ i. (let x : Option Link = option_map (λ t. let y : Link = record { spends = r; tx = t } in y) (at i) in x) ∷ next.steps i)
-                ∙ sym (ap (λ b. map (λ (y : Link). Some y) (if b then (let y : Link = record { spends = r; tx = tx } in y) ∷ spine (next_of r tx) txs else spine (Some r) txs)) spent);
+                ∙ (λ i. (let x : Option Link = option_map (λ t. let y : Link = record { spends = r; tx = t } in y) (at i) in x) ∷ after.steps i)
+                ∙ sym (ap (λ b. map (λ (y : Link). Some y) (if b then (let y : Link = record { spends = r; tx = tx } in y) ∷ spine_by next (next r tx) txs else spine_by next (Some r) txs)) spent);
             end =
-                ap (λ x. leads_after (Some r) x (λ q. leads_within g all q)) step ∙ next.end
-                ∙ sym (ap (λ b. if b then reached next_of (next_of r tx) txs else reached next_of (Some r) txs) spent);
+                ap (λ x. leads_after (Some r) x (λ q. leads_within g all q)) step ∙ after.end
+                ∙ sym (ap (λ b. if b then reached next (next r tx) txs else reached next (Some r) txs) spent);
           }
 
       by : (b : Bool) → is_input_of r tx ≡ b → Later txs → Follows f (Some r) (tx ∷ txs)
       by true spent go = goes go spent f long
       by false other go =
-          let next = go (n + 1) f (Some r) rest (λ q h. passed n tx q at (ap (λ (z : OutputRef). is_input_of z tx) (sym (same_some r q h)) ∙ other) (o q h)) (omega (arith, long)) in
+          let after = go (n + 1) f (Some r) rest (λ q h. passed n tx q at (ap (λ (z : OutputRef). is_input_of z tx) (sym (same_some r q h)) ∙ other) (o q h)) (omega (arith, long)) in
           record {
-            steps = next.steps ∙ sym (ap (λ b. map (λ (y : Link). Some y) (if b then (let y : Link = record { spends = r; tx = tx } in y) ∷ spine (next_of r tx) txs else spine (Some r) txs)) other);
-            end = next.end ∙ sym (ap (λ b. if b then reached next_of (next_of r tx) txs else reached next_of (Some r) txs) other);
+            steps = after.steps ∙ sym (ap (λ b. map (λ (y : Link). Some y) (if b then (let y : Link = record { spends = r; tx = tx } in y) ∷ spine_by next (next r tx) txs else spine_by next (Some r) txs)) other);
+            end = after.end ∙ sym (ap (λ b. if b then reached next (next r tx) txs else reached next (Some r) txs) other);
           }
 
-  pub tells_thread : (r : OutputRef) (c : Instance) → IsMade past r c → TellsThread past r
+  pub tells_thread : (r : OutputRef) (c : Instance) → IsMade past r c → TellsThread named past r
   tells_thread r c m =
-      let o = made_output j enough named past sound r c m in
+      let o = made_output marlowe enough named past sound r c m in
       let stands : Open 0 r = record { output = o.0; there = o.1; contract = is_contract_so (o.0).lock (lock_of c) o.2; free = refl } in
       let f = follows past.accepted 0 (length all) (Some r) refl (λ q h. subst (Open 0) (same_some r q h) stands) (omega arith) in
-      record { steps = f.steps; end = f.end ∙ sym (ends_reached next_of (Some r) past.accepted) }
+      record { steps = f.steps; end = f.end ∙ sym (ends_reached next (Some r) past.accepted) }
 
-pub threads_alike : (j : Judges Published) → FoundIsEnough j → ThreadsAlike j
-threads_alike j enough published past sound r c m = tells_thread j enough published past sound r c m
+pub threads_alike : FoundIsEnough marlowe → ThreadsAlike
+threads_alike enough published past sound r c m = tells_thread enough published past sound r c m
 
-pub ends_alike : (j : Judges Published) → FoundIsEnough j → EndsAlike j
-ends_alike j enough published ps past sound r = ap (λ b. if b then leads r (moves_from 0 past.accepted) else None) (starts_alike past.accepted r) ∙ by (list_any (starts_in r) past.accepted) refl
+pub ends_alike : FoundIsEnough marlowe → EndsAlike
+ends_alike enough ps past sound r = ap (λ b. if b then leads r (moves_from (next_after past ps) 0 past.accepted) else None) (starts_alike past.accepted r) ∙ by (list_any (starts_in r) past.accepted) refl
   where
-    by : (b : Bool) → list_any (starts_in r) past.accepted ≡ b → (if b then leads r (moves_from 0 past.accepted) else None) ≡ (if b then ends (Some r) (thread past r) else None)
-    by true h = let s = start_told past r h in (tells_thread j enough published past sound r s.0 s.1.made).end
+    by : (b : Bool) → list_any (starts_in r) past.accepted ≡ b → (if b then leads r (moves_from (next_after past ps) 0 past.accepted) else None) ≡ (if b then thread_end marlowe (published_at ps) past r else None)
+    by true h = let s = start_told past r h in (tells_thread enough (published_at ps) past sound r s.0 s.1.made).end
     by false h = refl

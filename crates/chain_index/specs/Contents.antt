@@ -10,14 +10,18 @@ use Rattle.eutxo_types.specs.declared.output_ref.OutputRef.TheVariants.{Made}
 use Rattle.eutxo_types.specs.declared.tx.Tx.{Tx}
 use Rattle.eutxo_types.specs.Ids.{id_of}
 use Rattle.eutxo_types.specs.Parts.{same_bytes, same_ref}
+use Rattle.eutxo.specs.Blocks.{Block, blocks_on, places_in}
+use Rattle.eutxo.specs.Found.{with_outputs}
 use Rattle.eutxo.specs.Judgement.{Moment}
 use Rattle.roles.specs.declared.published.Published.{Published}
+use Rattle.roles.specs.Steps.{marlowe}
 use Rattle.ledger.specs.declared.look.Unspent.{Unspent}
 use Rattle.ledger_laws.specs.Past.{Past, created_by, is_input_of, unspent}
+use Rattle.ledger_laws.specs.Threads.{next_of}
 use Rattle.ledger_spec.specs.Replay.{published_at}
 use Rattle.ledger_spec.specs.Views.{unspent_of}
 use Rattle.chain_index.specs.declared.moves.Move.{Move}
-use Rattle.chain_index.specs.Moves.{moves_in, moves_from, leads, starts_by, starts_of}
+use Rattle.chain_index.specs.Moves.{Next, moves_to, moves_from, leads, starts_by, starts_of}
 use Rattle.chain_index.specs.Data.{data_by, unspent_data}
 
 pub record Contents : Type 0 where
@@ -34,10 +38,14 @@ pub record Contents : Type 0 where
   -- the unspent contract outputs, in order of creation, each with the datum that the transaction that made it brought for it
   pub datums : List (OutputRef × Datum)
 
+-- where threads go on after a past, where this was published
+abbrev pub next_after : Past → List Published → Next
+next_after past ps = next_of marlowe (published_at ps) past
+
 -- what is indexed of a past, where this was published
 abbrev pub contents_of : Past → List Published → Contents
 contents_of past ps =
-    record { unspent = unspent past; used = map id_of past.accepted; published = ps; moves = moves_from 0 past.accepted; starts = starts_of past.accepted; datums = unspent_data past }
+    record { unspent = unspent past; used = map id_of past.accepted; published = ps; moves = moves_from (next_after past ps) 0 past.accepted; starts = starts_of past.accepted; datums = unspent_data past }
 
 -- before anything was accepted and published
 abbrev pub first_contents : List Output → Contents
@@ -47,13 +55,17 @@ first_contents genesis = contents_of (record { genesis = genesis; accepted = [] 
 abbrev pub without : {V : Type 0} → Tx → List (OutputRef × V) → List (OutputRef × V)
 without tx es = filter (λ e. not (is_input_of e.0 tx)) es
 
+-- the blocks of a transaction that spends unspent outputs
+abbrev pub blocks_in : Contents → Tx → List Block
+blocks_in c tx = blocks_on marlowe (published_at c.published) tx (with_outputs tx.inputs (map (λ x. lookup (same_ref x.reference) c.unspent) tx.inputs))
+
 -- after one accepted transaction more
 abbrev pub accepting : Contents → Tx → Contents
 accepting c tx =
     record c {
       unspent = without tx c.unspent ++ created_by tx;
       used = c.used ++ id_of tx ∷ [];
-      moves = c.moves ++ moves_in (length c.used) tx;
+      moves = c.moves ++ moves_to (length c.used) tx tx.inputs (places_in (blocks_in c tx));
       starts = c.starts ++ starts_by tx;
       datums = without tx c.datums ++ data_by tx;
     }

@@ -1,6 +1,6 @@
 -- Moves of contracts: for each contract output that was spent, which transaction spent it and where the thread goes on; and the outputs
 -- that start threads.
-use Rattle.std.specs.Prelude.{ℕ, zero, suc, ◌+◌, if◌then◌else◌, List, [], ◌∷◌, ◌++◌, filter, length, Option, Some, None}
+use Rattle.std.specs.Prelude.{ℕ, zero, suc, ◌+◌, Bool, true, false, if◌then◌else◌, List, [], ◌∷◌, ◌++◌, filter, length, Option, Some, None}
 use Rattle.std.specs.Option.{option_map}
 use Rattle.std.specs.Map.{lookup, keys_of}
 use Rattle.eutxo_types.specs.declared.output_ref.OutputRef.{OutputRef}
@@ -8,7 +8,7 @@ use Rattle.eutxo_types.specs.declared.spend.Spend.{Spend}
 use Rattle.eutxo_types.specs.declared.tx.Tx.{Tx}
 use Rattle.eutxo_types.specs.Parts.{same_ref, is_step}
 use Rattle.ledger_laws.specs.Past.{created_by}
-use Rattle.ledger_laws.specs.Threads.{next_of}
+use Rattle.ledger_laws.specs.Threads.{next_in}
 use Rattle.ledger_spec.specs.Views.{starts_in}
 use Rattle.chain_index.specs.declared.moves.Move.{Move}
 use Rattle.chain_index.specs.declared.moves.StepPlace.{StepPlace}
@@ -19,19 +19,33 @@ use Rattle.chain_index.specs.declared.moves.StepPlace.{StepPlace}
 abbrev pub move_to : ℕ → Option OutputRef → Move
 move_to n next = record { number = n; next = next }
 
+-- where a thread goes on that stood at an output which a transaction spends
+abbrev pub Next : Type 0
+Next = OutputRef → Tx → Option OutputRef
+
 -- a move for each of these inputs that steps a contract, under the output that it spends
-abbrev pub moves_by : ℕ → Tx → List Spend → List (OutputRef × Move)
-moves_by n tx [] = []
-moves_by n tx (x ∷ xs) = if is_step x.redeemer then (x.reference, move_to n (next_of x.reference tx)) ∷ moves_by n tx xs else moves_by n tx xs
+abbrev pub moves_by : Next → ℕ → Tx → List Spend → List (OutputRef × Move)
+moves_by next n tx [] = []
+moves_by next n tx (x ∷ xs) = if is_step x.redeemer then (x.reference, move_to n (next x.reference tx)) ∷ moves_by next n tx xs else moves_by next n tx xs
 
 -- the moves of the n-th accepted transaction
-abbrev pub moves_in : ℕ → Tx → List (OutputRef × Move)
-moves_in n tx = moves_by n tx tx.inputs
+abbrev pub moves_in : Next → ℕ → Tx → List (OutputRef × Move)
+moves_in next n tx = moves_by next n tx tx.inputs
+
+-- and where it is told in which places the contracts go on, in the order of the inputs that step: each takes the next of these
+abbrev pub and_move : Bool → ℕ → Tx → Spend → List (Option ℕ) → (List (Option ℕ) → List (OutputRef × Move)) → List (OutputRef × Move)
+and_move false n tx x ps later = later ps
+and_move true n tx x [] later = later []
+and_move true n tx x (p ∷ ps) later = (x.reference, move_to n (next_in tx p)) ∷ later ps
+
+abbrev pub moves_to : ℕ → Tx → List Spend → List (Option ℕ) → List (OutputRef × Move)
+moves_to n tx [] ps = []
+moves_to n tx (x ∷ xs) ps = and_move (is_step x.redeemer) n tx x ps (moves_to n tx xs)
 
 -- the moves of accepted transactions, in order, the first of which is the n-th
-abbrev pub moves_from : ℕ → List Tx → List (OutputRef × Move)
-moves_from n [] = []
-moves_from n (tx ∷ txs) = moves_in n tx ++ moves_from (n + 1) txs
+abbrev pub moves_from : Next → ℕ → List Tx → List (OutputRef × Move)
+moves_from next n [] = []
+moves_from next n (tx ∷ txs) = moves_in next n tx ++ moves_from next (n + 1) txs
 
 -- ---- where they lead
 

@@ -10,14 +10,15 @@ use Rattle.eutxo_types.specs.declared.spend.Spend.{Spend}
 use Rattle.eutxo_types.specs.declared.tx.Tx.{Tx}
 use Rattle.eutxo_types.specs.Ids.{id_of}
 use Rattle.eutxo_types.specs.Parts.{Instance, same_ref}
+use Rattle.eutxo.specs.Blocks.{places_in}
 use Rattle.roles.specs.declared.published.Published.{Published}
 use Rattle.ledger_laws.specs.Past.{with_references, created_by}
 use Rattle.ledger_spec.specs.Views.{starts_in}
 use Rattle.chain_index.specs.declared.moves.Move.{Move}
 use Rattle.chain_index.specs.declared.parts.Sizes.{Sizes}
-use Rattle.chain_index.specs.Contents.{Contents, Indexed, is_used, is_among}
+use Rattle.chain_index.specs.Contents.{Contents, Indexed, blocks_in, is_used, is_among}
 use Rattle.chain_index.specs.HolesSupport.{live, staying, known}
-use Rattle.chain_index.specs.Moves.{moves_in, starts_by}
+use Rattle.chain_index.specs.Moves.{moves_to, starts_by}
 use Rattle.chain_index.specs.Data.{data_by}
 use Rattle.chain_index.specs.NamingSupport.{slots}
 
@@ -94,7 +95,7 @@ pub record Takes (tx : Tx) (old new : Parts) : Type 0 where
   pub leaving : LeaveWith tx.inputs old.leaving new.leaving
   pub ids : new.ids ≡ old.ids ++ id_of tx ∷ []
   pub objects : new.objects ≡ old.objects
-  pub moves : new.moves ≡ old.moves ++ moves_in (length old.ids) tx
+  pub moves : new.moves ≡ old.moves ++ moves_to (length old.ids) tx tx.inputs (places_in (blocks_in (contents_in old) tx))
   pub starts : new.starts ≡ old.starts ++ starts_by tx
   pub datums : new.datums ≡ old.datums ++ slots (data_by tx)
 

@@ -7,16 +7,17 @@ ghost use Rattle.eutxo_types.specs.declared.output_ref.OutputRef.TheVariants.{Ma
 ghost use Rattle.eutxo_types.specs.Ids.{id_of};
 ghost use Rattle.eutxo_types.specs.Parts.{same_ref, steps, contract_count, made_datums, contract_at};
 ghost use Rattle.ledger_laws.specs.Past.{is_input_of};
+ghost use Rattle.ledger_laws.specs.Threads.{next_in};
 ghost use Rattle.ledger_spec.specs.Views.{starts_in};
 ghost use Rattle.chain_index.specs.Contents.{is_among};
 ghost use Rattle.chain_index.specs.HolesSupport.{known};
-ghost use Rattle.chain_index.specs.Moves.{moves_by, moves_in, starts_by};
+ghost use Rattle.chain_index.specs.Moves.{move_to, moves_to, starts_by};
 ghost use Rattle.chain_index.specs.Data.{data_by};
 ghost use Rattle.chain_index.specs.NamingSupport.{naming, slots, slots_of};
 ghost use Rattle.chain_index.specs.PartsSupport.{IsFront, LeaveWith, one_start, one_datum};
 
 use crate::holes::{Slots, note, put};
-use crate::moves::{Move, next_of, put_move};
+use crate::moves::{Move, next_in, put_move};
 use crate::naming::{Naming, name_at};
 use crate::outputs::Outputs;
 use collections::{Memory, TryClone};
@@ -62,43 +63,48 @@ pub(crate) fn leave_all(leaving: &mut IndexSet<OutputRef>, inputs: &[Spend]) -> 
 
 // ---- moves
 
-// Adds the move of an input, where it steps a contract.
+// Adds the move of an input that steps a contract, which goes on in this place.
 fn move_one(
     moves: &mut IndexMap<OutputRef, Move>,
     tx: &Tx,
     id: &[u8; 32],
     number: u64,
     input: &Spend,
+    place: Option<u64>,
 ) -> Result<(), Memory>
     requires named { id.now ≡ id_of tx.now }
     requires unmoved { is_among (keys_of moves.old.entries) input.now.reference ≡ false }
-    ensures ok { OnOk result (moves.new.entries ≡ moves.old.entries ++ moves_by number tx.now (input.now ∷ [])) }
+    ensures ok { OnOk result (moves.new.entries ≡ moves.old.entries ++ (input.now.reference, move_to number (next_in tx.now place)) ∷ []) }
     ensures err { OnErr result (moves.new.entries ≡ moves.old.entries) }
 {
-    if input.redeemer.is_step() {
-        let spends = input.reference;
-        let next = next_of(tx, id, &spends);
-        put_move(moves, spends, Move { number, next })
-    } else {
-        Ok(())
-    }
+    let spends = input.reference;
+    let next = next_in(tx, id, place);
+    put_move(moves, spends, Move { number, next })
 }
 
-/// Adds the moves of a transaction, which is the accepted one of this number.
+/// Adds the moves of a transaction, which is the accepted one of this number, and in which the contracts that its
+/// inputs step go on in these places.
 pub(crate) fn move_all(
     moves: &mut IndexMap<OutputRef, Move>,
     tx: &Tx,
     id: &[u8; 32],
     number: u64,
+    places: &[Option<u64>],
 ) -> Result<(), Memory>
     requires named { id.now ≡ id_of tx.now }
     requires once { IsDistinct same_ref (map (λ x. x.reference) tx.now.inputs) }
     requires unmoved { (r : OutputRef) → is_input_of r tx.now ≡ true → is_among (keys_of moves.old.entries) r ≡ false }
-    ensures ok { OnOk result (moves.new.entries ≡ moves.old.entries ++ moves_in number tx.now) }
+    ensures ok { OnOk result (moves.new.entries ≡ moves.old.entries ++ moves_to number tx.now tx.now.inputs places.now) }
     ensures grown { IsFront moves.old.entries moves.new.entries }
 {
+    let mut count = 0;
     for x in tx.inputs.as_slice() {
-        move_one(moves, tx, id, number, x)?;
+        if x.redeemer.is_step() {
+            if count < places.len() {
+                move_one(moves, tx, id, number, x, places[count])?;
+                count += 1;
+            }
+        }
     }
     Ok(())
 }

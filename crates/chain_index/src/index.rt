@@ -3,16 +3,17 @@ ghost use Rattle.std.specs.Prelude.{◌≡◌, [], None, IfOk, OnOk, OnErr, posi
 ghost use Rattle.std.specs.Map.{lookup};
 ghost use Rattle.eutxo_types.specs.Ids.{id_of};
 ghost use Rattle.eutxo_types.specs.Parts.{same_bytes, same_ref};
+ghost use Rattle.eutxo.specs.Blocks.{places_in};
 ghost use Rattle.ledger_spec.specs.Replay.{published_at};
 ghost use Rattle.ledger_spec.specs.Views.{is_key_of, is_payout_of};
-ghost use Rattle.chain_index.specs.Contents.{beginning, accepting, publishing, CanBeAdded};
+ghost use Rattle.chain_index.specs.Contents.{beginning, blocks_in, accepting, publishing, CanBeAdded};
 ghost use Rattle.chain_index.specs.Contents.{is_used, is_among, end_in, under_locks_in};
 ghost use Rattle.chain_index.specs.Moves.{along};
 
 use crate::moves::StepPlace;
 use crate::parts::{Parts, Sizes};
 use collections::{Items, Memory, Text};
-use eutxo::Shared;
+use eutxo::{Places, Shared};
 use eutxo_types::{Datum, Output, OutputRef, Tx};
 use ledger::{PayoutLock, Unspent};
 use roles::Published;
@@ -80,14 +81,16 @@ impl Index {
 
     // ---- additions
 
-    /// Adds one accepted transaction, whose id is lent, or changes nothing. It costs what the transaction is long.
-    pub fn accept(&mut self, tx: &Tx, id: &[u8; 32]) -> Result<(), Memory>
+    /// Adds one accepted transaction, whose id is lent, with the places in which its contracts go on, or changes
+    /// nothing. It costs what the transaction is long.
+    pub fn accept(&mut self, tx: &Tx, id: &[u8; 32], places: &Places) -> Result<(), Memory>
         requires named { id.now ≡ id_of tx.now }
         requires can { CanBeAdded self.old.present tx.now }
+        requires places { places.now ≡ places_in (blocks_in self.old.present tx.now) }
         ensures ok { OnOk result (self.new ≡ record self.old { present = accepting self.old.present tx.now }) }
         ensures err { OnErr result (self.new ≡ self.old) }
     {
-        self.parts.grow(tx, id)
+        self.parts.grow(tx, id, places.as_slice())
     }
 
     /// Adds one publication, under whose id there is none yet, or changes nothing.

@@ -1,10 +1,10 @@
 //! Laws of what is indexed, each the contract of a function that does nothing.
 ghost use Rattle.roles.specs.Steps.{marlowe};
-ghost use Rattle.chain_index.specs.Laws.{ReadsAlike, AcceptsAlike, JudgedCanBeAdded};
+ghost use Rattle.chain_index.specs.Laws.{ReadsAlike, AcceptsAlike, PlacesAlike, PublishesAlike, JudgedCanBeAdded};
 ghost use Rattle.chain_index.specs.Laws.{ThreadsAlike, EndsAlike, StartsAlike, DataAlike};
 
-use eutxo::found_is_enough;
-use ledger_laws::accepting_is_sound;
+use eutxo::{found_is_enough, found_tells_places};
+use ledger_laws::{accepting_is_sound, threads_stay};
 use roles::Published;
 
 /// The rules read the same of what is indexed of a past as of the past.
@@ -13,20 +13,31 @@ pub fn index_reads_alike()
 {}
 
 /// A transaction that no rule refuses can be added, and where the past is sound, what is indexed then is what is
-/// indexed of the past after it.
+/// indexed of the past after it, and what is found of it tells in which places its contracts go on.
 pub fn index_accepts_alike()
-    ensures alike { AcceptsAlike marlowe }
+    ensures alike { AcceptsAlike }
+    ensures places { PlacesAlike }
     ensures added { JudgedCanBeAdded marlowe }
 {
     accepting_is_sound::<Published>();
+    threads_stay::<Published>();
     found_is_enough::<Published>();
+    found_tells_places::<Published>();
+}
+
+/// Where the past is sound, what is indexed after a publication under a new id is what is indexed of the past where
+/// that is published too.
+pub fn index_publishes_alike()
+    ensures { PublishesAlike }
+{
+    threads_stay::<Published>();
 }
 
 /// On a sound past the moves lead along the thread of each contract output, transaction by transaction, to its end, and
 /// tell of each output the end of the thread that it starts; and the starts that are told are those of the past.
 pub fn index_follows_threads()
-    ensures threads { ThreadsAlike marlowe }
-    ensures ends { EndsAlike marlowe }
+    ensures threads { ThreadsAlike }
+    ensures ends { EndsAlike }
     ensures starts { StartsAlike }
 {
     found_is_enough::<Published>();

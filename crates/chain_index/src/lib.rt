@@ -24,5 +24,8 @@ mod under_locks;
 
 pub use index::Index;
 pub use index_at::IndexAt;
-pub use laws::{index_accepts_alike, index_follows_threads, index_reads_alike, index_tells_data};
+pub use laws::{
+    index_accepts_alike, index_follows_threads, index_publishes_alike, index_reads_alike,
+    index_tells_data,
+};
 pub use moves::{Move, StepPlace};

@@ -2,7 +2,7 @@
 ghost use Rattle.std.specs.Prelude.{◌≡◌, ◌++◌, ◌∷◌, [], false, Some, OnOk, OnErr, IfOk};
 ghost use Rattle.std.specs.Map.{keys_of};
 ghost use Rattle.eutxo_types.specs.Ids.{id_of};
-ghost use Rattle.ledger_laws.specs.Threads.{next_of};
+ghost use Rattle.ledger_laws.specs.Threads.{next_in};
 ghost use Rattle.chain_index.specs.Contents.{is_among};
 ghost use Rattle.chain_index.specs.Moves.{step_at, along, leads};
 
@@ -29,17 +29,21 @@ pub struct StepPlace {
     pub number: u64,
 }
 
-/// Where a thread goes on that stood at an output of those that the transaction spends, whose id is lent.
-pub(crate) fn next_of(tx: &Tx, id: &[u8; 32], spends: &OutputRef) -> Option<OutputRef>
+/// The output in which a contract goes on in a transaction, whose id is lent: in the output at a place, where that is a
+/// contract's.
+pub(crate) fn next_in(tx: &Tx, id: &[u8; 32], place: Option<u64>) -> Option<OutputRef>
     requires { id.now ≡ id_of tx.now }
-    ensures { result ≡ next_of spends.now tx.now }
+    ensures { result ≡ next_in tx.now place }
 {
-    // witness argument: for which output makes no difference, since at most one contract is spent
-    let _ = spends;
-    if tx.contract_at(0).is_some() {
-        Some(OutputRef::Made { id: *id, index: 0 })
-    } else {
-        None
+    match place {
+        Some(index) => {
+            if tx.contract_at(index).is_some() {
+                Some(OutputRef::Made { id: *id, index })
+            } else {
+                None
+            }
+        }
+        None => None,
     }
 }
 

@@ -5,9 +5,10 @@ ghost use Rattle.eutxo_types.specs.declared.output_ref.OutputRef.{OutputRef};
 ghost use Rattle.eutxo_types.specs.declared.output_ref.OutputRef.TheVariants.{Made};
 ghost use Rattle.eutxo_types.specs.Ids.{id_of};
 ghost use Rattle.eutxo_types.specs.Parts.{same_bytes, same_ref};
+ghost use Rattle.eutxo.specs.Blocks.{places_in};
 ghost use Rattle.ledger_spec.specs.Replay.{published_at};
 ghost use Rattle.ledger_spec.specs.Views.{is_key_of, is_payout_of};
-ghost use Rattle.chain_index.specs.Contents.{is_used, is_among, end_in, under_locks_in, CanBeAdded};
+ghost use Rattle.chain_index.specs.Contents.{blocks_in, is_used, is_among, end_in, under_locks_in, CanBeAdded};
 ghost use Rattle.chain_index.specs.HolesSupport.{known, AreAmong};
 ghost use Rattle.chain_index.specs.Moves.{along};
 ghost use Rattle.chain_index.specs.PartsSupport.{contents_in, no_parts, first_parts, sizes_of, front, Takes, IsGrown};
@@ -167,35 +168,42 @@ impl Parts {
 
     // Adds what a transaction makes, spends, moves, starts and brings. Where memory is refused, what came so far is
     // there.
-    fn add(&mut self, tx: &Tx, id: &[u8; 32]) -> Result<(), Memory>
+    fn add(&mut self, tx: &Tx, id: &[u8; 32], places: &[Option<u64>]) -> Result<(), Memory>
         requires named { id.now ≡ id_of tx.now }
         requires absent { (i : ℕ) → is_among (known self.old.entries) (Made id.now i) ≡ false }
         requires absent_datums { (i : ℕ) → is_among (known self.old.datums) (Made (id_of tx.now) i) ≡ false }
         requires can { CanBeAdded (contents_in self.old) tx.now }
+        requires places { places.now ≡ places_in (blocks_in (contents_in self.old) tx.now) }
         ensures ok { OnOk result (Takes tx.now self.old self.new) }
         ensures grown { IsGrown self.old self.new }
     {
         let number = self.ids.len() as u64;
         put_all(&mut self.outputs, &Naming::Made(*id), tx.outputs.as_slice())?;
         leave_all(&mut self.leaving, tx.inputs.as_slice())?;
-        move_all(&mut self.moves, tx, id, number)?;
+        move_all(&mut self.moves, tx, id, number, places)?;
         start_all(&mut self.starts, tx, id)?;
         bring_all(&mut self.datums, tx, id)?;
         put_id(&mut self.ids, *id)
     }
 
     /// Adds what a transaction makes, spends, moves, starts and brings, or changes nothing.
-    pub(crate) fn grow(&mut self, tx: &Tx, id: &[u8; 32]) -> Result<(), Memory>
+    pub(crate) fn grow(
+        &mut self,
+        tx: &Tx,
+        id: &[u8; 32],
+        places: &[Option<u64>],
+    ) -> Result<(), Memory>
         requires named { id.now ≡ id_of tx.now }
         requires absent { (i : ℕ) → is_among (known self.old.entries) (Made id.now i) ≡ false }
         requires absent_datums { (i : ℕ) → is_among (known self.old.datums) (Made (id_of tx.now) i) ≡ false }
         requires can { CanBeAdded (contents_in self.old) tx.now }
+        requires places { places.now ≡ places_in (blocks_in (contents_in self.old) tx.now) }
         ensures ok { OnOk result (Takes tx.now self.old self.new) }
         ensures grown { OnOk result (IsGrown self.old self.new) }
         ensures err { OnErr result (self.new ≡ self.old) }
     {
         let sizes = self.sizes();
-        match self.add(tx, id) {
+        match self.add(tx, id, places) {
             Ok(()) => Ok(()),
             Err(refused) => {
                 self.back(&sizes);

@@ -1,5 +1,5 @@
 //! Amounts of tokens that are wanted.
-ghost use Rattle.std.specs.Prelude.{◌≡◌, pos, ◌<ℤ◌, ◌≤ℤ◌, ◌^◌, map, IfOk, OnOk};
+ghost use Rattle.std.specs.Prelude.{◌≡◌, ◌++◌, pos, ◌<ℤ◌, ◌≤ℤ◌, ◌^◌, map, IfOk, OnOk};
 ghost use Rattle.bundle.specs.Bundles.{amount_of};
 ghost use Rattle.states.specs.States.{AllPositive};
 ghost use Rattle.builder_spec.specs.Starts.{accounts_of};
@@ -59,17 +59,16 @@ fn deposit_of(input: &Input) -> Option<Amount<'_>>
     }
 }
 
-/// What inputs deposit, in order.
-pub fn deposits(alloc: Global, inputs: &[Input]) -> Result<Vec<Amount<'_>>, Memory>
-    ensures { IfOk result (λ amounts. amounts.items ≡ deposits inputs.now) }
+/// Puts what inputs deposit, in order, behind others.
+pub fn put_deposits<'a>(amounts: &mut Vec<Amount<'a>>, inputs: &'a [Input]) -> Result<(), Memory>
+    ensures { OnOk result (amounts.new.items ≡ amounts.old.items ++ deposits inputs.now) }
 {
-    let mut amounts = Vec::new(alloc);
     for input in inputs {
         if let Some(amount) = deposit_of(input) {
             amounts.push(amount)?;
         }
     }
-    Ok(amounts)
+    Ok(())
 }
 
 // What each of these accounts holds, in order.

@@ -1,5 +1,5 @@
 //! The clauses of a request, each one function.
-ghost use Rattle.std.specs.Prelude.{◌∷◌, ◌++◌};
+ghost use Rattle.std.specs.Prelude.{◌++◌};
 ghost use Rattle.builder_spec.specs.Holding.{amount_in, AreBundles};
 ghost use Rattle.builder_spec.specs.Causes.{signature_cause, funds_cause, repeat_cause};
 ghost use Rattle.builder_spec.specs.Steps.{authority_cause};
@@ -8,7 +8,7 @@ ghost use Rattle.coin_selection.specs.Answers.{AnswersCause};
 use crate::amounts::Amount;
 use crate::authorise::unauthorised;
 use crate::funds::least_lacking;
-use crate::limits::{has_repeat, put_references};
+use crate::limits::{has_repeat, put_owned, put_references};
 use crate::own_output::OwnOutput;
 use crate::signed::are_signed;
 use builder_spec::BuildFault;
@@ -63,11 +63,16 @@ pub fn check_funds(
     }
 }
 
-/// A thread's output and the offered outputs are named once.
-pub fn check_once(alloc: Global, own: &OwnOutput<'_>, offered: &[Unspent]) -> Result<(), BuildFault>
-    ensures { AnswersCause result (repeat_cause (own.now ∷ offered.now)) }
+/// The outputs of threads and the offered outputs are named once.
+pub fn check_owned_once(
+    alloc: Global,
+    owns: &[OwnOutput<'_>],
+    offered: &[Unspent],
+) -> Result<(), BuildFault>
+    ensures { AnswersCause result (repeat_cause (owns.now ++ offered.now)) }
 {
-    let mut references = vec![in alloc; own.reference]?;
+    let mut references = Vec::new(alloc);
+    put_owned(&mut references, owns)?;
     put_references(&mut references, offered)?;
     if has_repeat(alloc, &references)? {
         Err(BuildFault::Repeated)

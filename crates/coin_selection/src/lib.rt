@@ -21,11 +21,11 @@ mod signed;
 mod sums;
 
 pub use accounts::sums_of;
-pub use amounts::{Amount, accounts_of, deposits};
+pub use amounts::{Amount, accounts_of, put_deposits};
 pub use authorise::first_unheld;
-pub use checks::{check_apart, check_authorised, check_funds, check_once, check_signed};
+pub use checks::{check_apart, check_authorised, check_funds, check_owned_once, check_signed};
 pub use front::{front_of, start_front};
-pub use limits::{Shares, shares_within, within_limits};
+pub use limits::{Shares, owned_within, shares_within};
 pub use own_output::OwnOutput;
-pub use role_tokens::{RoleToken, roles_of};
+pub use role_tokens::{RoleToken, put_roles, roles_of};
 pub use sums::{see_all, see_room, sum};

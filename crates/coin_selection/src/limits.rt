@@ -6,7 +6,6 @@ ghost use Rattle.eutxo_types.specs.Parts.{same_ref};
 ghost use Rattle.bundle.specs.Bundles.{plus};
 ghost use Rattle.builder_spec.specs.Holding.{sums, amount_in, AreBundles};
 ghost use Rattle.builder_spec.specs.Causes.{is_much, limit_cause, has_repeat};
-ghost use Rattle.builder_spec.specs.Steps.{step_limit_cause};
 ghost use Rattle.coin_selection.specs.Answers.{AnswersCause, RefusesMuch};
 ghost use Rattle.coin_selection.specs.LimitsSupport.{HasAlso};
 
@@ -32,6 +31,19 @@ pub(crate) fn put_references(
 {
     for unspent in outputs {
         references.push(unspent.reference)?;
+    }
+    Ok(())
+}
+
+/// Puts the references of threads' outputs behind others.
+pub(crate) fn put_owned(
+    references: &mut Vec<OutputRef>,
+    owns: &[OwnOutput<'_>],
+) -> Result<(), Memory>
+    ensures { OnOk result (references.new.items ≡ references.old.items ++ map (λ u. u.reference) owns.now) }
+{
+    for own in owns {
+        references.push(own.reference)?;
     }
     Ok(())
 }
@@ -70,42 +82,45 @@ pub(crate) fn has_repeat(alloc: Global, references: &[OutputRef]) -> Result<bool
     Ok(false)
 }
 
-// What a thread's output and others hold together.
-fn spent(alloc: Global, output: &Output, front: &[Unspent]) -> Result<Bundle, BundleFault>
+// What the outputs of threads and others hold together.
+fn spent(alloc: Global, owns: &[OwnOutput<'_>], front: &[Unspent]) -> Result<Bundle, BundleFault>
     requires { AreBundles amount_in front.now }
-    ensures ok { IfOk result (λ all. all ≡ plus output.now.amount (sums amount_in front.now)) }
-    ensures err { RefusesMuch result (plus output.now.amount (sums amount_in front.now)) }
+    ensures ok { IfOk result (λ all. all ≡ sums amount_in (owns.now ++ front.now)) }
+    ensures err { RefusesMuch result (sums amount_in (owns.now ++ front.now)) }
 {
-    // touch: its amounts are above 0
-    see(output);
-    match sum(alloc, front) {
-        Ok(others) => with(output, &others),
-        Err(fault) => Err(fault),
+    match owns {
+        [] => sum(alloc, front),
+        [own, others @ ..] => {
+            // touch: its amounts are above 0
+            see(own.output);
+            match spent(alloc, others, front) {
+                Ok(all) => with(own.output, &all),
+                Err(fault) => Err(fault),
+            }
+        }
     }
 }
 
-/// What a thread's output and the front hold together, where the limits hold.
-pub fn within_limits(
+/// What the outputs of threads and the front hold together, where the limits on what is spent hold.
+pub fn owned_within(
     alloc: Global,
-    own: &OwnOutput<'_>,
-    inputs: &[Input],
+    owns: &[OwnOutput<'_>],
     front: &[Unspent],
 ) -> Result<Bundle, BuildFault>
     requires { AreBundles amount_in front.now }
-    ensures all { IfOk result (λ all. all ≡ sums amount_in (own.now ∷ front.now)) }
-    ensures passes { AnswersCause result (step_limit_cause inputs.now (own.now ∷ front.now)) }
+    ensures all { IfOk result (λ all. all ≡ sums amount_in (owns.now ++ front.now)) }
+    ensures passes { AnswersCause result (limit_cause (owns.now ++ front.now)) }
 {
-    if inputs.len() > MOST || front.len() >= MOST {
+    if owns.len() > MOST || front.len() > MOST - owns.len() {
         return Err(BuildFault::TooMany);
     }
-    match spent(alloc, own.output, front) {
+    match spent(alloc, owns, front) {
         Ok(all) => {
             // touch: there is room for each sum
             see_room(&all);
             Ok(all)
         }
-        Err(BundleFault::Memory) => Err(BuildFault::Memory),
-        Err(_) => Err(BuildFault::TooMany),
+        Err(fault) => Err(build_fault(fault)),
     }
 }
 

@@ -1,5 +1,5 @@
 //! Tokens of roles.
-ghost use Rattle.std.specs.Prelude.{◌≡◌, IfOk};
+ghost use Rattle.std.specs.Prelude.{◌≡◌, ◌++◌, IfOk, OnOk};
 ghost use Rattle.roles.specs.Steps.{role_token};
 ghost use Rattle.builder_spec.specs.Steps.{token_of, roles_of};
 
@@ -61,6 +61,24 @@ fn token_of<'a>(currency: &'a Bytes, party: &'a Party) -> Option<RoleToken<'a>>
     }
 }
 
+/// Puts the tokens of the roles that inputs need, in order, behind others.
+pub fn put_roles<'a>(
+    roles: &mut Vec<RoleToken<'a>>,
+    currency: &'a Bytes,
+    inputs: &'a [Input],
+) -> Result<(), Memory>
+    ensures { OnOk result (roles.new.items ≡ roles.old.items ++ roles_of currency.now inputs.now) }
+{
+    for input in inputs {
+        if let Some(party) = actor(input)
+            && let Some(role) = token_of(currency, party)
+        {
+            roles.push(role)?;
+        }
+    }
+    Ok(())
+}
+
 /// The tokens of the roles that inputs need, in order.
 pub fn roles_of<'a>(
     alloc: Global,
@@ -70,12 +88,6 @@ pub fn roles_of<'a>(
     ensures { IfOk result (λ roles. roles.items ≡ roles_of currency.now inputs.now) }
 {
     let mut roles = Vec::new(alloc);
-    for input in inputs {
-        if let Some(party) = actor(input)
-            && let Some(role) = token_of(currency, party)
-        {
-            roles.push(role)?;
-        }
-    }
+    put_roles(&mut roles, currency, inputs)?;
     Ok(roles)
 }

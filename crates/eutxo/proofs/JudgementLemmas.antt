@@ -15,12 +15,13 @@ use Rattle.eutxo_types.specs.declared.fault.TxFault.{TxFault}
 use Rattle.eutxo.specs.Asked.{Judges, Stepping}
 use Rattle.eutxo.specs.Checks.{CheckOf}
 use Rattle.eutxo.specs.Found.{script_at, with_outputs, if_known, same_scripts}
-use Rattle.eutxo.specs.Judgement.{not_unspent, id_in_use, outside_interval, unknown_script, with_script, scripts_found, names_of, outputs_found, found}
-use Rattle.eutxo.specs.Laws.{AnswerAlike, EqualResolutionsAgree, EqualResolutionsDecideAlike, ledger_fault, verdict_after, ChecksDecide, FoundIsEnough}
+use Rattle.eutxo_types.specs.declared.tx.Tx.{Tx}
+use Rattle.eutxo.specs.Judgement.{Moment, not_unspent, id_in_use, outside_interval, unknown_script, with_script, scripts_found, names_of, outputs_found, found}
+use Rattle.eutxo.specs.Laws.{AnswerAlike, EqualResolutionsAgree, EqualResolutionsDecideAlike, EqualResolutionsGoOnAlike, ledger_fault, verdict_after, ChecksDecide, FoundIsEnough, FoundTellsPlaces}
 use Rattle.eutxo.specs.Local.{tx_fault, whole_fault, local, verdict_of}
 use Rattle.eutxo_types.specs.Parts.{same_bytes}
 use Rattle.eutxo.specs.Faults.{first_of, or_else}
-use Rattle.eutxo.proofs.ResolutionLemmas.{alike_decide, agreeing_decide}
+use Rattle.eutxo.proofs.ResolutionLemmas.{alike_decide, agreeing_decide, alike_go_on, agreeing_go_on}
 
 all_of : {A : Type 0} (P : A → Type 0) → ((x : A) → P x) → (xs : List A) → AllByRecursion P xs
 all_of P h [] = tt
@@ -59,6 +60,9 @@ module _ {V : Type 0} (j : Judges V) (eq : V → V → Bool) (alike : (x y : V) 
 
   pub equal_resolutions_decide_alike : EqualResolutionsDecideAlike j eq
   equal_resolutions_decide_alike tx a b h = agreeing_decide j tx a b (equal_resolutions_agree tx a b h)
+
+  pub equal_resolutions_go_on_alike : EqualResolutionsGoOnAlike j eq
+  equal_resolutions_go_on_alike tx a b h = agreeing_go_on j tx a b (equal_resolutions_agree tx a b h)
 
 -- ---- what is published of what is named
 
@@ -117,11 +121,18 @@ module _ {V : Type 0} (j : Judges V) where
   in_a_row None (Some y) = refl
   in_a_row None None = refl
 
+  -- what is found of the scripts that are named answers as what is published
+  there : (m : Moment V) (tx : Tx) → AllByRecursion (λ id. AnswerAlike j (script_at (found m tx).scripts id) (m.published id)) (names_of tx (outputs_found m tx))
+  there m tx =
+      let ids = names_of tx (outputs_found m tx) in
+      mapped (λ id. get (scripts_found m.published ids) id ≡ m.published id) (λ id. AnswerAlike j (script_at (found m tx).scripts id) (m.published id)) (λ id e. subst (AnswerAlike j (get (scripts_found m.published ids) id)) e (itself (get (scripts_found m.published ids) id))) ids (all_found m.published ids)
+
+  pub found_tells_places : FoundTellsPlaces j
+  found_tells_places m tx = alike_go_on j (script_at (found m tx).scripts) m.published tx (outputs_found m tx) (there m tx)
+
   pub found_is_enough : FoundIsEnough j
   found_is_enough m tx =
-      let ids = names_of tx (outputs_found m tx) in
-      let there = mapped (λ id. get (scripts_found m.published ids) id ≡ m.published id) (λ id. AnswerAlike j (script_at (found m tx).scripts id) (m.published id)) (λ id e. subst (AnswerAlike j (get (scripts_found m.published ids) id)) e (itself (get (scripts_found m.published ids) id))) ids (all_found m.published ids) in
-      ap (or_else (tx_fault tx)) (alike_decide j (script_at (found m tx).scripts) m.published tx (outputs_found m tx) there)
+      ap (or_else (tx_fault tx)) (alike_decide j (script_at (found m tx).scripts) m.published tx (outputs_found m tx) (there m tx))
       ∙ in_a_row (tx_fault tx) (whole_fault j m.published tx (if_known m.published tx.outputs (with_outputs tx.inputs (outputs_found m tx))))
 
   last : (a b c d e f : Option TxFault) → verdict_of (first_of (a ∷ b ∷ c ∷ d ∷ e ∷ f ∷ [])) ≡ verdict_after (first_of (a ∷ b ∷ c ∷ d ∷ e ∷ [])) (verdict_of f)

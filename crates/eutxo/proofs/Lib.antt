@@ -1,4 +1,9 @@
 pub mod FaultsLemmas
+pub mod SameRefLaws
+pub mod BlockLawLemmas
+pub mod AlikeLemmas
+pub mod OneContractLemmas
+pub mod WalkLemmas
 pub mod DatumLemmas
 pub mod FoundLemmas
 pub mod TallyLemmas

@@ -3,11 +3,11 @@ use Rattle.std.proofs.Common.{◌≡◌, ℕ, zero, suc, ◌+◌, Bool, true, fa
 use Rattle.std.specs.Prelude.{if◌then◌else◌, is_some, slice_get, take}
 use Rattle.std.specs.List.{list_all, AllByRecursion}
 use Rattle.std.specs.Option.{option_map}
-use Rattle.contract.specs.declared.input.Input.{Input}
 use Rattle.bundle.specs.Bundles.{Amounts}
 use Rattle.machine.specs.declared.datum.Datum.{Datum}
 use Rattle.eutxo_types.specs.declared.fault.TxFault.{TxFault}
 use Rattle.eutxo_types.specs.declared.fault.TxFault.TheVariants.{WrongStart}
+use Rattle.eutxo.specs.declared.validator.StepAnswer.{StepAnswer}
 use Rattle.eutxo_types.specs.declared.lock.Lock.{Lock}
 use Rattle.eutxo_types.specs.declared.lock.Lock.TheVariants.{Key, Payout, Contract}
 use Rattle.eutxo_types.specs.declared.output.Output.{Output}
@@ -18,10 +18,13 @@ use Rattle.eutxo.specs.Asked.{Judges, Stepping}
 use Rattle.eutxo.specs.Found.{script_at, is_known, all_known, with_outputs, if_known}
 use Rattle.eutxo.specs.Judgement.{name_in, made_names, found_names, names_of}
 use Rattle.eutxo.specs.Laws.{AnswerAlike, Agree}
-use Rattle.eutxo.specs.Local.{spent_fault, whole_fault, tx_fault, local}
-use Rattle.eutxo_types.specs.Parts.{inputs_of, script_in, contract_in, contract_of, contract_count, made_datums, with_datum, contract_at}
+use Rattle.eutxo.specs.Blocks.{Block, answer_by, blocks, blocks_on, places_in, block_fault, step_fault, step_fault_unless}
+use Rattle.eutxo.specs.BlockLaws.{AnswerAll}
+use Rattle.eutxo.specs.Local.{spent_fault, whole_fault, tx_fault, local, places_of}
+use Rattle.eutxo_types.specs.Parts.{script_in, contract_in, contract_of, contract_count, made_datums, with_datum, contract_at}
 use Rattle.eutxo.specs.Faults.{first_of, or_else, first_index}
-use Rattle.eutxo.specs.Rules.{Step, or_step, steps_of, step_asked, after_answer, script_fault, step_fault, step_fault_unless, starts_wrong, starts_wrong_at, not_signed, two_contracts, wrong_redeemer, role_missing, not_preserved, wrong_datum}
+use Rattle.eutxo.specs.Rules.{Step, or_step, steps_of, starts_wrong, starts_wrong_at, not_signed, too_many_contracts, wrong_redeemer, role_missing, not_preserved, wrong_datum}
+use Rattle.eutxo.proofs.AlikeLemmas.{blocks_are_alike}
 
 pub all_append : {A : Type 0} (P : A → Type 0) (xs ys : List A) → AllByRecursion P (xs ++ ys) → AllByRecursion P xs × AllByRecursion P ys
 all_append P [] ys h = (tt, h)
@@ -40,11 +43,11 @@ module _ {V : Type 0} (j : Judges V) where
   start_alike d held (Some v) None h = absurd h
   start_alike d held (Some v) (Some w) h = ap not (h.1 d held)
 
-  step_alike : (s : Stepping) (x y : Option V) → AnswerAlike j x y → script_fault j x s ≡ script_fault j y s
-  step_alike s None None h = refl
-  step_alike s None (Some w) h = absurd h
-  step_alike s (Some v) None h = absurd h
-  step_alike s (Some v) (Some w) h = ap (after_answer s.tx.outputs) (h.0 s)
+  answer_alike : (s : Stepping) (x y : Option V) → AnswerAlike j x y → answer_by j x s ≡ answer_by j y s
+  answer_alike s None None h = refl
+  answer_alike s None (Some w) h = absurd h
+  answer_alike s (Some v) None h = absurd h
+  answer_alike s (Some v) (Some w) h = h.0 s
 
 module _ {V : Type 0} (j : Judges V) (named other : List ℕ → Option V) where
   abbrev Alike : List ℕ → Type 0
@@ -118,49 +121,58 @@ module _ {V : Type 0} (j : Judges V) (named other : List ℕ → Option V) where
       ap (λ b. if b then Some k else first_index (λ i (o : Output). starts_wrong j named o.amount (contract_at tx i)) (k + 1) os) (same_at tx.outputs m (slice_get (made_datums tx) (contract_count (take k tx.outputs))) k o.amount)
       ∙ ap (λ r. if starts_wrong j other o.amount (contract_at tx k) then Some k else r) (same_places tx m (k + 1) os)
 
-  stepped_if : (l : Lock) (i : List Input) (ds : List Datum) (later : List Datum → List Step) (s : Step) (ss : List Step) → AlikeIn l → or_step (contract_in l) i ds later ≡ s ∷ ss → (later ds ≡ s ∷ ss → Alike s.script) → Alike s.script
-  stepped_if (Key a) i ds later s ss h e go = go e
-  stepped_if (Payout c r) i ds later s ss h e go = go e
-  stepped_if (Contract script digest) i [] later s ss h e go = cc
-  stepped_if (Contract script digest) i (d ∷ ds) later s ss h e go =
-      let q : (let z : Step = record { script = script; datum = d; inputs = i } in z) ≡ s = cc in
-      subst (λ (z : Step). Alike z.script) q h.0
+  all_if : (l : Lock) (x : Spend) (ds : List Datum) (later : List Datum → List Step) → AlikeIn l → ((es : List Datum) → AnswerAll j named other (later es)) → AnswerAll j named other (or_step (contract_in l) x ds later)
+  all_if (Key a) x ds later h go = go ds
+  all_if (Payout c r) x ds later h go = go ds
+  all_if (Contract script digest) x [] later h go = tt
+  all_if (Contract script digest) x (d ∷ ds) later h go = (λ s. answer_alike j s (named script) (other script) h.0, go ds)
 
-  first_alike : (ys : List (Spend × Output)) (ds : List Datum) (s : Step) (ss : List Step) → AlikeSpent ys → steps_of ys ds ≡ s ∷ ss → Alike s.script
-  first_alike [] ds s ss h e = cc
-  first_alike (y ∷ ys) ds s ss h e = stepped_if y.1.lock (inputs_of y.0.redeemer) ds (steps_of ys) s ss h.0 e (first_alike ys ds s ss h.1)
+  all_alike : (ys : List (Spend × Output)) (ds : List Datum) → AlikeSpent ys → AnswerAll j named other (steps_of ys ds)
+  all_alike [] ds h = tt
+  all_alike (y ∷ ys) ds h = all_if y.1.lock y.0 ds (steps_of ys) h.0 (λ es. all_alike ys es h.1)
 
-  same_step : (tx : Tx) (ys : List (Spend × Output)) → AlikeMade tx.outputs → AlikeSpent ys → (zs : List Step) → steps_of ys tx.datums ≡ zs → step_fault j named tx ys zs ≡ step_fault j other tx ys zs
-  same_step tx ys m s [] e = ap (option_map WrongStart) (same_places tx m 0 tx.outputs)
-  same_step tx ys m s (z ∷ zs) e = step_alike j (step_asked tx ys z) (named z.script) (other z.script) (first_alike ys tx.datums z zs s e)
+  same_step : (tx : Tx) (ys : List (Spend × Output)) → AlikeMade tx.outputs → (zs : List Step) → AnswerAll j named other zs → step_fault j named tx ys zs ≡ step_fault j other tx ys zs
+  same_step tx ys m [] h = ap (option_map WrongStart) (same_places tx m 0 tx.outputs)
+  same_step tx ys m (z ∷ zs) h = ap (λ (bs : List Block). block_fault bs tx.outputs) (blocks_are_alike j named other tx ys (z ∷ zs) 0 h)
 
   same_unless : (tx : Tx) (ys : List (Spend × Output)) → AlikeMade tx.outputs → AlikeSpent ys → (w : Option TxFault) → step_fault_unless w j named tx ys ≡ step_fault_unless w j other tx ys
-  same_unless tx ys m s None = same_step tx ys m s (steps_of ys tx.datums) refl
+  same_unless tx ys m s None = same_step tx ys m (steps_of ys tx.datums) (all_alike ys tx.datums s)
   same_unless tx ys m s (Some fault) = refl
 
   same_spent : (tx : Tx) (ys : List (Spend × Output)) → AlikeMade tx.outputs → AlikeSpent ys → spent_fault j named tx ys ≡ spent_fault j other tx ys
   same_spent tx ys m s =
-      ap (λ f. first_of (not_signed tx.signers ys ∷ two_contracts ys ∷ wrong_redeemer ys ∷ role_missing j ys ∷ f ∷ not_preserved ys tx.outputs ∷ wrong_datum tx ys ∷ [])) (same_unless tx ys m s (wrong_datum tx ys))
+      ap (λ f. first_of (not_signed tx.signers ys ∷ too_many_contracts ys ∷ wrong_redeemer ys ∷ role_missing j ys ∷ f ∷ not_preserved ys tx.outputs ∷ wrong_datum tx ys ∷ [])) (same_unless tx ys m s (wrong_datum tx ys))
 
-  same_whole : (tx : Tx) → AlikeMade tx.outputs → (o : Option (List (Spend × Output))) → ((ys : List (Spend × Output)) → o ≡ Some ys → AlikeSpent ys) →
-      whole_fault j named tx (if_known named tx.outputs o) ≡ whole_fault j other tx (if_known other tx.outputs o)
-  same_whole tx m None h = refl
-  same_whole tx m (Some ys) h =
-      let s = h ys refl in
-      ap (λ b. whole_fault j named tx (if b then Some ys else None))
-      (ap (λ b. b && list_all (λ x. is_known named x.1.lock) ys) (all_made tx.outputs m) ∙ ap (λ b. list_all (λ o. is_known other o.lock) tx.outputs && b) (all_spent ys s))
-      ∙ by (all_known other tx.outputs ys) s
+  -- what is read of these outputs alike is read alike where nothing is missing
+  same_whole : {X : Type 0} (g h : Option (List (Spend × Output)) → X) → g None ≡ h None → ((ys : List (Spend × Output)) → AlikeSpent ys → g (Some ys) ≡ h (Some ys)) → (os : List Output) → AlikeMade os →
+      (o : Option (List (Spend × Output))) → ((ys : List (Spend × Output)) → o ≡ Some ys → AlikeSpent ys) → g (if_known named os o) ≡ h (if_known other os o)
+  same_whole g h n go os m None a = n
+  same_whole g h n go os m (Some ys) a =
+      let s = a ys refl in
+      ap (λ b. g (if b then Some ys else None))
+      (ap (λ b. b && list_all (λ x. is_known named x.1.lock) ys) (all_made os m) ∙ ap (λ b. list_all (λ o. is_known other o.lock) os && b) (all_spent ys s))
+      ∙ by (all_known other os ys) s
     where
-      by : (b : Bool) → AlikeSpent ys → whole_fault j named tx (if b then Some ys else None) ≡ whole_fault j other tx (if b then Some ys else None)
-      by true s = same_spent tx ys m s
-      by false s = refl
+      by : (b : Bool) → AlikeSpent ys → g (if b then Some ys else None) ≡ h (if b then Some ys else None)
+      by true s = go ys s
+      by false s = n
 
   -- where the scripts that are named answer alike, so do the rules
   pub alike_decide : (tx : Tx) (os : List (Option Output)) → AllByRecursion Alike (names_of tx os) →
       whole_fault j named tx (if_known named tx.outputs (with_outputs tx.inputs os)) ≡ whole_fault j other tx (if_known other tx.outputs (with_outputs tx.inputs os))
   alike_decide tx os h =
       let parts = all_append Alike (made_names tx.outputs) (found_names os) h in
-      same_whole tx (made_alike tx.outputs parts.0) (with_outputs tx.inputs os) (spent_alike tx.inputs os (found_alike os parts.1))
+      let made = made_alike tx.outputs parts.0 in
+      same_whole (whole_fault j named tx) (whole_fault j other tx) refl (λ ys s. same_spent tx ys made s) tx.outputs made (with_outputs tx.inputs os) (spent_alike tx.inputs os (found_alike os parts.1))
+
+  -- and contracts go on in the same places
+  pub alike_go_on : (tx : Tx) (os : List (Option Output)) → AllByRecursion Alike (names_of tx os) →
+      places_in (blocks_on j named tx (if_known named tx.outputs (with_outputs tx.inputs os))) ≡ places_in (blocks_on j other tx (if_known other tx.outputs (with_outputs tx.inputs os)))
+  alike_go_on tx os h =
+      let parts = all_append Alike (made_names tx.outputs) (found_names os) h in
+      ap places_in
+      (same_whole (blocks_on j named tx) (blocks_on j other tx) refl (λ ys s. blocks_are_alike j named other tx ys (steps_of ys tx.datums) 0 (all_alike ys tx.datums s)) tx.outputs (made_alike tx.outputs parts.0) (with_outputs tx.inputs os)
+      (spent_alike tx.inputs os (found_alike os parts.1)))
 
 module _ {V : Type 0} (j : Judges V) where
   -- resolutions that agree decide alike
@@ -169,3 +181,8 @@ module _ {V : Type 0} (j : Judges V) where
       ap (or_else (tx_fault tx))
       (alike_decide j (script_at a.scripts) (script_at b.scripts) tx a.outputs h.scripts
       ∙ ap (λ os. whole_fault j (script_at b.scripts) tx (if_known (script_at b.scripts) tx.outputs (with_outputs tx.inputs os))) h.outputs)
+
+  pub agreeing_go_on : (tx : Tx) (a b : Resolved V) → Agree j tx a b → places_of j tx a ≡ places_of j tx b
+  agreeing_go_on tx a b h =
+      alike_go_on j (script_at a.scripts) (script_at b.scripts) tx a.outputs h.scripts
+      ∙ ap (λ os. places_in (blocks_on j (script_at b.scripts) tx (if_known (script_at b.scripts) tx.outputs (with_outputs tx.inputs os)))) h.outputs

@@ -8,21 +8,22 @@ use Rattle.eutxo_types.specs.declared.spend.Spend.{Spend}
 use Rattle.eutxo_types.specs.declared.tx.Tx.{Tx}
 use Rattle.eutxo.specs.declared.validator.StepAnswer.{StepAnswer}
 use Rattle.eutxo_types.specs.declared.fault.TxFault.{TxFault}
-use Rattle.eutxo_types.specs.declared.fault.TxFault.TheVariants.{Semantics, NotAuthorised, WrongContinuation, WrongPayment}
+use Rattle.eutxo_types.specs.declared.fault.TxFault.TheVariants.{NotAuthorised, WrongContinuation, WrongPayment}
 use Rattle.eutxo.specs.declared.step_fault.StepFault.{StepFault}
 use Rattle.eutxo.specs.declared.step_fault.StepFault.TheVariants as steps
 
--- a step: the id of the script, the datum that is brought for what is spent, the redeemer's inputs, the transaction, and all that it spends
+-- a step: the id of the script, the datum that is brought for what is spent, the redeemer's inputs, the place of the output from which
+-- its block stands, the transaction, and all that it spends
 pub record Stepping : Type 0 where
   pub script : List ℕ
   pub datum : Datum
   pub inputs : List Input
+  pub from : ℕ
   pub tx : Tx
   pub spent : List (Spend × Output)
 
--- the fault of the transaction with which a script refuses a step: those of rules 12 to 15
+-- the fault of the transaction with which a script that takes the inputs refuses a step: those of rules 13 to 15
 abbrev pub refusal_of : StepFault → TxFault
-refusal_of (steps.Semantics f) = Semantics f
 refusal_of (steps.NotAuthorised party) = NotAuthorised party
 refusal_of steps.WrongContinuation = WrongContinuation
 refusal_of (steps.WrongPayment i) = WrongPayment i

@@ -9,10 +9,11 @@ use Rattle.eutxo_types.specs.declared.output.Output.{Output}
 use Rattle.eutxo_types.specs.declared.output_ref.OutputRef.{OutputRef}
 use Rattle.eutxo_types.specs.declared.tx.Tx.{Tx}
 use Rattle.eutxo_types.specs.Ids.{id_of}
+use Rattle.eutxo.specs.declared.judged.Judged.{Judged}
 use Rattle.eutxo.specs.declared.resolved.Resolved.{Resolved}
 use Rattle.eutxo.specs.Asked.{Judges}
 use Rattle.eutxo.specs.Found.{is_known}
-use Rattle.eutxo.specs.Local.{tx_fault, local}
+use Rattle.eutxo.specs.Local.{tx_fault, local, places_of, judged_as}
 use Rattle.eutxo_types.specs.Parts.{script_in}
 use Rattle.eutxo.specs.Faults.{fault_if, fault_at, first_of}
 
@@ -88,3 +89,7 @@ found m tx = record { outputs = outputs_found m tx; scripts = scripts_found m.pu
 -- THE JUDGEMENT: no fault, or that of the first rule that refuses: 1 to 3, then 4 to 7, then the others on what is found
 abbrev pub judge : {V : Type 0} → Judges V → Moment V → Tx → Option TxFault
 judge j m tx = first_of (tx_fault tx ∷ not_unspent m tx ∷ id_in_use m tx ∷ outside_interval m tx ∷ unknown_script m tx ∷ local j tx (found m tx) ∷ [])
+
+-- and with it, where no rule refuses, the places of the outputs in which the contracts go on that are spent
+abbrev pub judgement : {V : Type 0} → Judges V → Moment V → Tx → Judged
+judgement j m tx = judged_as (judge j m tx) (places_of j tx (found m tx))

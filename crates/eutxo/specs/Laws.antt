@@ -19,7 +19,8 @@ use Rattle.eutxo.specs.Asked.{Stepping, Judges}
 use Rattle.eutxo.specs.Checks.{CheckOf, IsCheck}
 use Rattle.eutxo.specs.Found.{script_at, with_outputs, if_known, AreEqual}
 use Rattle.eutxo.specs.Judgement.{Moment, not_unspent, id_in_use, outside_interval, unknown_script, names_of, outputs_found, found, judge}
-use Rattle.eutxo.specs.Local.{tx_fault, whole_fault, local, verdict_of}
+use Rattle.eutxo.specs.Blocks.{blocks_on, places_in}
+use Rattle.eutxo.specs.Local.{tx_fault, whole_fault, local, places_of, verdict_of}
 use Rattle.eutxo.specs.Faults.{first_of}
 use Rattle.eutxo.specs.Rules.{not_preserved}
 
@@ -44,6 +45,10 @@ EqualResolutionsAgree {V} j eq = (tx : Tx) (a b : Resolved V) → AreEqual eq a 
 abbrev pub EqualResolutionsDecideAlike : {V : Type 0} → Judges V → (V → V → Bool) → Type 0
 EqualResolutionsDecideAlike {V} j eq = (tx : Tx) (a b : Resolved V) → AreEqual eq a b → local j tx a ≡ local j tx b
 
+-- and contracts go on in the same places
+abbrev pub EqualResolutionsGoOnAlike : {V : Type 0} → Judges V → (V → V → Bool) → Type 0
+EqualResolutionsGoOnAlike {V} j eq = (tx : Tx) (a b : Resolved V) → AreEqual eq a b → places_of j tx a ≡ places_of j tx b
+
 -- ---- the judgement
 
 -- rules 1 to 7: the first that refuses
@@ -64,6 +69,11 @@ abbrev pub FoundIsEnough : {V : Type 0} → Judges V → Type 0
 FoundIsEnough {V} j =
     (m : Moment V) (tx : Tx) →
     local j tx (found m tx) ≡ first_of (tx_fault tx ∷ whole_fault j m.published tx (if_known m.published tx.outputs (with_outputs tx.inputs (outputs_found m tx))) ∷ [])
+
+-- and by it contracts go on as by what is published
+abbrev pub FoundTellsPlaces : {V : Type 0} → Judges V → Type 0
+FoundTellsPlaces {V} j =
+    (m : Moment V) (tx : Tx) → places_of j tx (found m tx) ≡ places_in (blocks_on j m.published tx (if_known m.published tx.outputs (with_outputs tx.inputs (outputs_found m tx))))
 
 -- ---- the sums
 

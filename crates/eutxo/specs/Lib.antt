@@ -3,10 +3,14 @@ pub mod Found
 pub mod Asked
 pub mod Differing
 pub mod Rules
+pub mod Blocks
 pub mod Local
 pub mod Checks
 pub mod Judgement
 pub mod Laws
+pub mod OneContract
+pub mod BlockLaws
 pub mod Worked
 pub mod FoundSupport
+pub mod BlocksSupport
 pub mod ChangesSupport

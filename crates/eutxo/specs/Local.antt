@@ -8,9 +8,11 @@ use Rattle.eutxo_types.specs.declared.verdict.Verdict.{Verdict}
 use Rattle.eutxo_types.specs.declared.verdict.Verdict.TheVariants.{Accepted, Refused}
 use Rattle.eutxo.specs.Faults.{first_of, or_else}
 use Rattle.eutxo.specs.Found.{script_at, whole}
+use Rattle.eutxo.specs.declared.judged.Judged.{Judged}
 use Rattle.eutxo.specs.declared.resolved.Resolved.{Resolved}
 use Rattle.eutxo.specs.Asked.{Judges}
-use Rattle.eutxo.specs.Rules.{no_inputs, too_many, repeated_input, not_signed, two_contracts, wrong_redeemer, role_missing, step_fault_unless, not_preserved, wrong_datum}
+use Rattle.eutxo.specs.Blocks.{step_fault_unless, blocks_on, places_in}
+use Rattle.eutxo.specs.Rules.{no_inputs, too_many, repeated_input, not_signed, too_many_contracts, wrong_redeemer, role_missing, not_preserved, wrong_datum}
 
 -- the rules of the transaction alone, in their order: 1 to 3
 abbrev pub tx_fault : Tx → Option TxFault
@@ -20,7 +22,7 @@ tx_fault tx = first_of (no_inputs tx ∷ too_many tx ∷ repeated_input tx ∷ [
 abbrev pub spent_rules : {V : Type 0} → Judges V → (List ℕ → Option V) → Tx → List (Spend × Output) → List (Option TxFault)
 spent_rules j named tx spent =
     not_signed tx.signers spent
-    ∷ two_contracts spent
+    ∷ too_many_contracts spent
     ∷ wrong_redeemer spent
     ∷ role_missing j spent
     ∷ step_fault_unless (wrong_datum tx spent) j named tx spent
@@ -39,6 +41,24 @@ whole_fault j named tx (Some spent) = spent_fault j named tx spent
 -- THE LOCAL VERDICT: no fault, or that of the first rule that refuses, of 1 to 3 and, where nothing is missing, 8 to 19
 abbrev pub local : {V : Type 0} → Judges V → Tx → Resolved V → Option TxFault
 local j tx found = or_else (tx_fault tx) (whole_fault j (script_at found.scripts) tx (whole tx found))
+
+-- ---- where contracts go on
+
+-- the places of the outputs in which the contracts that are spent go on, in their order, where nothing is missing
+abbrev pub places_of : {V : Type 0} → Judges V → Tx → Resolved V → List (Option ℕ)
+places_of j tx found = places_in (blocks_on j (script_at found.scripts) tx (whole tx found))
+
+-- what is refused goes on nowhere
+abbrev pub unless_refused : Option TxFault → List (Option ℕ) → List (Option ℕ)
+unless_refused None places = places
+unless_refused (Some fault) places = []
+
+abbrev pub judged_as : Option TxFault → List (Option ℕ) → Judged
+judged_as fault places = record { fault = fault; places = unless_refused fault places }
+
+-- THE LOCAL JUDGEMENT: the local verdict's fault, and where there is none, the places in which contracts go on
+abbrev pub judged : {V : Type 0} → Judges V → Tx → Resolved V → Judged
+judged j tx found = judged_as (local j tx found) (places_of j tx found)
 
 abbrev pub verdict_of : Option TxFault → Verdict
 verdict_of None = Accepted

@@ -1,5 +1,5 @@
--- The rules that a transaction and its resolution decide, each by itself: the fault with which it refuses, if it does (The
--- Extended UTXO Model, "Extended UTXO model: EUTXO", on what makes a transaction valid).
+-- The rules that a transaction and its resolution decide, but for those of a step (`Blocks.antt`), each by itself: the fault with which
+-- it refuses, if it does (The Extended UTXO Model, "Extended UTXO model: EUTXO", on what makes a transaction valid).
 use Rattle.std.specs.Prelude.{ℕ, ◌+◌, nat_lt, Bool, true, false, not, ◌||◌, if◌then◌else◌, List, [], ◌∷◌, ◌++◌, length, take, map, count_by, Option, Some, None, option_map}
 use Rattle.std.specs.List.{list_any}
 use Rattle.contract.specs.declared.input.Input.{Input}
@@ -7,21 +7,20 @@ use Rattle.bundle.specs.Bundles.{Amounts}
 use Rattle.machine.specs.declared.datum.Datum.{Datum}
 use Rattle.names.specs.Equal.{same_text, same_bytes}
 use Rattle.eutxo_types.specs.declared.fault.TxFault.{TxFault}
-use Rattle.eutxo_types.specs.declared.fault.TxFault.TheVariants.{NoInputs, TooMany, RepeatedInput, NotSigned, TwoContracts, WrongRedeemer, RoleMissing, StrayContract, WrongStart, NotPreserved, WrongDatum}
+use Rattle.eutxo_types.specs.declared.fault.TxFault.TheVariants.{NoInputs, TooMany, RepeatedInput, NotSigned, TooManyContracts, WrongRedeemer, RoleMissing, WrongStart, NotPreserved, WrongDatum}
 use Rattle.eutxo_types.specs.declared.lock.Lock.{Lock}
 use Rattle.eutxo_types.specs.declared.lock.Lock.TheVariants.{Key, Payout, Contract}
 use Rattle.eutxo_types.specs.declared.output.Output.{Output}
+use Rattle.eutxo_types.specs.declared.output_ref.OutputRef.{OutputRef}
 use Rattle.eutxo_types.specs.declared.redeemer.Redeemer.{Redeemer}
 use Rattle.eutxo_types.specs.declared.redeemer.Redeemer.TheVariants as with
 use Rattle.eutxo_types.specs.declared.spend.Spend.{Spend}
 use Rattle.eutxo_types.specs.declared.tx.Tx.{Tx}
 use Rattle.eutxo_types.specs.Digests.{datum_hash}
-use Rattle.eutxo.specs.declared.validator.StepAnswer.{StepAnswer}
-use Rattle.eutxo.specs.declared.validator.StepAnswer.TheVariants as answers
 use Rattle.eutxo.specs.Faults.{fault_if, fault_at, first_index, is_empty}
-use Rattle.eutxo_types.specs.Parts.{same_ref, inputs_of, is_contract, ContractLock, contract_in, PayoutRole, payout_in, Instance, contract_at, outputs_from}
+use Rattle.eutxo_types.specs.Parts.{same_ref, inputs_of, is_contract, ContractLock, contract_in, PayoutRole, payout_in, Instance, contract_at}
 use Rattle.eutxo.specs.Differing.{first_differing}
-use Rattle.eutxo.specs.Asked.{Stepping, Judges, refusal_of}
+use Rattle.eutxo.specs.Asked.{Judges}
 
 -- ---- of the transaction alone
 
@@ -59,9 +58,9 @@ lacks_signer signers (Contract script d) = false
 abbrev pub not_signed : List (List ℕ) → List (Spend × Output) → Option TxFault
 not_signed signers spent = fault_at NotSigned (λ x. lacks_signer signers x.1.lock) spent
 
--- 9: more than one input has a contract's output
-abbrev pub two_contracts : List (Spend × Output) → Option TxFault
-two_contracts spent = fault_if TwoContracts (nat_lt 1 (count_by (λ x. is_contract x.1.lock) spent))
+-- 9: more than 8 inputs have a contract's output
+abbrev pub too_many_contracts : List (Spend × Output) → Option TxFault
+too_many_contracts spent = fault_if TooManyContracts (nat_lt 8 (count_by (λ x. is_contract x.1.lock) spent))
 
 -- a key is given nothing, a payout a claim, a contract a step
 abbrev pub opens : Redeemer → Lock → Bool
@@ -112,40 +111,26 @@ first_unlike i (h ∷ hs) (d ∷ ds) = if same_bytes (datum_hash d) h then first
 abbrev pub wrong_datum : Tx → List (Spend × Output) → Option TxFault
 wrong_datum tx spent = option_map WrongDatum (first_unlike 0 (digests_held tx spent) tx.datums)
 
--- ---- of the step, if a contract is spent: on the data that are brought
+-- ---- of the steps: on the data that are brought
 
--- a contract that is spent, at the datum that is brought for it, with the inputs that it is given
+-- a contract that is spent at a reference, at the datum that is brought for it, with the inputs that it is given
 pub record Step : Type 0 where
+  pub reference : OutputRef
   pub script : List ℕ
   pub datum : Datum
   pub inputs : List Input
 
-abbrev pub or_step : Option ContractLock → List Input → List Datum → (List Datum → List Step) → List Step
-or_step None xs ds later = later ds
-or_step (Some c) xs [] later = []
-or_step (Some c) xs (d ∷ ds) later = record { script = c.script; datum = d; inputs = xs } ∷ later ds
+abbrev pub or_step : Option ContractLock → Spend → List Datum → (List Datum → List Step) → List Step
+or_step None x ds later = later ds
+or_step (Some c) x [] later = []
+or_step (Some c) x (d ∷ ds) later = record { reference = x.reference; script = c.script; datum = d; inputs = inputs_of x.redeemer } ∷ later ds
 
 -- all contracts that are spent, in the order of the inputs, each with the next of the data
 abbrev pub steps_of : List (Spend × Output) → List Datum → List Step
 steps_of [] ds = []
-steps_of (x ∷ xs) ds = or_step (contract_in x.1.lock) (inputs_of x.0.redeemer) ds (steps_of xs)
+steps_of (x ∷ xs) ds = or_step (contract_in x.1.lock) x.0 ds (steps_of xs)
 
-abbrev pub step_asked : Tx → List (Spend × Output) → Step → Stepping
-step_asked tx spent s = record { script = s.script; datum = s.datum; inputs = s.inputs; tx = tx; spent = spent }
-
--- an output from a place on has a contract lock
-abbrev pub stray_after : ℕ → List Output → Option TxFault
-stray_after i os = fault_at (λ k. StrayContract (i + k)) (λ o. is_contract o.lock) (outputs_from i os)
-
--- 12 to 15 are the script's; 16: the contract goes on in output 0, or ends, and the output at this place has a contract lock
-abbrev pub after_answer : List Output → StepAnswer → Option TxFault
-after_answer os (answers.Refused fault) = Some (refusal_of fault)
-after_answer os answers.GoesOn = stray_after 1 os
-after_answer os answers.Ends = stray_after 0 os
-
-abbrev pub script_fault : {V : Type 0} → Judges V → Option V → Stepping → Option TxFault
-script_fault j None s = None
-script_fault j (Some v) s = after_answer s.tx.outputs (j.step v s)
+-- ---- of starts
 
 abbrev pub starts_wrong_at : {V : Type 0} → Judges V → Option V → Datum → Amounts → Bool
 starts_wrong_at j None d held = false
@@ -158,16 +143,6 @@ starts_wrong j named held (Some c) = starts_wrong_at j (named c.script) c.datum 
 -- 17: the output at this place has a contract lock, and its script takes it for no start
 abbrev pub wrong_start : {V : Type 0} → Judges V → (List ℕ → Option V) → Tx → Option TxFault
 wrong_start j named tx = option_map WrongStart (first_index (λ i o. starts_wrong j named o.amount (contract_at tx i)) 0 tx.outputs)
-
--- 12 to 16 of the first contract that is spent, which rule 9 leaves alone; 17 where none is
-abbrev pub step_fault : {V : Type 0} → Judges V → (List ℕ → Option V) → Tx → List (Spend × Output) → List Step → Option TxFault
-step_fault j named tx spent [] = wrong_start j named tx
-step_fault j named tx spent (s ∷ ss) = script_fault j (named s.script) (step_asked tx spent s)
-
--- which are judged only where 19 doesn't stand
-abbrev pub step_fault_unless : {V : Type 0} → Option TxFault → Judges V → (List ℕ → Option V) → Tx → List (Spend × Output) → Option TxFault
-step_fault_unless None j named tx spent = step_fault j named tx spent (steps_of spent tx.datums)
-step_fault_unless (Some fault) j named tx spent = None
 
 -- ---- of the sums
 

@@ -1,58 +1,81 @@
-//! Verdicts by checks that were made before.
+//! Judgements by checks that were made before.
 ghost use Rattle.std.specs.Prelude.{◌≡◌, All, IsOk, IfOk, IfSome, IfNone, None};
 ghost use Rattle.eutxo_types.specs.declared.verdict.Verdict.TheVariants as verdicts;
 ghost use Rattle.eutxo.specs.Checks.{IsOf, IsAtHand};
-ghost use Rattle.eutxo.specs.Local.{local, verdict_of};
+ghost use Rattle.eutxo.specs.Local.{local, judged, verdict_of};
 
 use crate::checked::{Checked, verdict_of};
+use crate::judged::Judged;
 use crate::laws::equal_resolutions_decide_alike;
-use crate::local::local_fault;
+use crate::local::judge_local;
 use crate::resolved::Resolved;
 use crate::validator::Validator;
 use collections::{Memory, TryClone};
-use eutxo_types::{Tx, Verdict};
+use eutxo_types::{Tx, TxFault, Verdict};
 use std::alloc::Global;
 
-// The verdict of a check, which is that of its transaction with any equal resolution.
-#[tactic(auto, using(crate::proofs::ChecksLemmas::same_verdict))]
-fn verdict_in<'a, V: Validator>(
-    checked: &'a Checked<V>,
-    tx: &Tx,
-    found: &Resolved<V>,
-) -> &'a Verdict
-    requires { IsOf V.eq tx.now found.now checked.now }
-    ensures { result.now ≡ verdict_of (local V.judges tx.now found.now) }
-{
-    // touch: equal resolutions decide alike
-    equal_resolutions_decide_alike::<V>();
-    checked.verdict()
-}
-
-// The verdict of the first check of this transaction with an equal resolution.
+// The first check of this transaction with an equal resolution.
 fn at_hand<'a, V: Validator>(
     cache: &'a [Checked<V>],
     tx: &Tx,
     found: &Resolved<V>,
-) -> Option<&'a Verdict>
-    ensures some { IfSome result (λ v. v.now ≡ verdict_of (local V.judges tx.now found.now)) }
+) -> Option<&'a Checked<V>>
+    ensures some { IfSome result (λ c. IsOf V.eq tx.now found.now c.now) }
     ensures none { IfNone result (All (λ c. IsOf V.eq tx.now found.now c → ⊥) cache.now) }
 {
     for checked in cache {
         if checked.is_of(tx, found) {
-            return Some(verdict_in(checked, tx, found));
+            return Some(checked);
         }
     }
     None
 }
 
-// A verdict once more. That of an acceptance takes no memory.
-fn copy_of(verdict: &Verdict) -> Result<Verdict, Memory>
-    ensures same { IfOk result (λ v. v ≡ verdict.now) }
+// The fault with which a verdict refuses. That of an acceptance takes no memory.
+fn fault_of(verdict: &Verdict) -> Result<Option<TxFault>, Memory>
+    ensures fault { IfOk result (λ fault. verdict.now ≡ verdict_of fault) }
     ensures ready { verdict.now ≡ verdicts.Accepted → IsOk result }
 {
     match verdict {
-        Verdict::Accepted => Ok(Verdict::Accepted),
-        Verdict::Refused(fault) => Ok(Verdict::Refused(fault.try_clone()?)),
+        Verdict::Accepted => Ok(None),
+        Verdict::Refused(fault) => Ok(Some(fault.try_clone()?)),
+    }
+}
+
+// What a check keeps, which is the judgement of its transaction with any equal resolution.
+#[tactic(auto, using(crate::proofs::ChecksLemmas::same_verdict))]
+fn kept_by<V: Validator>(
+    checked: &Checked<V>,
+    tx: &Tx,
+    found: &Resolved<V>,
+) -> Result<Judged, Memory>
+    requires { IsOf V.eq tx.now found.now checked.now }
+    ensures judged { IfOk result (λ answer. answer ≡ judged V.judges tx.now found.now) }
+    ensures ready { local V.judges tx.now found.now ≡ None → IsOk result }
+{
+    // touch: equal resolutions decide alike
+    equal_resolutions_decide_alike::<V>();
+    let fault = fault_of(checked.verdict())?;
+    let places = checked.places().copy();
+    Ok(Judged { fault, places })
+}
+
+/// The local judgement. Where one of the checks that are lent is of this transaction with an equal resolution
+/// (`Checked::is_of`), what it keeps is answered and no script is asked; where its verdict is Accepted, no memory is
+/// taken. Else the transaction is judged. Which checks are at hand doesn't show in the answer. `Memory` says nothing of
+/// it: a growth was refused.
+pub fn rejudge<V: Validator>(
+    alloc: Global,
+    tx: &Tx,
+    found: &Resolved<V>,
+    cache: &[Checked<V>],
+) -> Result<Judged, Memory>
+    ensures judged { IfOk result (λ answer. answer ≡ judged V.judges tx.now found.now) }
+    ensures ready { IsAtHand V.eq tx.now found.now cache.now → local V.judges tx.now found.now ≡ None → IsOk result }
+{
+    match at_hand(cache, tx, found) {
+        Some(checked) => kept_by(checked, tx, found),
+        None => judge_local(alloc, tx, found),
     }
 }
 
@@ -69,8 +92,6 @@ pub fn recheck<V: Validator>(
     ensures verdict { IfOk result (λ v. v ≡ verdict_of (local V.judges tx.now found.now)) }
     ensures ready { IsAtHand V.eq tx.now found.now cache.now → local V.judges tx.now found.now ≡ None → IsOk result }
 {
-    match at_hand(cache, tx, found) {
-        Some(verdict) => copy_of(verdict),
-        None => Ok(verdict_of(local_fault(alloc, tx, found)?)),
-    }
+    let Judged { fault, .. } = rejudge(alloc, tx, found, cache)?;
+    Ok(verdict_of(fault))
 }

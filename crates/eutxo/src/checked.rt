@@ -3,7 +3,9 @@ ghost use Rattle.std.specs.Prelude.{◌≡◌, ◌↔◌, IsTrue, IfOk};
 ghost use Rattle.eutxo.specs.Local.{verdict_of};
 ghost use Rattle.eutxo.specs.Checks.{check_of, IsCheck, IsOf};
 
-use crate::local::local_fault;
+use crate::judged::Judged;
+use crate::local::judge_local;
+use crate::places::Places;
 use crate::resolved::Resolved;
 use crate::validator::Validator;
 use collections::{Memory, Same, TryClone};
@@ -11,14 +13,16 @@ use eutxo_types::{Tx, TxFault, Verdict, tx_id};
 use std::alloc::Global;
 use std::marker::Model;
 
-/// A transaction with its id, its resolution, and the verdict of rules 1 to 3 and 8 to 19 on these two: that
-/// the four belong together is known of every value. It is made by `check` alone.
+/// A transaction with its id, its resolution, the verdict of rules 1 to 3 and 8 to 19 on these two, and where these
+/// rules refuse nothing, the places in which its contracts go on: that all belong together is known of every value.
+/// It is made by `check` alone.
 #[derive(Drop)]
 pub struct Checked<V: Validator> {
     tx: Tx,
     id: [u8; 32],
     found: Resolved<V>,
     verdict: Verdict,
+    places: Places,
 }
 
 impl<V: Validator> Model for Checked<V> {
@@ -34,9 +38,9 @@ impl<V: Validator> Model for Checked<V> {
 
     ghost coded = { Prim.hlevel (codes, states.the_row.coded, bundles.the_row.coded, code {R = bytes_cmp} (coded_list coded_ℕ) V.code) };
 
-    ghost view = { λ a. record { tx = a.tx; id = a.id; found = a.found; verdict = a.verdict } };
+    ghost view = { λ a. record { tx = a.tx; id = a.id; found = a.found; verdict = a.verdict; places = a.places } };
 
-    ghost invariant = { λ a. IsCheck V.judges (record { tx = a.tx; id = a.id; found = a.found; verdict = a.verdict }) };
+    ghost invariant = { λ a. IsCheck V.judges (record { tx = a.tx; id = a.id; found = a.found; verdict = a.verdict; places = a.places }) };
 }
 
 /// The verdict by the fault of the first rule that refuses, if one does.
@@ -50,9 +54,9 @@ pub fn verdict_of(fault: Option<TxFault>) -> Verdict
 }
 
 /// Judges a transaction by rules 1 to 3 and, where nothing is missing in its resolution, 8 to 19, and keeps
-/// it with its id, the resolution and the verdict: that of the lowest rule that refuses, or Accepted. The
-/// answer depends on the transaction and the resolution alone. `Memory` says nothing of either: a growth
-/// was refused.
+/// it with its id, the resolution and the verdict: that of the lowest rule that refuses, or Accepted, and then with the
+/// places in which its contracts go on. The answer depends on the transaction and the resolution alone. `Memory` says
+/// nothing of either: a growth was refused.
 pub fn check<V: Validator + Drop>(
     alloc: Global,
     tx: &Tx,
@@ -74,12 +78,13 @@ pub fn check_owned<V: Validator + Drop>(
     ensures { IfOk result (λ c. c ≡ check_of V.judges tx found) }
 {
     let id = tx_id(alloc, &tx)?;
-    let fault = local_fault(alloc, &tx, &found)?;
+    let Judged { fault, places } = judge_local(alloc, &tx, &found)?;
     Ok(Checked {
         tx,
         id,
         found,
         verdict: verdict_of(fault),
+        places,
     })
 }
 
@@ -93,6 +98,7 @@ impl<V: Validator + Drop> TryClone for Checked<V> {
             id: self.id,
             found,
             verdict,
+            places: self.places.copy(),
         })
     }
 }
@@ -139,6 +145,14 @@ impl<V: Validator> Checked<V> {
         ensures whole { IsCheck V.judges self.now }
     {
         &self.verdict
+    }
+
+    /// Where the verdict is Accepted and nothing is missing in the resolution, the places in which the transaction's
+    /// contracts go on; else there are none.
+    pub fn places(&self) -> &Places
+        ensures { result.now ≡ self.now.places }
+    {
+        &self.places
     }
 
     /// The transaction, by value: what was checked is given back.

@@ -1,16 +1,21 @@
 //! Laws of judgements, each the contract of a function that does nothing.
-ghost use Rattle.eutxo.specs.Laws.{EqualResolutionsAgree, EqualResolutionsDecideAlike, ChecksDecide, FoundIsEnough, SumsAreTheSame, TheLeastIsNamed};
-ghost use Rattle.eutxo.specs.Worked.{NothingIsNotUnspent, UsedIsInUse, TenIsOutside, UnpublishedIsUnknown};
+ghost use Rattle.eutxo.specs.Laws.{EqualResolutionsAgree, EqualResolutionsDecideAlike, EqualResolutionsGoOnAlike, ChecksDecide, FoundIsEnough, FoundTellsPlaces, SumsAreTheSame, TheLeastIsNamed};
+ghost use Rattle.eutxo.specs.BlockLaws.{BlocksTell, BlocksAreAlike, BlocksStay};
+ghost use Rattle.eutxo.specs.OneContract.{OneIsJudgedAlone};
+ghost use Rattle.eutxo.specs.Worked.{NothingIsNotUnspent, UsedIsInUse, TenIsOutside, UnpublishedIsUnknown, OverIsNotFollowed, NineAreTooMany, TheLowestAnswers};
+ghost use Rattle.machine.specs.declared.datum.Datum.{Datum};
 
 use crate::checked::Checked;
 use crate::resolved::Resolved;
 use crate::validator::Validator;
 use eutxo_types::Tx;
 
-/// Resolutions with the same outputs and equal scripts agree on every transaction, and decide it alike.
+/// Resolutions with the same outputs and equal scripts agree on every transaction, and decide it alike, and in them its
+/// contracts go on in the same places.
 pub fn equal_resolutions_decide_alike<V: Validator>()
     ensures agree { EqualResolutionsAgree V.judges V.eq }
     ensures alike { EqualResolutionsDecideAlike V.judges V.eq }
+    ensures places { EqualResolutionsGoOnAlike V.judges V.eq }
 {}
 
 /// At every moment, the judgement of a transaction is that of rules 1 to 7, and then the verdict of any check of
@@ -24,6 +29,26 @@ pub fn checks_decide<V: Validator>()
 #[tactic(auto, using(crate::proofs::JudgementLemmas::found_is_enough))]
 pub fn found_is_enough<V: Validator>()
     ensures { FoundIsEnough V.judges }
+{}
+
+/// What is found at a moment tells in which places the contracts go on that a transaction spends.
+#[tactic(auto, using(crate::proofs::JudgementLemmas::found_tells_places))]
+pub fn found_tells_places<V: Validator>()
+    ensures { FoundTellsPlaces V.judges }
+{}
+
+/// Where the rules of steps refuse nothing, no two contracts go on in one output, and in each contract output one does.
+/// Blocks depend on what the scripts answer alone that are named, and stay where more is published.
+pub fn blocks_tell_contracts_apart<V: Validator>()
+    ensures tell { BlocksTell V.judges }
+    ensures alike { BlocksAreAlike V.judges }
+    ensures stay { BlocksStay V.judges }
+{}
+
+/// Where at most one contract is spent, a transaction is judged as if there were no blocks: the contract goes on in
+/// output 0, and its payments follow.
+pub fn one_contract_is_judged_alone<V: Validator>()
+    ensures { OneIsJudgedAlone V.judges }
 {}
 
 /// Where the rule on sums refuses nothing, the sums of every token are preserved; and else the token that it
@@ -41,6 +66,14 @@ pub fn worked_judgements<V: Validator>()
     ensures used { UsedIsInUse V.judges }
     ensures tick { TenIsOutside V.judges }
     ensures published { UnpublishedIsUnknown V.judges }
+{}
+
+/// Worked blocks: a contract that is over isn't followed into the next block, eight contracts may be spent and nine may
+/// not, and of several faults the lowest number answers, and then the first contract.
+pub fn worked_blocks()
+    ensures over { (d : Datum) → OverIsNotFollowed d }
+    ensures nine { NineAreTooMany }
+    ensures lowest { TheLowestAnswers }
 {}
 
 // What can be handed to another thread, and lent to several.

@@ -4,18 +4,22 @@
 //! A script is a `Validator`: it judges steps of its contracts, tells their starts and grants payouts. A
 //! transaction with its resolution, which is what is found of the outputs that it spends and of the scripts
 //! that it names, decides all rules but four: no inputs, too many, an output named twice; and then those on
-//! signatures, redeemers, payouts, the step or the starts, sums, and data. `check` judges by these and keeps
-//! transaction, id, resolution and verdict as a `Checked`. The other four rules, on what is unspent,
-//! accepted and published and on the tick, read the ledger at a moment; that judgement and what is found
-//! at a moment are defined here (`specs/Judgement.antt`), and the law is that a `Checked` decides it.
+//! signatures, redeemers, payouts, the steps or the starts, sums, and data. Each contract that is spent makes a block
+//! of outputs, one block behind another from place 0 (`specs/Blocks.antt`). `check` judges by these and keeps
+//! transaction, id, resolution, verdict and the places in which contracts go on as a `Checked`. The other four rules,
+//! on what is unspent, accepted and published and on the tick, read the ledger at a moment; that judgement and what
+//! is found at a moment are defined here (`specs/Judgement.antt`), and the law is that a `Checked` decides it.
 #![tactic(auto)]
 
 mod at_hand;
+mod block_rules;
 mod changes;
 mod checked;
 mod datum_rule;
+mod judged;
 mod laws;
 mod local;
+mod places;
 mod preserved;
 mod resolved;
 mod scripts;
@@ -24,16 +28,20 @@ mod spent;
 mod spent_rules;
 mod step_fault;
 mod step_rules;
+mod steps;
 mod tx_rules;
 mod validator;
 
-pub use at_hand::recheck;
+pub use at_hand::{recheck, rejudge};
 pub use checked::{Checked, check, check_owned, verdict_of};
+pub use judged::Judged;
 pub use laws::{
-    checks_cross_threads, checks_decide, equal_resolutions_decide_alike, found_is_enough,
-    sums_are_preserved, worked_judgements,
+    blocks_tell_contracts_apart, checks_cross_threads, checks_decide,
+    equal_resolutions_decide_alike, found_is_enough, found_tells_places,
+    one_contract_is_judged_alone, sums_are_preserved, worked_blocks, worked_judgements,
 };
-pub use local::{local_fault, spent_fault};
+pub use local::{judge_local, judge_spent};
+pub use places::Places;
 pub use resolved::{Resolved, copy_option};
 pub use scripts::Scripts;
 pub use shared::Shared;

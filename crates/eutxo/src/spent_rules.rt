@@ -1,7 +1,7 @@
 //! The rules of what is spent, each one function.
 ghost use Rattle.std.specs.Prelude.{◌≡◌, ℕ, position, not, option_map};
 ghost use Rattle.eutxo_types.specs.Parts.{is_contract};
-ghost use Rattle.eutxo.specs.Rules.{lacks_signer, not_signed, two_contracts, opens, wrong_redeemer, lacks_role, role_missing};
+ghost use Rattle.eutxo.specs.Rules.{lacks_signer, not_signed, too_many_contracts, opens, wrong_redeemer, lacks_role, role_missing};
 
 use crate::spent::Spent;
 use crate::tx_rules::has_signed;
@@ -36,15 +36,18 @@ pub fn not_signed(signers: &[Text], spent: &[Spent<'_>]) -> Option<TxFault>
     }
 }
 
-pub fn two_contracts(spent: &[Spent<'_>]) -> Option<TxFault>
-    ensures { result ≡ two_contracts spent.now }
+// How many contracts one transaction may step.
+const MOST_CONTRACTS: usize = 8;
+
+pub fn too_many_contracts(spent: &[Spent<'_>]) -> Option<TxFault>
+    ensures { result ≡ too_many_contracts spent.now }
 {
     let count = spent
         .iter()
         .filter(|x| x.output().lock.is_contract())
         .count();
-    if count > 1 {
-        Some(TxFault::TwoContracts)
+    if count > MOST_CONTRACTS {
+        Some(TxFault::TooManyContracts)
     } else {
         None
     }

@@ -8,19 +8,25 @@ use crate::spent::Spent;
 use crate::step_fault::StepFault;
 use bundle::Bundle;
 use collections::{Bytes, Memory, Text};
-use contract::Input;
+use contract::{Input, SemFault};
 use eutxo_types::{Datum, Tx};
 use std::alloc::Global;
 
-/// What a script answers to a step of its contract.
+/// What a script answers to a step of its contract. The outputs that the step makes are a block: the one in which the
+/// contract goes on, unless it is over, and then its payments.
 #[derive(Debug, PartialEq, Eq, Drop)]
 pub enum StepAnswer {
-    /// It refuses, by one of the rules that are its own, 12 to 15.
-    Refused(StepFault),
-    /// The contract goes on in output 0.
-    GoesOn,
-    /// The contract is over.
-    Ends,
+    /// The contract refuses the inputs, rule 12. Its block is empty.
+    Refused(SemFault),
+    /// The contract takes the inputs.
+    Takes {
+        /// The lowest of rules 13 to 15 that refuses, if one does.
+        fault: Option<StepFault>,
+        /// Whether the contract goes on: in the first output of its block.
+        goes_on: bool,
+        /// How many payments are due, in the outputs behind. They are counted also where a rule refuses.
+        payments: usize,
+    },
 }
 
 /// A script (The Extended UTXO Model, "Extended UTXO model: EUTXO", where it is the validator of an output): it
@@ -31,21 +37,22 @@ pub trait Validator: Eq {
     ghost judges: { Judges Self };
 
     /// Judges a step, rules 12 to 15: it gets the id by which the output names the script, the datum that is
-    /// brought for it, the redeemer's inputs, the transaction and all that it spends. Answers `Memory` only where
-    /// a growth was refused.
+    /// brought for it, the redeemer's inputs, the place of the output from which its block stands, the transaction
+    /// and all that it spends. Answers `Memory` only where a growth was refused.
     fn step(
         &self,
         alloc: Global,
         script: &[u8; 32],
         datum: &Datum,
         inputs: &[Input],
+        from: usize,
         tx: &Tx,
         spent: &[Spent<'_>],
     ) -> Result<StepAnswer, Memory>
-        ensures { IfOk result (λ answer. answer ≡ judges.step self.now (record { script = script.now; datum = datum.now; inputs = inputs.now; tx = tx.now; spent = spent.now })) };
+        ensures { IfOk result (λ answer. answer ≡ judges.step self.now (record { script = script.now; datum = datum.now; inputs = inputs.now; from = from; tx = tx.now; spent = spent.now })) };
 
-    /// Whether an output for which this datum is brought, with this amount, starts a contract, rule 17. Answers `Memory` only where
-    /// a growth was refused.
+    /// Whether an output for which this datum is brought, with this amount, starts a contract, rule 17. Answers
+    /// `Memory` only where a growth was refused.
     fn start(&self, alloc: Global, datum: &Datum, amount: &Bundle) -> Result<bool, Memory>
         ensures { IfOk result (λ answer. answer ≡ judges.starts self.now datum.now amount.now) };
 

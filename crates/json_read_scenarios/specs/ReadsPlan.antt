@@ -1,6 +1,7 @@
 -- What a JSON value stands for as an intent and as a plan, among the contracts and the threads of a scenario.
 use Rattle.std.specs.Prelude.{ℕ, List, length, ◌^◌, nat_lt, Bool, false, ◌&&◌, Option, Some, None, Ok, Err, codes, if◌then◌else◌}
 use Rattle.std.specs.Option.{unwrap_or}
+use Rattle.contract.specs.declared.input.Input.{Input}
 use Rattle.serde_json.specs.Data.{Num, unsigned, negative, float, Data}
 use Rattle.serde_json.specs.Find.{get, as_bool, as_number}
 use Rattle.plans.specs.declared.intent.Intent.{Intent}
@@ -69,10 +70,18 @@ if_there reading d key = if_found reading (get key d)
 unfoldable pub intent_form : Data → IntentForm
 intent_form d =
     if has_two (codes "step") (codes "inputs") d && has_two (codes "from") (codes "to") d then forms.Step
+    else (if has (codes "steps") d && has_two (codes "from") (codes "to") d then forms.Steps
     else (if has_two (codes "claim") (codes "role") d && has_two (codes "from") (codes "to") d then forms.Claim
     else (if has_two (codes "round") (codes "workers") d then forms.Round
     else (if has (codes "advance") d then forms.Advance
-    else forms.Nothing)))
+    else forms.Nothing))))
+
+-- one of several steps: a thread, and the inputs that it is given
+unfoldable pub step_item : List NamedThread → Data → Reading (ℕ × List Input)
+step_item threads d = do
+  thread ← reading_at (known thread_name threads) d (codes "step")
+  inputs ← reading_at (list input) d (codes "inputs")
+  Ok (thread, inputs)
 
 -- An intent of each form.
 unfoldable pub intent_by : IntentForm → List NamedContract → List NamedThread → Data → Reading (Intent ℕ ℕ)
@@ -82,6 +91,11 @@ intent_by forms.Step contracts threads d = do
   interval ← interval d
   pooled ← if_there truth d (codes "pool")
   Ok (intents.Step thread inputs interval (unwrap_or pooled false))
+intent_by forms.Steps contracts threads d = do
+  steps ← reading_at (list (step_item threads)) d (codes "steps")
+  interval ← interval d
+  pooled ← if_there truth d (codes "pool")
+  Ok (intents.Steps steps interval (unwrap_or pooled false))
 intent_by forms.Claim contracts threads d = do
   contract ← reading_at (known contract_name contracts) d (codes "claim")
   role ← reading_at text d (codes "role")

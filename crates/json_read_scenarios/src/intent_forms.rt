@@ -9,6 +9,7 @@ use json_tree::JsonValue;
 #[derive(Clone, Copy, Debug)]
 pub enum IntentForm {
     Step,
+    Steps,
     Claim,
     Round,
     Advance,
@@ -22,6 +23,8 @@ pub fn intent_form<J: JsonValue>(json: &J) -> IntentForm
 {
     if has_two(json, "step", "inputs") && has_two(json, "from", "to") {
         IntentForm::Step
+    } else if has(json, "steps") && has_two(json, "from", "to") {
+        IntentForm::Steps
     } else if has_two(json, "claim", "role") && has_two(json, "from", "to") {
         IntentForm::Claim
     } else if has_two(json, "round", "workers") {

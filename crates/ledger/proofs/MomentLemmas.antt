@@ -1,5 +1,5 @@
 -- Rules that read the ledger, read off what was found there, and before other rules.
-use Rattle.std.proofs.Common.{◌≡◌, ◌+◌, Bool, cond, not, List, [], ◌∷◌, ◌++◌, length, map, refl, ◌∙◌, ap, Option, Some, None}
+use Rattle.std.proofs.Common.{◌≡◌, ◌+◌, Bool, cond, not, List, [], ◌∷◌, ◌++◌, length, map, refl, sym, ◌∙◌, ap, Option, Some, None}
 use Rattle.std.specs.Prelude.{nat_lt, is_none, option_map}
 use Rattle.std.specs.List.{position, position_or_len}
 use Rattle.std.proofs.lemmas.List.{length-map}
@@ -10,8 +10,9 @@ use Rattle.eutxo_types.specs.declared.spend.Spend.{Spend}
 use Rattle.eutxo_types.specs.declared.tx.Tx.{Tx}
 use Rattle.eutxo.specs.Asked.{Judges}
 use Rattle.eutxo.specs.Faults.{first_of, fault_at}
-use Rattle.eutxo.specs.Local.{tx_fault, local}
-use Rattle.eutxo.specs.Judgement.{Moment, not_unspent, id_in_use, outside_interval, unknown_script, outputs_found, found, judge}
+use Rattle.eutxo.specs.declared.judged.Judged.{Judged}
+use Rattle.eutxo.specs.Local.{tx_fault, local, places_of, judged_as, judged}
+use Rattle.eutxo.specs.Judgement.{Moment, not_unspent, id_in_use, outside_interval, unknown_script, outputs_found, found, judge, judgement}
 use Rattle.ledger.specs.ResolveSupport.{moment_fault}
 
 -- the place where a test holds, of elements or of what a function makes of them
@@ -37,9 +38,34 @@ some_before [] ys x h = cc
 some_before (None ∷ xs) ys x h = some_before xs ys x h
 some_before (Some y ∷ xs) ys x h = h
 
--- where rules 1 to 3 don't refuse and one of 4 to 7 does, that is the judgement
-pub judged_before : {V : Type 0} (j : Judges V) (m : Moment V) (tx : Tx) (f : TxFault) → tx_fault tx ≡ None → moment_fault m tx ≡ Some f → judge j m tx ≡ Some f
-judged_before j m tx f none h =
-    let rules : List (Option TxFault) = not_unspent m tx ∷ id_in_use m tx ∷ outside_interval m tx ∷ unknown_script m tx ∷ [] in
-    let last : List (Option TxFault) = local j tx (found m tx) ∷ [] in
-    ap (λ o. first_of (o ∷ rules ++ last)) none ∙ some_before rules last f h
+none_before : {A : Type 0} (xs ys : List (Option A)) → first_of xs ≡ None → first_of (xs ++ ys) ≡ first_of ys
+none_before [] ys h = refl
+none_before (None ∷ xs) ys h = none_before xs ys h
+none_before (Some y ∷ xs) ys h = cc
+
+alone : {A : Type 0} (o : Option A) → first_of (o ∷ []) ≡ o
+alone None = refl
+alone (Some x) = refl
+
+module _ {V : Type 0} (j : Judges V) (m : Moment V) (tx : Tx) where
+  refused_so : (f : TxFault) → judge j m tx ≡ Some f → ◌≡◌ {A = Judged} (record { fault = Some f; places = [] }) (judgement j m tx)
+  refused_so f h = ap (λ (z : Option TxFault). judged_as z (places_of j tx (found m tx))) (sym h)
+
+  -- where one of rules 1 to 3 refuses, that is the judgement
+  pub judged_first : (f : TxFault) → tx_fault tx ≡ Some f → ◌≡◌ {A = Judged} (record { fault = Some f; places = [] }) (judgement j m tx)
+  judged_first f h =
+      refused_so f (ap (λ (o : Option TxFault). first_of (o ∷ not_unspent m tx ∷ id_in_use m tx ∷ outside_interval m tx ∷ unknown_script m tx ∷ local j tx (found m tx) ∷ [])) h)
+
+  -- where they don't and one of 4 to 7 does, that is the judgement
+  pub judged_before : (f : TxFault) → tx_fault tx ≡ None → moment_fault m tx ≡ Some f → ◌≡◌ {A = Judged} (record { fault = Some f; places = [] }) (judgement j m tx)
+  judged_before f none h =
+      let rules : List (Option TxFault) = not_unspent m tx ∷ id_in_use m tx ∷ outside_interval m tx ∷ unknown_script m tx ∷ [] in
+      let last : List (Option TxFault) = local j tx (found m tx) ∷ [] in
+      refused_so f (ap (λ o. first_of (o ∷ rules ++ last)) none ∙ some_before rules last f h)
+
+  -- and where none of 1 to 7 does, it is the local judgement
+  pub judged_last : tx_fault tx ≡ None → moment_fault m tx ≡ None → judged j tx (found m tx) ≡ judgement j m tx
+  judged_last none h =
+      let rules : List (Option TxFault) = not_unspent m tx ∷ id_in_use m tx ∷ outside_interval m tx ∷ unknown_script m tx ∷ [] in
+      let last : List (Option TxFault) = local j tx (found m tx) ∷ [] in
+      ap (λ (z : Option TxFault). judged_as z (places_of j tx (found m tx))) (sym (ap (λ o. first_of (o ∷ rules ++ last)) none ∙ none_before rules last h ∙ alone (local j tx (found m tx))))

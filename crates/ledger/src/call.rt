@@ -64,7 +64,8 @@ pub struct Entry {
     pub reply: Reply,
 }
 
-// Dropped once: the drops of calls, replies and entries are written, not derived, so that no crate above proves them again.
+// Dropped once: the drops of calls, replies and entries are written, not derived, so that no crate above proves them
+// again.
 impl Drop for Call {
     fn drop(self) {
         match self {

@@ -5,8 +5,8 @@ ghost use Rattle.eutxo.specs.Judgement.{Moment};
 use eutxo::Shared;
 use eutxo_types::{Output, OutputRef};
 
-/// What tells of unspent outputs and of published scripts: a ledger, or a look at one. What a transaction names is found
-/// there. No look-up takes memory.
+/// What tells of unspent outputs and of published scripts: a ledger, or a look at one. What a transaction names is
+/// found there. No look-up takes memory.
 pub trait Resolves<V> {
     /// What the rules read of it.
     ghost moment: { Self → Moment V };

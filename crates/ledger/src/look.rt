@@ -14,8 +14,8 @@ pub struct Unspent {
     pub output: Output,
 }
 
-/// The unspent output of a thread, the datum that the transaction that made it brought for it, and what is published under
-/// the script in its lock. A copy of a look shares the latter.
+/// The unspent output of a thread, the datum that the transaction that made it brought for it, and what is published
+/// under the script in its lock. A copy of a look shares the latter.
 #[derive(Drop)]
 pub struct ThreadOutput {
     pub reference: OutputRef,

@@ -29,7 +29,8 @@ pub fn ticket_in(reply: &Reply) -> Option<u64>
     }
 }
 
-/// The verdicts of a round with their tickets, in the order in which they were judged: none, where it is no reply to a round.
+/// The verdicts of a round with their tickets, in the order in which they were judged: none, where it is no reply to a
+/// round.
 pub fn verdicts_in(reply: &Reply) -> &[Ticketed]
     ensures { result.now ≡ verdicts_in reply.now }
 {

@@ -1,19 +1,18 @@
 //! The judgement.
-ghost use Rattle.std.specs.Prelude.{◌≡◌, ◌∷◌, Option, None, IfOk, position, is_none};
-ghost use Rattle.eutxo_types.specs.declared.fault.TxFault.{TxFault as ATxFault};
+ghost use Rattle.std.specs.Prelude.{◌≡◌, None, IfOk, position, is_none};
 ghost use Rattle.eutxo_types.specs.declared.fault.TxFault.TheVariants as TxFault;
 ghost use Rattle.eutxo_types.specs.Ids.{id_of};
 ghost use Rattle.eutxo.specs.Found.{is_known};
-ghost use Rattle.eutxo.specs.Local.{verdict_of, tx_fault, local};
+ghost use Rattle.eutxo.specs.Local.{tx_fault, judged};
 ghost use Rattle.eutxo.specs.Faults.{fault_at};
-ghost use Rattle.eutxo.specs.Judgement.{outside_interval, is_unknown, unknown_script, outputs_found, judge};
+ghost use Rattle.eutxo.specs.Judgement.{outside_interval, is_unknown, unknown_script, outputs_found, judgement};
 ghost use Rattle.ledger.specs.ResolveSupport.{moment_fault};
 
 use crate::found::{outputs_found, with_scripts};
 use crate::ledger::{Ledger, Resolves};
 use collections::Memory;
-use eutxo::{Checked, Resolved, Validator, recheck, spent_fault, tx_fault};
-use eutxo_types::{Lock, Output, Tx, TxFault, Verdict};
+use eutxo::{Checked, Judged, Resolved, Validator, judge_spent, rejudge, tx_fault};
+use eutxo_types::{Lock, Output, Tx, TxFault};
 use std::alloc::Global;
 
 fn missing_index(outputs: &[Option<Output>]) -> Option<usize>
@@ -92,54 +91,46 @@ fn moment_fault<V, L: Ledger<V>>(
     unknown_script(ledger, tx)
 }
 
-// The fault with which a verdict refuses.
-fn fault_in(verdict: Verdict) -> Option<TxFault>
-    ensures { (fault : Option ATxFault) → verdict ≡ verdict_of fault → result ≡ fault }
-{
-    match verdict {
-        Verdict::Accepted => None,
-        Verdict::Refused(fault) => Some(fault),
-    }
-}
-
-// The fault of rules 8 to 19 on what was found, where rules 1 to 3 don't refuse: by the checks at hand, where one is of
-// it, else by these rules alone.
-fn rest_fault<V: Validator>(
+// The local judgement on what was found, where rules 1 to 3 don't refuse: by the checks at hand, where one is of it,
+// else by the rules after the resolution alone.
+fn judge_found<V: Validator>(
     alloc: Global,
     tx: &Tx,
     found: &Resolved<V>,
     cache: &[Checked<V>],
-) -> Result<Option<TxFault>, Memory>
+) -> Result<Judged, Memory>
     requires { tx_fault tx.now ≡ None }
-    ensures { IfOk result (λ fault. fault ≡ local V.judges tx.now found.now) }
+    ensures { IfOk result (λ answer. answer ≡ judged V.judges tx.now found.now) }
 {
     match cache.iter().position(|c| c.is_of(tx, found)) {
-        Some(i) => Ok(fault_in(recheck(alloc, tx, found, &cache[i..])?)),
-        None => spent_fault(alloc, tx, found),
+        Some(i) => rejudge(alloc, tx, found, &cache[i..]),
+        None => judge_spent(alloc, tx, found),
     }
 }
 
-/// The judgement of a transaction, whose id is lent, on a ledger: the fault of the first of all rules that
-/// refuses, or `None`. `cache` has checks that were made before: where one is of this transaction with a resolution
-/// equal to what is found here, no script is asked again. They change no answer. Answers `Memory` only where a growth
-/// was refused.
+/// The judgement of a transaction, whose id is lent, on a ledger: the fault of the first of all rules that refuses, if
+/// one does, and else the places in which the contracts go on that it spends. `cache` has checks that were made before:
+/// where one is of this transaction with a resolution equal to what is found here, no script is asked again. They
+/// change no answer. Answers `Memory` only where a growth was refused, or where a script counts more payments than
+/// outputs can have places.
+#[tactic(auto, using(crate::proofs::MomentLemmas::judged_first, crate::proofs::MomentLemmas::judged_last))]
 pub fn judge<V: Validator + Drop, L: Ledger<V>>(
     alloc: Global,
     ledger: &L,
     tx: &Tx,
     id: &[u8; 32],
     cache: &[Checked<V>],
-) -> Result<Option<TxFault>, Memory>
+) -> Result<Judged, Memory>
     requires { id.now ≡ id_of tx.now }
-    ensures { IfOk result (λ fault. fault ≡ judge V.judges (L.moment ledger.now) tx.now) }
+    ensures { IfOk result (λ answer. answer ≡ judgement V.judges (L.moment ledger.now) tx.now) }
 {
     if let Some(fault) = tx_fault(tx) {
-        return Ok(Some(fault));
+        return Ok(Judged::refused(fault));
     }
     let outputs = outputs_found(alloc, ledger, tx.inputs.as_slice())?;
     if let Some(fault) = moment_fault(ledger, tx, id, outputs.as_slice()) {
-        return Ok(Some(fault));
+        return Ok(Judged::refused(fault));
     }
     let found = with_scripts(alloc, ledger, tx, outputs)?;
-    rest_fault(alloc, tx, &found, cache)
+    judge_found(alloc, tx, &found, cache)
 }

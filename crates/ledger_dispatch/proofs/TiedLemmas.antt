@@ -1,12 +1,15 @@
 -- Of what an index is, after a transaction and after a call.
-use Rattle.std.proofs.Common.{◌≡◌, ℕ, ℤ, [], ◌∷◌, sym, ◌∙◌, ap, subst, refl, Bool, true, false, length, take, Option, Some, None, Result}
-use Rattle.std.specs.Prelude.{if◌then◌else◌, int_le, nat_lt}
+use Rattle.std.proofs.Common.{◌≡◌, ℕ, ℤ, [], ◌∷◌, ◌++◌, sym, ◌∙◌, ap, subst, refl, Bool, true, false, length, take, Option, Some, None, Result, Ok, Err}
+use Rattle.std.specs.Prelude.{if◌then◌else◌, int_le, nat_lt, is_some}
 use Rattle.std.proofs.lemmas.List.Elements.{All-nil, All-cons, All-append}
 use Rattle.compiler.specs.declared.fault.CompileFault.{CompileFault}
 use Rattle.eutxo_types.specs.declared.fault.TxFault.{TxFault}
 use Rattle.eutxo_types.specs.declared.tx.Tx.{Tx}
 use Rattle.eutxo_types.specs.Fitting.{TxFits}
-use Rattle.eutxo.specs.Judgement.{Moment, judge}
+use Rattle.eutxo.specs.declared.judged.Judged.{Judged}
+use Rattle.eutxo.specs.Blocks.{places_in}
+use Rattle.eutxo.specs.Judgement.{Moment, found, judge}
+use Rattle.eutxo.specs.Local.{places_of, unless_refused}
 use Rattle.roles.specs.declared.published.Published.{Published}
 use Rattle.roles.specs.Steps.{marlowe}
 use Rattle.ledger.specs.declared.call.Call.TheVariants as on
@@ -15,36 +18,49 @@ use Rattle.ledger_laws.specs.Laws.{AfterIsSound, LaterIsSound}
 use Rattle.ledger_spec.specs.Replay.{World, past_of, moment_of, published_at, with_object, after_call}
 use Rattle.ledger_spec.specs.Calls.{most_pending, fault_on, with_accepted_unless, submit_reply, round_verdicts}
 use Rattle.ledger_spec.proofs.PublishingLaws.{with_stays}
-use Rattle.chain_index.specs.Contents.{Contents, accepting, moment_at, CanBeAdded}
-use Rattle.chain_index.specs.Laws.{ReadsAlike, AcceptsAlike, JudgedCanBeAdded}
+use Rattle.chain_index.specs.Contents.{Contents, contents_of, blocks_in, accepting, moment_at, CanBeAdded}
+use Rattle.chain_index.specs.Laws.{ReadsAlike, AcceptsAlike, PlacesAlike, PublishesAlike, JudgedCanBeAdded}
 use Rattle.ledger_kept.specs.Kept.{IsIndexOf, world_with}
-use Rattle.ledger_dispatch.specs.DispatchSupport.{fault_in, accepting_unless, EachIsJudgedAlike, with_places}
+use Rattle.ledger_dispatch.specs.DispatchSupport.{fault_in, judged_in, CanBeTaken, accepting_unless, EachIsJudgedAlike, with_places}
 
 -- ---- transactions
 
 moment_alike : ReadsAlike → (present : Contents) (w : World) → IsIndexOf present w → moment_at present w.replay.tick ≡ moment_of w
 moment_alike reads present w h = ap (λ (c : Contents). moment_at c w.replay.tick) h.contents ∙ reads w.published (past_of w) w.replay.tick
 
-tied_by : AcceptsAlike marlowe → AfterIsSound marlowe → (present : Contents) (w : World) (tx : Tx) → IsIndexOf present w → TxFits tx → (f : Option TxFault) → fault_on w tx ≡ f →
+tied_by : AcceptsAlike → AfterIsSound marlowe → (present : Contents) (w : World) (tx : Tx) → IsIndexOf present w → TxFits tx → (f : Option TxFault) → fault_on w tx ≡ f →
     IsIndexOf (accepting_unless present tx f) (with_accepted_unless w tx f)
 tied_by alike after present w tx h fits None e = record {
-  contents = ap (λ (c : Contents). accepting c tx) h.contents ∙ alike (published_at w.published) w.published (past_of w) w.replay.tick tx h.sound e;
+  contents = ap (λ (c : Contents). accepting c tx) h.contents ∙ alike w.published (past_of w) w.replay.tick tx h.sound e;
   sound = after (published_at w.published) (past_of w) w.replay.tick tx h.sound e;
   fits = All-append TxFits w.replay.accepted (tx ∷ []) h.fits (All-cons TxFits tx [] fits (All-nil TxFits));
 }
 tied_by alike after present w tx h fits (Some f) e = h
 
-pub judged_alike : ReadsAlike → AcceptsAlike marlowe → JudgedCanBeAdded marlowe → AfterIsSound marlowe → EachIsJudgedAlike
-judged_alike reads alike added after present w tx h = record {
+pub judged_alike : ReadsAlike → AcceptsAlike → PlacesAlike → JudgedCanBeAdded marlowe → AfterIsSound marlowe → EachIsJudgedAlike
+judged_alike reads alike places added after present w tx h = record {
   fault = ap (λ (m : Moment Published). judge marlowe m tx) (moment_alike reads present w h);
-  can = λ e. subst (λ (c : Contents). CanBeAdded c tx) (sym h.contents) (added (published_at w.published) w.published (past_of w) w.replay.tick tx e);
+  can = λ e.
+      subst (λ (c : Contents). CanBeTaken c w.replay.tick tx) (sym h.contents)
+      (record { can = added (published_at w.published) w.published (past_of w) w.replay.tick tx e; places = places w.published (past_of w) w.replay.tick tx h.sound e });
   tied = λ fits. tied_by alike after present w tx h fits (fault_on w tx) refl;
 }
 
-pub can_be_added : EachIsJudgedAlike → (present : Contents) (w : World) (tx : Tx) → IsIndexOf present w → fault_in present w.replay.tick tx ≡ None → CanBeAdded present tx
-can_be_added law present w tx h none =
+-- what is judged without a fault can be added
+pub can_be_taken : EachIsJudgedAlike → (present : Contents) (w : World) (tx : Tx) → IsIndexOf present w → fault_in present w.replay.tick tx ≡ None → CanBeTaken present w.replay.tick tx
+can_be_taken law present w tx h none =
     let alike = law present w tx h in
     alike.can (sym alike.fault ∙ none)
+
+pub can_so : (present : Contents) (tick : ℤ) (tx : Tx) (a : Judged) → a ≡ judged_in present tick tx → (fault_in present tick tx ≡ None → CanBeTaken present tick tx) → a.fault ≡ None → CanBeAdded present tx
+can_so present tick tx a e taken none = (taken (sym (ap (λ (z : Judged). z.fault) e) ∙ none)).can
+
+-- and goes on in the places that are answered
+pub places_so : (present : Contents) (tick : ℤ) (tx : Tx) (a : Judged) → a ≡ judged_in present tick tx → (fault_in present tick tx ≡ None → CanBeTaken present tick tx) → a.fault ≡ None →
+    a.places ≡ places_in (blocks_in present tx)
+places_so present tick tx a e taken none =
+    let f : fault_in present tick tx ≡ None = sym (ap (λ (z : Judged). z.fault) e) ∙ none in
+    ap (λ (z : Judged). z.places) e ∙ ap (λ (z : Option TxFault). unless_refused z (places_of marlowe tx (found (moment_at present tick) tx))) f ∙ (taken f).places
 
 pub tied_after : EachIsJudgedAlike → (present next : Contents) (w : World) (tx : Tx) → IsIndexOf present w → TxFits tx → next ≡ accepting_unless present tx (fault_in present w.replay.tick tx) →
     IsIndexOf next (with_accepted_unless w tx (fault_on w tx))
@@ -84,11 +100,20 @@ pub submitted : (present : Contents) (w : World) (tx : Tx) → IsIndexOf present
 submitted present w tx h = submitted_by present w tx (fault_on w tx) h
 
 -- where more is published, it is of what is published then
-pub published_more : LaterIsSound marlowe → (present next : Contents) (w : World) (r : Result Published CompileFault) → IsIndexOf present w →
+pub published_more : LaterIsSound marlowe → PublishesAlike → (present next : Contents) (w : World) (r : Result Published CompileFault) → IsIndexOf present w →
     next ≡ record present { published = with_object present.published r } →
     IsIndexOf next (let v : World = record w { published = with_object w.published r } in v)
-published_more later present next w r h n = record {
-  contents = n ∙ ap (λ (c : Contents). let d : Contents = record c { published = with_object c.published r } in d) h.contents;
+published_more later alike present next w r h n = record {
+  contents = n ∙ ap (λ (c : Contents). let d : Contents = record c { published = with_object c.published r } in d) h.contents ∙ same r;
   sound = later (published_at w.published) (published_at (with_object w.published r)) (past_of w) (with_stays w.published r) h.sound;
   fits = h.fits;
 }
+  where
+    same : (r : Result Published CompileFault) → (let d : Contents = record (contents_of (past_of w) w.published) { published = with_object w.published r } in d) ≡ contents_of (past_of w) (with_object w.published r)
+    same (Err f) = refl
+    same (Ok p) = by (published_at w.published p.id) refl
+      where
+        by : (o : Option Published) → published_at w.published p.id ≡ o →
+            (let d : Contents = record (contents_of (past_of w) w.published) { published = if is_some o then w.published else w.published ++ p ∷ [] } in d) ≡ contents_of (past_of w) (if is_some o then w.published else w.published ++ p ∷ [])
+        by (Some q) e = refl
+        by None e = alike w.published (past_of w) p h.sound e

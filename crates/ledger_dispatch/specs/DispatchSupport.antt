@@ -3,12 +3,15 @@ use Rattle.std.specs.Prelude.{◌≡◌, ℤ, List, ◌++◌, Option, Some, None
 use Rattle.eutxo_types.specs.declared.fault.TxFault.{TxFault}
 use Rattle.eutxo_types.specs.declared.tx.Tx.{Tx}
 use Rattle.eutxo_types.specs.Fitting.{TxFits}
-use Rattle.eutxo.specs.Judgement.{judge}
+use Rattle.eutxo.specs.declared.judged.Judged.{Judged}
+use Rattle.eutxo.specs.Blocks.{places_in}
+use Rattle.eutxo.specs.Judgement.{found, judge, judgement}
+use Rattle.eutxo.specs.Local.{places_of}
 use Rattle.roles.specs.Steps.{marlowe}
 use Rattle.ledger.specs.declared.call.Ticketed.{Ticketed}
 use Rattle.ledger_spec.specs.Replay.{World, accepted_among}
 use Rattle.ledger_spec.specs.Calls.{fault_on, with_accepted_unless}
-use Rattle.chain_index.specs.Contents.{Contents, accepting, moment_at, CanBeAdded}
+use Rattle.chain_index.specs.Contents.{Contents, blocks_in, accepting, moment_at, CanBeAdded}
 use Rattle.ledger_kept.specs.Kept.{IsIndexOf}
 
 -- ---- transactions
@@ -16,6 +19,15 @@ use Rattle.ledger_kept.specs.Kept.{IsIndexOf}
 -- no rule refuses it by what is indexed at a tick, or the first that does answers
 abbrev pub fault_in : Contents → ℤ → Tx → Option TxFault
 fault_in c tick tx = judge marlowe (moment_at c tick) tx
+
+-- with the places in which its contracts go on
+abbrev pub judged_in : Contents → ℤ → Tx → Judged
+judged_in c tick tx = judgement marlowe (moment_at c tick) tx
+
+-- it can be added, and goes on in the places that its blocks say
+pub record CanBeTaken (c : Contents) (tick : ℤ) (tx : Tx) : Type 0 where
+  pub can : CanBeAdded c tx
+  pub places : places_of marlowe tx (found (moment_at c tick) tx) ≡ places_in (blocks_in c tx)
 
 -- what is indexed after a transaction of which this fault was found, or none
 abbrev pub accepting_unless : Contents → Tx → Option TxFault → Contents
@@ -26,7 +38,7 @@ accepting_unless c tx (Some fault) = c
 -- stands after it
 pub record IsJudgedAlike (present : Contents) (w : World) (tx : Tx) : Type 0 where
   pub fault : fault_in present w.replay.tick tx ≡ fault_on w tx
-  pub can : fault_on w tx ≡ None → CanBeAdded present tx
+  pub can : fault_on w tx ≡ None → CanBeTaken present w.replay.tick tx
   pub tied : TxFits tx → IsIndexOf (accepting_unless present tx (fault_on w tx)) (with_accepted_unless w tx (fault_on w tx))
 
 abbrev pub EachIsJudgedAlike : Type 0

@@ -8,14 +8,15 @@ ghost use Rattle.ledger.specs.declared.call.Reply.TheVariants as replies;
 ghost use Rattle.ledger_spec.specs.Replay.{published_at, publication, with_object, World, world};
 ghost use Rattle.ledger_spec.specs.Views.{look};
 ghost use Rattle.ledger_spec.specs.Calls.{publish_reply_beside, publish_reply, fault_on, submit_reply, with_accepted_unless, round_verdicts, advance_reply, enqueue_reply, reply_to};
-ghost use Rattle.chain_index.specs.Contents.{CanBeAdded};
+ghost use Rattle.eutxo.specs.Blocks.{places_in};
+ghost use Rattle.chain_index.specs.Contents.{blocks_in, CanBeAdded};
 ghost use Rattle.ledger_kept.specs.Kept.{IsIndexOf, world_with};
-ghost use Rattle.ledger_dispatch.specs.DispatchSupport.{fault_in, accepting_unless, EachIsJudgedAlike, with_places};
+ghost use Rattle.ledger_dispatch.specs.DispatchSupport.{fault_in, judged_in, CanBeTaken, accepting_unless, EachIsJudgedAlike, with_places};
 
-use chain_index::{Index, IndexAt, index_accepts_alike, index_reads_alike};
+use chain_index::{Index, IndexAt, index_accepts_alike, index_publishes_alike, index_reads_alike};
 use collections::{Bytes, Items, Memory, TryClone};
 use contract::Contract;
-use eutxo::{Checked, Shared, verdict_of};
+use eutxo::{Checked, Judged, Shared, verdict_of};
 use eutxo_types::{Tx, TxFault, tx_id};
 use ledger::{Ask, Call, Reply, Ticketed, judge};
 use ledger_kept::Kept;
@@ -41,7 +42,7 @@ fn each_is_judged_alike()
 }
 
 // instance below: the judgement on a ledger, at an index.
-// The fault of the first rule that refuses a transaction by what is indexed at a tick, or none. Its id is lent.
+// The judgement of a transaction by what is indexed at a tick. Its id is lent.
 fn judged_at(
     alloc: Global,
     index: &Index,
@@ -49,9 +50,9 @@ fn judged_at(
     tx: &Tx,
     id: &[u8; 32],
     cache: &[Checked<Published>],
-) -> Result<Option<TxFault>, Memory>
+) -> Result<Judged, Memory>
     requires { id.now ≡ id_of tx.now }
-    ensures { IfOk result (λ fault. fault ≡ fault_in index.now.present tick.now tx.now) }
+    ensures { IfOk result (λ answer. answer ≡ judged_in index.now.present tick.now tx.now) }
 {
     judge(alloc, &IndexAt { index, tick: *tick }, tx, id, cache)
 }
@@ -63,41 +64,38 @@ fn judged(
     index: &Index,
     tx: &Tx,
     id: &[u8; 32],
-) -> Result<Option<TxFault>, Memory>
+) -> Result<Judged, Memory>
     requires { id.now ≡ id_of tx.now }
-    ensures { IfOk result (λ fault. fault ≡ fault_in index.now.present (world kept.now).replay.tick tx.now) }
+    ensures { IfOk result (λ answer. answer ≡ judged_in index.now.present (world kept.now).replay.tick tx.now) }
 {
     let tick = kept.tick();
     judged_at(alloc, index, &tick, tx, id, kept.cache())
 }
 
 // Adds a transaction, whose id is lent, where no fault of it was found.
-fn accept_unless(
-    index: &mut Index,
-    tx: &Tx,
-    id: &[u8; 32],
-    fault: &Option<TxFault>,
-) -> Result<(), Memory>
+fn accept_unless(index: &mut Index, tx: &Tx, id: &[u8; 32], judged: &Judged) -> Result<(), Memory>
     requires id { id.now ≡ id_of tx.now }
-    requires can { fault.now ≡ None → CanBeAdded index.old.present tx.now }
-    ensures present { OnOk result (index.new.present ≡ accepting_unless index.old.present tx.now fault.now) }
+    requires can { judged.now.fault ≡ None → CanBeAdded index.old.present tx.now }
+    requires places { judged.now.fault ≡ None → judged.now.places ≡ places_in (blocks_in index.old.present tx.now) }
+    ensures present { OnOk result (index.new.present ≡ accepting_unless index.old.present tx.now judged.now.fault) }
     ensures settled { index.new.settled ≡ index.old.settled }
 {
-    if fault.is_none() {
-        index.accept(tx, id)?;
+    if judged.fault.is_none() {
+        index.accept(tx, id, &judged.places)?;
     }
     Ok(())
 }
 
 // Judges a transaction by what is indexed, and adds it where no rule refuses it. Answers the fault and the
 // transaction's id, which is computed here alone.
+#[tactic(auto, using(crate::proofs::TiedLemmas::can_so, crate::proofs::TiedLemmas::places_so))]
 fn judge_and_accept(
     alloc: Global,
     kept: &Kept<'_>,
     index: &mut Index,
     tx: &Tx,
 ) -> Result<(Option<TxFault>, [u8; 32]), Memory>
-    requires { fault_in index.old.present (world kept.now).replay.tick tx.now ≡ None → CanBeAdded index.old.present tx.now }
+    requires { fault_in index.old.present (world kept.now).replay.tick tx.now ≡ None → CanBeTaken index.old.present (world kept.now).replay.tick tx.now }
     ensures fault { IfOk result (λ r. r.0 ≡ fault_in index.old.present (world kept.now).replay.tick tx.now) }
     ensures id { IfOk result (λ r. r.1 ≡ id_of tx.now) }
     ensures fits { IfOk result (λ r. TxFits tx.now) }
@@ -105,8 +103,9 @@ fn judge_and_accept(
     ensures settled { index.new.settled ≡ index.old.settled }
 {
     let id = tx_id(alloc, tx)?;
-    let fault = judged(alloc, kept, index, tx, &id)?;
-    accept_unless(index, tx, &id, &fault)?;
+    let judged = judged(alloc, kept, index, tx, &id)?;
+    accept_unless(index, tx, &id, &judged)?;
+    let Judged { fault, .. } = judged;
     Ok((fault, id))
 }
 
@@ -132,7 +131,7 @@ fn judge_one(
     ticket: u64,
     tx: &Tx,
 ) -> Result<Ticketed, Memory>
-    requires { fault_in index.old.present (world kept.now).replay.tick tx.now ≡ None → CanBeAdded index.old.present tx.now }
+    requires { fault_in index.old.present (world kept.now).replay.tick tx.now ≡ None → CanBeTaken index.old.present (world kept.now).replay.tick tx.now }
     ensures verdict { IfOk result (λ t. t ≡ record { ticket = ticket; verdict = verdict_of (fault_in index.old.present (world kept.now).replay.tick tx.now) }) }
     ensures fits { IfOk result (λ t. TxFits tx.now) }
     ensures present { OnOk result (index.new.present ≡ accepting_unless index.old.present tx.now (fault_in index.old.present (world kept.now).replay.tick tx.now)) }
@@ -267,6 +266,7 @@ fn publish_as(
     ensures settled { index.new.settled ≡ index.old.settled }
 {
     publishing_is_sound::<Published>();
+    index_publishes_alike();
     let currency = currency.try_clone()?;
     match publication(alloc, contract, currency) {
         Ok(object) => publish_object(alloc, index, object),

@@ -1,10 +1,10 @@
 -- What every accepted transaction of a sound past meets.
-use Rattle.std.proofs.Common.{◌≡◌, ℕ, zero, suc, ◌+◌, ◌<◌, ◌≤◌, Bool, true, false, not, cond, List, [], ◌∷◌, ◌++◌, refl, sym, ◌∙◌, ap, subst, arith, Option, Some, None, take}
-use Rattle.std.specs.Prelude.{if◌then◌else◌, nat_lt, is_some, count_by}
+use Rattle.std.proofs.Common.{◌≡◌, ℕ, zero, suc, ◌+◌, ◌<◌, Bool, true, false, not, cond, List, [], ◌∷◌, ◌++◌, refl, sym, ◌∙◌, ap, subst, arith, Option, Some, None, take}
+use Rattle.std.specs.Prelude.{if◌then◌else◌, is_some, map}
 use Rattle.std.specs.List.{slice_get, list_any, list_all}
 use Rattle.std.specs.Map.{lookup}
 use Rattle.eutxo_types.specs.declared.fault.TxFault.{TxFault}
-use Rattle.eutxo_types.specs.declared.fault.TxFault.TheVariants.{TwoContracts, WrongRedeemer}
+use Rattle.eutxo_types.specs.declared.fault.TxFault.TheVariants.{WrongRedeemer}
 use Rattle.eutxo_types.specs.declared.lock.Lock.{Lock}
 use Rattle.eutxo_types.specs.declared.lock.Lock.TheVariants.{Key, Payout, Contract}
 use Rattle.eutxo_types.specs.declared.output.Output.{Output}
@@ -15,19 +15,25 @@ use Rattle.eutxo_types.specs.declared.tx.Tx.{Tx}
 use Rattle.eutxo_types.specs.Ids.{id_of}
 use Rattle.eutxo.specs.Laws.{FoundIsEnough}
 use Rattle.eutxo.specs.Asked.{Judges}
-use Rattle.eutxo.specs.Found.{is_known, all_known, if_known}
+use Rattle.eutxo.specs.Blocks.{Block, blocks, blocks_on, step_fault, step_fault_unless}
+use Rattle.eutxo.specs.BlockLaws.{AreFresh}
+use Rattle.eutxo.specs.Found.{is_known, all_known, with_outputs, if_known}
 use Rattle.eutxo.specs.Local.{spent_rules, spent_fault, whole_fault}
-use Rattle.eutxo.specs.Rules.{opens, digests_in, Step, steps_of, step_asked, after_answer, script_fault, step_fault, step_fault_unless, not_preserved, wrong_datum}
-use Rattle.eutxo_types.specs.Parts.{is_contract, script_in, ContractLock, contract_in, inputs_of, same_bytes, same_ref, is_key, is_step, steps}
-use Rattle.ledger_laws.specs.Past.{Past, before, with_references, created_by, created_by_all, created, is_input_of, is_spent, unspent_at, has_id}
+use Rattle.eutxo.specs.Rules.{opens, digests_in, Step, steps_of, not_preserved, wrong_datum}
+use Rattle.eutxo_types.specs.Parts.{is_contract, script_in, ContractLock, contract_in, same_bytes, same_ref, is_key, is_step, steps}
+use Rattle.ledger_laws.specs.Past.{Past, before, with_references, created_by, created_by_all, created, created_at, is_input_of, is_spent, unspent_at, has_id}
 use Rattle.eutxo.specs.Judgement.{is_unknown}
 use Rattle.ledger_laws.specs.Sound.{AreKeys, IsSound}
 use Rattle.ledger_laws.specs.Laws.{IsContractInput}
-use Rattle.ledger_laws.proofs.PlainLaws.{EachFalse, both, not_both, not_false, few, same_some, is_there, each_at, any_at, any_there, only_one, any_taken, any_take, take_some, taken_at}
+use Rattle.ledger_laws.specs.Threads.{blocks_of}
+use Rattle.ledger_laws.proofs.PlainLaws.{EachFalse, both, not_both, not_false, same_some, is_there, each_at, any_at, any_there, any_taken, any_take, take_some, taken_at}
 use Rattle.ledger_laws.proofs.ReferenceLaws.{itself, unspent_so, unspent_created, output_nth, none_created, spender}
-use Rattle.ledger_laws.proofs.JudgedLemmas.{found, each_none, nowhere, unless, Passes, passes, made_known}
-use Rattle.ledger_laws.proofs.PartLaws.{script_so}
-use Rattle.ledger_laws.proofs.PairedLemmas.{Paired, paired, spent_known, pair_at, pairs_of, NamedAt, named_at, holds, misfits, step_opens, contract_steps, step_with, ReadStep, step_read}
+use Rattle.ledger_laws.proofs.JudgedLemmas.{found, each_none, nowhere, Passes, passes, made_known}
+use Rattle.ledger_laws.proofs.PartLaws.{script_so, is_contract_so}
+use Rattle.ledger_laws.proofs.PairedLemmas.{Paired, paired, spent_known, pair_at, input_at, pairs_of, NamedAt, named_at, misfits, step_opens, contract_steps, ReadStep, step_read, step_there}
+use Rattle.ledger_laws.proofs.FreshLemmas.{fresh}
+use Rattle.ledger_laws.proofs.SteppingLemmas.{fresh_steps, pairs_by}
+use Rattle.ledger_laws.proofs.FindingLemmas.{BlockOf, block_of}
 use Rattle.ledger_laws.proofs.DatumLaws.{told, Tells, tells_so}
 
 key_opens : (l : Lock) → is_key l ≡ true → is_contract l ≡ true → ⊥
@@ -97,20 +103,21 @@ module _ {V : Type 0} (j : Judges V) (enough : FoundIsEnough j) (named : List �
     pub ys : List (Spend × Output)
     pub pairs : Paired (unspent_at (before past n)) tx.inputs ys
     pub there : found (unspent_at (before past n)) tx ≡ Some ys
-    pub single : count_by holds ys ≤ 1
+    pub whole : if_known named tx.outputs (found (unspent_at (before past n)) tx) ≡ Some ys
     pub kinds : EachFalse misfits ys
     pub step : step_fault j named tx ys (steps_of ys tx.datums) ≡ None
     pub sums : not_preserved ys tx.outputs ≡ None
     pub datums : wrong_datum tx ys ≡ None
 
-  from_rules : (n : ℕ) (tx : Tx) (ys : List (Spend × Output)) → Paired (unspent_at (before past n)) tx.inputs ys → found (unspent_at (before past n)) tx ≡ Some ys → spent_fault j named tx ys ≡ None → Spent n tx
-  from_rules n tx ys p f h =
+  from_rules : (n : ℕ) (tx : Tx) (ys : List (Spend × Output)) → Paired (unspent_at (before past n)) tx.inputs ys → found (unspent_at (before past n)) tx ≡ Some ys →
+      if_known named tx.outputs (found (unspent_at (before past n)) tx) ≡ Some ys → spent_fault j named tx ys ≡ None → Spent n tx
+  from_rules n tx ys p f w h =
       let e = each_none (spent_rules j named tx ys) h in
       record {
         ys = ys;
         pairs = p;
         there = f;
-        single = few (count_by holds ys) (unless (nat_lt 1 (count_by holds ys)) TwoContracts e.1.0);
+        whole = w;
         kinds = nowhere WrongRedeemer misfits ys e.1.1.0;
         step = subst (λ (w : Option TxFault). step_fault_unless w j named tx ys ≡ None) e.1.1.1.1.1.1.0 e.1.1.1.1.0;
         sums = e.1.1.1.1.1.0;
@@ -125,9 +132,31 @@ module _ {V : Type 0} (j : Judges V) (enough : FoundIsEnough j) (named : List �
       let created_by = made_known named tx.outputs p.known in
       let spent = spent_known named find (find_known n) tx.inputs q.0 q.2 in
       let known : all_known named tx.outputs q.0 ≡ true = both (list_all (λ o. is_known named o.lock) tx.outputs) (list_all (λ x. is_known named x.1.lock) q.0) created_by spent in
-      from_rules n tx q.0 q.2 q.1
+      from_rules n tx q.0 q.2 q.1 (ap (if_known named tx.outputs) q.1 ∙ ap (λ (b : Bool). if b then Some q.0 else None) known)
       (subst (λ (b : Bool). whole_fault j named tx (if b then Some q.0 else None) ≡ None) known
       (subst (λ (o : Option (List (Spend × Output))). whole_fault j named tx (if_known named tx.outputs o) ≡ None) q.1 p.local))
+
+  -- ---- its steps and its blocks
+
+  abbrev pub steps_at : (n : ℕ) (tx : Tx) → slice_get past.accepted n ≡ Some tx → List Step
+  steps_at n tx at = steps_of (spent_at n tx at).ys tx.datums
+
+  pub fresh_at_steps : (n : ℕ) (tx : Tx) → (at : slice_get past.accepted n ≡ Some tx) → AreFresh (steps_at n tx at)
+  fresh_at_steps n tx at = let s = spent_at n tx at in fresh_steps (unspent_at (before past n)) tx.inputs s.ys tx.datums s.pairs (fresh tx.inputs (passes_at n tx at).alone)
+
+  -- by every look-up that finds what it found
+  pub spent_by : (n : ℕ) (tx : Tx) → (at : slice_get past.accepted n ≡ Some tx) → (f : OutputRef → Option Output) → ((r : OutputRef) (o : Output) → created_at past r ≡ Some o → f r ≡ Some o) →
+      with_outputs tx.inputs (map (λ x. f x.reference) tx.inputs) ≡ Some (spent_at n tx at).ys
+  spent_by n tx at f k = let s = spent_at n tx at in pairs_by (unspent_at (before past n)) f (λ r o e. k r o (unspent_created past n r o e)) tx.inputs s.ys s.pairs
+
+  -- the blocks by which it was judged are those of the past
+  pub blocks_so : (n : ℕ) (tx : Tx) → (at : slice_get past.accepted n ≡ Some tx) → blocks_of j named past tx ≡ blocks j named tx (spent_at n tx at).ys (steps_at n tx at) 0
+  blocks_so n tx at = ap (blocks_on j named tx) (spent_by n tx at (created_at past) (λ r o e. e))
+
+  pub block_at : (n : ℕ) (tx : Tx) → (at : slice_get past.accepted n ≡ Some tx) → (k : ℕ) (s : Step) → slice_get (steps_at n tx at) k ≡ Some s → BlockOf j named tx (spent_at n tx at).ys (blocks_of j named past tx) s
+  block_at n tx at k s e =
+      let z = spent_at n tx at in
+      subst (λ (bs : List Block). BlockOf j named tx z.ys bs s) (sym (blocks_so n tx at)) (block_of j named tx z.ys (steps_at n tx at) k s (fresh_at_steps n tx at) z.step e)
 
   -- each contract output is made at the datum whose digest it holds
   pub tells_at : (n : ℕ) (tx : Tx) → slice_get past.accepted n ≡ Some tx → Tells tx
@@ -167,7 +196,7 @@ module _ {V : Type 0} (j : Judges V) (enough : FoundIsEnough j) (named : List �
   pub made_there : (n : ℕ) (tx : Tx) → slice_get past.accepted n ≡ Some tx → (i : ℕ) (o : Output) → slice_get tx.outputs i ≡ Some o → lookup (same_ref (Made (id_of tx) i)) (created past) ≡ Some o
   made_there n tx at i o m = output_nth past n i tx o at (fresh_at n tx at) m
 
-  -- ---- the contract that it steps
+  -- ---- the contracts that it steps
 
   -- what is spent at a place
   beside : (n i : ℕ) (tx : Tx) (x : Spend) (o : Output) → (at : slice_get past.accepted n ≡ Some tx) → slice_get tx.inputs i ≡ Some x → unspent_at (before past n) x.reference ≡ Some o →
@@ -222,14 +251,6 @@ module _ {V : Type 0} (j : Judges V) (enough : FoundIsEnough j) (named : List �
       let c = contract_stepped n a.0 tx a.1 at a.2 a.3 in
       (a.0, a.1, c.0, c.1)
 
-  -- two contract inputs are one
-  pub one_input : (n i k : ℕ) (tx : Tx) (x y : Spend) (o p : Output) → IsContractInput past n i tx x o → IsContractInput past n k tx y p → x.reference ≡ y.reference
-  one_input n i k tx x y o p a b =
-      let s = spent_at n tx a.accepted in
-      let at = beside n i tx x o a.accepted a.input a.there in
-      let place : i ≡ k = only_one holds s.ys i k (x, o) (y, p) s.single at a.contract (beside n k tx y p a.accepted b.input b.there) b.contract in
-      ap (λ (z : Spend). z.reference) (same_some x y (sym a.input ∙ ap (slice_get tx.inputs) place ∙ b.input))
-
   -- its script was published
   pub input_published : (n i : ℕ) (tx : Tx) (x : Spend) (o : Output) (c : ContractLock) → IsContractInput past n i tx x o → contract_in o.lock ≡ Some c → (v : V) × (named c.script ≡ Some v)
   input_published n i tx x o c k h = published n x.reference o c.script k.there (script_so o.lock c h)
@@ -239,18 +260,26 @@ module _ {V : Type 0} (j : Judges V) (enough : FoundIsEnough j) (named : List �
       ReadStep (spent_at n tx at).ys tx.datums (x, o) c
   read_at n i tx x o c at k h =
       let s = spent_at n tx at in
-      step_read s.ys tx.datums (digests_in tx.outputs) i (x, o) c (told tx s.ys s.datums) s.single (beside n i tx x o at k.input k.there) h
+      step_read s.ys tx.datums (digests_in tx.outputs) i (x, o) c (told tx s.ys s.datums) (beside n i tx x o at k.input k.there) h
 
-  -- and passes its step there
-  pub step_passes : (n i : ℕ) (tx : Tx) (x : Spend) (o : Output) (c : ContractLock) (v : V) → (at : slice_get past.accepted n ≡ Some tx) → (k : IsContractInput past n i tx x o) →
-      (h : contract_in o.lock ≡ Some c) → named c.script ≡ Some v →
-      after_answer tx.outputs (j.step v (step_asked tx (spent_at n tx at).ys (step_with c (read_at n i tx x o c at k h).datum (inputs_of x.redeemer)))) ≡ None
-  step_passes n i tx x o c v at k h is =
-      let s = spent_at n tx at in
-      let r = read_at n i tx x o c at k h in
-      let z = step_with c r.datum (inputs_of x.redeemer) in
-      let step : script_fault j (named c.script) (step_asked tx s.ys z) ≡ None = subst (λ (l : List Step). step_fault j named tx s.ys l ≡ None) r.steps s.step in
-      subst (λ (w : Option V). script_fault j w (step_asked tx s.ys z) ≡ None) is step
+  -- and a step is of a contract input, whose script was published
+  pub record StepInput (n : ℕ) (tx : Tx) (s : Step) : Type 0 where
+    pub index : ℕ
+    pub input : Spend
+    pub output : Output
+    pub contract : IsContractInput past n index tx input output
+    pub reference : input.reference ≡ s.reference
+    pub script : V
+    pub published : named s.script ≡ Some script
+
+  pub step_from : (n : ℕ) (tx : Tx) → (at : slice_get past.accepted n ≡ Some tx) → (k : ℕ) (s : Step) → slice_get (steps_at n tx at) k ≡ Some s → StepInput n tx s
+  step_from n tx at k s e =
+      let z = spent_at n tx at in
+      let t = step_there z.ys tx.datums k s e in
+      let p = input_at (unspent_at (before past n)) t.index t.pair tx.inputs z.ys z.pairs t.at in
+      let input : IsContractInput past n t.index tx t.pair.0 t.pair.1 = record { accepted = at; input = p.0; there = p.1; contract = is_contract_so t.pair.1.lock t.lock t.contract } in
+      let v = input_published n t.index tx t.pair.0 t.pair.1 t.lock input t.contract in
+      record { index = t.index; input = t.pair.0; output = t.pair.1; contract = input; reference = t.reference; script = v.0; published = ap named (sym t.script) ∙ v.1 }
 
   -- ---- what it makes is new
 

@@ -1,22 +1,22 @@
 -- Each party that acts in an accepted step is authorised.
-use Rattle.std.proofs.Common.{◌≡◌, ℕ, true, List, Option, Some}
+use Rattle.std.proofs.Common.{◌≡◌, ℕ, true, List, sym, ◌∙◌, ap, Option, Some}
 use Rattle.std.specs.List.{slice_get}
 use Rattle.eutxo_types.specs.declared.output.Output.{Output}
 use Rattle.eutxo_types.specs.declared.spend.Spend.{Spend}
 use Rattle.eutxo_types.specs.declared.tx.Tx.{Tx}
 use Rattle.eutxo.specs.Laws.{FoundIsEnough}
 use Rattle.eutxo.specs.Asked.{Stepping}
-use Rattle.eutxo.specs.Rules.{step_asked}
+use Rattle.eutxo.specs.Blocks.{answer_by, step_asked, fault_in}
 use Rattle.roles.specs.declared.published.Published.{Published}
 use Rattle.roles.specs.Terms.{terms_of}
 use Rattle.roles.specs.Steps.{marlowe}
-use Rattle.eutxo_types.specs.Parts.{inputs_of, is_step}
+use Rattle.eutxo_types.specs.Parts.{is_step}
 use Rattle.ledger_laws.specs.Past.{Past, before, unspent_at}
 use Rattle.ledger_laws.specs.Sound.{IsSound}
 use Rattle.ledger_laws.specs.Laws.{IsAuthorised, PartiesAreAuthorised}
 use Rattle.ledger_laws.proofs.PartLaws.{contract_of_lock}
 use Rattle.ledger_laws.proofs.PairedLemmas.{input_at, step_with}
-use Rattle.ledger_laws.proofs.AcceptedLaws.{spent_at, tells_at, step_input, input_published, read_at, step_passes}
+use Rattle.ledger_laws.proofs.AcceptedLaws.{spent_at, tells_at, step_input, input_published, read_at, block_at}
 use Rattle.ledger_laws.proofs.LaidOutLemmas.{stepped_so, authorised_so}
 
 module _ (enough : FoundIsEnough marlowe) (named : List ℕ → Option Published) (past : Past) (sound : IsSound marlowe named past) (n : ℕ) (tx : Tx) (at : slice_get past.accepted n ≡ Some tx) where
@@ -29,9 +29,11 @@ module _ (enough : FoundIsEnough marlowe) (named : List ℕ → Option Published
       let k = step_input marlowe enough named past sound n i tx x.0 x.1 at p.0 p.1 h in
       let c = contract_of_lock x.1.lock k.contract in
       let v = input_published marlowe enough named past sound n i tx x.0 x.1 c.0 k c.1 in
-      let d = (read_at marlowe enough named past sound n i tx x.0 x.1 c.0 at k c.1).datum in
-      let s : Stepping = step_asked tx spent (step_with c.0 d (inputs_of x.0.redeemer)) in
-      let z = stepped_so (terms_of v.0) s (tells_at marlowe enough named past sound n tx at) (step_passes marlowe enough named past sound n i tx x.0 x.1 c.0 v.0 at k c.1 v.1) in
+      let r = read_at marlowe enough named past sound n i tx x.0 x.1 c.0 at k c.1 in
+      let step = step_with c.0 x.0 r.datum in
+      let b = block_at marlowe enough named past sound n tx at r.number step r.step in
+      let s : Stepping = step_asked tx spent b.«from» step in
+      let z = stepped_so (terms_of v.0) s (tells_at marlowe enough named past sound n tx at) (ap (λ (w : Option Published). fault_in (answer_by marlowe w s)) (sym v.1) ∙ b.passes) in
       record { lock = c.0; contract = c.1; object = v.0; named = v.1; parties = authorised_so (terms_of v.0) s z }
 
 pub parties_are_authorised : FoundIsEnough marlowe → PartiesAreAuthorised

@@ -1,42 +1,31 @@
 -- Contracts flow through the accepted transactions of a sound past.
-use Rattle.std.proofs.Common.{◌≡◌, ℕ, zero, suc, ◌+◌, true, List, [], ◌∷◌, refl, sym, ◌∙◌, ap, subst, Option, Some, None}
+use Rattle.std.proofs.Common.{◌≡◌, ℕ, true, List, sym, ◌∙◌, ap, Option, Some}
 use Rattle.std.specs.List.{slice_get}
-use Rattle.eutxo_types.specs.declared.fault.TxFault.TheVariants.{StrayContract}
 use Rattle.eutxo_types.specs.declared.output.Output.{Output}
 use Rattle.eutxo_types.specs.declared.output_ref.OutputRef.{OutputRef}
-use Rattle.eutxo_types.specs.declared.output_ref.OutputRef.TheVariants.{Made}
 use Rattle.eutxo_types.specs.declared.spend.Spend.{Spend}
 use Rattle.eutxo_types.specs.declared.tx.Tx.{Tx}
 use Rattle.eutxo_types.specs.Ids.{id_of}
 use Rattle.eutxo_types.specs.Parts.{same_ref, is_contract, Instance, lock_of, contract_at}
-use Rattle.eutxo.specs.Laws.{FoundIsEnough}
-use Rattle.eutxo.specs.declared.validator.StepAnswer.{StepAnswer}
-use Rattle.eutxo.specs.declared.validator.StepAnswer.TheVariants as answers
 use Rattle.eutxo.specs.Asked.{Judges}
-use Rattle.eutxo.specs.Rules.{after_answer}
+use Rattle.eutxo.specs.Blocks.{Block, blocks, goes_on_at}
+use Rattle.eutxo.specs.BlockLaws.{Tell, BlocksTell}
+use Rattle.eutxo.specs.Laws.{FoundIsEnough}
+use Rattle.eutxo.specs.Rules.{Step}
 use Rattle.ledger_laws.specs.Past.{Past, before, is_input_of, unspent_at}
 use Rattle.ledger_laws.specs.Sound.{IsSound}
 use Rattle.ledger_laws.specs.Laws.{IsContractInput}
-use Rattle.ledger_laws.specs.Threads.{next_of}
-use Rattle.ledger_laws.proofs.PlainLaws.{not_both, each_at, any_at}
-use Rattle.ledger_laws.proofs.JudgedLemmas.{nowhere}
+use Rattle.ledger_laws.specs.Threads.{blocks_of, next_of}
+use Rattle.ledger_laws.proofs.PlainLaws.{any_at}
 use Rattle.ledger_laws.proofs.PartLaws.{contract_of_lock, is_contract_so, under_so}
-use Rattle.ledger_laws.proofs.ReferenceLaws.{same_ref-refl, unspent_so}
-use Rattle.ledger_laws.proofs.AcceptedLaws.{one_place, named_input, input_steps, steps_one, one_input, input_published, step_passes}
+use Rattle.ledger_laws.proofs.ReferenceLaws.{same_ref-refl, same_made, unspent_so}
+use Rattle.ledger_laws.proofs.FindingLemmas.{blocks_pass}
+use Rattle.ledger_laws.proofs.AcceptedLaws.{spent_at, steps_at, fresh_at_steps, blocks_so, one_place, named_input, input_steps, steps_one, read_at, step_from}
 use Rattle.ledger_laws.proofs.MadeLaws.{made_of, each_before, made_output}
 use Rattle.ledger_laws.proofs.SpineLaws.{next_there, next_so}
 use Rattle.ledger_laws.proofs.KernelLemmas.{IsOpen, Spends, Flow}
 
--- where the answer passes, a contract output is output 0
-first_alone : (a : StepAnswer) (os : List Output) → after_answer os a ≡ None → (i : ℕ) (o : Output) → slice_get os i ≡ Some o → is_contract o.lock ≡ true → i ≡ 0
-first_alone (answers.Refused f) os h i o g c = cc
-first_alone answers.GoesOn [] h i o g c = cc
-first_alone answers.GoesOn (x ∷ os) h zero o g c = refl
-first_alone answers.GoesOn (x ∷ os) h (suc i) o g c =
-    absurd (not_both c (each_at (λ o. is_contract o.lock) i os o (nowhere (λ (k : ℕ). StrayContract (1 + k)) (λ o. is_contract o.lock) os h) g))
-first_alone answers.Ends os h i o g c = absurd (not_both c (each_at (λ o. is_contract o.lock) i os o (nowhere (λ (k : ℕ). StrayContract (0 + k)) (λ o. is_contract o.lock) os h) g))
-
-module _ {V : Type 0} (j : Judges V) (enough : FoundIsEnough j) (named : List ℕ → Option V) (past : Past) (sound : IsSound j named past) where
+module _ {V : Type 0} (j : Judges V) (enough : FoundIsEnough j) (tell : BlocksTell j) (named : List ℕ → Option V) (past : Past) (sound : IsSound j named past) where
   -- an unspent contract output is open
   pub opened : (n : ℕ) (q : OutputRef) (o : Output) → unspent_at (before past n) q ≡ Some o → is_contract o.lock ≡ true → IsOpen (before past n) q
   opened n q o h c = let m = made_of (before past n) sound.keys (each_before j enough named past sound n) q o h c in record { contract = m.0; made = m.1; unspent = (unspent_so (before past n) q o h).0 }
@@ -52,29 +41,52 @@ module _ {V : Type 0} (j : Judges V) (enough : FoundIsEnough j) (named : List �
       let k = named_input j enough named past sound n tx at p z.0 s.0 z.1 (is_contract_so (z.0).lock (lock_of s.1.0) z.2) in
       (k.0.index, k.0.input, z.0, k.1, k.0.name)
 
-  -- of what a step makes, output 0 alone can have a contract lock
-  alone : (n i : ℕ) (tx : Tx) (x : Spend) (o : Output) → IsContractInput past n i tx x o → (k : ℕ) (c : Instance) → contract_at tx k ≡ Some c → k ≡ 0
-  alone n i tx x o input k c h =
-      let l = contract_of_lock o.lock input.contract in
-      let v = input_published j enough named past sound n i tx x o l.0 input l.1 in
-      let out = under_so tx k c h in
-      first_alone (j.step v.0 _) tx.outputs (step_passes j enough named past sound n i tx x o l.0 v.0 input.accepted input l.1 v.1) k out.0 out.1 (is_contract_so (out.0).lock out.2 out.3)
+  abbrev all : (n : ℕ) (tx : Tx) → slice_get past.accepted n ≡ Some tx → List Block
+  all n tx at = blocks j named tx (spent_at j enough named past sound n tx at).ys (steps_at j enough named past sound n tx at) 0
 
-  pub flow : Flow next_of past
+  -- a transaction with a contract input tells its contracts apart
+  pub tell_at : (n i : ℕ) (tx : Tx) (x : Spend) (o : Output) → (at : slice_get past.accepted n ≡ Some tx) → IsContractInput past n i tx x o →
+      Tell (steps_at j enough named past sound n tx at) (blocks j named tx (spent_at j enough named past sound n tx at).ys (steps_at j enough named past sound n tx at) 0) tx.outputs
+  tell_at n i tx x o at k =
+      let l = contract_of_lock o.lock k.contract in
+      let r = read_at j enough named past sound n i tx x o l.0 at k l.1 in
+      let s = spent_at j enough named past sound n tx at in
+      let ss = steps_at j enough named past sound n tx at in
+      tell named tx s.ys ss (fresh_at_steps j enough named past sound n tx at) (blocks_pass j named tx s.ys ss r.number _ s.step r.step)
+
+  -- in a contract output of a transaction that steps, a contract input goes on
+  pub record From (n : ℕ) (tx : Tx) (at : slice_get past.accepted n ≡ Some tx) (i : ℕ) : Type 0 where
+    pub number : ℕ
+    pub step : Step
+    pub there : slice_get (steps_at j enough named past sound n tx at) number ≡ Some step
+    pub goes : goes_on_at (blocks_of j named past tx) step.reference ≡ Some i
+
+  pub goes_from : (n k : ℕ) (tx : Tx) (x : Spend) (u : Output) → (at : slice_get past.accepted n ≡ Some tx) → IsContractInput past n k tx x u → (i : ℕ) (c : Instance) → contract_at tx i ≡ Some c → From n tx at i
+  goes_from n k tx x u at input i c h =
+      let o = under_so tx i c h in
+      let g = (tell_at n k tx x u at input).onto i o.0 o.1 (is_contract_so (o.0).lock o.2 o.3) in
+      record { number = g.0; step = g.1; there = g.2; goes = ap (λ (bs : List Block). goes_on_at bs (g.1).reference) (blocks_so j enough named past sound n tx at) ∙ g.3 }
+
+  pub flow : Flow (next_of j named past) past
   flow = record {
     single = one_place j enough named past sound;
-    goes = λ n tx p q at h. let g = next_so p tx q h in (0, g.1.0, g.0, g.1.1);
+    goes = λ n tx p q at h. let g = next_so tx (goes_on_at (blocks_of j named past tx) p) q h in (g.place, g.made, g.name, g.contract);
     stepped = λ n tx p at s. let k = spent_input n tx p at s in input_steps j enough named past sound n k.0 tx k.1 k.2 k.3;
-    apart = λ n tx p q r at s t g h.
-        let a = spent_input n tx p at s in
-        let b = spent_input n tx q at t in
-        sym a.4 ∙ one_input j enough named past sound n a.0 b.0 tx a.1 b.1 a.2 b.2 a.3 b.3 ∙ b.4;
+    apart = λ n tx p q r at s t h k.
+        let i = spent_input n tx p at s in
+        let a = next_so tx (goes_on_at (blocks_of j named past tx) p) r h in
+        let b = next_so tx (goes_on_at (blocks_of j named past tx) q) r k in
+        let place : b.place ≡ a.place = (same_made (id_of tx) (id_of tx) b.place a.place (sym b.name ∙ a.name)).1 in
+        let these = blocks_so j enough named past sound n tx at in
+        (tell_at n i.0 tx i.1 i.2 at i.3).apart p q a.place (ap (λ (bs : List Block). goes_on_at bs p) (sym these) ∙ a.goes)
+        (ap (λ (bs : List Block). goes_on_at bs q) (sym these) ∙ b.goes ∙ ap (λ (z : ℕ). Some z) place);
     onto = λ n tx i c at h k.
         let one = steps_one j enough named past sound n tx at h in
-        let first : i ≡ 0 = alone n one.0 tx one.1 one.2 one.3 i c k in (
-          one.1.reference,
-          opened n one.1.reference one.2 one.3.there one.3.contract,
-          spends_it n one.0 tx one.1 one.2 one.3,
-          next_there one.1.reference tx c (subst (λ (z : ℕ). contract_at tx z ≡ Some c) first k) ∙ ap (λ (z : ℕ). Some (Made (id_of tx) z)) (sym first),
+        let g = goes_from n one.0 tx one.1 one.2 at one.3 i c k in
+        let w = step_from j enough named past sound n tx at g.number g.step g.there in (
+          w.input.reference,
+          opened n w.input.reference w.output (w.contract).there (w.contract).contract,
+          spends_it n w.index tx w.input w.output w.contract,
+          next_there tx (goes_on_at (blocks_of j named past tx) w.input.reference) i c (ap (goes_on_at (blocks_of j named past tx)) w.reference ∙ g.goes) k,
         );
   }

@@ -12,25 +12,28 @@ use Rattle.eutxo_types.specs.declared.output.Output.{Output}
 use Rattle.eutxo_types.specs.declared.output_ref.OutputRef.{OutputRef}
 use Rattle.eutxo_types.specs.declared.spend.Spend.{Spend}
 use Rattle.eutxo_types.specs.declared.tx.Tx.{Tx}
-use Rattle.eutxo_types.specs.Parts.{inputs_of, is_contract, contract_in, Instance, lock_of, contract_at, steps}
+use Rattle.eutxo_types.specs.Parts.{is_contract, contract_in, Instance, lock_of, contract_at, steps}
 use Rattle.eutxo.specs.Laws.{FoundIsEnough}
 use Rattle.eutxo.specs.Asked.{Stepping}
-use Rattle.eutxo.specs.Rules.{Step, step_asked, step_fault, starts_wrong, starts_wrong_at}
+use Rattle.eutxo.specs.Blocks.{answer_by, step_asked, continues, fault_in, step_fault}
+use Rattle.eutxo.specs.BlockLaws.{BlocksTell}
+use Rattle.eutxo.specs.Rules.{Step, starts_wrong, starts_wrong_at}
 use Rattle.roles.specs.declared.published.Published.{Published}
 use Rattle.roles.specs.Terms.{IsTable, terms_of}
-use Rattle.roles.specs.Steps.{same_cont, is_fresh, same_amounts, starts_from, marlowe}
+use Rattle.roles.specs.Steps.{same_cont, is_fresh, same_amounts, starts_from, step_of, marlowe}
 use Rattle.roles.specs.Sums.{sums_of}
 use Rattle.ledger_laws.specs.Past.{Past, before, unspent_at}
 use Rattle.ledger_laws.specs.Sound.{IsSound}
 use Rattle.ledger_laws.specs.Threads.{IsMade}
 use Rattle.ledger_laws.specs.Laws.{IsContractInput, ContractsAreFunded, ContractsAreOfTables}
 use Rattle.ledger_laws.proofs.PlainLaws.{and_true, not_false, same_some}
-use Rattle.ledger_laws.proofs.PartLaws.{contract_of_lock, script_so}
+use Rattle.ledger_laws.proofs.PartLaws.{script_so}
 use Rattle.ledger_laws.proofs.JudgedLemmas.{mapped_none, unplaced}
-use Rattle.ledger_laws.proofs.PairedLemmas.{step_with, none_steps}
-use Rattle.ledger_laws.proofs.AcceptedLaws.{spent_at, tells_at, made_published, steps_one, input_published, read_at, step_passes}
+use Rattle.ledger_laws.proofs.PairedLemmas.{none_steps}
+use Rattle.ledger_laws.proofs.AcceptedLaws.{spent_at, tells_at, made_published, steps_one, step_from, block_at}
+use Rattle.ledger_laws.proofs.FlowLemmas.{goes_from}
 use Rattle.ledger_laws.proofs.MadeLaws.{made_of, each_tells, made_unspent}
-use Rattle.ledger_laws.proofs.LaidOutLemmas.{datum_after, stepped_so, continues, led_so}
+use Rattle.ledger_laws.proofs.LaidOutLemmas.{datum_after, stepped_so, continues_so, led_so}
 
 -- a start is at the root, and holds the sums of its accounts
 pub started : (p : Published) (d : Datum) (o : Output) → starts_from p.root d o.amount ≡ true → (p.root ≡ d.cont) × (o.amount ≡ sums_of d.state)
@@ -56,24 +59,27 @@ module _ (enough : FoundIsEnough marlowe) (named : List ℕ → Option Published
       let there : starts_wrong marlowe named o.amount (Some c) ≡ false = subst (λ (z : Option Instance). starts_wrong marlowe named o.amount z ≡ false) make here in
       started p c.datum o (not_false (starts_from p.root c.datum o.amount) (subst (λ (v : Option Published). starts_wrong_at marlowe v c.datum o.amount ≡ false) is there))
 
-  -- and of one that steps it goes on from the contract input
+module _ (enough : FoundIsEnough marlowe) (tell : BlocksTell marlowe) (named : List ℕ → Option Published) (past : Past) (sound : IsSound marlowe named past) where
+  -- and of one that steps a contract input goes on in it
   stepping_at : (n i : ℕ) (tx : Tx) (x : Spend) (u : Output) → IsContractInput past n i tx x u → (k : ℕ) (o : Output) (c : Instance) → slice_get tx.outputs k ≡ Some o → contract_at tx k ≡ Some c →
       (p : Published) → named c.script ≡ Some p → Stands p o c
   stepping_at n i tx x u input k o c out make p is =
-      let l = contract_of_lock u.lock input.contract in
-      let q = input_published marlowe enough named past sound n i tx x u l.0 input l.1 in
-      let ys = (spent_at marlowe enough named past sound n tx input.accepted).ys in
-      let d = (read_at marlowe enough named past sound n i tx x u l.0 input.accepted input l.1).datum in
-      let s : Stepping = step_asked tx ys (step_with l.0 d (inputs_of x.redeemer)) in
-      let z = stepped_so (terms_of q.0) s (tells_at marlowe enough named past sound n tx input.accepted) (step_passes marlowe enough named past sound n i tx x u l.0 q.0 input.accepted input l.1 q.1) in
-      let on = continues (terms_of q.0) s z k c make in
-      let same : q.0 ≡ p = same_some q.0 p (sym q.1 ∙ ap (λ (e : Instance). named e.script) (sym on.contract) ∙ is) in
+      let at = input.accepted in
+      let ys = (spent_at marlowe enough named past sound n tx at).ys in
+      let g = goes_from marlowe enough tell named past sound n i tx x u at input k c make in
+      let w = step_from marlowe enough named past sound n tx at g.number g.step g.there in
+      let b = block_at marlowe enough named past sound n tx at g.number g.step g.there in
+      let s : Stepping = step_asked tx ys b.«from» g.step in
+      let z = stepped_so (terms_of w.script) s (tells_at marlowe enough named past sound n tx at) (ap (λ (v : Option Published). fault_in (answer_by marlowe v s)) (sym w.published) ∙ b.passes) in
+      let goes : continues b.«from» (step_of (terms_of w.script) s) ≡ Some k = ap (λ (v : Option Published). continues b.«from» (answer_by marlowe v s)) (sym w.published) ∙ sym b.goes ∙ g.goes in
+      let on = continues_so (terms_of w.script) s z k c goes make in
+      let same : w.script ≡ p = same_some w.script p (sym w.published ∙ ap (λ (e : Instance). named e.script) (sym on.contract) ∙ is) in
       record {
         sums = ap (λ (e : Output). e.amount) (same_some o _ (sym out ∙ on.output)) ∙ ap (λ (e : Instance). sums_of e.datum.state) (sym on.contract);
         number = λ turns table.
             ap (λ (e : Instance). (terms_of p).has e.datum.cont) on.contract
-            ∙ ap (λ (v : Published). (terms_of v).has (datum_after (terms_of q.0) s (z.at).state).cont) (sym same)
-            ∙ (led_so turns (terms_of q.0) (subst (λ (v : Published). IsTable (terms_of v)) (sym same) table) s z).0;
+            ∙ ap (λ (v : Published). (terms_of v).has (datum_after (terms_of w.script) s (z.at).state).cont) (sym same)
+            ∙ (led_so turns (terms_of w.script) (subst (λ (v : Published). IsTable (terms_of v)) (sym same) table) s z).0;
       }
 
   made_stands : (n : ℕ) (tx : Tx) → slice_get past.accepted n ≡ Some tx → (k : ℕ) (o : Output) (c : Instance) → slice_get tx.outputs k ≡ Some o → contract_at tx k ≡ Some c →
@@ -83,7 +89,7 @@ module _ (enough : FoundIsEnough marlowe) (named : List ℕ → Option Published
       by : (b : Bool) → steps tx ≡ b → Stands p o c
       by true h = let one = steps_one marlowe enough named past sound n tx at h in stepping_at n one.0 tx one.1 one.2 one.3 k o c out make p is
       by false h =
-          let s = starting_at n tx at h k o c out make p is in
+          let s = starting_at enough named past sound n tx at h k o c out make p is in
           record { sums = s.1; number = λ turns table. ap (terms_of p).has (sym s.0) ∙ table.root }
 
   stands : (q : OutputRef) (o : Output) → unspent_at past q ≡ Some o → is_contract o.lock ≡ true →
@@ -94,12 +100,12 @@ module _ (enough : FoundIsEnough marlowe) (named : List ℕ → Option Published
       let p = made_published marlowe enough named past sound m.1.number m.1.tx m.1.accepted m.1.index o (m.0).script out (script_so o.lock (lock_of m.0) m.2) in
       (m.0, m.1, m.2, (p.0, p.1, made_stands m.1.number m.1.tx m.1.accepted m.1.index o m.0 out m.1.contract p.0 p.1))
 
-pub contracts_are_funded : FoundIsEnough marlowe → ContractsAreFunded
-contracts_are_funded enough named past sound q o h k =
-    let s = stands enough named past sound q o h k in
+pub contracts_are_funded : FoundIsEnough marlowe → BlocksTell marlowe → ContractsAreFunded
+contracts_are_funded enough tell named past sound q o h k =
+    let s = stands enough tell named past sound q o h k in
     (s.0, s.1, s.2, s.3.2.sums)
 
-pub contracts_are_of_tables : TurnsLead → FoundIsEnough marlowe → ContractsAreOfTables
-contracts_are_of_tables turns enough named past tables sound q o h k =
-    let s = stands enough named past sound q o h k in
+pub contracts_are_of_tables : TurnsLead → FoundIsEnough marlowe → BlocksTell marlowe → ContractsAreOfTables
+contracts_are_of_tables turns enough tell named past tables sound q o h k =
+    let s = stands enough tell named past sound q o h k in
     (s.0, s.1, s.2, (s.3.0, s.3.1, s.3.2.number turns (tables (s.0).script s.3.0 s.3.1)))

@@ -1,8 +1,7 @@
--- What a step that no rule refuses is, and how its outputs are laid out.
-use Rattle.std.proofs.Common.{◌≡◌, ℕ, zero, suc, ◌+◌, Bool, true, false, not, cond, List, [], ◌∷◌, ◌++◌, refl, sym, ◌∙◌, ap, Option, Some, None, Result, Ok, Err, drop}
+-- What a step that no rule refuses is, and how its block is laid out.
+use Rattle.std.proofs.Common.{◌≡◌, ℕ, ◌+◌, Bool, true, false, not, cond, List, [], ◌∷◌, ◌++◌, refl, sym, ◌∙◌, ap, Option, Some, None, Result, Ok, Err, drop, length}
 use Rattle.std.specs.Prelude.{if◌then◌else◌, All}
-use Rattle.std.specs.List.{slice_get, filter_map, find, position}
-use Rattle.std.specs.Option.{option_map}
+use Rattle.std.specs.List.{slice_get, filter_map, find}
 use Rattle.std.specs.Cmp.Lexicographic.{bytes_decides}
 use Rattle.std.proofs.lemmas.List.Elements.{All-nil, All-cons}
 use Rattle.collections.proofs.SameLaws.{same_by_decides}
@@ -18,26 +17,25 @@ use Rattle.bundle.specs.Bundles.{Amounts}
 use Rattle.bundle.specs.contracts.bundle.Bundle as bundles
 use Rattle.machine.specs.declared.datum.Datum.{Datum}
 use Rattle.machine.specs.contracts.datum.Datum as datums
-use Rattle.eutxo_types.specs.declared.fault.TxFault.TheVariants.{StrayContract}
 use Rattle.eutxo.specs.declared.step_fault.StepFault.{StepFault}
-use Rattle.eutxo.specs.declared.step_fault.StepFault.TheVariants.{Semantics, NotAuthorised, WrongContinuation, WrongPayment}
+use Rattle.eutxo.specs.declared.step_fault.StepFault.TheVariants.{NotAuthorised, WrongContinuation, WrongPayment}
 use Rattle.eutxo_types.specs.declared.output.Output.{Output}
 use Rattle.eutxo_types.specs.contracts.output.Output as outputs
 use Rattle.eutxo_types.specs.declared.tx.Tx.{Tx}
-use Rattle.eutxo.specs.declared.validator.StepAnswer.TheVariants.{Refused}
+use Rattle.eutxo.specs.declared.validator.StepAnswer.TheVariants.{Refused, Takes}
 use Rattle.eutxo.specs.Faults.{first_of}
-use Rattle.eutxo.specs.Rules.{after_answer, stray_after}
-use Rattle.eutxo.specs.Asked.{Stepping}
+use Rattle.eutxo.specs.Blocks.{continues, fault_in}
+use Rattle.eutxo.specs.Asked.{Stepping, refusal_of}
 use Rattle.roles.specs.Terms.{Terms, IsTable}
 use Rattle.roles.specs.Sums.{sums_of}
 use Rattle.table.specs.Flat.{is_close}
-use Rattle.roles.specs.Steps.{same_output, same_datum, continuation, due_outputs, actor, authorised, unauthorised, first_unpaid, is_instance, holds_just, goes_on_in, walk_of, not_authorised, wrong_continuation, payments_from, wrong_payment, answer_by, next_datum, by_answer, step_of}
-use Rattle.eutxo_types.specs.Parts.{same_bytes, is_contract, ContractLock, contract_in, Instance, lock_of, contract_at}
+use Rattle.roles.specs.Steps.{same_output, same_datum, continuation, due_outputs, actor, authorised, unauthorised, first_unpaid, is_instance, holds_just, goes_on_in, walk_of, not_authorised, wrong_continuation, wrong_payment, outcome_fault, next_datum, by_answer, step_of}
+use Rattle.eutxo_types.specs.Parts.{same_bytes, Instance, lock_of, contract_at}
 use Rattle.ledger_laws.specs.Threads.{Effect, LaidOut}
-use Rattle.ledger_laws.proofs.PlainLaws.{and_true, not_false, not_both, same_some, each_at}
-use Rattle.ledger_laws.proofs.PartLaws.{lock_so, is_contract_so, under_so}
+use Rattle.ledger_laws.proofs.PlainLaws.{and_true, not_false, same_some}
+use Rattle.ledger_laws.proofs.PartLaws.{lock_so}
 use Rattle.ledger_laws.proofs.DatumLaws.{Tells, output_so}
-use Rattle.ledger_laws.proofs.JudgedLemmas.{each_none, nowhere, mapped_none, unless}
+use Rattle.ledger_laws.proofs.JudgedLemmas.{each_none, mapped_none, unless}
 
 unpaid_if : (b : Bool) (n : ℕ) (later : Option ℕ) → (if b then later else Some n) ≡ None → (b ≡ true) × (later ≡ None)
 unpaid_if true n later h = (refl, h)
@@ -82,12 +80,6 @@ goes_so tx tells i script d h =
 abbrev pub effect_of : Walk → StateMaps → ContractTree → Effect
 effect_of w s c = record { warnings = w.warnings; payments = w.payments; state = s; contract = c }
 
--- an answer that doesn't refuse
-passed : (f : Option StepFault) (closed : Bool) (os : List Output) → after_answer os (answer_by f closed) ≡ None → (f ≡ None) × (stray_after (payments_from closed 0) os ≡ None)
-passed (Some f) closed os h = cc
-passed None true os h = (refl, h)
-passed None false os h = (refl, h)
-
 -- ---- a step that passes
 
 -- where the contract goes on
@@ -95,30 +87,45 @@ abbrev pub datum_after : Terms → Stepping → StateMaps → Datum
 datum_after t s state = next_datum t s.datum (walk_of t s) state
 
 abbrev pub rules_after : Terms → Stepping → StateMaps → Bool → List (Option StepFault)
-rules_after t s state closed = not_authorised t.currency s ∷ wrong_continuation closed 0 (datum_after t s state) s ∷ wrong_payment t.currency closed 0 (walk_of t s).payments s ∷ []
+rules_after t s state closed = not_authorised t.currency s ∷ wrong_continuation closed (datum_after t s state) s ∷ wrong_payment t.currency closed (walk_of t s).payments s ∷ []
 
--- it is the transaction function's, from a number of the table, and no rule refuses what it makes; what is made holds the digests of
--- its data
+-- it is the transaction function's, from a number of the table, and no rule refuses its block, in whose first output it goes on unless
+-- the contract is over; what is made holds the digests of its data
 pub record Stepped (t : Terms) (s : Stepping) : Type 0 where
   pub at : Standing
   pub answer : answer_of (walk_of t s) ≡ Ok at
   pub has : t.has s.datum.cont ≡ true
   pub rules : first_of (rules_after t s at.state (is_close at.contract)) ≡ None
-  pub stray : stray_after (payments_from (is_close at.contract) 0) s.tx.outputs ≡ None
+  pub goes : continues s.«from» (step_of t s) ≡ (if is_close at.contract then None else Some s.«from»)
   pub tells : Tells s.tx
 
-by_cases : (t : Terms) (s : Stepping) → Tells s.tx → t.has s.datum.cont ≡ true → (r : Result Standing SemFault) → answer_of (walk_of t s) ≡ r →
-    after_answer s.tx.outputs (by_answer t s (walk_of t s) r) ≡ None → Stepped t s
-by_cases t s tells has (Err f) e h = cc
-by_cases t s tells has (Ok a) e h =
-    let p = passed (first_of (rules_after t s a.state (is_close a.contract))) (is_close a.contract) s.tx.outputs h in
-    record { at = a; answer = e; has = has; rules = p.0; stray = p.1; tells = tells }
+-- where a block goes on of a contract that is taken
+on_so : (i : ℕ) (closed : Bool) (f : Option StepFault) (n : ℕ) → continues i (Takes f (not closed) n) ≡ (if closed then None else Some i)
+on_so i true f n = refl
+on_so i false f n = refl
 
-pub stepped_so : (t : Terms) (s : Stepping) → Tells s.tx → after_answer s.tx.outputs (step_of t s) ≡ None → Stepped t s
+pub stepped_so : (t : Terms) (s : Stepping) → Tells s.tx → fault_in (step_of t s) ≡ None → Stepped t s
 stepped_so t s tells h = by (t.has s.datum.cont) refl h
   where
-    by : (b : Bool) → t.has s.datum.cont ≡ b → after_answer s.tx.outputs (if b then by_answer t s (walk_of t s) (answer_of (walk_of t s)) else Refused (Semantics NoMatch)) ≡ None → Stepped t s
-    by true e h = by_cases t s tells e (answer_of (walk_of t s)) refl h
+    result : t.has s.datum.cont ≡ true → (r : Result Standing SemFault) → answer_of (walk_of t s) ≡ r → fault_in (by_answer t s (walk_of t s) r) ≡ None → Stepped t s
+    result has (Err f) e h = cc
+    result has (Ok a) e h =
+        let closed = is_close a.contract in
+        let fault = outcome_fault t.currency closed (datum_after t s a.state) (walk_of t s).payments s in
+        record {
+          at = a;
+          answer = e;
+          has = has;
+          rules = mapped_none refusal_of fault h;
+          goes =
+              ap (λ (b : Bool). continues s.«from» (if b then by_answer t s (walk_of t s) (answer_of (walk_of t s)) else Refused NoMatch)) has
+              ∙ ap (λ (r : Result Standing SemFault). continues s.«from» (by_answer t s (walk_of t s) r)) e
+              ∙ on_so s.«from» closed fault (length (due_outputs t.currency (walk_of t s).payments));
+          tells = tells;
+        }
+
+    by : (b : Bool) → t.has s.datum.cont ≡ b → fault_in (if b then by_answer t s (walk_of t s) (answer_of (walk_of t s)) else Refused NoMatch) ≡ None → Stepped t s
+    by true e h = result e (answer_of (walk_of t s)) refl h
     by false e h = cc
 
 -- ---- who acts is authorised
@@ -136,52 +143,44 @@ authorised_so t s z =
     none_left (authorised t.currency s.tx.signers s.spent) (filter_map actor s.inputs)
     (mapped_none NotAuthorised (unauthorised t.currency s.tx.signers s.spent s.inputs) (each_none (rules_after t s (z.at).state (is_close (z.at).contract)) z.rules).0)
 
--- ---- its contract output is the one that goes on
+-- ---- where it goes on
 
-goes_first : (t : Terms) (s : Stepping) → Tells s.tx → (state : StateMaps) → first_of (rules_after t s state false) ≡ None →
-    (contract_at s.tx 0 ≡ Some (record { script = s.script; datum = datum_after t s state })) × (slice_get s.tx.outputs 0 ≡ Some (continuation s.script (datum_after t s state)))
-goes_first t s tells state h =
+-- the first output of its block is the one with which it goes on
+pub goes_on : (t : Terms) (s : Stepping) → Tells s.tx → (state : StateMaps) → first_of (rules_after t s state false) ≡ None →
+    (contract_at s.tx s.«from» ≡ Some (record { script = s.script; datum = datum_after t s state })) × (slice_get s.tx.outputs s.«from» ≡ Some (continuation s.script (datum_after t s state)))
+goes_on t s tells state h =
     let d = datum_after t s state in
-    goes_so s.tx tells 0 s.script d (not_false (goes_on_in s.tx 0 s.script d) (unless (not (goes_on_in s.tx 0 s.script d)) WrongContinuation (each_none (rules_after t s state false) h).1.0))
+    goes_so s.tx tells s.«from» s.script d (not_false (goes_on_in s.tx s.«from» s.script d) (unless (not (goes_on_in s.tx s.«from» s.script d)) WrongContinuation (each_none (rules_after t s state false) h).1.0))
 
--- a contract output of a step
+-- a contract output in which it goes on
 pub record Continues (t : Terms) (s : Stepping) (a : Standing) (i : ℕ) (c : Instance) : Type 0 where
   pub contract : c ≡ record { script = s.script; datum = datum_after t s a.state }
   pub output : slice_get s.tx.outputs i ≡ Some (continuation s.script (datum_after t s a.state))
-  pub goes : a.contract ≡ close → ⊥
 
-later_at : (os : List Output) (i : ℕ) (o : Output) → slice_get os (suc i) ≡ Some o → slice_get (drop 1 os) i ≡ Some o
-later_at [] i o h = cc
-later_at (x ∷ os) i o h = h
-
-pub continues : (t : Terms) (s : Stepping) → (z : Stepped t s) → (i : ℕ) (c : Instance) → contract_at s.tx i ≡ Some c → Continues t s z.at i c
-continues t s z i c h = by (is_close (z.at).contract) refl z.rules z.stray
+pub continues_so : (t : Terms) (s : Stepping) → (z : Stepped t s) → (i : ℕ) (c : Instance) → continues s.«from» (step_of t s) ≡ Some i → contract_at s.tx i ≡ Some c → Continues t s z.at i c
+continues_so t s z i c e h = by (is_close (z.at).contract) z.rules (sym z.goes ∙ e)
   where
-    none_at : (k n : ℕ) (os : List Output) (o : Output) (l : ContractLock) → option_map (λ (i : ℕ). StrayContract (n + i)) (position (λ o. is_contract o.lock) os) ≡ None → slice_get os k ≡ Some o →
-        contract_in o.lock ≡ Some l → ⊥
-    none_at k n os o l f g h = not_both (is_contract_so o.lock l h) (each_at (λ o. is_contract o.lock) k os o (nowhere (λ (i : ℕ). StrayContract (n + i)) (λ o. is_contract o.lock) os f) g)
-
-    first : is_close (z.at).contract ≡ false → first_of (rules_after t s (z.at).state false) ≡ None → stray_after 1 s.tx.outputs ≡ None → (i : ℕ) → contract_at s.tx i ≡ Some c → Continues t s z.at i c
-    first e r f zero h =
-        let g = goes_first t s z.tells (z.at).state r in
-        record { contract = same_some c _ (sym h ∙ g.0); output = g.1; goes = λ q. not_both (ap is_close q) e }
-    first e r f (suc i) h = let o = under_so s.tx (suc i) c h in absurd (none_at i 1 (drop 1 s.tx.outputs) o.0 o.2 f (later_at s.tx.outputs i o.0 o.1) o.3)
-
-    by : (b : Bool) → is_close (z.at).contract ≡ b → first_of (rules_after t s (z.at).state b) ≡ None → stray_after (payments_from b 0) s.tx.outputs ≡ None → Continues t s z.at i c
-    by true e r f = let o = under_so s.tx i c h in absurd (none_at i 0 s.tx.outputs o.0 o.2 f o.1 o.3)
-    by false e r f = first e r f i h
+    by : (b : Bool) → first_of (rules_after t s (z.at).state b) ≡ None → (if b then None else Some s.«from») ≡ Some i → Continues t s z.at i c
+    by true r f = cc
+    by false r f =
+        let place : s.«from» ≡ i = same_some s.«from» i f in
+        let g = goes_on t s z.tells (z.at).state r in
+        record {
+          contract = same_some c _ (sym h ∙ ap (contract_at s.tx) (sym place) ∙ g.0);
+          output = ap (slice_get s.tx.outputs) (sym place) ∙ g.1;
+        }
 
 -- ---- how it is laid out
 
 laid_out : (t : Terms) (s : Stepping) → Tells s.tx → (state : StateMaps) (c : ContractTree) → first_of (rules_after t s state (is_close c)) ≡ None →
     (t.has (datum_after t s state).cont ≡ true) × (t.tree (datum_after t s state).cont ≡ c) →
-    LaidOut t s.script (effect_of (walk_of t s) state c) 0 s.tx
+    LaidOut t s.script (effect_of (walk_of t s) state c) s.«from» s.tx
 laid_out t s tells state close h led =
-    pays 0 (due_outputs t.currency (walk_of t s).payments) s.tx.outputs (mapped_none WrongPayment _ (each_none (rules_after t s state true) h).1.1.0)
+    pays s.«from» (due_outputs t.currency (walk_of t s).payments) (drop s.«from» s.tx.outputs) (mapped_none WrongPayment _ (each_none (rules_after t s state true) h).1.1.0)
 laid_out t s tells state c h led =
-    let g = goes_first t s tells state h in
+    let g = goes_on t s tells state h in
     let paid = mapped_none WrongPayment _ (each_none (rules_after t s state false) h).1.1.0 in
-    ((datum_after t s state).cont, led.0, led.1, g.0, g.1, pays 1 (due_outputs t.currency (walk_of t s).payments) (drop 1 s.tx.outputs) paid)
+    ((datum_after t s state).cont, led.0, led.1, g.0, g.1, pays (s.«from» + 1) (due_outputs t.currency (walk_of t s).payments) (drop (s.«from» + 1) s.tx.outputs) paid)
 
 ended_so : (b : Bool) (r : Result Standing SemFault) (f : SemFault) (a : Standing) → (if b then r else Err f) ≡ Ok a → r ≡ Ok a
 ended_so true r f a h = h
@@ -195,5 +194,5 @@ led_so turns t table s z =
     let end : w.end ≡ Ok z.at = ended_so (all_fit w.numbers) w.end _ z.at z.answer in
     table.led s.datum.cont w.turns (z.at).contract z.has (turns s.tx.interval s.datum.state (t.tree s.datum.cont) s.inputs z.at end)
 
-pub laid_so : TurnsLead → (t : Terms) → IsTable t → (s : Stepping) → (z : Stepped t s) → LaidOut t s.script (effect_of (walk_of t s) (z.at).state (z.at).contract) 0 s.tx
+pub laid_so : TurnsLead → (t : Terms) → IsTable t → (s : Stepping) → (z : Stepped t s) → LaidOut t s.script (effect_of (walk_of t s) (z.at).state (z.at).contract) s.«from» s.tx
 laid_so turns t table s z = laid_out t s z.tells (z.at).state (z.at).contract z.rules (led_so turns t table s z)

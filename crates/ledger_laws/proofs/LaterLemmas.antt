@@ -1,4 +1,4 @@
--- What was accepted stays accepted where more is published.
+-- What was accepted stays accepted where more is published, and threads go on where they did.
 use Rattle.std.proofs.Common.{◌≡◌, ℕ, ◌+◌, Bool, true, not, cond, List, [], ◌∷◌, refl, sym, ◌∙◌, ap, subst, Option, Some, None}
 use Rattle.std.specs.Prelude.{if◌then◌else◌, is_some}
 use Rattle.std.specs.List.{list_all, position, position_from, slice_get}
@@ -11,22 +11,30 @@ use Rattle.eutxo_types.specs.declared.lock.Lock.TheVariants.{Key, Payout, Contra
 use Rattle.eutxo_types.specs.declared.output.Output.{Output}
 use Rattle.eutxo_types.specs.declared.spend.Spend.{Spend}
 use Rattle.eutxo_types.specs.declared.tx.Tx.{Tx}
-use Rattle.eutxo_types.specs.Parts.{Instance, contract_at}
+use Rattle.eutxo_types.specs.declared.output_ref.OutputRef.{OutputRef}
+use Rattle.eutxo_types.specs.Parts.{same_ref, ContractLock, contract_in, Instance, contract_at}
+use Rattle.machine.specs.declared.datum.Datum.{Datum}
+use Rattle.std.specs.Map.{lookup}
 use Rattle.eutxo.specs.Laws.{FoundIsEnough}
 use Rattle.eutxo.specs.Faults.{first_of}
 use Rattle.eutxo.specs.Found.{is_known, all_known, if_known}
-use Rattle.eutxo.specs.Rules.{Step, steps_of, step_asked, script_fault, step_fault, step_fault_unless, starts_wrong, starts_wrong_at, wrong_datum}
+use Rattle.eutxo.specs.Blocks.{Block, blocks, blocks_on, goes_on_at, block_fault, step_fault, step_fault_unless}
+use Rattle.eutxo.specs.BlockLaws.{BlocksStay}
+use Rattle.eutxo.specs.OneContract.{AreNamed}
+use Rattle.eutxo.specs.Rules.{Step, or_step, steps_of, starts_wrong, starts_wrong_at, wrong_datum}
 use Rattle.eutxo.specs.Local.{spent_rules, spent_fault, whole_fault}
 use Rattle.eutxo.specs.Asked.{Judges}
-use Rattle.ledger_laws.specs.Past.{Past, before, unspent_at}
+use Rattle.ledger_laws.specs.Past.{Past, before, after, created_by, created, created_at, unspent_at}
 use Rattle.eutxo.specs.Judgement.{is_unknown, judge}
 use Rattle.ledger_laws.specs.Sound.{moment, IsSound, IsMore}
-use Rattle.ledger_laws.specs.Laws.{LaterIsSound}
+use Rattle.ledger_laws.specs.Laws.{LaterIsSound, ThreadsStay}
+use Rattle.ledger_laws.specs.Threads.{blocks_of, next_in, next_of}
 use Rattle.ledger_laws.proofs.PlainLaws.{EachFalse, not_false, both, is_there, each_at}
 use Rattle.ledger_laws.proofs.PartLaws.{lock_so, script_so, under_so}
 use Rattle.ledger_laws.proofs.JudgedLemmas.{found, all_rules, local_rules, EachNone, each_none, made_known, same_places}
-use Rattle.ledger_laws.proofs.PairedLemmas.{Paired, paired, spent_known, input_at, step_there}
-use Rattle.ledger_laws.proofs.AcceptedLaws.{passes_at, find_known, published}
+use Rattle.ledger_laws.proofs.ReferenceLaws.{lookup_front, created_grown}
+use Rattle.ledger_laws.proofs.PairedLemmas.{Paired, paired, spent_known}
+use Rattle.ledger_laws.proofs.AcceptedLaws.{passes_at, find_known, published, spent_at, spent_by, blocks_so}
 
 first_none : {A : Type 0} (xs : List (Option A)) → EachNone xs → first_of xs ≡ None
 first_none [] h = refl
@@ -40,7 +48,7 @@ no_position_from p n (x ∷ xs) h = ap (λ b. cond b (Some n) (position_from p (
 no_position : {A : Type 0} (p : A → Bool) (xs : List A) → EachFalse p xs → position p xs ≡ None
 no_position p xs h = position_from-zero p xs ∙ no_position_from p 0 xs h
 
-module _ {V : Type 0} (j : Judges V) (enough : FoundIsEnough j) (named later : List ℕ → Option V) (more : IsMore named later) where
+module _ {V : Type 0} (j : Judges V) (enough : FoundIsEnough j) (stay : BlocksStay j) (named later : List ℕ → Option V) (more : IsMore named later) where
   still_known : (l : Lock) → is_known named l ≡ true → is_known later l ≡ true
   still_known (Key a) h = refl
   still_known (Payout c r) h = refl
@@ -64,19 +72,29 @@ module _ {V : Type 0} (j : Judges V) (enough : FoundIsEnough j) (named later : L
           ap (λ v. starts_wrong_at j v c.datum o.amount) (more c.script t.0 t.1 ∙ sym t.1)
 
   module _ (past : Past) (sound : IsSound j named past) (n : ℕ) (tx : Tx) (at : slice_get past.accepted n ≡ Some tx) where
-    same_step : (ys : List (Spend × Output)) → Paired (unspent_at (before past n)) tx.inputs ys → (z : List Step) → steps_of ys tx.datums ≡ z → step_fault j named tx ys z ≡ None →
-        step_fault j later tx ys z ≡ None
-    same_step ys p [] e h =
+    -- the script of each step was published
+    named_if : (xs : List Spend) (ys : List (Spend × Output)) (ds : List Datum) → Paired (unspent_at (before past n)) xs ys → AreNamed named (steps_of ys ds)
+    named_if [] [] ds p = tt
+    named_if [] (y ∷ ys) ds p = absurd p
+    named_if (x ∷ xs) [] ds p = absurd p
+    named_if (x ∷ xs) (y ∷ ys) ds p = by (contract_in y.1.lock) refl ds (λ es. named_if xs ys es p.2)
+      where
+        by : (l : Option ContractLock) → contract_in y.1.lock ≡ l → (es : List Datum) → ((fs : List Datum) → AreNamed named (steps_of ys fs)) → AreNamed named (or_step l y.0 es (steps_of ys))
+        by None e es go = go es
+        by (Some c) e [] go = tt
+        by (Some c) e (d ∷ es) go = (published j enough named past sound n x.reference y.1 c.script p.1 (script_so y.1.lock c e), go es)
+
+    same_blocks : (ys : List (Spend × Output)) → Paired (unspent_at (before past n)) tx.inputs ys → blocks j named tx ys (steps_of ys tx.datums) 0 ≡ blocks j later tx ys (steps_of ys tx.datums) 0
+    same_blocks ys p = stay named later tx ys (steps_of ys tx.datums) 0 more (named_if tx.inputs ys tx.datums p)
+
+    same_step : (ys : List (Spend × Output)) → (z : List Step) → blocks j named tx ys z 0 ≡ blocks j later tx ys z 0 → step_fault j named tx ys z ≡ None → step_fault j later tx ys z ≡ None
+    same_step ys [] e h =
         ap (option_map WrongStart) (same_places (λ i (o : Output). starts_wrong j later o.amount (contract_at tx i)) (λ i (o : Output). starts_wrong j named o.amount (contract_at tx i)) tx.outputs
         (same_start tx (passes_at j enough named past sound n tx at).known)) ∙ h
-    same_step ys p (s ∷ ss) e h =
-        let y = step_there ys tx.datums s ss e in
-        let there = (input_at (unspent_at (before past n)) y.0 y.1 tx.inputs ys p y.2).1 in
-        let t = published j enough named past sound n y.1.0.reference y.1.1 s.script there (script_so y.1.1.lock y.3 y.4 ∙ ap (λ (id : List ℕ). Some id) y.5) in
-        subst (λ (v : Option V). script_fault j v (step_asked tx ys s) ≡ None) (t.1 ∙ sym (more s.script t.0 t.1)) h
+    same_step ys (s ∷ ss) e h = ap (λ (bs : List Block). block_fault bs tx.outputs) (sym e) ∙ h
 
     same_unless : (ys : List (Spend × Output)) → Paired (unspent_at (before past n)) tx.inputs ys → (w : Option TxFault) → step_fault_unless w j named tx ys ≡ None → step_fault_unless w j later tx ys ≡ None
-    same_unless ys p None h = same_step ys p (steps_of ys tx.datums) refl h
+    same_unless ys p None h = same_step ys (steps_of ys tx.datums) (same_blocks ys p) h
     same_unless ys p (Some fault) h = refl
 
     same_spent : (ys : List (Spend × Output)) → Paired (unspent_at (before past n)) tx.inputs ys → spent_fault j named tx ys ≡ None → spent_fault j later tx ys ≡ None
@@ -104,8 +122,30 @@ module _ {V : Type 0} (j : Judges V) (enough : FoundIsEnough j) (named later : L
         first_none (all_rules j (moment later (before past n) tick) tx)
         (e.0, (e.1.0, (e.1.1.0, (e.1.1.1.0, (ap (option_map UnknownScript) (no_position (is_unknown later) tx.outputs (known_later tx.outputs p.known)), (enough (moment later (before past n) tick) tx ∙ first_none (local_rules j later (before past n) tx) (e.0, (now, tt)), tt))))))
 
-pub later_is_sound : {V : Type 0} (j : Judges V) → FoundIsEnough j → LaterIsSound j
-later_is_sound j enough named later past more sound = record {
+    -- where a thread goes on after it stays where more is published
+    same_next : (r : OutputRef) → next_of j later past r tx ≡ next_of j named past r tx
+    same_next r =
+        let s = spent_at j enough named past sound n tx at in
+        let these : blocks_of j later past tx ≡ blocks j later tx s.ys (steps_of s.ys tx.datums) 0 = ap (blocks_on j later tx) (spent_by j enough named past sound n tx at (created_at past) (λ q o e. e)) in
+        ap (λ (bs : List Block). next_in tx (goes_on_at bs r)) (these ∙ sym (same_blocks s.ys s.pairs) ∙ sym (blocks_so j enough named past sound n tx at))
+
+    -- and where one more is accepted
+    grown_next : (s : Tx) (r : OutputRef) → next_of j named (after past s) r tx ≡ next_of j named past r tx
+    grown_next s r =
+        let grown = created_grown past past.accepted s in
+        let still : (q : OutputRef) (o : Output) → created_at past q ≡ Some o → created_at (after past s) q ≡ Some o = λ q o e. ap (lookup (same_ref q)) grown ∙ lookup_front (same_ref q) (created past) (created_by s) o e in
+        let there = spent_by j enough named past sound n tx at (created_at (after past s)) still in
+        let here = spent_by j enough named past sound n tx at (created_at past) (λ q o e. e) in
+        ap (λ (z : Option (List (Spend × Output))). next_in tx (goes_on_at (blocks_on j named tx z) r)) (there ∙ sym here)
+
+pub later_is_sound : {V : Type 0} (j : Judges V) → FoundIsEnough j → BlocksStay j → LaterIsSound j
+later_is_sound j enough stay named later past more sound = record {
   keys = sound.keys;
-  admitted = λ n tx at. let l = sound.admitted n tx at in (l.0, same_judge j enough named later more past sound n tx at l.0 l.1);
+  admitted = λ n tx at. let l = sound.admitted n tx at in (l.0, same_judge j enough stay named later more past sound n tx at l.0 l.1);
+}
+
+pub threads_stay : {V : Type 0} (j : Judges V) → FoundIsEnough j → BlocksStay j → ThreadsStay j
+threads_stay j enough stay named later past more sound n tx at = record {
+  more = same_next j enough stay named later more past sound n tx at;
+  accepted = grown_next j enough stay named later more past sound n tx at;
 }

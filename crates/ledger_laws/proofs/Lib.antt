@@ -4,6 +4,9 @@ pub mod ReferenceLaws
 pub mod JudgedLemmas
 pub mod PairedLemmas
 pub mod DatumLaws
+pub mod FreshLemmas
+pub mod SteppingLemmas
+pub mod FindingLemmas
 pub mod AcceptedLaws
 pub mod MadeLaws
 pub mod SpineLaws
@@ -12,7 +15,6 @@ pub mod FlowLemmas
 pub mod ThreadLaws
 pub mod SoundLemmas
 pub mod LaterLemmas
-pub mod FreshLemmas
 pub mod ConservedLemmas
 pub mod PreservedLemmas
 pub mod SpentOnceLemmas

@@ -1,8 +1,7 @@
 -- Inputs with the outputs that they find, and the contracts among them.
-use Rattle.std.proofs.Common.{◌≡◌, ℕ, zero, suc, ◌≤◌, Bool, true, false, not, ◌||◌, List, [], ◌∷◌, ◌++◌, refl, sym, ◌∙◌, ap, Option, Some, None}
-use Rattle.std.specs.Prelude.{is_none, count_by, map, if◌then◌else◌}
+use Rattle.std.proofs.Common.{◌≡◌, ℕ, zero, suc, Bool, true, false, not, ◌||◌, List, [], ◌∷◌, ◌++◌, refl, sym, ◌∙◌, ap, Option, Some, None}
+use Rattle.std.specs.Prelude.{is_none, map, if◌then◌else◌}
 use Rattle.std.specs.List.{slice_get, list_any, list_all}
-use Rattle.contract.specs.declared.input.Input.{Input}
 use Rattle.machine.specs.declared.datum.Datum.{Datum}
 use Rattle.eutxo_types.specs.declared.lock.Lock.{Lock}
 use Rattle.eutxo_types.specs.declared.lock.Lock.TheVariants.{Key, Payout, Contract}
@@ -15,8 +14,8 @@ use Rattle.eutxo_types.specs.Digests.{datum_hash}
 use Rattle.eutxo.specs.Found.{with_output, with_outputs, is_known}
 use Rattle.eutxo.specs.Rules.{opens, digest_in, digests_in, Step, or_step, steps_of}
 use Rattle.eutxo_types.specs.Parts.{given_to, inputs_of, is_contract, ContractLock, contract_in, same_ref, is_step}
-use Rattle.ledger_laws.proofs.PlainLaws.{EachFalse, not_both, not_false, both, some_of, same_some, each_at, any_at, fewer, first_fails}
-use Rattle.ledger_laws.proofs.PartLaws.{no_contract_in, is_contract_so}
+use Rattle.ledger_laws.proofs.PlainLaws.{EachFalse, not_both, not_false, both, some_of, same_some, each_at, any_at}
+use Rattle.ledger_laws.proofs.PartLaws.{is_contract_so}
 use Rattle.ledger_laws.proofs.ReferenceLaws.{same_ref_so}
 
 -- each input beside the output that it finds
@@ -119,14 +118,14 @@ contract_steps with.Claim (Contract s d) c h = cc
 contract_steps (with.Step xs) (Contract s d) c h = refl
 
 -- the step of a contract that is spent, at a datum
-abbrev pub step_with : ContractLock → Datum → List Input → Step
-step_with c d xs = record { script = c.script; datum = d; inputs = xs }
+abbrev pub step_with : ContractLock → Spend → Datum → Step
+step_with c x d = record { reference = x.reference; script = c.script; datum = d; inputs = inputs_of x.redeemer }
 
--- a contract that is spent is the first step that the rules read, at a datum that is brought with the digest that it holds
+-- a contract that is spent is a step that the rules read, at a datum that is brought with the digest that it holds
 pub record ReadStep (ys : List (Spend × Output)) (ds : List Datum) (y : Spend × Output) (c : ContractLock) : Type 0 where
   pub datum : Datum
-  pub later : List Step
-  pub steps : steps_of ys ds ≡ step_with c datum (inputs_of y.0.redeemer) ∷ later
+  pub number : ℕ
+  pub step : slice_get (steps_of ys ds) number ≡ Some (step_with c y.0 datum)
   pub digest : datum_hash datum ≡ c.digest
   pub place : ℕ
   pub brought : slice_get ds place ≡ Some datum
@@ -135,55 +134,85 @@ pub record ReadStep (ys : List (Spend × Output)) (ds : List Datum) (y : Spend �
 abbrev held_with : Option ContractLock → List (Spend × Output) → List (List ℕ) → List (List ℕ)
 held_with l ys hs = (digest_in l ++ digests_in (map (λ x. x.1) ys)) ++ hs
 
--- where at most one contract is spent, and the data have the digests that are held, that is so
+first_told : (d : Datum) (ds : List Datum) (h : List ℕ) (hs : List (List ℕ)) → map datum_hash (d ∷ ds) ≡ h ∷ hs → (datum_hash d ≡ h) × (map datum_hash ds ≡ hs)
+first_told d ds h hs e = (cc, cc)
+
+none_told : (h : List ℕ) (hs : List (List ℕ)) → (let l : List (List ℕ) = [] in l) ≡ h ∷ hs → ⊥
+none_told h hs e = cc
+
+-- where the data have the digests that are held, that is so
 pub step_read : (ys : List (Spend × Output)) (ds : List Datum) (hs : List (List ℕ)) (i : ℕ) (y : Spend × Output) (c : ContractLock) → map datum_hash ds ≡ digests_in (map (λ x. x.1) ys) ++ hs →
-    count_by holds ys ≤ 1 → slice_get ys i ≡ Some y → contract_in y.1.lock ≡ Some c → ReadStep ys ds y c
-step_read [] ds hs i y c told few e h = cc
-step_read (z ∷ ys) [] hs zero y c told few e h =
+    slice_get ys i ≡ Some y → contract_in y.1.lock ≡ Some c → ReadStep ys ds y c
+step_read [] ds hs i y c told e h = cc
+step_read (z ∷ ys) [] hs zero y c told e h =
     let k : contract_in z.1.lock ≡ Some c = ap (λ (w : Spend × Output). contract_in w.1.lock) (same_some z y e) ∙ h in
-    let t : (let l : List (List ℕ) = [] in l) ≡ held_with (Some c) ys hs = told ∙ ap (λ (l : Option ContractLock). held_with l ys hs) k in
-    cc
-step_read (z ∷ ys) (d ∷ ds) hs zero y c told few e h =
+    absurd (none_told c.digest (digests_in (map (λ x. x.1) ys) ++ hs) (told ∙ ap (λ (l : Option ContractLock). held_with l ys hs) k))
+step_read (z ∷ ys) (d ∷ ds) hs zero y c told e h =
     let q : z ≡ y = same_some z y e in
     let k : contract_in z.1.lock ≡ Some c = ap (λ (w : Spend × Output). contract_in w.1.lock) q ∙ h in
-    let t : datum_hash d ∷ map datum_hash ds ≡ held_with (Some c) ys hs = told ∙ ap (λ (l : Option ContractLock). held_with l ys hs) k in
-    let first : datum_hash d ≡ c.digest = cc in
+    let first = first_told d ds c.digest (digests_in (map (λ x. x.1) ys) ++ hs) (told ∙ ap (λ (l : Option ContractLock). held_with l ys hs) k) in
     record {
       datum = d;
-      later = steps_of ys ds;
-      steps =
-          ap (λ (l : Option ContractLock). or_step l (inputs_of z.0.redeemer) (d ∷ ds) (steps_of ys)) k
-          ∙ ap (λ (w : Spend × Output). step_with c d (inputs_of w.0.redeemer) ∷ steps_of ys ds) q;
-      digest = first;
+      number = 0;
+      step =
+          ap (λ (l : Option ContractLock). slice_get (or_step l z.0 (d ∷ ds) (steps_of ys)) 0) k
+          ∙ ap (λ (w : Spend × Output). Some (step_with c w.0 d)) q;
+      digest = first.0;
       place = 0;
       brought = refl;
     }
-step_read (z ∷ ys) ds hs (suc i) y c told few e h =
-    let none = no_contract_in z.1.lock (first_fails holds z ys i y few e (is_contract_so y.1.lock c h)) in
-    let s = step_read ys ds hs i y c (told ∙ ap (λ (l : Option ContractLock). held_with l ys hs) none) (fewer holds z ys few) e h in
-    record {
-      datum = s.datum;
-      later = s.later;
-      steps = ap (λ (l : Option ContractLock). or_step l (inputs_of z.0.redeemer) ds (steps_of ys)) none ∙ s.steps;
-      digest = s.digest;
-      place = s.place;
-      brought = s.brought;
-    }
-
--- the first of the steps is of a contract that is spent
-pub step_there : (ys : List (Spend × Output)) (ds : List Datum) (s : Step) (later : List Step) → steps_of ys ds ≡ s ∷ later →
-    (i : ℕ) × (y : Spend × Output) × (slice_get ys i ≡ Some y) × (c : ContractLock) × (contract_in y.1.lock ≡ Some c) × (c.script ≡ s.script)
-step_there [] ds s later h = cc
-step_there (y ∷ ys) ds s later h = by (contract_in y.1.lock) refl ds h (step_there ys ds s later)
+step_read (z ∷ ys) ds hs (suc i) y c told e h = by (contract_in z.1.lock) refl ds told (λ es t. step_read ys es hs i y c t e h)
   where
-    by : (z : Option ContractLock) → contract_in y.1.lock ≡ z → (es : List Datum) → or_step z (inputs_of y.0.redeemer) es (steps_of ys) ≡ s ∷ later →
-        (steps_of ys es ≡ s ∷ later → (i : ℕ) × (w : Spend × Output) × (slice_get ys i ≡ Some w) × (c : ContractLock) × (contract_in w.1.lock ≡ Some c) × (c.script ≡ s.script)) →
-        (i : ℕ) × (w : Spend × Output) × (slice_get (y ∷ ys) i ≡ Some w) × (c : ContractLock) × (contract_in w.1.lock ≡ Some c) × (c.script ≡ s.script)
-    by None e es h go = let g = go h in (suc g.0, g.1, g.2, g.3, g.4, g.5)
-    by (Some c) e [] h go = cc
-    by (Some c) e (d ∷ es) h go =
-        let q : step_with c d (inputs_of y.0.redeemer) ≡ s = cc in
-        (0, y, refl, c, e, ap (λ (w : Step). w.script) q)
+    by : (l : Option ContractLock) → contract_in z.1.lock ≡ l → (es : List Datum) → map datum_hash es ≡ held_with (contract_in z.1.lock) ys hs →
+        ((fs : List Datum) → map datum_hash fs ≡ digests_in (map (λ x. x.1) ys) ++ hs → ReadStep ys fs y c) → ReadStep (z ∷ ys) es y c
+    by None q es t go =
+        let s = go es (t ∙ ap (λ (l : Option ContractLock). held_with l ys hs) q) in
+        record {
+          datum = s.datum;
+          number = s.number;
+          step = ap (λ (l : Option ContractLock). slice_get (or_step l z.0 es (steps_of ys)) s.number) q ∙ s.step;
+          digest = s.digest;
+          place = s.place;
+          brought = s.brought;
+        }
+    by (Some m) q [] t go = absurd (none_told m.digest (digests_in (map (λ x. x.1) ys) ++ hs) (t ∙ ap (λ (l : Option ContractLock). held_with l ys hs) q))
+    by (Some m) q (d ∷ es) t go =
+        let first = first_told d es m.digest (digests_in (map (λ x. x.1) ys) ++ hs) (t ∙ ap (λ (l : Option ContractLock). held_with l ys hs) q) in
+        let s = go es first.1 in
+        record {
+          datum = s.datum;
+          number = suc s.number;
+          step = ap (λ (l : Option ContractLock). slice_get (or_step l z.0 (d ∷ es) (steps_of ys)) (suc s.number)) q ∙ s.step;
+          digest = s.digest;
+          place = suc s.place;
+          brought = s.brought;
+        }
+
+-- each of the steps is of a contract that is spent
+pub record StepThere (ys : List (Spend × Output)) (s : Step) : Type 0 where
+  pub index : ℕ
+  pub pair : Spend × Output
+  pub at : slice_get ys index ≡ Some pair
+  pub lock : ContractLock
+  pub contract : contract_in pair.1.lock ≡ Some lock
+  pub script : lock.script ≡ s.script
+  pub reference : pair.0.reference ≡ s.reference
+
+pub step_there : (ys : List (Spend × Output)) (ds : List Datum) (n : ℕ) (s : Step) → slice_get (steps_of ys ds) n ≡ Some s → StepThere ys s
+step_there [] ds n s h = cc
+step_there (y ∷ ys) ds n s h = by (contract_in y.1.lock) refl ds n h (λ es k g. step_there ys es k s g)
+  where
+    later : StepThere ys s → StepThere (y ∷ ys) s
+    later t = record { index = suc t.index; pair = t.pair; at = t.at; lock = t.lock; contract = t.contract; script = t.script; reference = t.reference }
+
+    by : (z : Option ContractLock) → contract_in y.1.lock ≡ z → (es : List Datum) (n : ℕ) → slice_get (or_step z y.0 es (steps_of ys)) n ≡ Some s →
+        ((es : List Datum) (k : ℕ) → slice_get (steps_of ys es) k ≡ Some s → StepThere ys s) → StepThere (y ∷ ys) s
+    by None e es n h go = later (go es n h)
+    by (Some c) e [] n h go = cc
+    by (Some c) e (d ∷ es) zero h go =
+        let q : step_with c y.0 d ≡ s = same_some (step_with c y.0 d) s h in
+        record { index = 0; pair = y; at = refl; lock = c; contract = e; script = ap (λ (w : Step). w.script) q; reference = ap (λ (w : Step). w.reference) q }
+    by (Some c) e (d ∷ es) (suc n) h go = later (go es n h)
 
 -- where no redeemer steps, no contract is spent
 pub none_steps : (find : OutputRef → Option Output) (xs : List Spend) (ys : List (Spend × Output)) (ds : List Datum) → Paired find xs ys → EachFalse misfits ys →
@@ -193,6 +222,7 @@ none_steps find xs ys ds p kinds h = by (steps_of ys ds) refl
     by : (z : List Step) → steps_of ys ds ≡ z → z ≡ []
     by [] e = refl
     by (s ∷ later) e =
-        let t = step_there ys ds s later e in
-        let k = contract_steps t.1.0.redeemer t.1.1.lock (is_contract_so t.1.1.lock t.3 t.4) (not_false (opens t.1.0.redeemer t.1.1.lock) (each_at misfits t.0 ys t.1 kinds t.2)) in
-        absurd (not_both (any_at (λ (x : Spend). is_step x.redeemer) xs t.0 t.1.0 (input_at find t.0 t.1 xs ys p t.2).0 k) h)
+        let t = step_there ys ds 0 s (ap (λ (l : List Step). slice_get l 0) e) in
+        let k =
+        contract_steps t.pair.0.redeemer t.pair.1.lock (is_contract_so t.pair.1.lock t.lock t.contract) (not_false (opens t.pair.0.redeemer t.pair.1.lock) (each_at misfits t.index ys t.pair kinds t.at)) in
+        absurd (not_both (any_at (λ (x : Spend). is_step x.redeemer) xs t.index t.pair.0 (input_at find t.index t.pair xs ys p t.at).0 k) h)

@@ -1,9 +1,8 @@
 -- Plain facts about options, tests and lists.
-use Rattle.std.proofs.Common.{◌≡◌, ℕ, zero, suc, ◌<◌, ◌≤◌, ◌+◌, Bool, true, false, not, ◌&&◌, ◌||◌, List, [], ◌∷◌, ◌++◌, refl, sym, ◌∙◌, ap, subst, arith, Option, Some, None, take, drop, length, ◌⊎◌, inl, inr}
-use Rattle.std.specs.Prelude.{nat_lt, is_some, is_none, count_by}
+use Rattle.std.proofs.Common.{◌≡◌, ℕ, zero, suc, ◌<◌, ◌≤◌, Bool, true, false, not, ◌&&◌, ◌||◌, List, [], ◌∷◌, ◌++◌, refl, sym, ◌∙◌, ap, subst, arith, Option, Some, None, take, drop, length, ◌⊎◌, inl, inr}
+use Rattle.std.specs.Prelude.{is_some, is_none}
 use Rattle.std.specs.List.{slice_get, list_any}
 use Rattle.std.proofs.lemmas.List.{take-append-drop}
-use Rattle.std.proofs.lemmas.List.Sums.{sum_by-cons}
 
 -- ---- tests
 
@@ -27,19 +26,12 @@ pub or_true : (a b : Bool) → b ≡ true → (a || b) ≡ true
 or_true true b h = refl
 or_true false b h = h
 
-pub bool_cases : (b : Bool) → (b ≡ true) ⊎ (b ≡ false)
-bool_cases true = inl refl
-bool_cases false = inr refl
-
 pub not_both : {b : Bool} → b ≡ true → b ≡ false → ⊥
 not_both e f = let g : true ≡ false = sym e ∙ f in cc
 
 pub not_false : (b : Bool) → not b ≡ false → b ≡ true
 not_false true h = refl
 not_false false h = cc
-
-pub few : (n : ℕ) → nat_lt 1 n ≡ false → n ≤ 1
-few n h = grind arith
 
 -- ---- options
 
@@ -139,32 +131,6 @@ any_there p (y ∷ ys) h = by (p y) refl h (any_there p ys)
         (n : ℕ) × (x : _) × (slice_get (y ∷ ys) n ≡ Some x) × (p x ≡ true)
     by true e h go = (0, y, refl, e)
     by false e h go = let q = go h in (suc q.0, q.1, q.2, q.3)
-
--- ---- how many pass
-
-pub fewer : {A : Type 0} (p : A → Bool) (x : A) (xs : List A) → count_by p (x ∷ xs) ≤ 1 → count_by p xs ≤ 1
-fewer p x xs h = let k : count_by p xs ≤ count_by p (x ∷ xs) = rw sum_by-cons (omega arith) in omega arith
-
-one_there : {A : Type 0} (p : A → Bool) (xs : List A) (n : ℕ) (x : A) → slice_get xs n ≡ Some x → p x ≡ true → 1 ≤ count_by p xs
-one_there p [] n x e h = cc
-one_there p (y ∷ ys) zero x e h = let k : p y ≡ true = ap p (same_some y x e) ∙ h in rw sum_by-cons (rw k (omega arith))
-one_there p (y ∷ ys) (suc n) x e h = let a = one_there p ys n x e h in rw sum_by-cons (omega arith)
-
--- where at most one passes, and one does that comes later, the first doesn't
-pub first_fails : {A : Type 0} (p : A → Bool) (y : A) (ys : List A) (n : ℕ) (x : A) → count_by p (y ∷ ys) ≤ 1 → slice_get ys n ≡ Some x → p x ≡ true → p y ≡ false
-first_fails p y ys n x few e h =
-    elim (bool_cases (p y)) [
-      | inl k ↦ let one = one_there p ys n x e h in let q : count_by p (y ∷ ys) ≡ 1 + count_by p ys = rw sum_by-cons (rw k refl) in absurd (omega arith)
-      | inr k ↦ k
-    ]
-
--- and two places at which one passes are one
-pub only_one : {A : Type 0} (p : A → Bool) (xs : List A) (n m : ℕ) (x y : A) → count_by p xs ≤ 1 → slice_get xs n ≡ Some x → p x ≡ true → slice_get xs m ≡ Some y → p y ≡ true → n ≡ m
-only_one p [] n m x y few e h f k = cc
-only_one p (z ∷ zs) zero zero x y few e h f k = refl
-only_one p (z ∷ zs) zero (suc m) x y few e h f k = absurd (not_both (ap p (same_some z x e) ∙ h) (first_fails p z zs m y few f k))
-only_one p (z ∷ zs) (suc n) zero x y few e h f k = absurd (not_both (ap p (same_some z y f) ∙ k) (first_fails p z zs n x few e h))
-only_one p (z ∷ zs) (suc n) (suc m) x y few e h f k = ap suc (only_one p zs n m x y (fewer p z zs few) e h f k)
 
 -- ---- lists that grow
 

@@ -4,7 +4,7 @@ use Rattle.std.specs.Prelude.{◌==◌}
 use Rattle.std.specs.Map.{lookup}
 use Rattle.std.specs.List.{slice_get, list_any}
 use Rattle.std.specs.Cmp.Lexicographic.{bytes_decides}
-use Rattle.std.proofs.lemmas.Bool.{eqb-true, eq-eqb, ne_eqb}
+use Rattle.std.proofs.lemmas.Bool.{eq-eqb, ne_eqb}
 use Rattle.std.proofs.lemmas.List.Folds.{list_any-append}
 use Rattle.std.proofs.lemmas.Map.Entries.{lookup-filter-keys}
 use Rattle.eutxo_types.specs.declared.output.Output.{Output}
@@ -13,18 +13,9 @@ use Rattle.eutxo_types.specs.declared.output_ref.OutputRef.TheVariants.{Genesis,
 use Rattle.eutxo_types.specs.declared.tx.Tx.{Tx}
 use Rattle.eutxo_types.specs.Ids.{id_of}
 use Rattle.eutxo_types.specs.Parts.{same_bytes, same_ref}
+pub use Rattle.eutxo.proofs.SameRefLaws.{same_ref_so, same_ref-refl}
 use Rattle.ledger_laws.specs.Past.{Past, before, with_references, created_by, created_by_all, created, is_input_of, is_spent, unspent_at, has_id}
-use Rattle.ledger_laws.proofs.PlainLaws.{and_true, or_false, same_some, no_more}
-
-pub same_ref_so : (a b : OutputRef) → same_ref a b ≡ true → a ≡ b
-same_ref_so (Genesis i) (Genesis j) h = ap (λ (k : ℕ). Genesis k) (eqb-true i j h)
-same_ref_so (Made n i) (Made k j) h =
-    let p = and_true (same_bytes n k) (i == j) h in
-    let e : n ≡ k = (bytes_decides n k).0 p.0 in
-    let f : i ≡ j = eqb-true i j p.1 in
-    cc
-same_ref_so (Genesis i) (Made k j) h = cc
-same_ref_so (Made n i) (Genesis j) h = cc
+use Rattle.ledger_laws.proofs.PlainLaws.{or_false, same_some, no_more}
 
 pub same_made : (a b : List ℕ) (i k : ℕ) → Made a i ≡ Made b k → (a ≡ b) × (i ≡ k)
 same_made a b i k h = (cc, cc)
@@ -103,10 +94,6 @@ and_never false b h = refl
 
 pub itself : (id : List ℕ) → same_bytes id id ≡ true
 itself id = (bytes_decides id id).1 refl
-
-pub same_ref-refl : (a : OutputRef) → same_ref a a ≡ true
-same_ref-refl (Genesis i) = eq-eqb i i refl
-same_ref-refl (Made n i) = and_with (same_bytes n n) (i == i) (itself n) ∙ eq-eqb i i refl
 
 plus_zero : (k : ℕ) → k + 0 ≡ k
 plus_zero k = omega arith

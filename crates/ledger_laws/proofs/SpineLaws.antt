@@ -9,7 +9,7 @@ use Rattle.eutxo_types.specs.declared.tx.Tx.{Tx}
 use Rattle.eutxo_types.specs.Ids.{id_of}
 use Rattle.eutxo_types.specs.Parts.{Instance, contract_at}
 use Rattle.ledger_laws.specs.Past.{is_input_of, is_spent}
-use Rattle.ledger_laws.specs.Threads.{Link, spine_by, ends_by, next_of}
+use Rattle.ledger_laws.specs.Threads.{Link, spine_by, ends_by, next_in}
 use Rattle.ledger_laws.proofs.PlainLaws.{or_false, both_false, same_some}
 
 module _ (next : OutputRef → Tx → Option OutputRef) where
@@ -147,12 +147,20 @@ module _ (next : OutputRef → Tx → Option OutputRef) where
 
 -- ---- where the ledger's threads go on
 
-pub next_there : (r : OutputRef) (tx : Tx) (c : Instance) → contract_at tx 0 ≡ Some c → next_of r tx ≡ Some (Made (id_of tx) 0)
-next_there r tx c h = ap (option_map (λ z. Made (id_of tx) 0)) h
+pub next_there : (tx : Tx) (z : Option ℕ) (i : ℕ) (c : Instance) → z ≡ Some i → contract_at tx i ≡ Some c → next_in tx z ≡ Some (Made (id_of tx) i)
+next_there tx z i c e h = ap (next_in tx) e ∙ ap (option_map (λ c. Made (id_of tx) i)) h
 
-pub next_so : (r : OutputRef) (tx : Tx) (q : OutputRef) → next_of r tx ≡ Some q → (q ≡ Made (id_of tx) 0) × ((c : Instance) × (contract_at tx 0 ≡ Some c))
-next_so r tx q h = by (contract_at tx 0) h
+pub record Next (tx : Tx) (z : Option ℕ) (q : OutputRef) : Type 0 where
+  pub place : ℕ
+  pub goes : z ≡ Some place
+  pub name : q ≡ Made (id_of tx) place
+  pub made : Instance
+  pub contract : contract_at tx place ≡ Some made
+
+pub next_so : (tx : Tx) (z : Option ℕ) (q : OutputRef) → next_in tx z ≡ Some q → Next tx z q
+next_so tx None q h = cc
+next_so tx (Some i) q h = by (contract_at tx i) refl h
   where
-    by : (z : Option Instance) → option_map (λ c. Made (id_of tx) 0) z ≡ Some q → (q ≡ Made (id_of tx) 0) × ((c : Instance) × (z ≡ Some c))
-    by None h = cc
-    by (Some c) h = (sym (same_some (Made (id_of tx) 0) q h), (c, refl))
+    by : (c : Option Instance) → contract_at tx i ≡ c → option_map (λ c. Made (id_of tx) i) c ≡ Some q → Next tx (Some i) q
+    by None e h = cc
+    by (Some c) e h = record { place = i; goes = refl; name = sym (same_some (Made (id_of tx) i) q h); made = c; contract = e }

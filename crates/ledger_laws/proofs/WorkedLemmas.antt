@@ -3,7 +3,6 @@ use Rattle.std.proofs.Common.{◌≡◌, Bool, true, false, not, ◌||◌, cond,
 use Rattle.std.specs.Prelude.{if◌then◌else◌}
 use Rattle.std.specs.List.{list_any}
 use Rattle.std.specs.Map.{lookup}
-use Rattle.std.specs.Option.{option_map}
 use Rattle.eutxo_types.specs.declared.output_ref.OutputRef.{OutputRef}
 use Rattle.eutxo_types.specs.declared.output_ref.OutputRef.TheVariants.{Genesis, Made}
 use Rattle.eutxo_types.specs.declared.spend.Spend.{Spend}
@@ -11,34 +10,30 @@ use Rattle.eutxo_types.specs.declared.tx.Tx.{Tx}
 use Rattle.eutxo_types.specs.Ids.{id_of}
 use Rattle.eutxo_types.specs.Parts.{same_ref}
 use Rattle.ledger_laws.specs.Past.{Past, with_references, created_by, created, is_input_of, is_spent}
-use Rattle.ledger_laws.specs.Threads.{Link, next_of, spine, ends}
-use Rattle.ledger_laws.specs.Worked.{NobodyCame, TwoSteps, NoneAfterTheEnd, GivenByName, OneMoves}
+use Rattle.ledger_laws.specs.Threads.{Link, spine_by, ends_by}
+use Rattle.ledger_laws.specs.Worked.{Next, NobodyCame, TwoSteps, NoneAfterTheEnd, GivenByName, OneMoves}
 use Rattle.ledger_laws.proofs.ReferenceLaws.{same_ref-refl, unspent_is}
-use Rattle.ledger_laws.proofs.SpineLaws.{next_there}
 
 -- a transaction that names the output is the thread's next member
-named_first : (r : OutputRef) (a : Tx) (txs : List Tx) → is_input_of r a ≡ true → spine (Some r) (a ∷ txs) ≡ record { spends = r; tx = a } ∷ spine (next_of r a) txs
-named_first r a txs h = ap (λ (b : Bool). if b then record { spends = r; tx = a } ∷ spine (next_of r a) txs else spine (Some r) txs) h
+named_first : (next : Next) (r : OutputRef) (a : Tx) (txs : List Tx) → is_input_of r a ≡ true → spine_by next (Some r) (a ∷ txs) ≡ record { spends = r; tx = a } ∷ spine_by next (next r a) txs
+named_first next r a txs h = ap (λ (b : Bool). if b then record { spends = r; tx = a } ∷ spine_by next (next r a) txs else spine_by next (Some r) txs) h
 
 pub nobody_came : NobodyCame
-nobody_came r tx h =
-    let e : spine (Some r) (tx ∷ []) ≡ [] = ap (λ (b : Bool). if b then record { spends = r; tx = tx } ∷ spine (next_of r tx) [] else []) h in
-    (e, ap (ends (Some r)) e)
+nobody_came next r tx h =
+    let e : spine_by next (Some r) (tx ∷ []) ≡ [] = ap (λ (b : Bool). if b then record { spends = r; tx = tx } ∷ spine_by next (next r tx) [] else []) h in
+    (e, ap (ends_by next (Some r)) e)
 
 pub two_steps : TwoSteps
-two_steps r a b c h k m n =
-    let l : List Link = record { spends = r; tx = a } ∷ record { spends = Made (id_of a) 0; tx = b } ∷ [] in
-    let next : next_of r a ≡ Some (Made (id_of a) 0) = next_there r a c k in
-    let over : next_of (Made (id_of a) 0) b ≡ None = ap (option_map (λ z. Made (id_of b) 0)) n in
-    let e : spine (Some r) (a ∷ b ∷ []) ≡ l =
-    named_first r a (b ∷ []) h
+two_steps next r q a b h k m n =
+    let l : List Link = record { spends = r; tx = a } ∷ record { spends = q; tx = b } ∷ [] in
+    let e : spine_by next (Some r) (a ∷ b ∷ []) ≡ l =
+    named_first next r a (b ∷ []) h
     ∙ ap (λ ls. record { spends = r; tx = a } ∷ ls)
-    (ap (λ s. spine s (b ∷ [])) next ∙ named_first (Made (id_of a) 0) b [] m ∙ ap (λ s. record { spends = Made (id_of a) 0; tx = b } ∷ spine s []) over) in
-    (e, ap (ends (Some r)) e ∙ over)
+    (ap (λ s. spine_by next s (b ∷ [])) k ∙ named_first next q b [] m ∙ ap (λ s. record { spends = q; tx = b } ∷ spine_by next s []) n) in
+    (e, ap (ends_by next (Some r)) e ∙ n)
 
 pub none_after_the_end : NoneAfterTheEnd
-none_after_the_end r a b h k =
-    named_first r a (b ∷ []) h ∙ ap (λ s. record { spends = r; tx = a } ∷ spine s (b ∷ [])) (ap (option_map (λ z. Made (id_of a) 0)) k)
+none_after_the_end next r a b h k = named_first next r a (b ∷ []) h ∙ ap (λ s. record { spends = r; tx = a } ∷ spine_by next s (b ∷ [])) k
 
 pub given_by_name : GivenByName
 given_by_name p q xs ys h =

@@ -19,7 +19,7 @@ use Rattle.roles.specs.Terms.{IsTable, terms_of}
 use Rattle.roles.specs.Steps.{actor, authorised, marlowe}
 use Rattle.roles.specs.Sums.{sums_of}
 use Rattle.ledger_laws.specs.Past.{Past, before, after, created, unspent, unspent_at}
-use Rattle.ledger_laws.specs.Threads.{thread, ends, IsMade, IsStart, StartsThread, Member, Run, contract_after, state_after, Carries}
+use Rattle.ledger_laws.specs.Threads.{next_of, thread, thread_end, IsMade, IsStart, StartsThread, Member, Run, contract_after, state_after, Carries}
 use Rattle.ledger_laws.specs.Sound.{moment, AreKeys, IsSound, IsMore}
 
 -- one, and no other
@@ -36,16 +36,16 @@ pub record IsContractInput (past : Past) (n i : ℕ) (tx : Tx) (x : Spend) (o : 
   pub contract : is_contract o.lock ≡ true
 
 -- a transaction is the member of a thread that spends an output
-abbrev pub IsMember : Past → OutputRef → OutputRef → Tx → Type 0
-IsMember past r q tx = (i : ℕ) × (slice_get (thread past r) i ≡ Some (record { spends = q; tx = tx }))
+abbrev pub IsMember : {V : Type 0} → Judges V → (List ℕ → Option V) → Past → OutputRef → OutputRef → Tx → Type 0
+IsMember j named past r q tx = (i : ℕ) × (slice_get (thread j named past r) i ≡ Some (record { spends = q; tx = tx }))
 
 -- EVERY CONTRACT INPUT OF AN ACCEPTED TRANSACTION STANDS ON EXACTLY ONE THREAD
-abbrev pub EachStepHasItsThread : Past → Type 0
-EachStepHasItsThread past =
-    (n i : ℕ) (tx : Tx) (x : Spend) (o : Output) → IsContractInput past n i tx x o → ExactlyOne (λ r. StartsThread past r × IsMember past r x.reference tx)
+abbrev pub EachStepHasItsThread : {V : Type 0} → Judges V → (List ℕ → Option V) → Past → Type 0
+EachStepHasItsThread j named past =
+    (n i : ℕ) (tx : Tx) (x : Spend) (o : Output) → IsContractInput past n i tx x o → ExactlyOne (λ r. StartsThread past r × IsMember j named past r x.reference tx)
 
 abbrev pub StepsStandOnThreads : {V : Type 0} → Judges V → Type 0
-StepsStandOnThreads {V} j = (published : List ℕ → Option V) (past : Past) → IsSound j published past → EachStepHasItsThread past
+StepsStandOnThreads {V} j = (published : List ℕ → Option V) (past : Past) → IsSound j published past → EachStepHasItsThread j published past
 
 -- and a contract output is spent by a step alone: the input that names it brings one
 abbrev pub ContractsAreStepped : Past → Type 0
@@ -69,18 +69,28 @@ OfUnspentContracts past F =
     (c : Instance) × IsMade past q c × (contract_in o.lock ≡ Some (lock_of c)) × F q o c
 
 -- each is the end of exactly one thread: a start output, or the next output of a thread's last transaction
-abbrev pub EachContractEndsAThread : Past → Type 0
-EachContractEndsAThread past = OfUnspentContracts past (λ q o c. ExactlyOne (λ r. StartsThread past r × (ends (Some r) (thread past r) ≡ Some q)))
+abbrev pub EachContractEndsAThread : {V : Type 0} → Judges V → (List ℕ → Option V) → Past → Type 0
+EachContractEndsAThread j named past = OfUnspentContracts past (λ q o c. ExactlyOne (λ r. StartsThread past r × (thread_end j named past r ≡ Some q)))
 
 -- and where a thread has an end, that is an unspent contract output
-abbrev pub EachEndIsUnspent : Past → Type 0
-EachEndIsUnspent past = (r q : OutputRef) → StartsThread past r → ends (Some r) (thread past r) ≡ Some q → (o : Output) × (unspent_at past q ≡ Some o) × (is_contract o.lock ≡ true)
+abbrev pub EachEndIsUnspent : {V : Type 0} → Judges V → (List ℕ → Option V) → Past → Type 0
+EachEndIsUnspent j named past = (r q : OutputRef) → StartsThread past r → thread_end j named past r ≡ Some q → (o : Output) × (unspent_at past q ≡ Some o) × (is_contract o.lock ≡ true)
 
 abbrev pub EndsAreUnspent : {V : Type 0} → Judges V → Type 0
-EndsAreUnspent {V} j = (published : List ℕ → Option V) (past : Past) → IsSound j published past → EachEndIsUnspent past
+EndsAreUnspent {V} j = (published : List ℕ → Option V) (past : Past) → IsSound j published past → EachEndIsUnspent j published past
 
 abbrev pub ContractsEndThreads : {V : Type 0} → Judges V → Type 0
-ContractsEndThreads {V} j = (published : List ℕ → Option V) (past : Past) → IsSound j published past → EachContractEndsAThread past
+ContractsEndThreads {V} j = (published : List ℕ → Option V) (past : Past) → IsSound j published past → EachContractEndsAThread j published past
+
+-- where a thread goes on after an accepted transaction stays: where more is published, and where one more is accepted
+pub record NextStays {V : Type 0} (j : Judges V) (published later : List ℕ → Option V) (past : Past) (tx : Tx) : Type 0 where
+  pub more : (r : OutputRef) → next_of j later past r tx ≡ next_of j published past r tx
+  pub accepted : (s : Tx) (r : OutputRef) → next_of j published (after past s) r tx ≡ next_of j published past r tx
+
+abbrev pub ThreadsStay : {V : Type 0} → Judges V → Type 0
+ThreadsStay {V} j =
+    (published later : List ℕ → Option V) (past : Past) → IsMore published later → IsSound j published past →
+    (n : ℕ) (tx : Tx) → slice_get past.accepted n ≡ Some tx → NextStays j published later past tx
 
 -- of each token the unspent outputs hold together what the first outputs held
 abbrev pub IsPreserved : Past → Type 0
@@ -139,7 +149,7 @@ DigestsTell past =
 abbrev pub EachIsARun : (List ℕ → Option Published) → Past → Type 0
 EachIsARun published past =
     (r : OutputRef) (c : Instance) → IsStart past r c →
-    (p : Published) × (published c.script ≡ Some p) × ExactlyOne (λ run. Run ((terms_of p).tree p.root) c.datum.state run × Carries (terms_of p) c.script (thread past r) run)
+    (p : Published) × (published c.script ≡ Some p) × ExactlyOne (λ run. Run ((terms_of p).tree p.root) c.datum.state run × Carries published past (terms_of p) c.script (thread marlowe published past r) run)
 
 abbrev pub ThreadsAreRuns : Type 0
 ThreadsAreRuns = (published : List ℕ → Option Published) (past : Past) → AreTables published → DigestsTell past → IsSound marlowe published past → EachIsARun published past
@@ -149,8 +159,8 @@ ThreadsAreRuns = (published : List ℕ → Option Published) (past : Past) → A
 abbrev pub EndsWithItsRun : (List ℕ → Option Published) → Past → Type 0
 EndsWithItsRun published past =
     (r : OutputRef) (c : Instance) → IsStart past r c → (p : Published) → published c.script ≡ Some p →
-    (run : List Member) → Run ((terms_of p).tree p.root) c.datum.state run → Carries (terms_of p) c.script (thread past r) run →
-    (q : OutputRef) (e : Instance) → ends (Some r) (thread past r) ≡ Some q → IsMade past q e →
+    (run : List Member) → Run ((terms_of p).tree p.root) c.datum.state run → Carries published past (terms_of p) c.script (thread marlowe published past r) run →
+    (q : OutputRef) (e : Instance) → thread_end marlowe published past r ≡ Some q → IsMade past q e →
     (e.script ≡ c.script) × ((terms_of p).tree e.datum.cont ≡ contract_after ((terms_of p).tree p.root) run) × (e.datum.state ≡ state_after c.datum.state run)
 
 abbrev pub ThreadsEndWithRuns : Type 0

@@ -39,6 +39,10 @@ created_by_all (tx ∷ txs) = created_by tx ++ created_by_all txs
 abbrev pub created : Past → List (OutputRef × Output)
 created past = with_references (λ j. Genesis j) 0 past.genesis ++ created_by_all past.accepted
 
+-- the output that a reference names, also where it is spent
+abbrev pub created_at : Past → OutputRef → Option Output
+created_at past r = lookup (same_ref r) (created past)
+
 -- whether an input of the transaction names the output
 abbrev pub is_input_of : OutputRef → Tx → Bool
 is_input_of r tx = list_any (λ x. same_ref x.reference r) tx.inputs

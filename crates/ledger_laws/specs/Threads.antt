@@ -1,5 +1,6 @@
--- Threads of contracts in a list of accepted transactions, runs of a contract, and what it means that a thread carries a run.
-use Rattle.std.specs.Prelude.{◌≡◌, ℕ, ◌+◌, true, false, if◌then◌else◌, List, [], ◌∷◌, ◌++◌, slice_get, Option, Some, None, option_map, Ok}
+-- Threads of contracts in a list of accepted transactions, of which one may step several; runs of a contract; and what it means that a
+-- thread carries a run.
+use Rattle.std.specs.Prelude.{◌≡◌, ℕ, ◌+◌, true, false, if◌then◌else◌, List, [], ◌∷◌, ◌++◌, map, slice_get, Option, Some, None, option_map, Ok}
 use Rattle.contract.specs.declared.interval.Interval.{Interval}
 use Rattle.contract.specs.declared.input.Input.{Input}
 use Rattle.contract.specs.declared.payment.Payment.{Payment}
@@ -16,18 +17,28 @@ use Rattle.eutxo_types.specs.declared.output_ref.OutputRef.TheVariants.{Made}
 use Rattle.eutxo_types.specs.declared.tx.Tx.{Tx}
 use Rattle.eutxo_types.specs.Ids.{id_of}
 use Rattle.eutxo_types.specs.Parts.{Instance, contract_at, given_to, steps, outputs_from}
+use Rattle.eutxo.specs.Asked.{Judges}
+use Rattle.eutxo.specs.Blocks.{Block, blocks_on, goes_on_at, stands_from}
+use Rattle.eutxo.specs.Found.{with_outputs}
+use Rattle.roles.specs.declared.published.Published.{Published}
 use Rattle.roles.specs.Terms.{Terms}
-use Rattle.roles.specs.Steps.{continuation, due_outputs}
-use Rattle.ledger_laws.specs.Past.{Past, is_input_of}
+use Rattle.roles.specs.Steps.{continuation, due_outputs, marlowe}
+use Rattle.ledger_laws.specs.Past.{Past, created_at, is_input_of}
 
 -- ---- threads
 
--- where the thread that stood at a reference stands after a transaction that spends it: at its output 0, where that is a contract's
-abbrev pub next_in : Tx → ℕ → Option OutputRef
-next_in tx i = option_map (λ c. Made (id_of tx) i) (contract_at tx i)
+-- the blocks of an accepted transaction: of its contract inputs, on the outputs that they name and the data that it brings
+abbrev pub blocks_of : {V : Type 0} → Judges V → (List ℕ → Option V) → Past → Tx → List Block
+blocks_of j named past tx = blocks_on j named tx (with_outputs tx.inputs (map (λ x. created_at past x.reference) tx.inputs))
 
-abbrev pub next_of : OutputRef → Tx → Option OutputRef
-next_of r tx = next_in tx 0
+-- where the thread that stood at a reference stands after a transaction that spends it: at the first output of its block, while its
+-- contract goes on, and where that is a contract's
+abbrev pub next_in : Tx → Option ℕ → Option OutputRef
+next_in tx None = None
+next_in tx (Some i) = option_map (λ c. Made (id_of tx) i) (contract_at tx i)
+
+abbrev pub next_of : {V : Type 0} → Judges V → (List ℕ → Option V) → Past → OutputRef → Tx → Option OutputRef
+next_of j named past r tx = next_in tx (goes_on_at (blocks_of j named past tx) r)
 
 -- a transaction of a thread, with the thread's output that it spends
 pub record Link : Type 0 where
@@ -46,12 +57,6 @@ abbrev pub ends_by : (OutputRef → Tx → Option OutputRef) → Option OutputRe
 ends_by next s [] = s
 ends_by next s (x ∷ xs) = ends_by next (next x.spends x.tx) xs
 
-abbrev pub spine : Option OutputRef → List Tx → List Link
-spine = spine_by next_of
-
-abbrev pub ends : Option OutputRef → List Link → Option OutputRef
-ends = ends_by next_of
-
 -- a contract output of an accepted transaction, with the contract that it made there
 pub record IsMade (past : Past) (r : OutputRef) (c : Instance) : Type 0 where
   pub number : ℕ
@@ -69,9 +74,13 @@ pub record IsStart (past : Past) (r : OutputRef) (c : Instance) : Type 0 where
 abbrev pub StartsThread : Past → OutputRef → Type 0
 StartsThread past r = (c : Instance) × IsStart past r c
 
--- its thread
-abbrev pub thread : Past → OutputRef → List Link
-thread past r = spine (Some r) past.accepted
+-- its thread: by the blocks, and so by what is published and by the whole past
+abbrev pub thread : {V : Type 0} → Judges V → (List ℕ → Option V) → Past → OutputRef → List Link
+thread j named past r = spine_by (next_of j named past) (Some r) past.accepted
+
+-- and where that ends
+abbrev pub thread_end : {V : Type 0} → Judges V → (List ℕ → Option V) → Past → OutputRef → Option OutputRef
+thread_end j named past r = ends_by (next_of j named past) (Some r) (thread j named past r)
 
 -- ---- runs
 
@@ -128,18 +137,20 @@ LaidOutAfter t script e c i tx = (there : Cont) × (t.has there ≡ true) × (t.
 abbrev pub LaidOut : Terms → List ℕ → Effect → ℕ → Tx → Type 0
 LaidOut t script e i tx = LaidOutAfter t script e e.contract i tx
 
--- a transaction of a thread and a member of a run agree
-pub record CarriesOne (t : Terms) (script : List ℕ) (l : Link) (later : List Link) (x : Member) : Type 0 where
+-- a transaction of a thread and a member of a run agree: by the block of the input that spends the thread's output
+pub record CarriesOne (named : List ℕ → Option Published) (past : Past) (t : Terms) (script : List ℕ) (l : Link) (later : List Link) (x : Member) : Type 0 where
   pub interval : l.tx.interval ≡ x.interval
   pub inputs : given_to l.spends l.tx.inputs ≡ Some x.inputs
-  pub outputs : LaidOut t script x.outcome 0 l.tx
+  pub from : ℕ
+  pub block : stands_from (blocks_of marlowe named past l.tx) l.spends ≡ Some from
+  pub outputs : LaidOut t script x.outcome from l.tx
   -- where the contract is Close, the thread is over: nothing follows, and no output goes on
   pub over : x.outcome.contract ≡ close → later ≡ []
-  pub gone : x.outcome.contract ≡ close → next_of l.spends l.tx ≡ None
+  pub gone : x.outcome.contract ≡ close → next_of marlowe named past l.spends l.tx ≡ None
 
 -- thread and run agree place by place
-abbrev pub Carries : Terms → List ℕ → List Link → List Member → Type 0
-Carries t script [] [] = Unit {0}
-Carries t script (l ∷ ls) (x ∷ xs) = CarriesOne t script l ls x × Carries t script ls xs
-Carries t script [] (x ∷ xs) = ⊥
-Carries t script (l ∷ ls) [] = ⊥
+abbrev pub Carries : (List ℕ → Option Published) → Past → Terms → List ℕ → List Link → List Member → Type 0
+Carries named past t script [] [] = Unit {0}
+Carries named past t script (l ∷ ls) (x ∷ xs) = CarriesOne named past t script l ls x × Carries named past t script ls xs
+Carries named past t script [] (x ∷ xs) = ⊥
+Carries named past t script (l ∷ ls) [] = ⊥

@@ -1,5 +1,5 @@
 -- The definitions on small lists of transactions.
-use Rattle.std.specs.Prelude.{◌≡◌, true, false, List, [], ◌∷◌, Some, None}
+use Rattle.std.specs.Prelude.{◌≡◌, true, false, List, [], ◌∷◌, Option, Some, None}
 use Rattle.contract.specs.declared.input.Input.{Input}
 use Rattle.eutxo_types.specs.declared.output.Output.{Output}
 use Rattle.eutxo_types.specs.declared.output_ref.OutputRef.{OutputRef}
@@ -8,25 +8,29 @@ use Rattle.eutxo_types.specs.declared.redeemer.Redeemer.TheVariants.{Step}
 use Rattle.eutxo_types.specs.declared.spend.Spend.{Spend}
 use Rattle.eutxo_types.specs.declared.tx.Tx.{Tx}
 use Rattle.eutxo_types.specs.Ids.{id_of}
-use Rattle.eutxo_types.specs.Parts.{same_ref, contract_at, given_to, Instance}
+use Rattle.eutxo_types.specs.Parts.{same_ref, given_to}
 use Rattle.ledger_laws.specs.Past.{Past, is_input_of, unspent_at}
-use Rattle.ledger_laws.specs.Threads.{spine, ends}
+use Rattle.ledger_laws.specs.Threads.{spine_by, ends_by}
+
+-- where a thread stands next, as a row says it
+abbrev pub Next : Type 0
+Next = OutputRef → Tx → Option OutputRef
 
 -- where nobody spends an output, its thread has no members, and ends there
 abbrev pub NobodyCame : Type 0
-NobodyCame = (r : OutputRef) (tx : Tx) → is_input_of r tx ≡ false → (spine (Some r) (tx ∷ []) ≡ []) × (ends (Some r) (spine (Some r) (tx ∷ [])) ≡ Some r)
+NobodyCame = (next : Next) (r : OutputRef) (tx : Tx) → is_input_of r tx ≡ false → (spine_by next (Some r) (tx ∷ []) ≡ []) × (ends_by next (Some r) (spine_by next (Some r) (tx ∷ [])) ≡ Some r)
 
--- two transactions, the second of which spends the first one's output 0, which is a contract's: the thread goes on, and is over
--- where the second makes no contract
+-- two transactions, the second of which spends the output in which the first goes on: the thread goes on, and is over where the second
+-- goes on in none
 abbrev pub TwoSteps : Type 0
 TwoSteps =
-    (r : OutputRef) (a b : Tx) (c : Instance) → is_input_of r a ≡ true → contract_at a 0 ≡ Some c → is_input_of (Made (id_of a) 0) b ≡ true → contract_at b 0 ≡ None →
-    (spine (Some r) (a ∷ b ∷ []) ≡ record { spends = r; tx = a } ∷ record { spends = Made (id_of a) 0; tx = b } ∷ [])
-    × (ends (Some r) (spine (Some r) (a ∷ b ∷ [])) ≡ None)
+    (next : Next) (r q : OutputRef) (a b : Tx) → is_input_of r a ≡ true → next r a ≡ Some q → is_input_of q b ≡ true → next q b ≡ None →
+    (spine_by next (Some r) (a ∷ b ∷ []) ≡ record { spends = r; tx = a } ∷ record { spends = q; tx = b } ∷ [])
+    × (ends_by next (Some r) (spine_by next (Some r) (a ∷ b ∷ [])) ≡ None)
 
 -- what comes after a thread is over is none of its members, whatever it names
 abbrev pub NoneAfterTheEnd : Type 0
-NoneAfterTheEnd = (r : OutputRef) (a b : Tx) → is_input_of r a ≡ true → contract_at a 0 ≡ None → spine (Some r) (a ∷ b ∷ []) ≡ record { spends = r; tx = a } ∷ []
+NoneAfterTheEnd = (next : Next) (r : OutputRef) (a b : Tx) → is_input_of r a ≡ true → next r a ≡ None → spine_by next (Some r) (a ∷ b ∷ []) ≡ record { spends = r; tx = a } ∷ []
 
 -- of two steps in a transaction, an output is given the inputs of the one that names it
 abbrev pub GivenByName : Type 0

@@ -1,8 +1,8 @@
 //! Laws of every ledger, whatever its scripts.
 ghost use Rattle.ledger_laws.specs.Worked.{NobodyCame, TwoSteps, NoneAfterTheEnd, GivenByName, OneMoves};
-ghost use Rattle.ledger_laws.specs.Laws.{StepsStandOnThreads, StepsSpendContracts, StepsNameContracts, ContractsEndThreads, EndsAreUnspent, TokensArePreserved, OutputsAreSpentOnce, NamesAreSingle, StartIsSound, AfterIsSound, LaterIsSound};
+ghost use Rattle.ledger_laws.specs.Laws.{StepsStandOnThreads, StepsSpendContracts, StepsNameContracts, ContractsEndThreads, EndsAreUnspent, ThreadsStay, TokensArePreserved, OutputsAreSpentOnce, NamesAreSingle, StartIsSound, AfterIsSound, LaterIsSound};
 
-use eutxo::{Validator, found_is_enough, sums_are_preserved};
+use eutxo::{Validator, blocks_tell_contracts_apart, found_is_enough, sums_are_preserved};
 
 /// Each contract input of an accepted transaction is spent by a member of the thread of exactly one start
 /// output. A contract output is spent by a step alone, and a step spends one. So no contract output is
@@ -13,6 +13,7 @@ pub fn steps_stand_on_threads<V: Validator>()
     ensures names { StepsNameContracts V.judges }
 {
     found_is_enough::<V>();
+    blocks_tell_contracts_apart::<V>();
 }
 
 /// An unspent contract output is the end of exactly one thread: its start output, or the next output of
@@ -22,6 +23,16 @@ pub fn contracts_end_threads<V: Validator>()
     ensures unspent { EndsAreUnspent V.judges }
 {
     found_is_enough::<V>();
+    blocks_tell_contracts_apart::<V>();
+}
+
+/// Where a thread goes on after an accepted transaction stays where more is published, and where more is accepted: so
+/// threads grow alone.
+pub fn threads_stay<V: Validator>()
+    ensures { ThreadsStay V.judges }
+{
+    found_is_enough::<V>();
+    blocks_tell_contracts_apart::<V>();
 }
 
 /// Of each token the unspent outputs hold together what the first outputs held. The sums are unbounded.
@@ -61,6 +72,7 @@ pub fn publishing_is_sound<V: Validator>()
     ensures { LaterIsSound V.judges }
 {
     found_is_enough::<V>();
+    blocks_tell_contracts_apart::<V>();
 }
 
 /// The definitions on small lists of transactions: a thread that nobody steps, one of two steps, what comes after

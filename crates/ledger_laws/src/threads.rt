@@ -1,7 +1,7 @@
 //! Laws of Marlowe's contracts.
 ghost use Rattle.ledger_laws.specs.Laws.{ThreadsAreRuns, ThreadsEndWithRuns, ContractsAreFunded, ContractsAreOfTables, PartiesAreAuthorised};
 
-use eutxo::found_is_enough;
+use eutxo::{blocks_tell_contracts_apart, found_is_enough};
 use roles::Published;
 use semantics::turns_lead_to_the_remaining_contract;
 
@@ -25,6 +25,7 @@ pub fn contracts_are_funded()
     ensures number { ContractsAreOfTables }
 {
     found_is_enough::<Published>();
+    blocks_tell_contracts_apart::<Published>();
     turns_lead_to_the_remaining_contract();
 }
 

@@ -13,10 +13,11 @@ use Rattle.eutxo_types.specs.Parts.{contract_at, script_in, steps}
 use Rattle.roles.specs.declared.published.Published.{Published}
 use Rattle.ledger.specs.declared.look.ThreadOutput.{ThreadOutput}
 use Rattle.ledger_laws.specs.Past.{Past, unspent_at, has_id}
-use Rattle.ledger_laws.specs.Threads.{IsMade, StartsThread, thread, ends}
+use Rattle.roles.specs.Steps.{marlowe}
+use Rattle.ledger_laws.specs.Threads.{IsMade, StartsThread, thread_end}
 use Rattle.ledger_laws.proofs.PlainLaws.{and_true, both, is_there, any_there, any_at}
 use Rattle.ledger_laws.proofs.ReferenceLaws.{itself}
-use Rattle.ledger_spec.specs.Replay.{World, past_of}
+use Rattle.ledger_spec.specs.Replay.{World, published_at, past_of}
 use Rattle.ledger_spec.specs.Views.{starts_in, StartsAreTold, end_of, made_datum, object_under, thread_output, thread_output_in, thread_output_at, thread_shown}
 
 not_true : (b : Bool) → not b ≡ true → b ≡ false
@@ -55,13 +56,13 @@ told_start past r s = any_at (starts_in r) past.accepted m.number m.tx m.accepte
 pub start_told : (past : Past) (r : OutputRef) → list_any (starts_in r) past.accepted ≡ true → StartsThread past r
 start_told past r h = let f = any_there (starts_in r) past.accepted h in starts_so past r f.0 f.1 f.2 f.3
 
-pub starts_told : (past : Past) → StartsAreTold past
-starts_told past r = (
+pub starts_told : (named : List ℕ → Option Published) (past : Past) → StartsAreTold named past
+starts_told named past r = (
   λ s. let h = told_start past r s in rw h refl,
   λ never. by (list_any (starts_in r) past.accepted) refl never,
 )
   where
-    by : (b : Bool) → list_any (starts_in r) past.accepted ≡ b → (StartsThread past r → ⊥) → (if b then ends (Some r) (thread past r) else None) ≡ None
+    by : (b : Bool) → list_any (starts_in r) past.accepted ≡ b → (StartsThread past r → ⊥) → (if b then thread_end marlowe named past r else None) ≡ None
     by true h never = absurd (never (start_told past r h))
     by false h never = refl
 
@@ -72,11 +73,11 @@ if_some true o x h = (refl, h)
 if_some false o x h = cc
 
 -- where it follows a thread to its end, that is a start's
-pub end_told : (past : Past) (r q : OutputRef) → end_of past r ≡ Some q → (list_any (starts_in r) past.accepted ≡ true) × (ends (Some r) (thread past r) ≡ Some q)
-end_told past r q h = if_some (list_any (starts_in r) past.accepted) (ends (Some r) (thread past r)) q h
+pub end_told : (named : List ℕ → Option Published) (past : Past) (r q : OutputRef) → end_of named past r ≡ Some q → (list_any (starts_in r) past.accepted ≡ true) × (thread_end marlowe named past r ≡ Some q)
+end_told named past r q h = if_some (list_any (starts_in r) past.accepted) (thread_end marlowe named past r) q h
 
-pub end_starts : (past : Past) (r q : OutputRef) → end_of past r ≡ Some q → StartsThread past r × (ends (Some r) (thread past r) ≡ Some q)
-end_starts past r q h = let p = end_told past r q h in (start_told past r p.0, p.1)
+pub end_starts : (named : List ℕ → Option Published) (past : Past) (r q : OutputRef) → end_of named past r ≡ Some q → StartsThread past r × (thread_end marlowe named past r ≡ Some q)
+end_starts named past r q h = let p = end_told named past r q h in (start_told past r p.0, p.1)
 
 named_by : (q : OutputRef) (o : Output) (d : Datum) (p : Option Published) (t : ThreadOutput) → thread_output q o d p ≡ Some t → q ≡ t.reference
 named_by q o d None t h = cc
@@ -89,13 +90,13 @@ named_in ps q (Some o) (Some d) t h = named_by q o d (object_under ps (script_in
 
 -- so a thread that is shown is a start's, and is shown where it ends
 pub shown_starts : (w : World) (asked : Option OutputRef) (t : ThreadOutput) → thread_shown w asked ≡ Some t →
-    (r : OutputRef) × (asked ≡ Some r) × StartsThread (past_of w) r × (ends (Some r) (thread (past_of w) r) ≡ Some t.reference)
+    (r : OutputRef) × (asked ≡ Some r) × StartsThread (past_of w) r × (thread_end marlowe (published_at w.published) (past_of w) r ≡ Some t.reference)
 shown_starts w None t h = cc
-shown_starts w (Some r) t h = by (end_of (past_of w) r) refl h
+shown_starts w (Some r) t h = by (end_of (published_at w.published) (past_of w) r) refl h
   where
-    by : (o : Option OutputRef) → end_of (past_of w) r ≡ o → thread_output_at w o ≡ Some t →
-        (s : OutputRef) × (Some r ≡ Some s) × StartsThread (past_of w) s × (ends (Some s) (thread (past_of w) s) ≡ Some t.reference)
+    by : (o : Option OutputRef) → end_of (published_at w.published) (past_of w) r ≡ o → thread_output_at w o ≡ Some t →
+        (s : OutputRef) × (Some r ≡ Some s) × StartsThread (past_of w) s × (thread_end marlowe (published_at w.published) (past_of w) s ≡ Some t.reference)
     by None e k = cc
     by (Some q) e k =
-        let s = end_starts (past_of w) r q e in
+        let s = end_starts (published_at w.published) (past_of w) r q e in
         (r, refl, s.0, s.1 ∙ ap Some (named_in w.published q (unspent_at (past_of w) q) (made_datum (past_of w) q) t k))

@@ -1,5 +1,5 @@
--- THE HEADLINE: whatever a ledger accepts, each contract's transactions are one run of that contract, where no two different data that
--- they bring have one digest; and what is built of a request that nothing hinders is accepted.
+-- THE HEADLINE: whatever a ledger accepts, the inputs that spend each contract are one run of that contract, also where one transaction steps
+-- several, if no two different data that its transactions bring have one digest; and what is built of a request that nothing hinders is accepted.
 use Rattle.std.specs.Prelude.{◌≡◌, ℕ, ◌≤ℤ◌, List, ◌++◌, All, Option, Some, None, ◌⊎◌}
 use Rattle.std.specs.FinMap.{entries}
 use Rattle.collections.specs.Positive.{AllPositive}
@@ -16,10 +16,11 @@ use Rattle.eutxo_types.specs.Ids.{id_of}
 use Rattle.eutxo_types.specs.Parts.{Instance}
 use Rattle.roles.specs.declared.published.Published.{Published}
 use Rattle.roles.specs.Sums.{sums_of, SumsAreTotals}
+use Rattle.roles.specs.Steps.{marlowe}
 use Rattle.roles.specs.Terms.{terms_of}
 use Rattle.ledger_laws.specs.Past.{Past}
 use Rattle.ledger_laws.specs.Sound.{AreKeys}
-use Rattle.ledger_laws.specs.Threads.{thread, ends, IsStart, StartsThread, Member, Run, Carries, contract_after, state_after}
+use Rattle.ledger_laws.specs.Threads.{thread, thread_end, IsStart, StartsThread, Member, Run, Carries, contract_after, state_after}
 use Rattle.ledger_laws.specs.Laws.{ExactlyOne, DigestsTell, EndsWithItsRun, EachStepHasItsThread, ContractsAreStepped, EachIsAuthorised, EachContractEndsAThread, EachEndIsUnspent, AreFunded, AreOfTables, ReferencesAreSingle, IdsAreSingle, IsSpentOnce, IsPreserved, StepsAreOfContracts}
 use Rattle.ledger.specs.declared.ask.Ask.{Ask}
 use Rattle.ledger.specs.declared.call.Call.TheVariants as on
@@ -28,8 +29,9 @@ use Rattle.ledger.specs.declared.call.Reply.TheVariants as answer
 use Rattle.ledger.specs.declared.look.Look.{Look}
 use Rattle.ledger.specs.declared.look.ThreadOutput.{ThreadOutput}
 use Rattle.ledger.specs.declared.look.Unspent.{Unspent}
-use Rattle.builder_spec.specs.Requests.{StepRequest, StartRequest, ClaimRequest}
-use Rattle.builder_spec.specs.Steps.{Thread, thread_terms, look_thread, step_spent, hinders_step, layout_step}
+use Rattle.builder_spec.specs.Requests.{StepRequest, StepsRequest, StartRequest, ClaimRequest}
+use Rattle.builder_spec.specs.Parts.{threads_of, parts_spent, ArePublished, hinders_steps, layout_steps}
+use Rattle.builder_spec.specs.Steps.{Thread, thread_terms, Stepped, look_thread, step_spent, hinders_step, layout_step}
 use Rattle.builder_spec.specs.Closings.{closing, Closes}
 use Rattle.builder_spec.specs.Change.{StepChangeIsTheRest, StartChangeIsTheRest}
 use Rattle.builder_spec.specs.Starts.{start_front, hinders_start, layout_start}
@@ -49,7 +51,7 @@ abbrev pub EachIsARunOfItsContract : List Entry → (List ℕ → Option Publish
 EachIsARunOfItsContract es named past =
     (r : OutputRef) (i : Instance) → IsStart past r i →
     (p : Published) × (named i.script ≡ Some p) × (x : IsPublication es i.script p)
-    × ExactlyOne (λ run. Run (contract_tree x.contract) i.datum.state run × Carries (terms_of p) i.script (thread past r) run)
+    × ExactlyOne (λ run. Run (contract_tree x.contract) i.datum.state run × Carries named past (terms_of p) i.script (thread marlowe named past r) run)
 
 -- of accounts above 0 the sums are above 0, of each token that they hold
 abbrev pub SumsArePositive : Type 0
@@ -63,13 +65,13 @@ pub record IsSoundLedger (es : List Entry) (named : List ℕ → Option Publishe
   pub stands : StandsUnderItsId es named
   -- one contract and one currency
   pub told_apart : IdsTellContracts es
-  -- the accepted transactions of each contract are one run of it, and of no other: from the state of its start, input for input,
+  -- the inputs of accepted transactions that spend each contract are one run of it, and of no other: from the state of its start, input for input,
   -- with the run's warnings, payments, states and remaining contracts. This and the next need that digests tell data apart, no other does
   pub runs : DigestsTell past → EachIsARunOfItsContract es named past
   -- a thread that isn't over ends where its run stands: the same remaining contract, in the same state
   pub ends_with_run : DigestsTell past → EndsWithItsRun named past
   -- every contract input of an accepted transaction stands on exactly one thread
-  pub steps : EachStepHasItsThread past
+  pub steps : EachStepHasItsThread marlowe named past
   -- a contract output is spent by a step alone
   pub stepped : ContractsAreStepped past
   -- and a step spends a contract output
@@ -77,9 +79,9 @@ pub record IsSoundLedger (es : List Entry) (named : List ℕ → Option Publishe
   -- each party that a step's inputs need is an address that signed, or a role whose token a key input's output holds
   pub authorised : EachIsAuthorised named past
   -- each unspent contract output is the end of exactly one thread
-  pub ends : EachContractEndsAThread past
+  pub ends : EachContractEndsAThread marlowe named past
   -- and each end is an unspent contract output
-  pub unspent : EachEndIsUnspent past
+  pub unspent : EachEndIsUnspent marlowe named past
   -- such an output holds exactly the sums of its accounts
   pub funded : AreFunded past
   -- which are, token by token, the totals by which the transaction function keeps money
@@ -102,7 +104,7 @@ abbrev pub ShowsWhereRunsStand : Course → Type 0
 ShowsWhereRunsStand c =
     DigestsTell (past_of (world c)) → (ask : Ask) (r : OutputRef) (i : Instance) (e : Thread) → ask.thread ≡ Some r → IsStart (past_of (world c)) r i → look_thread (look (world c) ask) ≡ Some e →
     (published_at (world c).published i.script ≡ Some e.shown.published)
-    × ((run : List Member) → Run ((thread_terms e).tree e.shown.published.root) i.datum.state run → Carries (thread_terms e) i.script (thread (past_of (world c)) r) run →
+    × ((run : List Member) → Run ((thread_terms e).tree e.shown.published.root) i.datum.state run → Carries (published_at (world c).published) (past_of (world c)) (thread_terms e) i.script (thread marlowe (published_at (world c).published) (past_of (world c)) r) run →
     ((thread_terms e).tree e.datum.cont ≡ contract_after ((thread_terms e).tree e.shown.published.root) run) × (e.datum.state ≡ state_after i.datum.state run))
 
 -- HOWEVER CALLS INTERLEAVE: so it is after this history, and so looks show it
@@ -126,6 +128,11 @@ abbrev pub AcceptsSteps : Course → Type 0
 AcceptsSteps c = (look : Look) (r : StepRequest) (e : Thread) → look_thread look ≡ Some e → hinders_step look r ≡ None →
     published_at (world c).published e.shown.published.id ≡ Some e.shown.published → IsOpenAfter c (step_spent r e) (layout_step look r) → Accepts c (layout_step look r)
 
+-- that of steps of several threads, likewise; so also where the parts are of several contracts and currencies
+abbrev pub AcceptsParts : Course → Type 0
+AcceptsParts c = (r : StepsRequest) (ss : List Stepped) → threads_of r.parts ≡ Some ss → hinders_steps r ≡ None →
+    ArePublished (published_at (world c).published) ss → IsOpenAfter c (parts_spent r ss) (layout_steps r) → Accepts c (layout_steps r)
+
 -- that of a start, where what is started is published
 abbrev pub AcceptsStarts : Course → Type 0
 AcceptsStarts c = (r : StartRequest) → hinders_start r ≡ None →
@@ -143,13 +150,13 @@ ShowsCurrentThreads c = (ask : Ask) (t : ThreadOutput) → thread_shown (world c
 abbrev pub ShowsThreadsOfStarts : Course → Type 0
 ShowsThreadsOfStarts c =
     (ask : Ask) (t : ThreadOutput) → thread_shown (world c) ask.thread ≡ Some t →
-    (r : OutputRef) × (ask.thread ≡ Some r) × StartsThread (past_of (world c)) r × (ends (Some r) (thread (past_of (world c)) r) ≡ Some t.reference)
+    (r : OutputRef) × (ask.thread ≡ Some r) × StartsThread (past_of (world c)) r × (thread_end marlowe (published_at (world c).published) (past_of (world c)) r ≡ Some t.reference)
 
 -- and a thread that isn't over is shown
 abbrev pub ShowsWhatIsNotOver : Course → Type 0
 ShowsWhatIsNotOver c =
     (ask : Ask) (r : OutputRef) → ask.thread ≡ Some r → StartsThread (past_of (world c)) r →
-    (ends (Some r) (thread (past_of (world c)) r) ≡ None) ⊎ ((e : Thread) × (look_thread (look (world c) ask) ≡ Some e))
+    (thread_end marlowe (published_at (world c).published) (past_of (world c)) r ≡ None) ⊎ ((e : Thread) × (look_thread (look (world c) ask) ≡ Some e))
 
 -- AFTER THE LAST TIMEOUT ANYONE CLOSES a thread that a look shows: without inputs and offers, in an interval that ends neither before its
 -- start nor before the minimum time, nothing hinders it but that a number leaves 128 bits or that Close without accounts stands. Where
@@ -171,6 +178,8 @@ pub record SecondHalf (c : Course) : Type 0 where
   -- fund it within the limits, none twice), its layout is accepted while what it spends is unspent as it was handed in, its script is
   -- published as shown, no accepted transaction of other bytes has its id, and the tick lies in its interval
   pub steps : AcceptsSteps c
+  -- so is that of steps of several threads in one transaction
+  pub parts : AcceptsParts c
   -- so is the layout of a start
   pub starts : AcceptsStarts c
   -- and that of a claim

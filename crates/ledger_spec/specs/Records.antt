@@ -2,9 +2,11 @@
 use Rattle.std.specs.Prelude.{◌≡◌, true, List, [], ℕ, map, slice_get, All, Option, Some}
 use Rattle.eutxo_types.specs.declared.output_ref.OutputRef.{OutputRef}
 use Rattle.roles.specs.declared.published.Published.{Published}
+use Rattle.eutxo.specs.Blocks.{goes_on_at}
+use Rattle.roles.specs.Steps.{marlowe}
 use Rattle.roles.specs.Terms.{Terms, terms_of}
 use Rattle.ledger_laws.specs.Past.{Past}
-use Rattle.ledger_laws.specs.Threads.{IsStart, StartsThread, Link, thread, Member, Run, Carries}
+use Rattle.ledger_laws.specs.Threads.{blocks_of, IsStart, StartsThread, Link, thread, Member, Run, Carries}
 use Rattle.ledger_laws.specs.Laws.{DigestsTell}
 use Rattle.ledger_spec.specs.declared.step_record.StepRecord.{StepRecord}
 use Rattle.eutxo_types.specs.Parts.{Instance, contract_at}
@@ -18,13 +20,14 @@ member_of t x =
       outcome = record { warnings = x.warnings; payments = x.payments; state = x.state; contract = t.tree x.number };
     }
 
--- where the thread goes on after a transaction, its next output holds the record's number
-abbrev pub HoldsNumber : Link → StepRecord → Type 0
-HoldsNumber l x = (i : Instance) → contract_at l.tx 0 ≡ Some i → i.datum.cont ≡ x.number
+-- where the thread goes on after a transaction, the first output of its block holds the record's number
+abbrev pub HoldsNumber : (List ℕ → Option Published) → Past → Link → StepRecord → Type 0
+HoldsNumber published past l x =
+    (i : ℕ) (c : Instance) → goes_on_at (blocks_of marlowe published past l.tx) l.spends ≡ Some i → contract_at l.tx i ≡ Some c → c.datum.cont ≡ x.number
 
 -- so each of them, transaction by transaction
-abbrev pub HoldNumbers : List Link → List StepRecord → Type 0
-HoldNumbers ls xs = (n : ℕ) (l : Link) (x : StepRecord) → slice_get ls n ≡ Some l → slice_get xs n ≡ Some x → HoldsNumber l x
+abbrev pub HoldNumbers : (List ℕ → Option Published) → Past → List Link → List StepRecord → Type 0
+HoldNumbers published past ls xs = (n : ℕ) (l : Link) (x : StepRecord) → slice_get ls n ≡ Some l → slice_get xs n ≡ Some x → HoldsNumber published past l x
 
 -- the run of what is published under the script, from the state in the start's datum; the thread carries it, transaction by
 -- transaction; each number is one of the table's and, where the thread goes on, the one that its next output holds
@@ -32,9 +35,9 @@ pub record TellTheRun (published : List ℕ → Option Published) (past : Past) 
   pub object : Published
   pub named : published c.script ≡ Some object
   pub run : Run ((terms_of object).tree object.root) c.datum.state (map (member_of (terms_of object)) xs)
-  pub carried : Carries (terms_of object) c.script (thread past r) (map (member_of (terms_of object)) xs)
+  pub carried : Carries published past (terms_of object) c.script (thread marlowe published past r) (map (member_of (terms_of object)) xs)
   pub numbers : All (λ x. (terms_of object).has x.number ≡ true) xs
-  pub held : HoldNumbers (thread past r) xs
+  pub held : HoldNumbers published past (thread marlowe published past r) xs
 
 -- of a start output the records tell its run, where digests tell data apart; where no thread starts, there are none
 pub record AreSteps (published : List ℕ → Option Published) (past : Past) (r : OutputRef) (xs : List StepRecord) : Type 0 where

@@ -19,7 +19,8 @@ use Rattle.ledger.specs.declared.look.Look.{Look}
 use Rattle.ledger.specs.declared.look.ThreadOutput.{ThreadOutput}
 use Rattle.ledger.specs.declared.look.Unspent.{Unspent}
 use Rattle.ledger_laws.specs.Past.{Past, unspent, unspent_at, has_id}
-use Rattle.ledger_laws.specs.Threads.{StartsThread, thread, ends}
+use Rattle.roles.specs.Steps.{marlowe}
+use Rattle.ledger_laws.specs.Threads.{StartsThread, thread_end}
 use Rattle.ledger_spec.specs.Replay.{World, past_of, published_at, moment_of}
 
 -- ---- the unspent outputs under a lock
@@ -53,16 +54,16 @@ starts_in (Genesis i) tx = false
 starts_in (Made id i) tx = has_id id tx && (not (steps tx) && is_some (contract_at tx i))
 
 -- where the thread from a start output ends; of another output, nowhere
-abbrev pub end_of : Past → OutputRef → Option OutputRef
-end_of past r = if list_any (starts_in r) past.accepted then ends (Some r) (thread past r) else None
+abbrev pub end_of : (List ℕ → Option Published) → Past → OutputRef → Option OutputRef
+end_of named past r = if list_any (starts_in r) past.accepted then thread_end marlowe named past r else None
 
 -- so of an output that starts a thread it is where the thread ends, and of every other it is none
-abbrev pub StartsAreTold : Past → Type 0
-StartsAreTold past =
-    (r : OutputRef) → (StartsThread past r → end_of past r ≡ ends (Some r) (thread past r)) × ((StartsThread past r → ⊥) → end_of past r ≡ None)
+abbrev pub StartsAreTold : (List ℕ → Option Published) → Past → Type 0
+StartsAreTold named past =
+    (r : OutputRef) → (StartsThread past r → end_of named past r ≡ thread_end marlowe named past r) × ((StartsThread past r → ⊥) → end_of named past r ≡ None)
 
 abbrev pub EachStartIsTold : Type 0
-EachStartIsTold = (past : Past) → StartsAreTold past
+EachStartIsTold = (named : List ℕ → Option Published) (past : Past) → StartsAreTold named past
 
 -- the contract that a transaction makes in the output that a reference names
 abbrev pub instance_in : OutputRef → Tx → Option Instance
@@ -98,7 +99,7 @@ thread_output_at w (Some q) = thread_output_in w.published q (unspent_at (past_o
 -- the unspent output of the asked thread, with the datum that its maker brought and what is published under its script
 abbrev pub thread_shown : World → Option OutputRef → Option ThreadOutput
 thread_shown w None = None
-thread_shown w (Some r) = thread_output_at w (end_of (past_of w) r)
+thread_shown w (Some r) = thread_output_at w (end_of (published_at w.published) (past_of w) r)
 
 -- ---- a look
 

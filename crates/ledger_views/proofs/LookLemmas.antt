@@ -5,9 +5,8 @@ use Rattle.eutxo_types.specs.declared.output.Output.{Output}
 use Rattle.eutxo_types.specs.declared.output_ref.OutputRef.{OutputRef}
 use Rattle.eutxo_types.specs.Parts.{same_ref}
 use Rattle.ledger_laws.specs.Past.{unspent_at}
-use Rattle.roles.specs.Steps.{marlowe}
 use Rattle.ledger.specs.declared.ask.Ask.{Ask}
-use Rattle.ledger_spec.specs.Replay.{World, past_of, published_at}
+use Rattle.ledger_spec.specs.Replay.{World, past_of}
 use Rattle.ledger_spec.specs.Views.{made_datum, thread_output_in, thread_output_at, thread_shown, look}
 use Rattle.chain_index.specs.Contents.{Contents, contents_of}
 use Rattle.chain_index.specs.Laws.{EndsAlike, DataAlike}
@@ -24,11 +23,11 @@ same_output told w (Some q) = by (unspent_at (past_of w) q) refl
     by None h = refl
     by (Some o) h = ap (thread_output_in w.published q (Some o)) (told w.published (past_of w) q o h)
 
-module _ (ends : EndsAlike marlowe) (told : DataAlike) (present : Contents) (w : World) (tied : IsIndexOf present w) where
+module _ (ends : EndsAlike) (told : DataAlike) (present : Contents) (w : World) (tied : IsIndexOf present w) where
   same_thread : (asked : Option OutputRef) → thread_shown_in (contents_of (past_of w) w.published) asked ≡ thread_shown w asked
   same_thread None = refl
   same_thread (Some r) =
-      ap (output_shown_in (contents_of (past_of w) w.published)) (ends (published_at w.published) w.published (past_of w) tied.sound r)
+      ap (output_shown_in (contents_of (past_of w) w.published)) (ends w.published (past_of w) tied.sound r)
       ∙ same_output told w _
 
   pub same_look : (ask : Ask) → look_in present w.replay.tick ask ≡ look w ask

@@ -1,5 +1,5 @@
 -- No reader needs this file: walks along a thread, which lead to what the records say.
-use Rattle.std.specs.Prelude.{◌≡◌, ℕ, ◌-◌, if◌then◌else◌, List, [], ◌++◌, map, length, position, slice_get, Option, Some, None}
+use Rattle.std.specs.Prelude.{◌≡◌, ℕ, ◌-◌, if◌then◌else◌, List, [], ◌∷◌, ◌++◌, map, length, position, slice_get, Option, Some, None}
 use Rattle.std.specs.Option.{unwrap_or}
 use Rattle.contract.specs.declared.input.Input.{Input}
 use Rattle.contract.specs.Tree.{close}
@@ -10,8 +10,12 @@ use Rattle.eutxo_types.specs.declared.output_ref.OutputRef.TheVariants.{Genesis,
 use Rattle.eutxo_types.specs.declared.spend.Spend.{Spend}
 use Rattle.eutxo_types.specs.declared.tx.Tx.{Tx}
 use Rattle.eutxo_types.specs.Parts.{Instance, same_bytes, contract_at, given_to}
+use Rattle.eutxo.specs.Blocks.{stands_from}
+use Rattle.roles.specs.declared.published.Published.{Published}
+use Rattle.roles.specs.Steps.{marlowe}
 use Rattle.roles.specs.Terms.{Terms}
-use Rattle.ledger_laws.specs.Threads.{Link, Member, next_of, Gives, Run, LaidOut, Carries}
+use Rattle.ledger_laws.specs.Past.{Past}
+use Rattle.ledger_laws.specs.Threads.{blocks_of, Link, Member, next_of, Gives, Run, LaidOut, Carries}
 use Rattle.ledger_spec.specs.declared.step_record.StepRecord.{StepRecord}
 use Rattle.ledger_spec.specs.Records.{member_of}
 use Rattle.chain_index.specs.Contents.{Contents, is_among}
@@ -57,30 +61,49 @@ left_by p (Some x) = (x.number, x.state)
 abbrev pub stands_after : Point → List StepRecord → Point
 stands_after p xs = left_by p (slice_get xs (length xs - 1))
 
--- the number at which it goes on: the one that the next output holds; where no output goes on, this place
+-- where a thread goes on after a transaction of it: at the output that the next one spends, or where the thread ends
+abbrev pub goes_to : List Link → Option OutputRef → Option OutputRef
+goes_to [] end = end
+goes_to (l ∷ ls) end = Some l.spends
+
+-- so these links lead one to the other, and to this end
+abbrev pub Leads : (OutputRef → Tx → Option OutputRef) → List Link → Option OutputRef → Type 0
+Leads next [] end = Unit {0}
+Leads next (l ∷ ls) end = (next l.spends l.tx ≡ goes_to ls end) × Leads next ls end
+
+-- the contract that a transaction makes in the output in which a thread goes on
+abbrev pub instance_next : Tx → Option OutputRef → Option Instance
+instance_next tx None = None
+instance_next tx (Some (Genesis i)) = None
+instance_next tx (Some (Made id i)) = contract_at tx i
+
+-- the number at which it goes on: the one that this output holds; where no output goes on, this place
 abbrev pub number_after : Option Instance → Cont → Cont
 number_after None place = place
 number_after (Some i) place = i.datum.cont
 
--- what a transaction of a thread gives from here, and how its outputs are laid out
-pub record IsStepOf (t : Terms) (p : Point) (l : Link) (x : Member) : Type 0 where
+-- what a transaction of a thread gives from here, how its outputs are laid out, and where it goes on
+pub record IsStepOf (named : List ℕ → Option Published) (past : Past) (t : Terms) (p : Point) (next : Option OutputRef) (l : Link) (x : Member) : Type 0 where
   pub script : List ℕ
   pub interval : l.tx.interval ≡ x.interval
   pub inputs : given_to l.spends l.tx.inputs ≡ Some x.inputs
   pub gives : Gives (t.tree p.0) p.1 x
-  pub outputs : LaidOut t script x.outcome 0 l.tx
+  pub from : ℕ
+  pub block : stands_from (blocks_of marlowe named past l.tx) l.spends ≡ Some from
+  pub outputs : LaidOut t script x.outcome from l.tx
   -- where the contract is Close, no output goes on
-  pub gone : x.outcome.contract ≡ close → next_of l.spends l.tx ≡ None
+  pub gone : x.outcome.contract ≡ close → next_of marlowe named past l.spends l.tx ≡ None
+  pub on : next_of marlowe named past l.spends l.tx ≡ next
 
 -- ---- a thread
 
 -- these links carry this run
-pub record IsRunOf (t : Terms) (p : Point) (script : List ℕ) (ls : List Link) (run : List Member) : Type 0 where
+pub record IsRunOf (named : List ℕ → Option Published) (past : Past) (t : Terms) (p : Point) (script : List ℕ) (ls : List Link) (run : List Member) : Type 0 where
   pub runs : Run (t.tree p.0) p.1 run
-  pub carried : Carries t script ls run
+  pub carried : Carries named past t script ls run
 
 -- of the links these are left, after these records
-pub record Goes (t : Terms) (p : Point) (script : List ℕ) (ls : List Link) (xs : List StepRecord) (left : List Link) : Type 0 where
+pub record Goes (named : List ℕ → Option Published) (past : Past) (t : Terms) (p : Point) (script : List ℕ) (ls : List Link) (xs : List StepRecord) (left : List Link) : Type 0 where
   pub rest : List Member
-  pub whole : IsRunOf t p script ls (map (member_of t) xs ++ rest)
-  pub here : IsRunOf t (stands_after p xs) script left rest
+  pub whole : IsRunOf named past t p script ls (map (member_of t) xs ++ rest)
+  pub here : IsRunOf named past t (stands_after p xs) script left rest

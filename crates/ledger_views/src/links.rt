@@ -1,8 +1,9 @@
 //! The transactions of a thread.
 ghost use Rattle.std.specs.Prelude.{◌≡◌, true, All, IfOk, Some, is_some, map};
 ghost use Rattle.eutxo_types.specs.Parts.{Instance};
+ghost use Rattle.roles.specs.Steps.{marlowe};
 ghost use Rattle.ledger_laws.specs.Threads.{IsMade, thread};
-ghost use Rattle.ledger_spec.specs.Replay.{past_of, world};
+ghost use Rattle.ledger_spec.specs.Replay.{past_of, published_at, world};
 ghost use Rattle.chain_index.specs.Laws.{link_at};
 ghost use Rattle.ledger_kept.specs.Kept.{IsIndexOf};
 
@@ -91,7 +92,8 @@ pub fn thread<'a>(
 ) -> Result<Vec<ThreadLink<'a>>, Memory>
     requires tied { IsIndexOf index.now.present (world kept.now) }
     requires made { (c : Instance) × IsMade (past_of (world kept.now)) start.now c }
-    ensures { IfOk result (λ links. links.items ≡ thread (past_of (world kept.now)) start.now) }
+    ensures { IfOk result (λ links. links.items
+        ≡ thread marlowe (published_at (world kept.now).published) (past_of (world kept.now)) start.now) }
 {
     // touch: the moves lead along the thread
     index_follows_threads();

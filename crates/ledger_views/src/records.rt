@@ -1,14 +1,17 @@
 //! The records of a thread.
-ghost use Rattle.std.specs.Prelude.{◌≡◌, true, All, List, Some, IfOk, map};
-ghost use Rattle.eutxo_types.specs.Parts.{contract_at};
+ghost use Rattle.std.specs.Prelude.{◌≡◌, ◌<◌, ◌+◌, ℕ, true, All, List, Option, Some, IfOk, map, drop, length};
+ghost use Rattle.roles.specs.declared.published.Published.{Published as Object};
+ghost use Rattle.roles.specs.Steps.{marlowe};
 ghost use Rattle.roles.specs.Terms.{terms_of};
 ghost use Rattle.ledger_laws.specs.Laws.{AreTables, DigestsTell};
-ghost use Rattle.ledger_laws.specs.Threads.{IsStart, Member};
+ghost use Rattle.ledger_laws.specs.Past.{Past};
+ghost use Rattle.ledger_laws.specs.Threads.{IsStart, Member, next_of};
 ghost use Rattle.ledger_spec.specs.declared.step_record.StepRecord.{StepRecord as ARecord};
 ghost use Rattle.ledger_spec.specs.Replay.{past_of, published_at, world};
 ghost use Rattle.ledger_spec.specs.Records.{member_of, HoldsNumber, TellTheRun, AreSteps, HoldNumbers};
 ghost use Rattle.ledger_kept.specs.Kept.{IsIndexOf};
-ghost use Rattle.ledger_views.specs.RecordsSupport.{given, point, stands_after, number_after, IsStepOf, IsRunOf};
+ghost use Rattle.ledger_views.specs.RecordsSupport.{goes_to, Leads, given, point, stands_after, instance_next, number_after};
+ghost use Rattle.ledger_views.specs.RecordsSupport.{IsStepOf, IsRunOf};
 
 use crate::links::{ThreadLink, thread};
 use crate::start::start_at;
@@ -57,32 +60,55 @@ fn stands_after<'a>(root: Cont, first: &'a State, records: &'a [StepRecord]) -> 
     }
 }
 
+// The contract that a transaction makes in the output in which a thread goes on.
+fn made_in<'a>(tx: &'a Tx, next: &OutputRef) -> Option<Instance<'a>>
+    ensures { result ≡ instance_next tx.now (Some next.now) }
+{
+    match next {
+        OutputRef::Genesis { .. } => None,
+        OutputRef::Made { index, .. } => tx.contract_at(*index),
+    }
+}
+
+fn instance_next<'a>(tx: &'a Tx, next: Option<OutputRef>) -> Option<Instance<'a>>
+    ensures { result ≡ instance_next tx.now next }
+{
+    match next {
+        Some(next) => made_in(tx, &next),
+        None => None,
+    }
+}
+
 // Where a thread goes on after a transaction: at the number that the next output holds; where no output goes on, at
 // this place.
-fn number_after(tx: &Tx, place: Cont) -> Cont
-    ensures { result ≡ number_after (contract_at tx.now 0) place }
+fn number_after(tx: &Tx, next: Option<OutputRef>, place: Cont) -> Cont
+    ensures { result ≡ number_after (instance_next tx.now next) place }
 {
-    match tx.contract_at(0) {
+    match instance_next(tx, next) {
         Some(next) => next.datum.cont,
         None => place,
     }
 }
 
-// The record of one transaction of a thread, which stands at this number, in this state. None where the contract makes
-// no such step from there: then the transaction brought another datum, with the digest of the one that was made.
+// The record of one transaction of a thread, which stands at this number, in this state, and goes on in this output.
+// None where the contract makes no such step from there: then the transaction brought another datum, with the digest of
+// the one that was made.
 fn recorded(
     alloc: Global,
     published: &Published,
     at: (Cont, &State),
     link: &ThreadLink<'_>,
+    next: Option<OutputRef>,
 ) -> Result<Option<StepRecord>, Memory>
     requires { (terms_of published.now).has at.0 ≡ true }
-    ensures record { IfOk result (λ found. (x : Member) →
-        IsStepOf (terms_of published.now) (point at.entry.0 at.entry.1.now) link.now x →
+    ensures record { IfOk result (λ found. (named : List ℕ → Option Object) (past : Past) (x : Member) →
+        IsStepOf named past (terms_of published.now) (point at.entry.0 at.entry.1.now) next link.now x →
         (r : ARecord) × (found ≡ Some r) × (member_of (terms_of published.now) r ≡ x)) }
     ensures number { IfOk result (λ found. (r : ARecord) → found ≡ Some r →
         (terms_of published.now).has r.number ≡ true) }
-    ensures held { IfOk result (λ found. (r : ARecord) → found ≡ Some r → HoldsNumber link.now r) }
+    ensures held { IfOk result (λ found. (named : List ℕ → Option Object) (past : Past) (r : ARecord) →
+        next_of marlowe named past link.now.spends link.now.tx ≡ next → found ≡ Some r →
+        HoldsNumber named past link.now r) }
 {
     let tx = link.tx();
     let (number, state) = at;
@@ -92,7 +118,7 @@ fn recorded(
     table.turns_lead();
     match table.compute(alloc, &number, state, tx.interval, inputs.as_slice()) {
         Ok(outcome) => {
-            let number = number_after(tx, outcome.place);
+            let number = number_after(tx, next, outcome.place);
             if !table.contains(number) {
                 return Ok(None);
             }
@@ -112,26 +138,43 @@ fn recorded(
 
 // ---- a thread
 
-// The records of the transactions of a thread, up to the first that the contract doesn't make from where it stands.
+// The output in which a thread goes on after the transaction at a place: the one that the next spends, or the one in
+// which the thread ends.
+fn goes_to(links: &[ThreadLink<'_>], i: usize, end: Option<OutputRef>) -> Option<OutputRef>
+    requires { i < length links.now }
+    ensures { result ≡ goes_to (drop (i + 1) links.now) end }
+{
+    match links[i + 1..].first() {
+        Some(link) => Some(*link.spends()),
+        None => end,
+    }
+}
+
+// The records of the transactions of a thread that ends here, up to the first that the contract doesn't make from where
+// it stands.
 fn records_of(
     alloc: Global,
     published: &Published,
     start: &Instance<'_>,
     links: &[ThreadLink<'_>],
+    end: Option<OutputRef>,
 ) -> Result<Items<StepRecord>, Memory>
     requires root { (terms_of published.now).has published.now.root ≡ true }
-    ensures run { IfOk result (λ xs. (run : List Member) →
-        IsRunOf (terms_of published.now) (point published.now.root start.now.datum.state) start.now.script
-        links.now run →
-        IsRunOf (terms_of published.now) (point published.now.root start.now.datum.state) start.now.script
-        links.now (map (member_of (terms_of published.now)) xs)) }
+    ensures run { IfOk result (λ xs. (named : List ℕ → Option Object) (past : Past) (run : List Member) →
+        Leads (next_of marlowe named past) links.now end →
+        IsRunOf named past (terms_of published.now) (point published.now.root start.now.datum.state)
+        start.now.script links.now run →
+        IsRunOf named past (terms_of published.now) (point published.now.root start.now.datum.state)
+        start.now.script links.now (map (member_of (terms_of published.now)) xs)) }
     ensures numbers { IfOk result (λ xs. All (λ x. (terms_of published.now).has x.number ≡ true) xs) }
-    ensures held { IfOk result (λ xs. HoldNumbers links.now xs) }
+    ensures held { IfOk result (λ xs. (named : List ℕ → Option Object) (past : Past) →
+        Leads (next_of marlowe named past) links.now end → HoldNumbers named past links.now xs) }
 {
     let mut records = Items::new(alloc);
-    for link in links {
+    for (i, link) in links.iter().enumerate() {
         let at = stands_after(published.root, &start.datum.state, records.as_slice());
-        let found = recorded(alloc, published, at, link)?;
+        let next = goes_to(links, i, end);
+        let found = recorded(alloc, published, at, link, next)?;
         match found {
             Some(record) => records.push(record)?,
             None => return Ok(records),
@@ -154,12 +197,14 @@ fn steps_from(
     ensures { IfOk result (λ xs. DigestsTell (past_of (world kept.now)) →
         TellTheRun (published_at (world kept.now).published) (past_of (world kept.now)) reference.now start.now xs) }
 {
-    // touch: the thread is a run, where digests tell data apart
+    // touch: the thread is a run, where digests tell data apart, and ends where the index says
     threads_are_runs();
+    index_follows_threads();
     match index.published_at(start.script) {
         Some(object) => {
             let links = thread(alloc, kept, index, reference)?;
-            records_of(alloc, object.get(), start, &links)
+            let end = index.end_of(reference);
+            records_of(alloc, object.get(), start, &links, end)
         }
         None => Ok(Items::new(alloc)),
     }
@@ -167,8 +212,8 @@ fn steps_from(
 
 /// The records of the thread that starts at an output, in order: the thread's one run, with as many records as the
 /// thread has transactions, where no two different data that accepted transactions bring have one digest. Where two
-/// have, the records may end early. Where no thread starts there are none. Each record costs two look-ups and one step
-/// that is computed anew, however long the history is. Answers `Memory` only where a growth was refused.
+/// have, the records may end early. Where no thread starts there are none. Each record costs three look-ups and one
+/// step that is computed anew, however long the history is. Answers `Memory` only where a growth was refused.
 pub fn steps_of(
     alloc: Global,
     kept: &Kept<'_>,

@@ -17,7 +17,7 @@ pub(crate) fn tx_fault_text(alloc: Global, fault: &TxFault) -> Result<String, Me
         TxFault::OutsideInterval => String::from_str(alloc, "OutsideInterval"),
         TxFault::UnknownScript(place) => at_place(alloc, "UnknownScript", *place),
         TxFault::NotSigned(place) => at_place(alloc, "NotSigned", *place),
-        TxFault::TwoContracts => String::from_str(alloc, "TwoContracts"),
+        TxFault::TooManyContracts => String::from_str(alloc, "TooManyContracts"),
         TxFault::WrongRedeemer(place) => at_place(alloc, "WrongRedeemer", *place),
         TxFault::RoleMissing(place) => at_place(alloc, "RoleMissing", *place),
         TxFault::Semantics(inner) => beside(alloc, "Semantics", sem_fault_name(*inner)),

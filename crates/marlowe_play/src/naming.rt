@@ -2,6 +2,7 @@
 use crate::fault::PlayFault;
 use crate::stage::Stage;
 use collections::{Bytes, Items, TryClone};
+use contract::Input;
 use eutxo_types::OutputRef;
 use plans::{Intent, Plan};
 use std::alloc::Global;
@@ -14,7 +15,7 @@ pub(crate) fn plan_on(
 ) -> Result<Plan<OutputRef, Bytes>, PlayFault> {
     let mut intents = Items::new(alloc);
     for intent in plan.intents.as_slice() {
-        intents.push(intent_on(stage, intent)?)?;
+        intents.push(intent_on(alloc, stage, intent)?)?;
     }
     Ok(Plan {
         name: plan.name.try_clone()?,
@@ -25,7 +26,21 @@ pub(crate) fn plan_on(
     })
 }
 
+// Steps with their threads named by their start outputs.
+fn steps_on(
+    alloc: Global,
+    stage: &Stage<'_>,
+    steps: &[(usize, Items<Input>)],
+) -> Result<Items<(OutputRef, Items<Input>)>, PlayFault> {
+    let mut named = Items::new(alloc);
+    for step in steps {
+        named.push((stage.start_at(step.0)?, step.1.try_clone()?))?;
+    }
+    Ok(named)
+}
+
 fn intent_on(
+    alloc: Global,
     stage: &Stage<'_>,
     intent: &Intent<usize, usize>,
 ) -> Result<Intent<OutputRef, Bytes>, PlayFault> {
@@ -38,6 +53,15 @@ fn intent_on(
         } => Ok(Intent::Step {
             thread: stage.start_at(*thread)?,
             inputs: inputs.try_clone()?,
+            interval: *interval,
+            pooled: *pooled,
+        }),
+        Intent::Steps {
+            steps,
+            interval,
+            pooled,
+        } => Ok(Intent::Steps {
+            steps: steps_on(alloc, stage, steps.as_slice())?,
             interval: *interval,
             pooled: *pooled,
         }),

@@ -1,65 +1,130 @@
 -- How what a party does adds up.
-use Rattle.std.proofs.Common.{◌≡◌, inl, inr, ℕ, ◌+◌, List, [], ◌∷◌, ◌++◌, length, map, drop, Option, Some, None, refl, sym, ap, ◌∙◌, subst, arith, append_assoc}
-use Rattle.std.proofs.lemmas.List.{append-nil, length-append, map-append}
+use Rattle.std.proofs.Common.{◌≡◌, inl, inr, ℕ, suc, ◌+◌, ◌-◌, ◌<◌, ◌≤◌, List, [], ◌∷◌, ◌++◌, length, map, take, drop, get_or, Option, Some, None, refl, sym, ap, ◌∙◌, subst, arith, append_assoc, length-drop}
+use Rattle.std.proofs.lemmas.List.{append-nil, length-append, map-append, drop_more, drop_all, take_all}
+use Rattle.std.proofs.lemmas.Option.{get_or_from_slice_get, slice_get-get_or, slice_get_within}
 use Rattle.std.proofs.Math.Seq.{drop-append_seam}
-use Rattle.std.specs.Prelude.{ℤ, Result, Ok, Err, OnErr}
+use Rattle.std.specs.Prelude.{ℤ, Result, Ok, Err, OnErr, if◌then◌else◌, slice_get}
 use Rattle.std.specs.List.{Contains}
+use Rattle.contract.specs.declared.input.Input.{Input}
+use Rattle.eutxo_types.specs.declared.output_ref.OutputRef.{OutputRef}
+use Rattle.eutxo_types.specs.declared.tx.Tx.{Tx}
 use Rattle.ledger.specs.declared.ask.Ask.{Ask}
 use Rattle.ledger.specs.declared.call.Call.{Call}
 use Rattle.ledger.specs.declared.call.Call.TheVariants as on
-use Rattle.plans.specs.declared.intent.Intent.TheVariants.{Step, Claim, Round, Advance}
+use Rattle.ledger.specs.declared.call.Reply.{Reply}
+use Rattle.ledger.specs.declared.call.Reply.TheVariants as replies
+use Rattle.ledger.specs.declared.look.Look.{Look}
+use Rattle.plans.specs.declared.intent.Intent.TheVariants.{Step, Steps, Claim, Round, Advance}
 use Rattle.hub.specs.declared.answer.Answer.{Answer}
 use Rattle.hub.specs.Seats.{SeatRecord, ReceiptRecord, seat_record, answer_of, WasTold}
-use Rattle.parties.specs.Plays.{PlayedIntent, PlayedPlan, IsOf, IsOfPlan, AreOf, ArePlayed, IsWithin, added, receipt_of}
-use Rattle.parties.specs.PlaysSupport.{ask_of, HandsIn, HasRoom, WasNoted, AtMostNoted, Went, WentNoted}
+use Rattle.parties.specs.Plays.{PlayedIntent, PlayedPlan, step_ask, claim_ask, step_made, steps_made, claim_made, offered_by, parts_of}
+use Rattle.parties.specs.Plays.{AreLooks, WereShown, LooksOrHandsIn, IsOf, IsOfPlan, AreOf, ArePlayed, IsWithin, added, receipt_of}
+use Rattle.parties.specs.PlaysSupport.{asks_of, by_first, replies_of, HandsIn, HasRoom, WasNoted, AtMostNoted, Went, WentNoted, WasShown}
 
 -- ---- whose call it is
 
--- what is of an intent with nothing before it is of it after any answer
-of_any : (plan : PlayedPlan) (before : Option Answer) (call : Call) (intent : PlayedIntent) → IsOf plan None call intent → IsOf plan before call intent
-of_any plan before call (Step thread inputs interval pooled) h =
-    elim h [ inl looks ↦ inl looks | inr hands ↦ absurd hands.1 ]
-of_any plan before call (Claim currency role interval) h =
-    elim h [ inl looks ↦ inl looks | inr hands ↦ absurd hands.1 ]
-of_any plan before call (Round count workers) h = h
-of_any plan before call (Advance tick) h = h
+-- what was shown just before is so after more that was before
+shown_later : (asks : List Ask) (looks : List Look) (earlier before : List Answer) → WereShown asks looks before → WereShown asks looks (earlier ++ before)
+shown_later asks looks earlier before h = (earlier ++ h.0, h.1, ap (λ (l : List Answer). earlier ++ l) h.2 ∙ sym (append_assoc earlier h.0 h.1), h.3)
 
-are_any : (plan : PlayedPlan) (before : Option Answer) (xs : List Answer) → AreOf plan None xs → AreOf plan before xs
-are_any plan before [] h = tt
-are_any plan before (a ∷ rest) h = ((h.0.0, h.0.1, h.0.2, h.0.3, of_any plan before a.call h.0.1 h.0.4), h.1)
+-- what is of an intent is of it after more that was before
+of_later : (plan : PlayedPlan) (earlier before : List Answer) (call : Call) (intent : PlayedIntent) → IsOf plan before call intent → IsOf plan (earlier ++ before) call intent
+of_later plan earlier before call (Step thread inputs interval pooled) h =
+    elim h [ inl looks ↦ inl looks | inr hands ↦ inr (hands.0, shown_later (step_ask plan thread ∷ []) (hands.0 ∷ []) earlier before hands.1, hands.2) ]
+of_later plan earlier before call (Steps steps interval pooled) h =
+    elim h [ inl looks ↦ inl looks | inr hands ↦ inr (hands.0, shown_later (map (λ (s : OutputRef × List Input). step_ask plan s.0) steps) hands.0 earlier before hands.1, hands.2) ]
+of_later plan earlier before call (Claim currency role interval) h =
+    elim h [ inl looks ↦ inl looks | inr hands ↦ inr (hands.0, shown_later (claim_ask plan currency role ∷ []) (hands.0 ∷ []) earlier before hands.1, hands.2) ]
+of_later plan earlier before call (Round count workers) h = h
+of_later plan earlier before call (Advance tick) h = h
+
+are_later : (plan : PlayedPlan) (earlier before xs : List Answer) → AreOf plan before xs → AreOf plan (earlier ++ before) xs
+are_later plan earlier before [] h = tt
+are_later plan earlier before (a ∷ rest) h =
+    let of = h.0 in
+    ((of.0, of.1, of.2, of.3, of_later plan earlier before a.call of.1 of.4), subst (λ (l : List Answer). AreOf plan l rest) (sym (append_assoc earlier before (a ∷ []))) (are_later plan earlier (before ++ a ∷ []) rest h.1))
 
 -- what is played after what is played
-are_append : (plan : PlayedPlan) (before : Option Answer) (xs ys : List Answer) → AreOf plan before xs → AreOf plan None ys → AreOf plan before (xs ++ ys)
-are_append plan before [] ys h k = are_any plan before ys k
-are_append plan before (a ∷ rest) ys h k = (h.0, are_append plan (Some a) rest ys h.1 k)
+are_append : (plan : PlayedPlan) (before xs ys : List Answer) → AreOf plan before xs → AreOf plan [] ys → AreOf plan before (xs ++ ys)
+are_append plan before [] ys h k = subst (λ (l : List Answer). AreOf plan l ys) (append-nil before) (are_later plan before [] ys k)
+are_append plan before (a ∷ rest) ys h k = (h.0, are_append plan (before ++ a ∷ []) rest ys h.1 k)
 
--- the look of an intent
-looks : (plan : PlayedPlan) (before : Option Answer) (intent : PlayedIntent) (ask : Ask) (call : Call) → ask_of plan intent ≡ Some ask → call ≡ on.Look ask → IsOf plan before call intent
-looks plan before (Step thread inputs interval pooled) ask call asks is = inl cc
-looks plan before (Claim currency role interval) ask call asks is = inl cc
-looks plan before (Round count workers) ask call asks is = absurd cc
-looks plan before (Advance tick) ask call asks is = absurd cc
-
--- what is handed in after it
-hands : (plan : PlayedPlan) (intent : PlayedIntent) (ask : Ask) (a : Answer) (call : Call) → ask_of plan intent ≡ Some ask → a.call ≡ on.Look ask → HandsIn plan intent a.reply call → IsOf plan (Some a) call intent
-hands plan (Step thread inputs interval pooled) ask a call asks is h =
-    let made = h.3 in
-    let whole = h.4 in inr (h.0, (cc, h.2), cc)
-hands plan (Claim currency role interval) ask a call asks is h =
-    let made = h.3 in
-    let whole = h.4 in inr (h.0, (cc, h.2), cc)
-hands plan (Round count workers) ask a call asks is h = absurd cc
-hands plan (Advance tick) ask a call asks is h = absurd cc
+-- one call more, by all that was before
+are_one_more : (plan : PlayedPlan) (before xs : List Answer) (a : Answer) → AreOf plan before xs → IsOfPlan plan (before ++ xs) a.call → AreOf plan before (xs ++ a ∷ [])
+are_one_more plan before [] a h of = (subst (λ (l : List Answer). IsOfPlan plan l a.call) (append-nil before) of, tt)
+are_one_more plan before (x ∷ rest) a h of = (h.0, are_one_more plan (before ++ x ∷ []) rest a h.1 (subst (λ (l : List Answer). IsOfPlan plan l a.call) (sym (append_assoc before (x ∷ []) rest)) of))
 
 -- an intent of the plan
-of_plan : (plan : PlayedPlan) (before : Option Answer) (call : Call) (intent : PlayedIntent) → Contains plan.intents intent → IsOf plan before call intent → IsOfPlan plan before call
+of_plan : (plan : PlayedPlan) (before : List Answer) (call : Call) (intent : PlayedIntent) → Contains plan.intents intent → IsOf plan before call intent → IsOfPlan plan before call
 of_plan plan before call intent has of = (has.0, intent, has.1, has.2, of)
 
-pub round_of_plan : (plan : PlayedPlan) (intent : PlayedIntent) (count workers : ℕ) → Contains plan.intents intent → intent ≡ Round count workers → IsOfPlan plan None (on.Round count)
-round_of_plan plan intent count workers has is = of_plan plan None (on.Round count) intent has (subst (λ (i : PlayedIntent). IsOf plan None (on.Round count) i) (sym is) refl)
+pub round_of_plan : (plan : PlayedPlan) (intent : PlayedIntent) (count workers : ℕ) → Contains plan.intents intent → intent ≡ Round count workers → IsOfPlan plan [] (on.Round count)
+round_of_plan plan intent count workers has is = of_plan plan [] (on.Round count) intent has (subst (λ (i : PlayedIntent). IsOf plan [] (on.Round count) i) (sym is) refl)
 
-pub advance_of_plan : (plan : PlayedPlan) (intent : PlayedIntent) (tick : ℤ) → Contains plan.intents intent → intent ≡ Advance tick → IsOfPlan plan None (on.Advance tick)
-advance_of_plan plan intent tick has is = of_plan plan None (on.Advance tick) intent has (subst (λ (i : PlayedIntent). IsOf plan None (on.Advance tick) i) (sym is) refl)
+pub advance_of_plan : (plan : PlayedPlan) (intent : PlayedIntent) (tick : ℤ) → Contains plan.intents intent → intent ≡ Advance tick → IsOfPlan plan [] (on.Advance tick)
+advance_of_plan plan intent tick has is = of_plan plan [] (on.Advance tick) intent has (subst (λ (i : PlayedIntent). IsOf plan [] (on.Advance tick) i) (sym is) refl)
+
+-- ---- a look
+
+the_only : (x y : Ask) → Contains (x ∷ []) y → y ≡ x
+the_only x y has =
+    let one : has.0 < 1 = has.1 in
+    let first : has.0 ≡ 0 = omega (arith, one) in sym has.2 ∙ ap (λ (k : ℕ). get_or (x ∷ []) k y) first
+
+-- a look that an intent asks for is of it
+look_is_of : (plan : PlayedPlan) (intent : PlayedIntent) (ask : Ask) → Contains (asks_of plan intent) ask → IsOf plan [] (on.Look ask) intent
+look_is_of plan (Step thread inputs interval pooled) ask has = inl (ap on.Look (the_only (step_ask plan thread) ask has))
+look_is_of plan (Steps steps interval pooled) ask has = inl (has.0, ask, has.1, has.2, refl)
+look_is_of plan (Claim currency role interval) ask has = inl (ap on.Look (the_only (claim_ask plan currency role) ask has))
+look_is_of plan (Round count workers) ask has =
+    let none : has.0 < 0 = has.1 in absurd (omega (arith, none))
+look_is_of plan (Advance tick) ask has =
+    let none : has.0 < 0 = has.1 in absurd (omega (arith, none))
+
+look_of_plan : (plan : PlayedPlan) (intent : PlayedIntent) (ask : Ask) → Contains plan.intents intent → Contains (asks_of plan intent) ask → IsOfPlan plan [] (on.Look ask)
+look_of_plan plan intent ask has asked = of_plan plan [] (on.Look ask) intent has (look_is_of plan intent ask asked)
+
+-- ---- what is handed in
+
+-- these calls, answered by these looks
+are_looks : (asks : List Ask) (looks : List Look) (answers : List Answer) → map (λ (a : Answer). a.call) answers ≡ map on.Look asks → map (λ (a : Answer). a.reply) answers ≡ map replies.Look looks → AreLooks asks looks answers
+are_looks [] [] [] calls told = tt
+are_looks [] [] (a ∷ answers) calls told = absurd (cc)
+are_looks [] (look ∷ looks) [] calls told = absurd (cc)
+are_looks [] (look ∷ looks) (a ∷ answers) calls told = absurd (cc)
+are_looks (ask ∷ asks) [] [] calls told = absurd (cc)
+are_looks (ask ∷ asks) [] (a ∷ answers) calls told = absurd (cc)
+are_looks (ask ∷ asks) (look ∷ looks) [] calls told = absurd (cc)
+are_looks (ask ∷ asks) (look ∷ looks) (a ∷ answers) calls told =
+    let call : a.call ≡ on.Look ask = ap (λ (l : List Call). get_or l 0 a.call) calls in
+    let reply : a.reply ≡ replies.Look look = ap (λ (l : List Reply). get_or l 0 a.reply) told in
+    (call, reply, are_looks asks looks answers (ap (λ (l : List Call). drop 1 l) calls) (ap (λ (l : List Reply). drop 1 l) told))
+
+-- made of one look
+made_of_one : (ask : Ask) (hand_in : Tx → Call) (made : Look → Tx) (looks : List Look) (answers : List Answer) (tx : Tx) (call : Call) → AreLooks (ask ∷ []) looks answers → by_first made looks ≡ Some tx → call ≡ hand_in tx → LooksOrHandsIn ask hand_in made answers call
+made_of_one ask hand_in made [] answers tx call are is called = absurd (cc)
+made_of_one ask hand_in made (look ∷ looks) [] tx call are is called = absurd are
+made_of_one ask hand_in made (look ∷ []) (a ∷ []) tx call are is called =
+    let whole : made look ≡ tx = cc in inr (look, ([], a ∷ [], refl, are), called ∙ ap hand_in (sym whole))
+made_of_one ask hand_in made (look ∷ []) (a ∷ b ∷ answers) tx call are is called = absurd are.2
+made_of_one ask hand_in made (look ∷ more ∷ looks) (a ∷ []) tx call are is called = absurd are.2
+made_of_one ask hand_in made (look ∷ more ∷ looks) (a ∷ b ∷ answers) tx call are is called = absurd are.2
+
+-- what is made of the looks of an intent is of it, just behind them
+hands : (plan : PlayedPlan) (intent : PlayedIntent) (answers : List Answer) (shown : List ReceiptRecord) (call : Call) → map (λ (a : Answer). a.call) answers ≡ map on.Look (asks_of plan intent) → map (λ (a : Answer). a.reply) answers ≡ replies_of shown → HandsIn plan intent shown call → IsOf plan answers call intent
+hands plan (Step thread inputs interval pooled) answers shown call calls told h =
+    made_of_one (step_ask plan thread) (λ (tx : Tx). if pooled then on.Enqueue tx else on.Submit tx) (step_made plan inputs interval) h.looks answers h.tx call (are_looks (step_ask plan thread ∷ []) h.looks answers calls (told ∙ h.told)) h.made h.call_is
+hands plan (Steps steps interval pooled) answers shown call calls told h =
+    let asks : List Ask = map (λ (s : OutputRef × List Input). step_ask plan s.0) steps in
+    let made = h.made in
+    let whole : steps_made plan steps interval h.looks ≡ h.tx = cc in
+    inr (h.looks, ([], answers, refl, are_looks asks h.looks answers calls (told ∙ h.told)), h.call_is ∙ ap (λ (tx : Tx). if pooled then on.Enqueue tx else on.Submit tx) (sym whole))
+hands plan (Claim currency role interval) answers shown call calls told h =
+    made_of_one (claim_ask plan currency role) on.Submit (claim_made plan interval) h.looks answers h.tx call (are_looks (claim_ask plan currency role ∷ []) h.looks answers calls (told ∙ h.told)) h.made h.call_is
+hands plan (Round count workers) answers shown call calls told h =
+    let made = h.made in absurd (cc)
+hands plan (Advance tick) answers shown call calls told h =
+    let made = h.made in absurd (cc)
 
 -- ---- where a party stops
 
@@ -101,16 +166,16 @@ pub went_more : (plan : PlayedPlan) (a b c : SeatRecord) → Went plan a b → W
 went_more plan a b c x y = record {
   more = x.more ++ y.more;
   list = y.list ∙ (ap (λ (s : SeatRecord). seat_record s.number (s.answers ++ y.more)) x.list ∙ ap (seat_record a.number) (append_assoc a.answers x.more y.more));
-  played = are_append plan None x.more y.more x.played y.played;
+  played = are_append plan [] x.more y.more x.played y.played;
   within = within_more plan.stop_after a b c x.within y.within;
 }
 
 -- one call, of the plan
-pub went_one : (plan : PlayedPlan) (call : Call) (old new : SeatRecord) (before now : List ReceiptRecord) → WasNoted plan call old new before now → IsOfPlan plan None call → Went plan old new
+pub went_one : (plan : PlayedPlan) (call : Call) (old new : SeatRecord) (before now : List ReceiptRecord) → WasNoted plan call old new before now → IsOfPlan plan [] call → Went plan old new
 went_one plan call old new before now n of = record {
   more = n.answer ∷ [];
   list = n.list;
-  played = (subst (IsOfPlan plan None) (sym n.call_is) of, tt);
+  played = (subst (IsOfPlan plan []) (sym n.call_is) of, tt);
   within = n.within;
 }
 
@@ -134,7 +199,7 @@ noted_more plan a b c rs ss ts x y =
       receipts = second ∙ (both ∙ (append_assoc rs (map (receipt_of a.number) x.went.more) (map (receipt_of a.number) y.went.more) ∙ ap (λ l. rs ++ l) (sym (map-append (receipt_of a.number) x.went.more y.went.more))));
     }
 
-pub noted_one : (plan : PlayedPlan) (call : Call) (old new : SeatRecord) (before now : List ReceiptRecord) → WasNoted plan call old new before now → IsOfPlan plan None call → WentNoted plan old new before now
+pub noted_one : (plan : PlayedPlan) (call : Call) (old new : SeatRecord) (before now : List ReceiptRecord) → WasNoted plan call old new before now → IsOfPlan plan [] call → WentNoted plan old new before now
 unfolding went_one
 noted_one plan call old new before now n of = record {
   went = went_one plan call old new before now n of;
@@ -142,47 +207,128 @@ noted_one plan call old new before now n of = record {
 }
 
 -- one call at most, of the plan
-pub noted_at_most : (plan : PlayedPlan) (call : Call) (old new : SeatRecord) (before now : List ReceiptRecord) → AtMostNoted plan call old new before now → IsOfPlan plan None call → WentNoted plan old new before now
+pub noted_at_most : (plan : PlayedPlan) (call : Call) (old new : SeatRecord) (before now : List ReceiptRecord) → AtMostNoted plan call old new before now → IsOfPlan plan [] call → WentNoted plan old new before now
 noted_at_most plan call old new before now n of =
     elim n [ inl none ↦ noted_same plan old new before now none.0 none.1 | inr one ↦ noted_one plan call old new before now one of ]
 
--- ---- one turn
+-- ---- the looks of one turn
 
--- the look
-pub look_of_plan : (plan : PlayedPlan) (intent : PlayedIntent) (ask : Ask) → Contains plan.intents intent → ask_of plan intent ≡ Some ask → IsOfPlan plan None (on.Look ask)
-look_of_plan plan intent ask has asks = of_plan plan None (on.Look ask) intent has (looks plan None intent ask (on.Look ask) asks refl)
+-- a receipt keeps the reply
+replies_kept : (seat : ℕ) (answers : List Answer) → map (λ (a : Answer). a.reply) answers ≡ replies_of (map (receipt_of seat) answers)
+replies_kept seat [] = refl
+replies_kept seat (a ∷ answers) = ap (λ (l : List Reply). a.reply ∷ l) (replies_kept seat answers)
 
--- the look, and what is handed in after it
-pub noted_turn : (plan : PlayedPlan) (intent : PlayedIntent) (ask : Ask) (call : Call) (a b c : SeatRecord) (rs ss ts : List ReceiptRecord) → Contains plan.intents intent → ask_of plan intent ≡ Some ask → (look : WasNoted plan (on.Look ask) a b rs ss) → HandsIn plan intent look.answer.reply call → WasNoted plan call b c ss ts → WentNoted plan a c rs ts
-noted_turn plan intent ask call a b c rs ss ts has asks look next one =
-    let first : IsOfPlan plan None look.answer.call = subst (λ (k : Call). IsOfPlan plan None k) (sym look.call_is) (look_of_plan plan intent ask has asks) in
-    let number : b.number ≡ a.number = ap (λ (s : SeatRecord). s.number) look.list in
-    let second : IsOfPlan plan (Some look.answer) one.answer.call = of_plan plan (Some look.answer) one.answer.call intent has (subst (λ (k : Call). IsOf plan (Some look.answer) k intent) (sym one.call_is) (hands plan intent ask look.answer call asks look.call_is next)) in
-    let list : c ≡ seat_record a.number (a.answers ++ look.answer ∷ one.answer ∷ []) = one.list ∙ (ap (λ (s : SeatRecord). seat_record s.number (s.answers ++ one.answer ∷ [])) look.list ∙ ap (seat_record a.number) (append_assoc a.answers (look.answer ∷ []) (one.answer ∷ []))) in
-    let kept : ts ≡ (rs ++ receipt_of a.number look.answer ∷ []) ++ receipt_of a.number one.answer ∷ [] = one.receipts ∙ (ap (λ (n : ℕ). ss ++ receipt_of n one.answer ∷ []) number ∙ ap (λ l. l ++ receipt_of a.number one.answer ∷ []) look.receipts) in
+pub shown_none : (plan : PlayedPlan) (seat : SeatRecord) (receipts : List ReceiptRecord) → WasShown plan [] seat seat receipts receipts
+unfolding noted_same went_same
+shown_none plan seat receipts = record {
+  gone = noted_same plan seat seat receipts receipts refl refl;
+  calls = refl;
+}
+
+-- one look more
+pub shown_more : (plan : PlayedPlan) (intent : PlayedIntent) (asks : List Ask) (ask : Ask) (a b c : SeatRecord) (rs ss ts : List ReceiptRecord) → Contains plan.intents intent → Contains (asks_of plan intent) ask → WasShown plan asks a b rs ss → WasNoted plan (on.Look ask) b c ss ts → WasShown plan (asks ++ ask ∷ []) a c rs ts
+unfolding noted_more went_more noted_one went_one
+shown_more plan intent asks ask a b c rs ss ts has asked w one =
+    let more = w.gone.went.more in
+    let calls : map (λ (x : Answer). x.call) (more ++ one.answer ∷ []) ≡ map on.Look (asks ++ ask ∷ []) =
+    map-append (λ (x : Answer). x.call) more (one.answer ∷ [])
+    ∙ (ap (λ (l : List Call). l ++ one.answer.call ∷ []) w.calls
+    ∙ (ap (λ (k : Call). map on.Look asks ++ k ∷ []) one.call_is
+    ∙ sym (map-append on.Look asks (ask ∷ []))))
+    in
     record {
-      went = record {
-        more = look.answer ∷ one.answer ∷ [];
-        list = list;
-        played = (first, (second, tt));
-        within = within_more plan.stop_after a b c look.within one.within;
-      };
-      receipts = kept ∙ append_assoc rs (receipt_of a.number look.answer ∷ []) (receipt_of a.number one.answer ∷ []);
+      gone = noted_more plan a b c rs ss ts w.gone (noted_one plan (on.Look ask) b c ss ts one (look_of_plan plan intent ask has asked));
+      calls = calls;
     }
 
-pub noted_turn_at_most : (plan : PlayedPlan) (intent : PlayedIntent) (ask : Ask) (call : Call) (a b c : SeatRecord) (rs ss ts : List ReceiptRecord) → Contains plan.intents intent → ask_of plan intent ≡ Some ask → (look : WasNoted plan (on.Look ask) a b rs ss) → HandsIn plan intent look.answer.reply call → AtMostNoted plan call b c ss ts → WentNoted plan a c rs ts
-noted_turn_at_most plan intent ask call a b c rs ss ts has asks look next n =
-    let first = noted_one plan (on.Look ask) a b rs ss look (look_of_plan plan intent ask has asks) in
-    elim n [ inl none ↦ noted_more plan a b c rs ss ts first (noted_same plan b c ss ts none.0 none.1) | inr one ↦ noted_turn plan intent ask call a b c rs ss ts has asks look next one ]
+-- .. or none, since the party had stopped
+pub shown_at_most : (plan : PlayedPlan) (intent : PlayedIntent) (asks : List Ask) (ask : Ask) (a b c : SeatRecord) (rs ss ts : List ReceiptRecord) → Contains plan.intents intent → Contains (asks_of plan intent) ask → WasShown plan asks a b rs ss → AtMostNoted plan (on.Look ask) b c ss ts → WentNoted plan a c rs ts
+shown_at_most plan intent asks ask a b c rs ss ts has asked w n = noted_more plan a b c rs ss ts w.gone (noted_at_most plan (on.Look ask) b c ss ts n (look_of_plan plan intent ask has asked))
 
--- the look, by what it was told; before it there was room made for its receipt
-pub told_look : (plan : PlayedPlan) (intent : PlayedIntent) (ask : Ask) (a b : SeatRecord) (r : ReceiptRecord) (rs ms ss : List ReceiptRecord) → Contains plan.intents intent → ask_of plan intent ≡ Some ask → WasTold a (on.Look ask) r b → HasRoom plan.stop_after a → ms ≡ rs → ss ≡ ms ++ r ∷ [] → WentNoted plan a b rs ss
-told_look plan intent ask a b r rs ms ss has asks told room same more = noted_one plan (on.Look ask) a b rs ss (noted plan (on.Look ask) a b r rs ms ss told room same more) (look_of_plan plan intent ask has asks)
+pub no_fewer : (plan : PlayedPlan) (a b : SeatRecord) (rs ss : List ReceiptRecord) → WentNoted plan a b rs ss → length rs ≤ length ss
+no_fewer plan a b rs ss w =
+    let long : length ss ≡ length rs + length (map (receipt_of a.number) w.went.more) = ap (λ (l : List ReceiptRecord). length l) w.receipts ∙ length-append rs (map (receipt_of a.number) w.went.more) in
+    omega (arith, long)
 
--- .. and what is handed in after it
-pub told_turn : (plan : PlayedPlan) (intent : PlayedIntent) (ask : Ask) (call : Call) (a b c : SeatRecord) (r : ReceiptRecord) (rs ms ss ts : List ReceiptRecord) → Contains plan.intents intent → ask_of plan intent ≡ Some ask → WasTold a (on.Look ask) r b → HasRoom plan.stop_after a → ms ≡ rs → ss ≡ ms ++ r ∷ [] → HandsIn plan intent r.reply call → AtMostNoted plan call b c ss ts → WentNoted plan a c rs ts
-unfolding noted
-told_turn plan intent ask call a b c r rs ms ss ts has asks told room same more next n = noted_turn_at_most plan intent ask call a b c rs ss ts has asks (noted plan (on.Look ask) a b r rs ms ss told room same more) next n
+-- those from a place on, as they are lent
+pub lent_rest : (lent all : List ReceiptRecord) (at n : ℕ) → lent ≡ all → at ≡ n → take (length lent - at) (drop at lent) ≡ drop n all
+lent_rest lent all at n same here =
+    take_all (length lent - at) (drop at lent) (omega (arith, length-drop at lent))
+    ∙ (ap (λ (k : ℕ). drop k lent) here ∙ ap (λ (l : List ReceiptRecord). drop n l) same)
+
+-- .. and what is handed in after them
+handed_one : (plan : PlayedPlan) (intent : PlayedIntent) (call : Call) (a b c : SeatRecord) (rs ss ts : List ReceiptRecord) → Contains plan.intents intent → WasShown plan (asks_of plan intent) a b rs ss → HandsIn plan intent (drop (length rs) ss) call → WasNoted plan call b c ss ts → WentNoted plan a c rs ts
+handed_one plan intent call a b c rs ss ts has w next one =
+    let shown : drop (length rs) ss ≡ map (receipt_of a.number) w.gone.went.more = ap (λ (l : List ReceiptRecord). drop (length rs) l) w.gone.receipts ∙ drop-append_seam rs (map (receipt_of a.number) w.gone.went.more) in
+    let told : map (λ (x : Answer). x.reply) w.gone.went.more ≡ replies_of (drop (length rs) ss) = replies_kept a.number w.gone.went.more ∙ ap replies_of (sym shown) in
+    let of : IsOf plan w.gone.went.more call intent = hands plan intent w.gone.went.more (drop (length rs) ss) call w.calls told next in
+    let second : IsOfPlan plan w.gone.went.more one.answer.call = of_plan plan w.gone.went.more one.answer.call intent has (subst (λ (k : Call). IsOf plan w.gone.went.more k intent) (sym one.call_is) of) in
+    let number : b.number ≡ a.number = ap (λ (s : SeatRecord). s.number) w.gone.went.list in
+    let list : c ≡ seat_record a.number (a.answers ++ (w.gone.went.more ++ one.answer ∷ [])) =
+    one.list
+    ∙ (ap (λ (s : SeatRecord). seat_record s.number (s.answers ++ one.answer ∷ [])) w.gone.went.list
+    ∙ ap (seat_record a.number) (append_assoc a.answers w.gone.went.more (one.answer ∷ [])))
+    in
+    let receipts : ts ≡ rs ++ map (receipt_of a.number) (w.gone.went.more ++ one.answer ∷ []) =
+    one.receipts
+    ∙ (ap (λ (n : ℕ). ss ++ receipt_of n one.answer ∷ []) number
+    ∙ (ap (λ (l : List ReceiptRecord). l ++ receipt_of a.number one.answer ∷ []) w.gone.receipts
+    ∙ (append_assoc rs (map (receipt_of a.number) w.gone.went.more) (receipt_of a.number one.answer ∷ [])
+    ∙ ap (λ (l : List ReceiptRecord). rs ++ l) (sym (map-append (receipt_of a.number) w.gone.went.more (one.answer ∷ []))))))
+    in
+    record {
+      went = record {
+        more = w.gone.went.more ++ one.answer ∷ [];
+        list = list;
+        played = are_one_more plan [] w.gone.went.more one.answer w.gone.went.played second;
+        within = within_more plan.stop_after a b c w.gone.went.within one.within;
+      };
+      receipts = receipts;
+    }
+
+pub handed : (plan : PlayedPlan) (intent : PlayedIntent) (call : Call) (a b c : SeatRecord) (rs ss ts : List ReceiptRecord) → Contains plan.intents intent → WasShown plan (asks_of plan intent) a b rs ss → HandsIn plan intent (drop (length rs) ss) call → AtMostNoted plan call b c ss ts → WentNoted plan a c rs ts
+handed plan intent call a b c rs ss ts has w next n =
+    elim n [ inl none ↦ noted_more plan a b c rs ss ts w.gone (noted_same plan b c ss ts none.0 none.1) | inr one ↦ handed_one plan intent call a b c rs ss ts has w next one ]
+
+-- ---- looks and parts
+
+-- a list that has a first has it in front
+first_look : (looks : List Look) (look : Look) (made : Look → Tx) → slice_get looks 0 ≡ Some look → by_first made looks ≡ Some (made look)
+first_look [] look made first =
+    let none : 0 < 0 = slice_get_within [] 0 look first in absurd (omega (arith, none))
+first_look (x ∷ looks) look made first = ap (λ (l : Look). Some (made l)) (get_or_from_slice_get (x ∷ looks) 0 look x first)
+
+pub made_first : (looks : List Look) (look : Look) (made : Look → Tx) (tx : Tx) → slice_get looks 0 ≡ Some look → tx ≡ made look → by_first made looks ≡ Some tx
+made_first looks look made tx first is = first_look looks look made first ∙ ap Some (sym is)
+
+pub offered_first : (looks : List Look) (look : Look) → slice_get looks 0 ≡ Some look → look.keys ≡ offered_by looks
+offered_first [] look first =
+    let none : 0 < 0 = slice_get_within [] 0 look first in absurd (omega (arith, none))
+offered_first (x ∷ looks) look first = ap (λ (l : Look). l.keys) (sym (get_or_from_slice_get (x ∷ looks) 0 look x first))
+
+zero_less : (n : ℕ) → 0 < suc n
+zero_less n = omega arith
+
+pub offered_none : (looks : List Look) → slice_get looks 0 ≡ None → offered_by looks ≡ []
+offered_none [] none = refl
+offered_none (x ∷ looks) none =
+    let clash : ◌≡◌ {A = Option Look} None (Some (get_or (x ∷ looks) 0 x)) = sym none ∙ slice_get-get_or (x ∷ looks) 0 x (zero_less (length looks)) in absurd (cc)
+
+-- one part more
+pub parts_more : (steps : List (OutputRef × List Input)) (looks : List Look) (i : ℕ) (s : OutputRef × List Input) (look : Look) → i < length steps → get_or steps i s ≡ s → slice_get looks i ≡ Some look → parts_of (drop i steps) (drop i looks) ≡ record { look = look; inputs = s.1 } ∷ parts_of (drop (i + 1) steps) (drop (i + 1) looks)
+parts_more steps looks i s look here is shown =
+    let step : drop i steps ≡ s ∷ drop (i + 1) steps = drop_more steps i s here ∙ ap (λ (x : OutputRef × List Input). x ∷ drop (i + 1) steps) is in
+    let within = slice_get_within looks i look shown in
+    let seen : drop i looks ≡ look ∷ drop (i + 1) looks = drop_more looks i look within ∙ ap (λ (x : Look). x ∷ drop (i + 1) looks) (get_or_from_slice_get looks i look look shown) in
+    ap (λ (l : List (OutputRef × List Input)). parts_of l (drop i looks)) step ∙ ap (λ (l : List Look). parts_of (s ∷ drop (i + 1) steps) l) seen
+
+-- no part of what isn't shown
+no_parts : (steps : List (OutputRef × List Input)) → parts_of steps [] ≡ []
+no_parts [] = refl
+no_parts (s ∷ steps) = refl
+
+pub parts_end : (steps : List (OutputRef × List Input)) (looks : List Look) (i : ℕ) → length looks ≤ i → parts_of (drop i steps) (drop i looks) ≡ []
+parts_end steps looks i past = ap (λ (l : List Look). parts_of (drop i steps) l) (drop_all i looks past) ∙ no_parts (drop i steps)
 
 -- ---- what a seat shows of it
 
@@ -193,7 +339,7 @@ pub kept : (plan : PlayedPlan) (old new : SeatRecord) → Went plan old new → 
 kept plan old new w = w.list ∙ ap (λ (l : List Answer). seat_record old.number (old.answers ++ l)) (sym (added_is plan old new w))
 
 pub played : (plan : PlayedPlan) (old new : SeatRecord) → Went plan old new → ArePlayed plan (added old new)
-played plan old new w = subst (λ (l : List Answer). AreOf plan None l) (sym (added_is plan old new w)) w.played
+played plan old new w = subst (λ (l : List Answer). AreOf plan [] l) (sym (added_is plan old new w)) w.played
 
 pub receipts : (plan : PlayedPlan) (old new : SeatRecord) (now : List ReceiptRecord) → WentNoted plan old new [] now → now ≡ map (receipt_of old.number) (added old new)
 receipts plan old new now w = w.receipts ∙ ap (λ (l : List Answer). map (receipt_of old.number) l) (sym (added_is plan old new w.went))

@@ -1,5 +1,5 @@
 -- What a party does with its seat.
-use Rattle.std.specs.Prelude.{◌≡◌, ℕ, ◌≤◌, ◌⊎◌, if◌then◌else◌, List, [], ◌∷◌, length, drop, Option, Some, None}
+use Rattle.std.specs.Prelude.{◌≡◌, ℕ, ◌≤◌, ◌⊎◌, if◌then◌else◌, List, [], ◌∷◌, ◌++◌, map, length, drop, Option, Some, None}
 use Rattle.std.specs.List.{Any}
 use Rattle.contract.specs.declared.input.Input.{Input}
 use Rattle.contract.specs.declared.interval.Interval.{Interval}
@@ -10,11 +10,13 @@ use Rattle.ledger.specs.declared.call.Call.{Call}
 use Rattle.ledger.specs.declared.call.Call.TheVariants as on
 use Rattle.ledger.specs.declared.call.Reply.TheVariants as replies
 use Rattle.ledger.specs.declared.look.Look.{Look}
-use Rattle.builder_spec.specs.Requests.{request, claim_request}
+use Rattle.ledger.specs.declared.look.Unspent.{Unspent}
+use Rattle.builder_spec.specs.Requests.{Part, request, steps_request, claim_request}
+use Rattle.builder_spec.specs.Parts.{layout_steps}
 use Rattle.builder_spec.specs.Steps.{layout_step}
 use Rattle.builder_spec.specs.Claims.{layout_claim}
 use Rattle.plans.specs.declared.intent.Intent.{Intent}
-use Rattle.plans.specs.declared.intent.Intent.TheVariants.{Step, Claim, Round, Advance}
+use Rattle.plans.specs.declared.intent.Intent.TheVariants.{Step, Steps, Claim, Round, Advance}
 use Rattle.plans.specs.declared.plan.Plan.{Plan}
 use Rattle.hub.specs.declared.answer.Answer.{Answer}
 use Rattle.hub.specs.Seats.{SeatRecord, ReceiptRecord}
@@ -42,40 +44,65 @@ claim_ask plan currency role = record { thread = None; keys = plan.keys; payouts
 abbrev pub step_made : PlayedPlan → List Input → Interval → Look → Tx
 step_made plan inputs interval look = layout_step look (request interval inputs plan.keys look.keys plan.change)
 
+-- steps of several threads: the layout of a request with a part for each, as its look shows it; offered are the key outputs of the first look
+abbrev pub offered_by : List Look → List Unspent
+offered_by [] = []
+offered_by (look ∷ looks) = look.keys
+
+abbrev pub parts_of : List (OutputRef × List Input) → List Look → List Part
+parts_of [] looks = []
+parts_of (s ∷ ss) [] = []
+parts_of (s ∷ ss) (look ∷ looks) = record { look = look; inputs = s.1 } ∷ parts_of ss looks
+
+abbrev pub steps_made : PlayedPlan → List (OutputRef × List Input) → Interval → List Look → Tx
+steps_made plan steps interval looks = layout_steps (steps_request (parts_of steps looks) interval plan.keys (offered_by looks) plan.change)
+
 -- a claim: the layout of a request for all shown payouts; they go to the change address, too
 abbrev pub claim_made : PlayedPlan → Interval → Look → Tx
 claim_made plan interval look = layout_claim (claim_request look.payouts interval plan.keys look.keys plan.change plan.change)
 
--- ---- whose call it is
+-- ---- whose call it is, by the answers before it
 
--- the answer just before shows the look that was asked for
-abbrev pub WasShown : Ask → Look → Option Answer → Type 0
-WasShown ask look None = ⊥
-WasShown ask look (Some a) = (a.call ≡ on.Look ask) × (a.reply ≡ replies.Look look)
+-- these answers show the looks that were asked for
+abbrev pub AreLooks : List Ask → List Look → List Answer → Type 0
+AreLooks [] [] [] = Unit {0}
+AreLooks (ask ∷ asks) (look ∷ looks) (a ∷ answers) = (a.call ≡ on.Look ask) × (a.reply ≡ replies.Look look) × AreLooks asks looks answers
+AreLooks _ _ _ = ⊥
+
+-- the last answers do
+abbrev pub WereShown : List Ask → List Look → List Answer → Type 0
+WereShown asks looks before = (earlier last : List Answer) × (before ≡ earlier ++ last) × AreLooks asks looks last
 
 -- a call looks, or hands in what is made of the look that was shown just before
-abbrev pub LooksOrHandsIn : Ask → (Tx → Call) → (Look → Tx) → Option Answer → Call → Type 0
-LooksOrHandsIn ask hand_in made before call = (call ≡ on.Look ask) ⊎ ((look : Look) × (WasShown ask look before) × (call ≡ hand_in (made look)))
+abbrev pub LooksOrHandsIn : Ask → (Tx → Call) → (Look → Tx) → List Answer → Call → Type 0
+LooksOrHandsIn ask hand_in made before call = (call ≡ on.Look ask) ⊎ ((look : Look) × (WereShown (ask ∷ []) (look ∷ []) before) × (call ≡ hand_in (made look)))
 
--- OF AN INTENT: a call of the seat, by the answer just before it
-abbrev pub IsOf : PlayedPlan → Option Answer → Call → PlayedIntent → Type 0
+-- a call looks at one of several threads, or hands in what is made of the looks that were shown just before, one for each, in order
+abbrev pub LooksAllOrHandsIn : List Ask → (Tx → Call) → (List Look → Tx) → List Answer → Call → Type 0
+LooksAllOrHandsIn asks hand_in made before call =
+    Any (λ ask. call ≡ on.Look ask) asks ⊎ ((looks : List Look) × (WereShown asks looks before) × (call ≡ hand_in (made looks)))
+
+-- OF AN INTENT: a call of the seat, by the answers before it
+abbrev pub IsOf : PlayedPlan → List Answer → Call → PlayedIntent → Type 0
 IsOf plan before call (Step thread inputs interval pooled) = LooksOrHandsIn (step_ask plan thread) (λ tx. if pooled then on.Enqueue tx else on.Submit tx) (step_made plan inputs interval) before call
+IsOf plan before call (Steps steps interval pooled) =
+    LooksAllOrHandsIn (map (λ s. step_ask plan s.0) steps) (λ tx. if pooled then on.Enqueue tx else on.Submit tx) (steps_made plan steps interval) before call
 IsOf plan before call (Claim currency role interval) = LooksOrHandsIn (claim_ask plan currency role) on.Submit (claim_made plan interval) before call
 IsOf plan before call (Round count workers) = call ≡ on.Round count
 IsOf plan before call (Advance tick) = call ≡ on.Advance tick
 
 -- OF A PLAN: of one of its intents
-abbrev pub IsOfPlan : PlayedPlan → Option Answer → Call → Type 0
+abbrev pub IsOfPlan : PlayedPlan → List Answer → Call → Type 0
 IsOfPlan plan before call = Any (λ intent. IsOf plan before call intent) plan.intents
 
--- each of these answers, the first with this one before it
-abbrev pub AreOf : PlayedPlan → Option Answer → List Answer → Type 0
+-- each of these answers, the first with these before it
+abbrev pub AreOf : PlayedPlan → List Answer → List Answer → Type 0
 AreOf plan before [] = Unit {0}
-AreOf plan before (a ∷ rest) = IsOfPlan plan before a.call × AreOf plan (Some a) rest
+AreOf plan before (a ∷ rest) = IsOfPlan plan before a.call × AreOf plan (before ++ a ∷ []) rest
 
--- PLAYED: each of these answers is of the plan, and what was handed in was made of a look among them
+-- PLAYED: each of these answers is of the plan, and what was handed in was made of looks among them
 abbrev pub ArePlayed : PlayedPlan → List Answer → Type 0
-ArePlayed plan answers = AreOf plan None answers
+ArePlayed plan answers = AreOf plan [] answers
 
 -- ---- a seat before and after
 

@@ -7,37 +7,53 @@ use Rattle.ledger.specs.declared.call.Call.TheVariants as on
 use Rattle.ledger.specs.declared.call.Reply.{Reply}
 use Rattle.ledger.specs.declared.call.Reply.TheVariants as replies
 use Rattle.ledger.specs.declared.look.Look.{Look}
-use Rattle.plans.specs.declared.intent.Intent.TheVariants.{Step, Claim, Round, Advance}
+use Rattle.plans.specs.declared.intent.Intent.TheVariants.{Step, Steps, Claim, Round, Advance}
 use Rattle.hub.specs.declared.answer.Answer.{Answer}
 use Rattle.hub.specs.Seats.{SeatRecord, ReceiptRecord, seat_record}
 use Rattle.parties.specs.declared.acts.Act.{Act}
 use Rattle.parties.specs.declared.acts.Act.TheVariants as acts
-use Rattle.parties.specs.Plays.{PlayedIntent, PlayedPlan, step_ask, claim_ask, step_made, claim_made, AreOf, IsWithin, receipt_of}
+use Rattle.parties.specs.Plays.{PlayedIntent, PlayedPlan, step_ask, claim_ask, step_made, steps_made, claim_made, AreOf, IsWithin, receipt_of}
 
--- what an intent asks to be shown, if it asks
-abbrev pub ask_of : PlayedPlan → PlayedIntent → Option Ask
-ask_of plan (Step thread inputs interval pooled) = Some (step_ask plan thread)
-ask_of plan (Claim currency role interval) = Some (claim_ask plan currency role)
-ask_of plan (Round count workers) = None
-ask_of plan (Advance tick) = None
+-- what an intent asks to be shown, in order: one look, or one for each of several threads
+abbrev pub asks_of : PlayedPlan → PlayedIntent → List Ask
+asks_of plan (Step thread inputs interval pooled) = step_ask plan thread ∷ []
+asks_of plan (Steps steps interval pooled) = map (λ s. step_ask plan s.0) steps
+asks_of plan (Claim currency role interval) = claim_ask plan currency role ∷ []
+asks_of plan (Round count workers) = []
+asks_of plan (Advance tick) = []
 
--- what is made of it
-abbrev pub made_of : PlayedPlan → PlayedIntent → Look → Option Tx
-made_of plan (Step thread inputs interval pooled) look = Some (step_made plan inputs interval look)
-made_of plan (Claim currency role interval) look = Some (claim_made plan interval look)
-made_of plan (Round count workers) look = None
-made_of plan (Advance tick) look = None
+-- what is made of the first of some looks
+abbrev pub by_first : (Look → Tx) → List Look → Option Tx
+by_first made [] = None
+by_first made (look ∷ looks) = Some (made look)
+
+-- what is made of the looks
+abbrev pub made_of : PlayedPlan → PlayedIntent → List Look → Option Tx
+made_of plan (Step thread inputs interval pooled) looks = by_first (step_made plan inputs interval) looks
+made_of plan (Steps steps interval pooled) looks = Some (steps_made plan steps interval looks)
+made_of plan (Claim currency role interval) looks = by_first (claim_made plan interval) looks
+made_of plan (Round count workers) looks = None
+made_of plan (Advance tick) looks = None
 
 -- how it is handed in
 abbrev pub handed : PlayedIntent → Tx → Call
 handed (Step thread inputs interval pooled) tx = if pooled then on.Enqueue tx else on.Submit tx
+handed (Steps steps interval pooled) tx = if pooled then on.Enqueue tx else on.Submit tx
 handed (Claim currency role interval) tx = on.Submit tx
 handed (Round count workers) tx = on.Submit tx
 handed (Advance tick) tx = on.Submit tx
 
--- a call hands in what is made of the look that a reply shows
-abbrev pub HandsIn : PlayedPlan → PlayedIntent → Reply → Call → Type 0
-HandsIn plan intent reply call = (look : Look) × (tx : Tx) × (reply ≡ replies.Look look) × (made_of plan intent look ≡ Some tx) × (call ≡ handed intent tx)
+-- what receipts tell
+abbrev pub replies_of : List ReceiptRecord → List Reply
+replies_of receipts = map (λ r. r.reply) receipts
+
+-- a call hands in what is made of the looks that these receipts show
+pub record HandsIn (plan : PlayedPlan) (intent : PlayedIntent) (shown : List ReceiptRecord) (call : Call) : Type 0 where
+  pub looks : List Look
+  pub told : replies_of shown ≡ map replies.Look looks
+  pub tx : Tx
+  pub made : made_of plan intent looks ≡ Some tx
+  pub call_is : call ≡ handed intent tx
 
 -- the call that an act makes
 abbrev pub call_of : Act → Call
@@ -66,10 +82,15 @@ AtMostNoted plan call old new before now = ((new ≡ old) × (now ≡ before)) �
 pub record Went (plan : PlayedPlan) (old new : SeatRecord) : Type 0 where
   pub more : List Answer
   pub list : new ≡ seat_record old.number (old.answers ++ more)
-  pub played : AreOf plan None more
+  pub played : AreOf plan [] more
   pub within : IsWithin plan.stop_after old new
 
 -- .. and its receipts were kept
 pub record WentNoted (plan : PlayedPlan) (old new : SeatRecord) (before now : List ReceiptRecord) : Type 0 where
   pub went : Went plan old new
   pub receipts : now ≡ before ++ map (receipt_of old.number) went.more
+
+-- the seat went on by these looks alone
+pub record WasShown (plan : PlayedPlan) (asks : List Ask) (old new : SeatRecord) (before now : List ReceiptRecord) : Type 0 where
+  pub gone : WentNoted plan old new before now
+  pub calls : map (λ (a : Answer). a.call) gone.went.more ≡ map on.Look asks

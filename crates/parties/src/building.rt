@@ -1,16 +1,43 @@
 //! What an intent asks for, and what is built of what it is shown.
-ghost use Rattle.std.specs.Prelude.{◌≡◌, Some, IfOk, IfSome};
-ghost use Rattle.parties.specs.Plays.{step_made, claim_made};
-ghost use Rattle.parties.specs.PlaysSupport.{ask_of, made_of};
+ghost use Rattle.std.specs.Prelude.{◌≡◌, map, Some, IfOk, IfSome};
+ghost use Rattle.ledger.specs.declared.call.Reply.TheVariants as replies;
+ghost use Rattle.parties.specs.Plays.{step_ask, claim_ask, step_made, steps_made, claim_made, offered_by, parts_of};
+ghost use Rattle.parties.specs.PlaysSupport.{asks_of, made_of, replies_of};
 
-use builder::{Ask, BuildFault, Look, PayoutLock, build_claim, build_step};
+use builder::{
+    Ask, BuildFault, Look, Part, PayoutLock, Unspent, build_claim, build_step, build_steps,
+    resolve_parts,
+};
+use chain::Reply;
 use collections::{Bytes, Items, Memory, Text, TryClone};
 use contract::{Input, Interval};
 use eutxo::{Checked, check_owned};
 use eutxo_types::{OutputRef, Tx};
+use hub::{Receipt, Session};
 use plans::{Intent, Plan};
 use roles::Published;
 use std::alloc::{AllocError, Global};
+use std::marker::Model;
+
+/// A look that a party was shown, lent. Clauses see the look.
+#[derive(Drop)]
+pub(crate) struct Shown<'a> {
+    pub(crate) look: &'a Look,
+}
+
+impl<'a> Model for Shown<'a> {
+    ghost use Rattle.std.specs.Coded.{codes};
+    ghost use Rattle.ledger.specs.contracts.look.Look as looks;
+    ghost use Rattle.ledger.specs.declared.look.Look.{Look};
+
+    ghost Value = { Look };
+
+    ghost coded = { Prim.hlevel (codes, looks.the_row.coded) };
+
+    ghost view = { λ a. a.look.now };
+}
+
+// ---- what is asked
 
 // The lock of the payouts to a role.
 fn lock_of(currency: &Bytes, role: &Text) -> Result<PayoutLock, Memory>
@@ -21,34 +48,90 @@ fn lock_of(currency: &Bytes, role: &Text) -> Result<PayoutLock, Memory>
     Ok(PayoutLock { currency, role })
 }
 
-/// What an intent asks to be shown before anything is built. A round and an advance ask nothing.
-pub(crate) fn ask_of(
+// What a claim asks to be shown.
+fn claim_ask(alloc: Global, plan: &Plan<OutputRef, Bytes>, lock: PayoutLock) -> Result<Ask, Memory>
+    ensures { IfOk result (λ ask. ask ≡ claim_ask plan.now lock.currency lock.role) }
+{
+    let mut payouts = Items::new(alloc);
+    payouts.push(lock)?;
+    let own = plan.keys.try_clone()?;
+    Ok(Ask {
+        thread: None,
+        keys: own,
+        payouts,
+    })
+}
+
+// What a step of a thread asks to be shown.
+fn step_ask(alloc: Global, plan: &Plan<OutputRef, Bytes>, thread: OutputRef) -> Result<Ask, Memory>
+    ensures { IfOk result (λ ask. ask ≡ step_ask plan.now thread) }
+{
+    let keys = plan.keys.try_clone()?;
+    Ok(Ask {
+        thread: Some(thread),
+        keys,
+        payouts: Items::new(alloc),
+    })
+}
+
+// What steps of several threads ask to be shown, in order.
+fn step_asks(
+    alloc: Global,
+    plan: &Plan<OutputRef, Bytes>,
+    steps: &[(OutputRef, Items<Input>)],
+) -> Result<Vec<Ask>, Memory>
+    ensures { IfOk result (λ asks. asks.items ≡ map (λ s. step_ask plan.now s.0) steps.now) }
+{
+    let mut asks = Vec::new(alloc);
+    for step in steps {
+        asks.push(step_ask(alloc, plan, step.0)?)?;
+    }
+    Ok(asks)
+}
+
+/// What an intent asks to be shown before anything is built, in order. A round and an advance ask nothing.
+pub(crate) fn asks_of(
     alloc: Global,
     plan: &Plan<OutputRef, Bytes>,
     intent: &Intent<OutputRef, Bytes>,
-) -> Result<Option<Ask>, Memory>
-    ensures { IfOk result (λ ask. ask ≡ ask_of plan.now intent.now) }
+) -> Result<Vec<Ask>, Memory>
+    ensures { IfOk result (λ asks. asks.items ≡ asks_of plan.now intent.now) }
 {
-    let keys = plan.keys.try_clone()?;
-    let mut payouts = Items::new(alloc);
+    let mut asks = Vec::new(alloc);
     match intent {
-        Intent::Step { thread, .. } => Ok(Some(Ask {
-            thread: Some(*thread),
-            keys,
-            payouts,
-        })),
-        Intent::Claim { contract, role, .. } => {
-            payouts.push(lock_of(contract, role)?)?;
-            Ok(Some(Ask {
-                thread: None,
-                keys,
-                payouts,
-            }))
+        Intent::Step { thread, .. } => {
+            asks.push(step_ask(alloc, plan, *thread)?)?;
+            Ok(asks)
         }
-        Intent::Round { .. } => Ok(None),
-        Intent::Advance(_) => Ok(None),
+        Intent::Steps { steps, .. } => step_asks(alloc, plan, steps.as_slice()),
+        Intent::Claim { contract, role, .. } => {
+            let lock = lock_of(contract, role)?;
+            asks.push(claim_ask(alloc, plan, lock)?)?;
+            Ok(asks)
+        }
+        Intent::Round { .. } => Ok(asks),
+        Intent::Advance(_) => Ok(asks),
     }
 }
+
+/// The looks that receipts show, in order: nothing where one shows something else.
+pub(crate) fn looks_in<'a, J: Session>(
+    alloc: Global,
+    shown: &'a [Receipt<J>],
+) -> Result<Option<Vec<Shown<'a>>>, Memory>
+    ensures { IfOk result (λ some. IfSome some (λ looks. replies_of shown.now ≡ map replies.Look looks.items)) }
+{
+    let mut looks = Vec::new(alloc);
+    for receipt in shown {
+        match receipt.reply() {
+            Reply::Look(look) => looks.push(Shown { look })?,
+            _ => return Ok(None),
+        }
+    }
+    Ok(Some(looks))
+}
+
+// ---- what is built
 
 // A builder's answer: nothing where it refuses for another cause than memory.
 fn or_skipped(built: Result<Tx, BuildFault>) -> Result<Option<Tx>, Memory>
@@ -82,6 +165,58 @@ fn step_of(
     ))
 }
 
+// The parts of steps of several threads, each as its look shows it.
+fn parts_of<'a>(
+    alloc: Global,
+    steps: &'a [(OutputRef, Items<Input>)],
+    looks: &[Shown<'a>],
+) -> Result<Vec<Part<'a>>, Memory>
+    ensures { IfOk result (λ parts. parts.items ≡ parts_of steps.now looks.now) }
+{
+    let mut parts = Vec::new(alloc);
+    for (i, step) in steps.iter().enumerate() {
+        match looks.get(i) {
+            Some(shown) => parts.push(Part {
+                look: shown.look,
+                inputs: step.1.as_slice(),
+            })?,
+            None => return Ok(parts),
+        }
+    }
+    Ok(parts)
+}
+
+// What is offered to fund steps of several threads: the key outputs of the first look.
+fn offered_by<'a>(looks: &[Shown<'a>]) -> &'a [Unspent]
+    ensures { result.now ≡ offered_by looks.now }
+{
+    match looks.first() {
+        Some(shown) => shown.look.keys.as_slice(),
+        None => &[],
+    }
+}
+
+fn steps_of(
+    alloc: Global,
+    plan: &Plan<OutputRef, Bytes>,
+    steps: &[(OutputRef, Items<Input>)],
+    interval: Interval,
+    looks: &[Shown<'_>],
+) -> Result<Option<Tx>, Memory>
+    ensures { IfOk result (λ made. IfSome made (λ tx. tx ≡ steps_made plan.now steps.now interval looks.now)) }
+{
+    let parts = parts_of(alloc, steps, looks)?;
+    let offered = offered_by(looks);
+    or_skipped(build_steps(
+        alloc,
+        &parts,
+        interval,
+        plan.keys.as_slice(),
+        offered,
+        &plan.change,
+    ))
+}
+
 fn claim_of(
     alloc: Global,
     plan: &Plan<OutputRef, Bytes>,
@@ -103,31 +238,62 @@ fn claim_of(
     ))
 }
 
-/// The transaction of an intent by what a look shows; nothing where the builder refuses it for another cause than memory.
+/// The transaction of an intent by what its looks show; nothing where the builder refuses it for another cause than
+/// memory.
 pub(crate) fn built(
     alloc: Global,
     plan: &Plan<OutputRef, Bytes>,
     intent: &Intent<OutputRef, Bytes>,
-    look: &Look,
+    looks: &[Shown<'_>],
 ) -> Result<Option<Tx>, Memory>
-    ensures { IfOk result (λ made. IfSome made (λ tx. made_of plan.now intent.now look.now ≡ Some tx)) }
+    ensures { IfOk result (λ made. IfSome made (λ tx. made_of plan.now intent.now looks.now ≡ Some tx)) }
 {
     match intent {
         Intent::Step {
             inputs,
             interval,
             ..
-        } => step_of(alloc, plan, inputs.as_slice(), *interval, look),
-        Intent::Claim { interval, .. } => claim_of(alloc, plan, *interval, look),
+        } => match looks.first() {
+            Some(shown) => step_of(alloc, plan, inputs.as_slice(), *interval, shown.look),
+            None => Ok(None),
+        },
+        Intent::Steps {
+            steps,
+            interval,
+            ..
+        } => steps_of(alloc, plan, steps.as_slice(), *interval, looks),
+        Intent::Claim { interval, .. } => match looks.first() {
+            Some(shown) => claim_of(alloc, plan, *interval, shown.look),
+            None => Ok(None),
+        },
         Intent::Round { .. } => Ok(None),
         Intent::Advance(_) => Ok(None),
     }
 }
 
-/// The check of a transaction by what a look shows.
-pub(crate) fn checked(alloc: Global, look: &Look, tx: Tx) -> Result<Checked<Published>, Memory>
+// ---- how it is checked
+
+// What looks show, as parts that are given no inputs.
+fn parts_shown<'a>(alloc: Global, looks: &[Shown<'a>]) -> Result<Vec<Part<'a>>, Memory> {
+    let mut parts = Vec::new(alloc);
+    for shown in looks {
+        parts.push(Part {
+            look: shown.look,
+            inputs: &[],
+        })?;
+    }
+    Ok(parts)
+}
+
+/// The check of a transaction by what looks show.
+pub(crate) fn checked(
+    alloc: Global,
+    looks: &[Shown<'_>],
+    tx: Tx,
+) -> Result<Checked<Published>, Memory>
     ensures { IfOk result (λ checked. checked.tx ≡ tx) }
 {
-    let found = look.resolve(alloc, &tx)?;
+    let parts = parts_shown(alloc, looks)?;
+    let found = resolve_parts(alloc, &parts, &tx)?;
     check_owned(alloc, tx, found)
 }

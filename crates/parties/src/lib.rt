@@ -1,8 +1,10 @@
-//! What one party of a play does: it goes through its plan, intent by intent, with a seat of its own at the hub that all parties share.
+//! What one party of a play does: it goes through its plan, intent by intent, with a seat of its own at the hub that
+//! all parties share.
 //!
-//! For a step or a claim it looks, builds on what it was shown, checks without the lock, and hands in; where another was faster, it begins again. Each
-//! call that it adds to its seat's list is of its plan, what it hands in is the layout of an intent's request, and it keeps the receipts
-//! (`specs/Plays.antt`). docs/threads.md explains it.
+//! For a step, for steps of several threads at once or for a claim it looks, builds on what it was shown, checks
+//! without the lock, and hands in; where another was faster, it begins again. Each call that it adds to its seat's
+//! list is of its plan, what it hands in is the layout of an intent's request by the looks just before it, and it
+//! keeps the receipts (`specs/Plays.antt`). docs/threads.md explains it.
 #![tactic(auto)]
 
 mod acts;

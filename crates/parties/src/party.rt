@@ -43,6 +43,7 @@ fn perform<R: Threads + Wait + Sync, J: Session, W: Watch>(
 {
     match intent {
         Intent::Step { .. } => turns(means, intent, seat, receipts),
+        Intent::Steps { .. } => turns(means, intent, seat, receipts),
         Intent::Claim { .. } => turns(means, intent, seat, receipts),
         Intent::Round { count, workers } => {
             let act = Act::Round {
@@ -75,18 +76,26 @@ fn perform_all<R: Threads + Wait + Sync, J: Session, W: Watch>(
 }
 
 impl Party {
-    /// Goes through the plan, intent by intent, with a seat of the hub. The answer is the receipts of the calls that it adds to the seat's list, in order.
+    /// Goes through the plan, intent by intent, with a seat of the hub. The answer is the receipts of the calls that
+    /// it adds to the seat's list, in order.
     ///
-    /// - A step looks at its thread and at what is under the plan's keys, builds on that with all shown key outputs offered in their order, the plan's
-    ///   keys as signers and its change address, checks what it built without the lock, and submits it with that check at hand. Where the reply is that
-    ///   an output isn't unspent, it begins again, at most 16 times more. If pooled, it enqueues what it built, once.
-    /// - A claim looks at the payouts to its role and at what is under the keys, and claims all of them to the change address; the rest is as for a step.
+    /// - A step looks at its thread and at what is under the plan's keys, builds on that with all shown key outputs
+    ///   offered in their order, the plan's keys as signers and its change address, checks what it built without the
+    ///   lock, and submits it with that check at hand. Where the reply is that an output isn't unspent, it begins
+    ///   again, at most 16 times more. If pooled, it enqueues what it built, once.
+    /// - Steps of several threads look at each of them in order, and each time at what is under the keys; all parts
+    ///   are built into one transaction, to which the key outputs of the first look are offered, and the rest is as
+    ///   for a step. Where they begin again, they look at all once more.
+    /// - A claim looks at the payouts to its role and at what is under the keys, and claims all of them to the change
+    ///   address; the rest is as for a step.
     /// - A round brings its number of workers inside 1 to 16.
-    /// - What the builder refuses for another cause than memory is skipped: the Look is all that it adds.
-    /// - Where the plan stops after n calls, none is made once the seat has n answered calls, also between a Look and what would be built on it.
+    /// - What the builder refuses for another cause than memory is skipped: the Looks are all that it adds. So steps
+    ///   of no thread add nothing.
+    /// - Where the plan stops after n calls, none is made once the seat has n answered calls, also between two Looks,
+    ///   or between a Look and what would be built on it.
     ///
-    /// `Memory` where a growth was refused, here or in a call: the calls that were answered stay in the history and in the seat's list, though their
-    /// receipts aren't given. That it tries again is only tested.
+    /// `Memory` where a growth was refused, here or in a call: the calls that were answered stay in the history and
+    /// in the seat's list, though their receipts aren't given. That it tries again is only tested.
     pub fn run<R: Threads + Wait + Sync, J: Session>(
         &self,
         rt: &R,

@@ -1,17 +1,17 @@
 //! Turns: to look, to build on it, and to hand it in.
-ghost use Rattle.std.specs.Prelude.{◌≡◌, if◌then◌else◌, IfOk, IfSome, OnOk, OnErr};
+ghost use Rattle.std.specs.Prelude.{◌≡◌, ◌≤◌, true, length, if◌then◌else◌, IfOk, IfSome, OnOk, OnErr};
 ghost use Rattle.std.specs.List.{Contains};
 ghost use Rattle.ledger.specs.declared.call.Call.TheVariants as on;
 ghost use Rattle.eutxo_types.specs.declared.tx.Tx.{Tx};
-ghost use Rattle.parties.specs.PlaysSupport.{ask_of, handed, HandsIn, call_of, AtMostNoted, Went, WentNoted};
+ghost use Rattle.parties.specs.PlaysSupport.{asks_of, handed, HandsIn, call_of};
+ghost use Rattle.parties.specs.PlaysSupport.{WasNoted, AtMostNoted, Went, WentNoted, WasShown};
 
 use crate::acts::Act;
-use crate::building::{ask_of, built, checked};
+use crate::building::{Shown, asks_of, built, checked, looks_in};
 use crate::means::Means;
 use crate::watch::Watch;
-use builder::{Ask, Look};
 use chain::{Call, Reply};
-use collections::{Bytes, Memory};
+use collections::{Bytes, Memory, TryClone};
 use eutxo_types::{OutputRef, Tx, TxFault};
 use hub::{Receipt, Seat, Session};
 use plans::{Intent, Plan};
@@ -22,9 +22,12 @@ use std::thread::Threads;
 // How many turns an intent has: one, and 16 more where another was faster.
 const TURNS: u32 = 17;
 
-// Whether another was faster: an output that was to be spent is spent.
-fn is_overtaken(reply: &Reply) -> bool {
-    matches!(reply, Reply::Refused(TxFault::NotUnspent(_)))
+// Whether another was faster, by the last receipt: an output that was to be spent is spent.
+fn is_overtaken<J: Session>(receipts: &[Receipt<J>]) -> bool {
+    match receipts.last() {
+        Some(last) => matches!(last.reply(), Reply::Refused(TxFault::NotUnspent(_))),
+        None => false,
+    }
 }
 
 // Whether what is made of an intent is put into the pool.
@@ -33,17 +36,18 @@ fn is_pooled(intent: &Intent<OutputRef, Bytes>) -> bool
 {
     match intent {
         Intent::Step { pooled, .. } => *pooled,
+        Intent::Steps { pooled, .. } => *pooled,
         Intent::Claim { .. } => false,
         Intent::Round { .. } => false,
         Intent::Advance(_) => false,
     }
 }
 
-// What hands in a transaction that was made of a look.
+// What hands in a transaction that was made of looks.
 fn act_of(
     alloc: Global,
     intent: &Intent<OutputRef, Bytes>,
-    look: &Look,
+    looks: &[Shown<'_>],
     tx: Tx,
 ) -> Result<Act, Memory>
     ensures { IfOk result (λ act. call_of act ≡ handed intent.now tx) }
@@ -51,36 +55,40 @@ fn act_of(
     if is_pooled(intent) {
         Ok(Act::Call(Call::Enqueue(tx)))
     } else {
-        Ok(Act::Admit(checked(alloc, look, tx)?))
+        Ok(Act::Admit(checked(alloc, looks, tx)?))
     }
 }
 
 // What a party does with what it was shown for an intent: nothing where the builder refuses it.
-fn next_of(
+fn next_of<J: Session>(
     alloc: Global,
     plan: &Plan<OutputRef, Bytes>,
     intent: &Intent<OutputRef, Bytes>,
-    reply: &Reply,
+    shown: &[Receipt<J>],
 ) -> Result<Option<Act>, Memory>
-    ensures { IfOk result (λ next. IfSome next (λ act. HandsIn plan.now intent.now reply.now (call_of act))) }
+    ensures { IfOk result (λ next. IfSome next (λ act. HandsIn plan.now intent.now shown.now (call_of act))) }
 {
-    match reply {
-        Reply::Look(look) => match built(alloc, plan, intent, look)? {
-            Some(tx) => Ok(Some(act_of(alloc, intent, look, tx)?)),
-            None => Ok(None),
-        },
-        _ => Ok(None),
-    }
+    let Some(looks) = looks_in(alloc, shown)? else {
+        return Ok(None);
+    };
+    let Some(tx) = built(alloc, plan, intent, &looks)? else {
+        return Ok(None);
+    };
+    let act = act_of(alloc, intent, &looks, tx)?;
+    Ok(Some(act))
 }
 
-/// Does one thing, unless the party has stopped, and keeps its receipt: whether another was faster.
+/// Does one thing, unless the party has stopped, and keeps its receipt. Whether it did.
 pub(crate) fn noted<R: Threads + Wait + Sync, J: Session, W: Watch>(
     means: &Means<'_, R, J, W>,
     act: Act,
     seat: &mut Seat<J>,
     receipts: &mut Vec<Receipt<J>>,
 ) -> Result<bool, Memory>
-    ensures ok { OnOk result (AtMostNoted means.now.plan.now (call_of act) seat.old seat.new receipts.old.items receipts.new.items) }
+    ensures ok { OnOk result
+        (AtMostNoted means.now.plan.now (call_of act) seat.old seat.new receipts.old.items receipts.new.items) }
+    ensures made { IfOk result (λ made. made ≡ true →
+        WasNoted means.now.plan.now (call_of act) seat.old seat.new receipts.old.items receipts.new.items) }
     ensures err { OnErr result (seat.new ≡ seat.old) }
 {
     if means.is_over(seat) {
@@ -88,38 +96,68 @@ pub(crate) fn noted<R: Threads + Wait + Sync, J: Session, W: Watch>(
     }
     receipts.reserve(1)?;
     let told = means.act(seat, act)?;
-    let overtaken = is_overtaken(told.reply());
     receipts.push_reserved(told);
-    Ok(overtaken)
+    Ok(true)
 }
 
-// One turn of an intent: it looks, builds on what it is shown, and hands that in. Whether another was faster.
-fn turn<R: Threads + Wait + Sync, J: Session, W: Watch>(
+// Looks at all that an intent asks to be shown, in order. Whether all was shown: else the party has stopped.
+fn look_at_all<R: Threads + Wait + Sync, J: Session, W: Watch>(
     means: &Means<'_, R, J, W>,
     intent: &Intent<OutputRef, Bytes>,
-    ask: Ask,
     seat: &mut Seat<J>,
     receipts: &mut Vec<Receipt<J>>,
 ) -> Result<bool, Memory>
-    requires of_plan { Contains means.now.plan.now.intents intent.now }
-    requires asks { ask_of means.now.plan.now intent.now ≡ Some ask }
+    requires { Contains means.now.plan.now.intents intent.now }
+    ensures ok { OnOk result (WentNoted means.now.plan.now seat.old seat.new receipts.old.items receipts.new.items) }
+    ensures more { OnOk result (length receipts.old.items ≤ length receipts.new.items) }
+    ensures all { let plan = means.now.plan.now in IfOk result (λ all. all ≡ true →
+        WasShown plan (asks_of plan intent.now) seat.old seat.new receipts.old.items receipts.new.items) }
+    ensures err { OnErr result (Went means.now.plan.now seat.old seat.new) }
+{
+    let asks = asks_of(means.alloc, means.plan, intent)?;
+    for ask in &asks {
+        let asked = ask.try_clone()?;
+        let made = noted(means, Act::Call(Call::Look(asked)), seat, receipts)?;
+        if !made {
+            return Ok(false);
+        }
+    }
+    Ok(true)
+}
+
+// One turn of an intent: it looks at all that is asked for, builds on what it is shown, and hands that in. Whether
+// another was faster.
+fn turn<R: Threads + Wait + Sync, J: Session, W: Watch>(
+    means: &Means<'_, R, J, W>,
+    intent: &Intent<OutputRef, Bytes>,
+    seat: &mut Seat<J>,
+    receipts: &mut Vec<Receipt<J>>,
+) -> Result<bool, Memory>
+    requires { Contains means.now.plan.now.intents intent.now }
     ensures ok { OnOk result (WentNoted means.now.plan.now seat.old seat.new receipts.old.items receipts.new.items) }
     ensures err { OnErr result (Went means.now.plan.now seat.old seat.new) }
 {
-    if means.is_over(seat) {
+    let before = receipts.len();
+    let all = look_at_all(means, intent, seat, receipts)?;
+    if !all {
         return Ok(false);
     }
-    receipts.reserve(1)?;
-    let receipt = means.act(seat, Act::Call(Call::Look(ask)))?;
-    let next = next_of(means.alloc, means.plan, intent, receipt.reply());
-    receipts.push_reserved(receipt);
-    match next? {
-        Some(act) => noted(means, act, seat, receipts),
+    let next = next_of(
+        means.alloc,
+        means.plan,
+        intent,
+        &receipts.as_slice()[before..],
+    )?;
+    match next {
+        Some(act) => {
+            noted(means, act, seat, receipts)?;
+            Ok(is_overtaken(receipts.as_slice()))
+        }
         None => Ok(false),
     }
 }
 
-/// The turns of an intent that asks to be shown something: another one as long as others are faster, up to 17. One that asks nothing has none.
+/// The turns of an intent that asks to be shown something: another one as long as others are faster, up to 17.
 pub(crate) fn turns<R: Threads + Wait + Sync, J: Session, W: Watch>(
     means: &Means<'_, R, J, W>,
     intent: &Intent<OutputRef, Bytes>,
@@ -131,13 +169,8 @@ pub(crate) fn turns<R: Threads + Wait + Sync, J: Session, W: Watch>(
     ensures err { OnErr result (Went means.now.plan.now seat.old seat.new) }
 {
     for _ in 0..TURNS {
-        match ask_of(means.alloc, means.plan, intent)? {
-            Some(ask) => {
-                if !turn(means, intent, ask, seat, receipts)? {
-                    return Ok(());
-                }
-            }
-            None => return Ok(()),
+        if !turn(means, intent, seat, receipts)? {
+            return Ok(());
         }
     }
     Ok(())

@@ -13,6 +13,13 @@ pub enum Intent<T, C> {
         /// Whether the transaction is put into the pool, to be judged by a round, and not submitted.
         pooled: bool,
     },
+    /// Steps of several threads in one transaction with this interval, each thread with its inputs: all or none.
+    Steps {
+        steps: Items<(T, Items<Input>)>,
+        interval: Interval,
+        /// As of a step.
+        pooled: bool,
+    },
     /// A claim of all payouts to a role of a contract's currency, in a transaction with this interval.
     Claim {
         contract: C,

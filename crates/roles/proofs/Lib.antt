@@ -3,4 +3,5 @@ pub mod SumsLemmas
 pub mod OutputLemmas
 pub mod OwedLaws
 pub mod PublicationsLemmas
+mod DueLemmas
 mod WorkedLemmas

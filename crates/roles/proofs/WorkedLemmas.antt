@@ -14,7 +14,7 @@ use Rattle.eutxo_types.specs.declared.output.Output.{Output}
 use Rattle.eutxo.specs.Faults.{is_empty}
 use Rattle.roles.specs.Sums.{sums_in}
 use Rattle.roles.specs.Steps.{same_output, same_amounts, owed_output, and_owed_output, due_to, due_outputs}
-use Rattle.roles.specs.Worked.{EqualPaymentsAreTwo, NothingIsDue, PaidUnderLocks, TokensGrantInKeys, EmptyStartsHoldNothing}
+use Rattle.roles.specs.Worked.{EqualPaymentsAreTwo, OneServesOne, NothingIsDue, PaidUnderLocks, TokensGrantInKeys, EmptyStartsHoldNothing}
 
 same_itself : (o : Output) → same_output o o ≡ true
 same_itself o = (same_by_decides outputs.the_row.coded o o).1 refl
@@ -27,6 +27,12 @@ equal_payments currency p party h =
       ap (λ (b : Bool). if b then (let u : Option ℕ = Some 2 in u) else Some 1) (same_itself o),
       ap (λ (b : Bool). if b then (if b then None else Some 2) else Some 1) (same_itself o),
     )
+
+pub one_serves_one : OneServesOne
+one_serves_one currency p party other h d = (
+  ap (λ (b : Bool). if b then (let u : Option ℕ = None in u) else Some 0) (same_itself (owed_output currency party p)),
+  ap (λ (b : Bool). if b then (let u : Option ℕ = None in u) else Some 1) d,
+)
 
 pub nothing_due : NothingIsDue
 nothing_due a b = (refl, refl, refl)

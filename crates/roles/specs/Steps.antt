@@ -1,5 +1,5 @@
 -- How Marlowe's script judges a step, tells a start and grants a payout.
-use Rattle.std.specs.Prelude.{ℕ, ◌+◌, ℤ, pos, int_lt, ◌==◌, Bool, true, false, not, ◌&&◌, ◌||◌, if◌then◌else◌, List, [], ◌∷◌, slice_get, Option, Some, None, option_map, Result, Ok, Err}
+use Rattle.std.specs.Prelude.{ℕ, ◌+◌, ℤ, pos, int_lt, ◌==◌, Bool, true, false, not, ◌&&◌, ◌||◌, if◌then◌else◌, List, [], ◌∷◌, length, slice_get, Option, Some, None, option_map, Result, Ok, Err}
 use Rattle.std.specs.List.{list_any, filter_map, find}
 use Rattle.std.specs.FinMap as map
 use Rattle.std.specs.FinMap.{entries}
@@ -24,7 +24,7 @@ use Rattle.machine.specs.declared.datum.Datum.{Datum}
 use Rattle.machine.specs.contracts.datum.Datum as datums
 use Rattle.names.specs.Equal.{same_bytes}
 use Rattle.eutxo.specs.declared.step_fault.StepFault.{StepFault}
-use Rattle.eutxo.specs.declared.step_fault.StepFault.TheVariants.{Semantics, NotAuthorised, WrongContinuation, WrongPayment}
+use Rattle.eutxo.specs.declared.step_fault.StepFault.TheVariants.{NotAuthorised, WrongContinuation, WrongPayment}
 use Rattle.eutxo_types.specs.declared.lock.Lock.{Lock}
 use Rattle.eutxo_types.specs.declared.lock.Lock.TheVariants.{Key, Payout, Contract}
 use Rattle.eutxo_types.specs.declared.output.Output.{Output}
@@ -147,27 +147,25 @@ walk_of t s = computed s.tx.interval s.datum.state (t.tree s.datum.cont) s.input
 abbrev pub not_authorised : List ℕ → Stepping → Option StepFault
 not_authorised currency s = option_map NotAuthorised (unauthorised currency s.tx.signers s.spent s.inputs)
 
--- 14: the contract goes on from a datum, and not in the output at a place
-abbrev pub wrong_continuation : Bool → ℕ → Datum → Stepping → Option StepFault
-wrong_continuation closed i d s = fault_if WrongContinuation (not (closed || goes_on_in s.tx i s.script d))
+-- 14: the contract goes on from a datum, and not in the first output of its block
+abbrev pub wrong_continuation : Bool → Datum → Stepping → Option StepFault
+wrong_continuation closed d s = fault_if WrongContinuation (not (closed || goes_on_in s.tx s.from s.script d))
 
--- where the payments begin, of a contract whose outputs begin at a place
+-- where the payments begin, of a contract whose block stands from a place
 abbrev pub payments_from : Bool → ℕ → ℕ
 payments_from closed i = if closed then i else i + 1
 
 -- 15: the first place at which an output that is due for a payment isn't
-abbrev pub wrong_payment : List ℕ → Bool → ℕ → List Payment → Stepping → Option StepFault
-wrong_payment currency closed i ps s = option_map WrongPayment (first_unpaid (payments_from closed i) (due_outputs currency ps) (outputs_from (payments_from closed i) s.tx.outputs))
+abbrev pub wrong_payment : List ℕ → Bool → List Payment → Stepping → Option StepFault
+wrong_payment currency closed ps s =
+    option_map WrongPayment (first_unpaid (payments_from closed s.from) (due_outputs currency ps) (outputs_from (payments_from closed s.from) s.tx.outputs))
 
-abbrev pub answer_by : Option StepFault → Bool → StepAnswer
-answer_by (Some f) closed = answers.Refused f
-answer_by None true = answers.Ends
-answer_by None false = answers.GoesOn
+-- 13 to 15, once the transaction function succeeds and leads to a datum
+abbrev pub outcome_fault : List ℕ → Bool → Datum → List Payment → Stepping → Option StepFault
+outcome_fault currency closed d ps s = first_of (not_authorised currency s ∷ wrong_continuation closed d s ∷ wrong_payment currency closed ps s ∷ [])
 
--- 13 to 15, once the transaction function succeeds and leads to a datum: the contract's outputs begin at place 0
 abbrev pub outcome_answer : List ℕ → Bool → Datum → List Payment → Stepping → StepAnswer
-outcome_answer currency closed d ps s =
-    answer_by (first_of (not_authorised currency s ∷ wrong_continuation closed 0 d s ∷ wrong_payment currency closed 0 ps s ∷ [])) closed
+outcome_answer currency closed d ps s = answers.Takes (outcome_fault currency closed d ps s) (not closed) (length (due_outputs currency ps))
 
 -- where the contract goes on: the number to which the turns lead, in the state that is left
 abbrev pub next_datum : Terms → Datum → Walk → StateMaps → Datum
@@ -176,11 +174,11 @@ next_datum t d w state = record { cont = t.at d.cont w.turns; state = state }
 -- 12: the transaction function refuses; else the others
 abbrev pub by_answer : Terms → Stepping → Walk → Result Standing SemFault → StepAnswer
 by_answer t s w (Ok a) = outcome_answer t.currency (is_close a.contract) (next_datum t s.datum w a.state) w.payments s
-by_answer t s w (Err f) = answers.Refused (Semantics f)
+by_answer t s w (Err f) = answers.Refused f
 
 -- 12 to 15: the transaction function on what the datum's number stands for. A number outside the table matches nothing
 abbrev pub step_of : Terms → Stepping → StepAnswer
-step_of t s = if t.has s.datum.cont then by_answer t s (walk_of t s) (answer_of (walk_of t s)) else answers.Refused (Semantics NoMatch)
+step_of t s = if t.has s.datum.cont then by_answer t s (walk_of t s) (answer_of (walk_of t s)) else answers.Refused NoMatch
 
 -- 17: a start is at the root, has neither choices nor bound values, and holds exactly the sums of its accounts
 abbrev pub same_cont : Cont → Cont → Bool

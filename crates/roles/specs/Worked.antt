@@ -14,13 +14,20 @@ use Rattle.eutxo_types.specs.declared.lock.Lock.TheVariants.{Key, Payout}
 use Rattle.eutxo_types.specs.declared.output.Output.{Output}
 use Rattle.eutxo_types.specs.declared.spend.Spend.{Spend}
 use Rattle.roles.specs.Sums.{sums_of}
-use Rattle.roles.specs.Steps.{role_token, authorised, unauthorised, lock_for, owed_output, due_above, due_to, due_outputs, first_unpaid, starts_from}
+use Rattle.roles.specs.Steps.{same_output, role_token, authorised, unauthorised, lock_for, owed_output, due_above, due_to, due_outputs, first_unpaid, starts_from}
 
 -- two equal payments are due in two outputs: one output at place 1 leaves the second, at place 2, unpaid
 abbrev pub EqualPaymentsAreTwo : Type 0
 EqualPaymentsAreTwo =
     (currency : List ℕ) (p : Payment) (party : Party) → due_to p ≡ Some party → let o = owed_output currency party p in
     (due_outputs currency (p ∷ p ∷ []) ≡ o ∷ o ∷ []) × (first_unpaid 1 (o ∷ o ∷ []) (o ∷ []) ≡ Some 2) × (first_unpaid 1 (o ∷ o ∷ []) (o ∷ o ∷ []) ≡ None)
+
+-- two contracts that are over owe one payment each, equal ones: of two outputs the first is the payment, the second is another, and so
+-- the second contract, whose block stands from place 1, is the one that isn't paid
+abbrev pub OneServesOne : Type 0
+OneServesOne =
+    (currency : List ℕ) (p : Payment) (party : Party) (other : Output) → due_to p ≡ Some party → let o = owed_output currency party p in
+    same_output other o ≡ false → (first_unpaid 0 (o ∷ []) (o ∷ other ∷ []) ≡ None) × (first_unpaid 1 (o ∷ []) (other ∷ []) ≡ Some 1)
 
 -- a payment of 0, or to an account, is due in no output; one of 1 to a party is due to it
 abbrev pub NothingIsDue : Type 0

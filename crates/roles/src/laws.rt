@@ -2,7 +2,7 @@
 ghost use Rattle.roles.specs.Publications.{PublishedAreTables, PublishedTellApart};
 ghost use Rattle.roles.specs.Sums.{SumsAreTotals};
 ghost use Rattle.roles.specs.Owed.{GoesOnWhereMade, MadeAreContinuations, PaidInDueOutputs};
-ghost use Rattle.roles.specs.Worked.{EqualPaymentsAreTwo, NothingIsDue, PaidUnderLocks, TokensGrantInKeys, EmptyStartsHoldNothing};
+ghost use Rattle.roles.specs.Worked.{EqualPaymentsAreTwo, OneServesOne, NothingIsDue, PaidUnderLocks, TokensGrantInKeys, EmptyStartsHoldNothing};
 
 use crate::published::Published;
 use compiler::codes_stand;
@@ -32,19 +32,20 @@ pub fn sums_are_of_each_token()
     ensures { SumsAreTotals }
 {}
 
-/// What a step owes is recognised exactly where it stands as it is made: the output in which a contract goes on from the
-/// datum that is brought for it (rule 14), which is the one that `continuation` makes where it holds the datum's digest,
-/// and those that are due for payments (rule 15), which `put_due` makes.
+/// What a step owes is recognised exactly where it stands as it is made: the output in which a contract goes on from
+/// the datum that is brought for it (rule 14), which is the one that `continuation` makes where it holds the datum's
+/// digest, and those that are due for payments (rule 15), which `put_due` makes.
 pub fn owed_as_made()
     ensures made { GoesOnWhereMade }
     ensures continuation { MadeAreContinuations }
     ensures payments { PaidInDueOutputs }
 {}
 
-/// The definitions on small steps: two equal payments, payments that are due in no output, under which lock a party is
-/// paid, where a role's token grants the role, and a start without accounts.
+/// The definitions on small steps: two equal payments of one contract and of two, payments that are due in no output,
+/// under which lock a party is paid, where a role's token grants the role, and a start without accounts.
 pub fn worked_steps()
     ensures equal { EqualPaymentsAreTwo }
+    ensures serves { OneServesOne }
     ensures due { NothingIsDue }
     ensures locks { PaidUnderLocks }
     ensures grant { TokensGrantInKeys }

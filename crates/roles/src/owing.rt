@@ -1,6 +1,6 @@
 //! The outputs that a step owes: the one in which the contract goes on, and those that are due for its payments. Here
 //! they are made, for who builds a step, and told from others, for who judges one, by the same definitions.
-ghost use Rattle.std.specs.Prelude.{◌≡◌, ◌+◌, ◌++◌, ◌<ℤ◌, ◌↔◌, pos, IsTrue, IfOk, OnOk, drop, option_copied};
+ghost use Rattle.std.specs.Prelude.{◌≡◌, ◌+◌, ◌++◌, ◌<ℤ◌, ◌↔◌, pos, ℕ, List, length, IsTrue, IfOk, OnOk, drop, option_copied};
 ghost use Rattle.roles.specs.Sums.{sums_of};
 ghost use Rattle.roles.specs.Steps.{same_output, same_datum, is_instance, holds_just, continuation, goes_on_in, lock_for, owed_output, due_to, due_outputs, first_unpaid};
 
@@ -61,19 +61,20 @@ fn holds_just(alloc: Global, state: &State, output: Option<&Output>) -> Result<b
     }
 }
 
-/// Whether a contract goes on from a number, in a state, in output 0: by the datum that is brought for it, not by its
-/// digest.
+/// Whether a contract goes on from a number, in a state, in the output at a place: by the datum that is brought for it,
+/// not by its digest.
 pub fn goes_on_in(
     alloc: Global,
     tx: &Tx,
+    place: usize,
     script: &[u8; 32],
     there: Cont,
     state: &State,
 ) -> Result<bool, Memory>
-    ensures { IfOk result (λ answer. answer ≡ goes_on_in tx.now 0 script.now (record { cont = there; state = state.now })) }
+    ensures { IfOk result (λ answer. answer ≡ goes_on_in tx.now place script.now (record { cont = there; state = state.now })) }
 {
-    if is_instance(script, there, state, tx.contract_at(0)) {
-        holds_just(alloc, state, tx.outputs.as_slice().first())
+    if is_instance(script, there, state, tx.contract_at(place as u64)) {
+        holds_just(alloc, state, tx.outputs.as_slice().get(place))
     } else {
         Ok(false)
     }
@@ -170,6 +171,20 @@ pub fn put_due(
         }
     }
     Ok(())
+}
+
+/// How many payments are due in an output: as many under each currency.
+#[tactic(auto, using(crate::proofs::DueLemmas::due_more))]
+pub fn due_count(payments: &[Payment]) -> usize
+    ensures { (currency : List ℕ) → result ≡ length (due_outputs currency payments.now) }
+{
+    let mut count = 0;
+    for payment in payments {
+        if due_to(payment).is_some() {
+            count += 1;
+        }
+    }
+    count
 }
 
 /// The lowest place from `from` on that isn't the payment that is due there.

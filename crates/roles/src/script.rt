@@ -51,6 +51,7 @@ impl Validator for Published {
         script: &[u8; 32],
         datum: &Datum,
         inputs: &[Input],
+        from: usize,
         tx: &Tx,
         spent: &[Spent<'_>],
     ) -> Result<StepAnswer, Memory> {
@@ -58,6 +59,7 @@ impl Validator for Published {
             script,
             datum,
             inputs,
+            from,
             tx,
         };
         step_of(alloc, self, asked, spent)

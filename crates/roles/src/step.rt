@@ -1,10 +1,10 @@
 //! Steps.
 ghost use Rattle.std.specs.Prelude.{◌≡◌, IfOk};
 ghost use Rattle.roles.specs.Terms.{terms_of};
-ghost use Rattle.roles.specs.Steps.{outcome_answer, step_of};
+ghost use Rattle.roles.specs.Steps.{payments_from, outcome_fault, outcome_answer, step_of};
 
 use crate::authorise::unauthorised;
-use crate::owing::{goes_on_in, unpaid_index};
+use crate::owing::{due_count, goes_on_in, unpaid_index};
 use crate::published::Published;
 use collections::{Bytes, Memory, TryClone};
 use contract::{Input, Outcome, SemFault};
@@ -19,11 +19,58 @@ pub struct StepParts<'a> {
     pub script: &'a [u8; 32],
     pub datum: &'a Datum,
     pub inputs: &'a [Input],
+    pub from: usize,
     pub tx: &'a Tx,
 }
 
-// What is answered once the transaction function succeeds: who isn't authorised, then the continuing
-// output, then the payments.
+// Where the payments begin. `Memory` where that is above every place that an output can have.
+fn payments_from(closed: bool, from: usize) -> Result<usize, Memory>
+    ensures { IfOk result (λ place. place ≡ payments_from closed from) }
+{
+    if closed {
+        return Ok(from);
+    }
+    match from.checked_add(1) {
+        Some(place) => Ok(place),
+        None => Err(AllocError),
+    }
+}
+
+// Once the transaction function succeeds: who isn't authorised, then the continuing output, then the payments.
+fn outcome_fault(
+    alloc: Global,
+    currency: &Bytes,
+    asked: StepParts<'_>,
+    spent: &[Spent<'_>],
+    closed: bool,
+    outcome: &Outcome<Cont>,
+) -> Result<Option<StepFault>, Memory>
+    ensures { IfOk result (λ fault. fault ≡ outcome_fault currency.now closed (record { cont = outcome.now.place; state = outcome.now.state }) outcome.now.payments (record { script = asked.entry.script.now; datum = asked.entry.datum.now; inputs = asked.entry.inputs.now; from = asked.entry.from; tx = asked.entry.tx.now; spent = spent.now })) }
+{
+    let tx = asked.tx;
+    let outputs = tx.outputs.as_slice();
+    if let Some(party) = unauthorised(currency, tx.signers.as_slice(), spent, asked.inputs) {
+        return Ok(Some(StepFault::NotAuthorised(party.try_clone()?)));
+    }
+    if !closed
+        && !goes_on_in(
+            alloc,
+            tx,
+            asked.from,
+            asked.script,
+            outcome.place,
+            &outcome.state,
+        )?
+    {
+        return Ok(Some(StepFault::WrongContinuation));
+    }
+    let from = payments_from(closed, asked.from)?;
+    match unpaid_index(currency, from, outcome.payments.as_slice(), outputs) {
+        Some(i) => Ok(Some(StepFault::WrongPayment(i as u64))),
+        None => Ok(None),
+    }
+}
+
 fn outcome_answer(
     alloc: Global,
     currency: &Bytes,
@@ -32,45 +79,31 @@ fn outcome_answer(
     closed: bool,
     outcome: &Outcome<Cont>,
 ) -> Result<StepAnswer, Memory>
-    ensures { IfOk result (λ answer. answer ≡ outcome_answer currency.now closed (record { cont = outcome.now.place; state = outcome.now.state }) outcome.now.payments (record { script = asked.entry.script.now; datum = asked.entry.datum.now; inputs = asked.entry.inputs.now; tx = asked.entry.tx.now; spent = spent.now })) }
+    ensures { IfOk result (λ answer. answer ≡ outcome_answer currency.now closed (record { cont = outcome.now.place; state = outcome.now.state }) outcome.now.payments (record { script = asked.entry.script.now; datum = asked.entry.datum.now; inputs = asked.entry.inputs.now; from = asked.entry.from; tx = asked.entry.tx.now; spent = spent.now })) }
 {
-    let tx = asked.tx;
-    if let Some(party) = unauthorised(currency, tx.signers.as_slice(), spent, asked.inputs) {
-        return Ok(StepAnswer::Refused(StepFault::NotAuthorised(party.try_clone()?)));
-    }
-    if !closed && !goes_on_in(alloc, tx, asked.script, outcome.place, &outcome.state)? {
-        return Ok(StepAnswer::Refused(StepFault::WrongContinuation));
-    }
-    let from = if closed { 0 } else { 1 };
-    match unpaid_index(
-        currency,
-        from,
-        outcome.payments.as_slice(),
-        tx.outputs.as_slice(),
-    ) {
-        Some(i) => Ok(StepAnswer::Refused(StepFault::WrongPayment(i as u64))),
-        None => Ok(if closed {
-            StepAnswer::Ends
-        } else {
-            StepAnswer::GoesOn
-        }),
-    }
+    let fault = outcome_fault(alloc, currency, asked, spent, closed, outcome)?;
+    Ok(StepAnswer::Takes {
+        fault,
+        goes_on: !closed,
+        payments: due_count(outcome.payments.as_slice()),
+    })
 }
 
 /// Judges a step of a published contract: the transaction function on the contract of the datum's
-/// number, then who is authorised, then the continuing output, then the payments.
+/// number, then who is authorised, then the continuing output, then the payments. Answers `Memory` only where a
+/// growth was refused, or where the payments would begin above every place that an output can have.
 pub fn step_of(
     alloc: Global,
     published: &Published,
     asked: StepParts<'_>,
     spent: &[Spent<'_>],
 ) -> Result<StepAnswer, Memory>
-    ensures { IfOk result (λ answer. answer ≡ step_of (terms_of published.now) (record { script = asked.entry.script.now; datum = asked.entry.datum.now; inputs = asked.entry.inputs.now; tx = asked.entry.tx.now; spent = spent.now })) }
+    ensures { IfOk result (λ answer. answer ≡ step_of (terms_of published.now) (record { script = asked.entry.script.now; datum = asked.entry.datum.now; inputs = asked.entry.inputs.now; from = asked.entry.from; tx = asked.entry.tx.now; spent = spent.now })) }
 {
     let table = &published.table;
     let datum = asked.datum;
     if !table.contains(datum.cont) {
-        return Ok(StepAnswer::Refused(StepFault::Semantics(SemFault::NoMatch)));
+        return Ok(StepAnswer::Refused(SemFault::NoMatch));
     }
     match compute(alloc, table, datum, asked.tx.interval, asked.inputs) {
         Ok(outcome) => {
@@ -78,6 +111,6 @@ pub fn step_of(
             outcome_answer(alloc, &published.currency, asked, spent, closed, &outcome)
         }
         Err(SemFault::Memory) => Err(AllocError),
-        Err(fault) => Ok(StepAnswer::Refused(StepFault::Semantics(fault))),
+        Err(fault) => Ok(StepAnswer::Refused(fault)),
     }
 }

@@ -1,8 +1,9 @@
 //! Transactions that are built.
 use crate::offers::Handed;
+use crate::parts::{WrittenPart, lent};
 use crate::session::Desk;
 use crate::shown::put_output;
-use builder::{BuildFault, build_claim, build_start, build_step};
+use builder::{BuildFault, Part, build_claim, build_start, build_step, build_steps};
 use collections::{Items, Text};
 use contract::{Input, State};
 use eutxo_types::{Datum, Instance, Spend, Tx, TxFault};
@@ -28,6 +29,12 @@ struct StepRequest<'a> {
 }
 
 #[derive(Drop)]
+struct StepsRequest<'a> {
+    parts: Vec<Part<'a>>,
+    change: Text,
+}
+
+#[derive(Drop)]
 struct StartRequest<'a> {
     published: &'a Published,
     state: State,
@@ -47,6 +54,19 @@ impl Request for StepRequest<'_> {
             self.look,
             tx.interval,
             self.inputs.as_slice(),
+            tx.signers.as_slice(),
+            handed.offered.as_slice(),
+            &self.change,
+        )
+    }
+}
+
+impl Request for StepsRequest<'_> {
+    fn build(&self, alloc: Global, tx: &Tx, handed: &Handed) -> Result<Tx, BuildFault> {
+        build_steps(
+            alloc,
+            &self.parts,
+            tx.interval,
             tx.signers.as_slice(),
             handed.offered.as_slice(),
             &self.change,
@@ -82,13 +102,17 @@ impl Request for ClaimRequest {
     }
 }
 
-/// Builds from what is written and handed in, and from `step`, `start` or `claim` and what follows: what is printed. What was
+/// Builds from what is written and handed in, and from `step`, `steps`, `start` or `claim` and what follows: what is printed. What was
 /// handed in is gone, and in place of what was written stands what is built, if anything.
 pub fn build(alloc: Global, desk: &mut Desk, rest: &str) -> Result<String, RowFault> {
     let (sort, rest) = first(rest);
     match sort {
         "step" => {
             let request = step_of(alloc, &desk.known, &desk.look, rest);
+            built(alloc, &desk.known, &mut desk.tx, &mut desk.handed, request)
+        }
+        "steps" => {
+            let request = steps_of(alloc, &desk.parts, rest);
             built(alloc, &desk.known, &mut desk.tx, &mut desk.handed, request)
         }
         "start" => {
@@ -123,6 +147,17 @@ fn step_of<'a>(
         }
         None => Err(RowFault::NoSuchRow),
     }
+}
+
+// From `CHANGE`.
+fn steps_of<'a>(
+    alloc: Global,
+    parts: &'a [WrittenPart],
+    change: &str,
+) -> Result<StepsRequest<'a>, RowFault> {
+    let change = text(alloc, change)?;
+    let parts = lent(alloc, parts)?;
+    Ok(StepsRequest { parts, change })
 }
 
 // From `NAME STATE CHANGE`.

@@ -19,6 +19,9 @@
 //! - `claim REFERENCE` and `claim REFERENCE OUTPUT` hand in a payout so;
 //! - `datum NUMBER STATE` has the last look show its thread with this datum, in place of the one that its maker brought.
 //!
+//! - `part INPUT ..` puts a part behind the others: the thread that the last look shows, with inputs as `rows_text` has them. Parts
+//!   stay until a line `parts`, which leaves none.
+//!
 //! What is built stands in place of what was written, and can be submitted; where nothing is built, nothing is written, and in
 //! both cases nothing is offered or claimed any more.
 //!
@@ -41,7 +44,7 @@
 //! - `tick` prints it;
 //! - `resolve` prints what is found of what the transaction names that is written: a line for each input, a contract's with the
 //!   datum that it was made with, and one for each script; it leaves the transaction as it is;
-//! - `seen` prints, of the same, what the last look holds;
+//! - `seen` prints, of the same, what the last look holds, and `seen_by_parts` what the looks of the parts hold together;
 //! - `check` prints the verdict on that transaction and what is found, and keeps both at hand for the calls below, as a cache;
 //! - `recheck` prints the verdict on the same by the checks at hand, behind `at hand` where one is of this transaction with an equal
 //!   resolution, else `anew`;
@@ -50,7 +53,7 @@
 //! - `steps_of REFERENCE` prints the number of steps of the thread that starts there, and for each its interval and the number
 //!   where the contract went on, then a line for each input, warning and payment, and the state;
 //! - `build step CHANGE INPUT ..` builds a step of the thread that the last look shows, with inputs as `rows_text` has
-//!   them, `build start NAME STATE CHANGE` a start of what is published under the name, and `build claim TO CHANGE` a claim:
+//!   them, `build steps CHANGE` steps of all parts, `build start NAME STATE CHANGE` a start of what is published under the name, and `build claim TO CHANGE` a claim:
 //!   `built from` and the references of the inputs, then a line for each output; or `refused FAULT`;
 //! - `history` prints a line for each entry: its place, `SEAT.NUMBER`, the call, and the reply without what a look shows;
 //! - `copies COUNT` prints for each of the last so many entries whether a copy of its call is the `same`, and of its reply; and for
@@ -69,6 +72,7 @@ mod copies;
 mod faults;
 mod front;
 mod offers;
+mod parts;
 mod played;
 mod recorded;
 mod replies;

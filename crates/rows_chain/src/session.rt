@@ -5,9 +5,11 @@ use crate::copies::history_copies;
 use crate::faults::{fault_copies_line, texts_row};
 use crate::front::{front_lines, keep_checks};
 use crate::offers::{Handed, hand_in};
+use crate::parts::{WrittenPart, lent, put_part};
 use crate::played::played;
 use crate::recorded::steps_lines;
 use crate::started::started;
+use builder::resolve_parts;
 use chain::Chain;
 use collections::Items;
 use eutxo::Checked;
@@ -22,7 +24,7 @@ use std::alloc::Global;
 use std::mem;
 
 /// What is written so far: the outputs to begin with, a transaction, what is handed in to build one, what has a name, the last
-/// look, and checks at hand.
+/// look, parts, and checks at hand.
 #[derive(Drop)]
 pub struct Desk {
     pub genesis: Items<Output>,
@@ -30,6 +32,7 @@ pub struct Desk {
     pub handed: Handed,
     pub known: Known,
     pub look: Option<Look>,
+    pub parts: Vec<WrittenPart>,
     pub checks: Vec<Checked<Published>>,
 }
 
@@ -48,6 +51,7 @@ fn empty_desk(alloc: Global) -> Desk {
         handed: Handed::new(alloc),
         known: Known::new(alloc),
         look: None,
+        parts: Vec::new(alloc),
         checks: Vec::new(alloc),
     }
 }
@@ -94,7 +98,9 @@ fn taken(alloc: Global, session: &mut Session, line: &str) -> Result<Option<Stri
         | "datum"
         | "offer"
         | "offers"
-        | "claim" => {
+        | "claim"
+        | "part"
+        | "parts" => {
             written(alloc, &mut session.desk, word, rest)?;
             Ok(None)
         }
@@ -131,6 +137,11 @@ fn written(alloc: Global, desk: &mut Desk, word: &str, rest: &str) -> Result<(),
         "genesis" => put(&mut desk.genesis, output_of(alloc, &desk.known, rest)),
         "geneses" => put_copies(alloc, &desk.known, &mut desk.genesis, rest),
         "datum" => put_datum(alloc, &desk.known, &mut desk.look, rest),
+        "part" => put_part(alloc, &desk.known, &desk.look, &mut desk.parts, rest),
+        "parts" => {
+            replace(&mut desk.parts, Vec::new(alloc));
+            Ok(())
+        }
         "offer" | "offers" | "claim" => hand_in(
             alloc,
             &desk.known,
@@ -207,6 +218,7 @@ fn answered(
             chain.resolve(alloc, &desk.tx),
         )?),
         "seen" => seen_lines(alloc, desk),
+        "seen_by_parts" => seen_by_parts_lines(alloc, desk),
         "check" => keep_check(
             alloc,
             &mut desk.checks,
@@ -245,4 +257,11 @@ fn seen_lines(alloc: Global, desk: &Desk) -> Result<String, RowFault> {
         }
         None => Err(RowFault::NoSuchRow),
     }
+}
+
+// What the looks of the parts hold of what the transaction names.
+fn seen_by_parts_lines(alloc: Global, desk: &Desk) -> Result<String, RowFault> {
+    let parts = lent(alloc, &desk.parts)?;
+    let found = resolve_parts(alloc, &parts, &desk.tx);
+    Ok(resolved_lines(alloc, &desk.known, &desk.tx, found)?)
 }

@@ -1,6 +1,6 @@
 //! Plans as they are printed once they are read.
 use crate::readings::put_json;
-use collections::Memory;
+use collections::{Items, Memory};
 use contract::{Input, Text};
 use contract_json::to_json;
 use plans::{Intent, Plan};
@@ -52,6 +52,7 @@ fn put_intent(
     lines.push_str(line.as_str())?;
     match intent {
         Intent::Step { inputs, .. } => put_inputs(alloc, lines, inputs.as_slice()),
+        Intent::Steps { steps, .. } => put_steps(alloc, lines, steps.as_slice()),
         _ => Ok(()),
     }
 }
@@ -69,6 +70,14 @@ fn intent_line(alloc: Global, intent: &Intent<usize, usize>) -> Result<String, M
                 "\n {word} {thread} from {} to {}",
                 interval.from, interval.to
             )
+        }
+        Intent::Steps {
+            interval,
+            pooled,
+            ..
+        } => {
+            let word = if *pooled { "pooled steps" } else { "steps" };
+            format!(in alloc; "\n {word} from {} to {}", interval.from, interval.to)
         }
         Intent::Claim {
             contract,
@@ -90,6 +99,21 @@ fn put_inputs(alloc: Global, lines: &mut String, inputs: &[Input]) -> Result<(),
     for input in inputs {
         lines.push_str("\n  ")?;
         put_json(alloc, lines, to_json(alloc, input))?;
+    }
+    Ok(())
+}
+
+// Puts a line for each of several steps, with its inputs below it.
+fn put_steps(
+    alloc: Global,
+    lines: &mut String,
+    steps: &[(usize, Items<Input>)],
+) -> Result<(), RowFault> {
+    for step in steps {
+        let thread = step.0;
+        let line = format!(in alloc; "\n  step {thread}")?;
+        lines.push_str(line.as_str())?;
+        put_inputs(alloc, lines, step.1.as_slice())?;
     }
     Ok(())
 }

@@ -1,7 +1,7 @@
 //! Checks of transactions.
 use crate::stubborn::Stubborn;
 use collections::{Items, Memory};
-use eutxo::{Resolved, Scripts, Shared, Validator, check, local_fault, spent_fault, verdict_of};
+use eutxo::{Resolved, Scripts, Shared, Validator, check, judge_local, judge_spent, verdict_of};
 use eutxo_types::{Output, Tx};
 use roles::Published;
 use rows_text::{Named, RowFault, verdict_line};
@@ -74,9 +74,9 @@ pub fn rules_line<V: Validator + Drop>(
     word: &str,
 ) -> Result<String, RowFault> {
     let found = found?;
-    let fault = match word {
-        "spent" => spent_fault(alloc, tx, &found)?,
-        _ => local_fault(alloc, tx, &found)?,
+    let judged = match word {
+        "spent" => judge_spent(alloc, tx, &found)?,
+        _ => judge_local(alloc, tx, &found)?,
     };
-    Ok(verdict_line(alloc, &verdict_of(fault))?)
+    Ok(verdict_line(alloc, &verdict_of(judged.fault))?)
 }

@@ -30,31 +30,41 @@ pub fn texts_row(alloc: Global, name: &str) -> Result<String, RowFault> {
 pub fn apart_row(alloc: Global, name: &str) -> Result<String, RowFault> {
     match name {
         "StepFault" => {
-            let first = StepFault::Semantics(SemFault::NoMatch);
-            Ok(apart_of(alloc, first, &|fault: &StepFault| after_step(alloc, fault))?)
+            let first = StepFault::NotAuthorised(Party::Role(no_text(alloc)));
+            Ok(apart_of(alloc, first, &|fault: &StepFault| after_step(fault))?)
         }
         "StepAnswer" => {
-            let first = StepAnswer::Refused(StepFault::WrongContinuation);
+            let first = StepAnswer::Refused(SemFault::NoMatch);
             Ok(apart_of(alloc, first, &|answer: &StepAnswer| after_answer(answer))?)
         }
         _ => Err(RowFault::NoSuchRow),
     }
 }
 
-fn after_step(alloc: Global, fault: &StepFault) -> Option<StepFault> {
+fn after_step(fault: &StepFault) -> Option<StepFault> {
     match fault {
-        StepFault::Semantics(_) => Some(StepFault::NotAuthorised(Party::Role(no_text(alloc)))),
         StepFault::NotAuthorised(_) => Some(StepFault::WrongContinuation),
         StepFault::WrongContinuation => Some(StepFault::WrongPayment(7)),
         StepFault::WrongPayment(_) => None,
     }
 }
 
+fn takes(fault: Option<StepFault>, goes_on: bool, payments: usize) -> StepAnswer {
+    StepAnswer::Takes {
+        fault,
+        goes_on,
+        payments,
+    }
+}
+
+// Each differs from the one before in one of its parts.
 fn after_answer(answer: &StepAnswer) -> Option<StepAnswer> {
     match answer {
-        StepAnswer::Refused(_) => Some(StepAnswer::GoesOn),
-        StepAnswer::GoesOn => Some(StepAnswer::Ends),
-        StepAnswer::Ends => None,
+        StepAnswer::Refused(_) => Some(takes(None, false, 0)),
+        StepAnswer::Takes { fault: Some(_), .. } => None,
+        StepAnswer::Takes { goes_on: false, .. } => Some(takes(None, true, 0)),
+        StepAnswer::Takes { payments: 0, .. } => Some(takes(None, true, 1)),
+        StepAnswer::Takes { .. } => Some(takes(Some(StepFault::WrongContinuation), true, 1)),
     }
 }
 
@@ -98,8 +108,8 @@ fn after_tx(alloc: Global, fault: &TxFault) -> Option<TxFault> {
         TxFault::IdInUse => Some(TxFault::OutsideInterval),
         TxFault::OutsideInterval => Some(TxFault::UnknownScript(3)),
         TxFault::UnknownScript(_) => Some(TxFault::NotSigned(4)),
-        TxFault::NotSigned(_) => Some(TxFault::TwoContracts),
-        TxFault::TwoContracts => Some(TxFault::WrongRedeemer(5)),
+        TxFault::NotSigned(_) => Some(TxFault::TooManyContracts),
+        TxFault::TooManyContracts => Some(TxFault::WrongRedeemer(5)),
         TxFault::WrongRedeemer(_) => Some(TxFault::RoleMissing(6)),
         TxFault::RoleMissing(_) => Some(TxFault::Semantics(SemFault::NoMatch)),
         TxFault::Semantics(_) => Some(TxFault::NotAuthorised(Party::Role(no_text(alloc)))),

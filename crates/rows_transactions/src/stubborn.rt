@@ -11,11 +11,11 @@ use std::alloc::Global;
 pub struct Stubborn;
 
 impl Validator for Stubborn {
-    ghost use Rattle.std.specs.Prelude.{true, false, refl};
+    ghost use Rattle.std.specs.Prelude.{true, false, refl, Some};
     ghost use Rattle.eutxo.specs.declared.step_fault.StepFault.TheVariants.{WrongContinuation};
-    ghost use Rattle.eutxo.specs.declared.validator.StepAnswer.TheVariants.{Refused};
+    ghost use Rattle.eutxo.specs.declared.validator.StepAnswer.TheVariants.{Takes};
 
-    ghost judges = { record { step = λ s step. Refused WrongContinuation; starts = λ s d held. true; claims = λ spent currency role. false } };
+    ghost judges = { record { step = λ s step. Takes (Some WrongContinuation) true 0; starts = λ s d held. true; claims = λ spent currency role. false } };
 
     ghost alike = { λ x y e. (λ s. refl, λ d held. refl) };
 
@@ -25,10 +25,15 @@ impl Validator for Stubborn {
         _script: &[u8; 32],
         _datum: &Datum,
         _inputs: &[Input],
+        _from: usize,
         _tx: &Tx,
         _spent: &[Spent<'_>],
     ) -> Result<StepAnswer, Memory> {
-        Ok(StepAnswer::Refused(StepFault::WrongContinuation))
+        Ok(StepAnswer::Takes {
+            fault: Some(StepFault::WrongContinuation),
+            goes_on: true,
+            payments: 0,
+        })
     }
 
     fn start(&self, _alloc: Global, _datum: &Datum, _amount: &Bundle) -> Result<bool, Memory> {

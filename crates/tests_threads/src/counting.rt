@@ -38,10 +38,10 @@ impl Eq for Counting {
 }
 
 impl Validator for Counting {
-    ghost use Rattle.std.specs.Prelude.{true, false, refl};
-    ghost use Rattle.eutxo.specs.declared.validator.StepAnswer.TheVariants.{Ends};
+    ghost use Rattle.std.specs.Prelude.{true, false, refl, None};
+    ghost use Rattle.eutxo.specs.declared.validator.StepAnswer.TheVariants.{Takes};
 
-    ghost judges = { record { step = λ s step. Ends; starts = λ s d held. true; claims = λ spent currency role. false } };
+    ghost judges = { record { step = λ s step. Takes None false 0; starts = λ s d held. true; claims = λ spent currency role. false } };
 
     ghost alike = { λ x y e. (λ s. refl, λ d held. refl) };
 
@@ -51,11 +51,16 @@ impl Validator for Counting {
         _script: &[u8; 32],
         _datum: &Datum,
         _inputs: &[Input],
+        _from: usize,
         _tx: &Tx,
         _spent: &[Spent<'_>],
     ) -> Result<StepAnswer, Memory> {
         self.calls.fetch_add(1, Ordering::SeqCst);
-        Ok(StepAnswer::Ends)
+        Ok(StepAnswer::Takes {
+            fault: None,
+            goes_on: false,
+            payments: 0,
+        })
     }
 
     fn start(&self, _alloc: Global, _datum: &Datum, _amount: &Bundle) -> Result<bool, Memory> {

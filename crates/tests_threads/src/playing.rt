@@ -31,10 +31,33 @@ fn notify(alloc: Global, deal: OutputRef) -> Option<Intent<OutputRef, Bytes>> {
     })
 }
 
-// Who steps the deal once.
-fn stepper(alloc: Global, deal: OutputRef, name: &str) -> Option<Party> {
+// Steps of both by one notification each, in one transaction.
+fn notify_both(
+    alloc: Global,
+    deal: OutputRef,
+    other: OutputRef,
+) -> Option<Intent<OutputRef, Bytes>> {
+    let mut steps = Items::new(alloc);
+    for thread in [deal, other] {
+        let mut inputs = Items::new(alloc);
+        inputs.push(Input::Notify).ok()?;
+        steps.push((thread, inputs)).ok()?;
+    }
+    Some(Intent::Steps {
+        steps,
+        interval: Interval { from: 0, to: 10 },
+        pooled: false,
+    })
+}
+
+// Who steps the deal once, and with it the other, if there is one.
+fn stepper(alloc: Global, deal: OutputRef, other: Option<OutputRef>, name: &str) -> Option<Party> {
     let mut intents = Items::new(alloc);
-    intents.push(notify(alloc, deal)?).ok()?;
+    let intent = match other {
+        Some(other) => notify_both(alloc, deal, other)?,
+        None => notify(alloc, deal)?,
+    };
+    intents.push(intent).ok()?;
     Some(Party {
         plan: Plan {
             name: text(alloc, name)?,
@@ -69,14 +92,15 @@ fn plays<J: Session, R: Threads + Wait + Sync>(
     hub: &Hub<J>,
     seat: &mut Seat<J>,
     deal: OutputRef,
+    other: Option<OutputRef>,
     overtaking: &Overtaking,
 ) -> Option<usize> {
     if seat.number() == 1 {
-        let party = stepper(alloc, deal, "p")?;
+        let party = stepper(alloc, deal, other, "p")?;
         let receipts = party.run_watched(rt, alloc, hub, seat, overtaking).ok()?;
         Some(receipts.len())
     } else {
-        let party = stepper(alloc, deal, "q")?;
+        let party = stepper(alloc, deal, None, "q")?;
         if !comes(&overtaking.looked) {
             return None;
         }
@@ -92,6 +116,7 @@ fn play_all<J: Session + Send + Sync, R: Threads + Wait + Sync>(
     alloc: Global,
     seats: Vec<SeatAtHub<J>>,
     deal: OutputRef,
+    other: Option<OutputRef>,
     overtaking: &Overtaking,
 ) -> Option<Vec<(Seat<J>, Option<usize>)>> {
     thread::map_vec(
@@ -102,7 +127,7 @@ fn play_all<J: Session + Send + Sync, R: Threads + Wait + Sync>(
             let count = if seat.number() == 0 {
                 Some(0)
             } else {
-                plays(rt, alloc, hub, &mut seat, deal, overtaking)
+                plays(rt, alloc, hub, &mut seat, deal, other, overtaking)
             };
             (seat, count)
         },
@@ -110,22 +135,29 @@ fn play_all<J: Session + Send + Sync, R: Threads + Wait + Sync>(
     .ok()
 }
 
-// The bank begins, and the other two play: the closed hub, the deal's start, and how many calls each of the two was answered.
+// The bank begins a deal, and another if it is wanted, and the other two play: the closed hub, the starts, and how many
+// calls each of the two was answered.
 fn played<J: Session + Send + Sync, R: Threads + Wait + Sync>(
     rt: &R,
     alloc: Global,
     opening: Opening,
+    two: bool,
     overtaking: &Overtaking,
-) -> Option<(Closed<J>, OutputRef, Vec<usize>)>
+) -> Option<(Closed<J>, OutputRef, Option<OutputRef>, Vec<usize>)>
     requires { opening ≡ J.session }
 {
     let (hub, mut seats) = opening.open::<J>(alloc).ok()?;
     let deal = begin(rt, alloc, &hub, seats.first_mut()?)?;
+    let other = if two {
+        Some(begin(rt, alloc, &hub, seats.first_mut()?)?)
+    } else {
+        None
+    };
     let mut handed = Vec::new(alloc);
     for seat in seats {
         handed.push(SeatAtHub { hub: &hub, seat }).ok()?;
     }
-    let played = play_all(rt, alloc, handed, deal, overtaking)?;
+    let played = play_all(rt, alloc, handed, deal, other, overtaking)?;
     let mut seats = Vec::new(alloc);
     let mut counts = Vec::new(alloc);
     for (seat, count) in played {
@@ -135,7 +167,13 @@ fn played<J: Session + Send + Sync, R: Threads + Wait + Sync>(
     if !hub.are_all(&seats) {
         return None;
     }
-    Some((hub.close(seats), deal, counts))
+    Some((hub.close(seats), deal, other, counts))
+}
+
+// How many steps of a thread were accepted.
+fn steps_of<J: Session>(alloc: Global, closed: &Closed<J>, start: &OutputRef) -> Option<usize> {
+    let steps = closed.chain().steps_of(alloc, start).ok()?;
+    Some(steps.len())
 }
 
 // Whether an entry says that a step came too late.
@@ -154,9 +192,13 @@ fn is_overtaken<J: Session + Send + Sync, R: Threads + Wait + Abort + Sync + All
         stepped: AtomicU64::new(0),
         gave_up: AtomicU64::new(0),
     };
-    let (closed, deal, counts) = played::<J, R>(rt, rt.alloc(), opening, &overtaking).expect(
-        rt, "a play",
-    );
+    let (closed, deal, _, counts) = played::<J, R>(
+        rt,
+        rt.alloc(),
+        opening,
+        false,
+        &overtaking,
+    ).expect(rt, "a play");
     assert_eq!(rt;
         overtaking.gave_up.load(Ordering::SeqCst),
         0,
@@ -172,11 +214,58 @@ fn is_overtaken<J: Session + Send + Sync, R: Threads + Wait + Abort + Sync + All
         is_too_late(&entries[6].reply),
         "its first step came too late"
     );
-    let steps = closed
-        .chain()
-        .steps_of(rt.alloc(), &deal)
-        .expect(rt, "memory");
-    assert_eq!(rt; steps.len(), 2, "both stepped it");
+    assert_eq!(rt;
+        steps_of(rt.alloc(), &closed, &deal),
+        Some(2),
+        "both stepped it"
+    );
+}
+
+// Of two that are stepped at once one is stepped by the other party meanwhile.
+fn is_overtaken_in_one<J: Session + Send + Sync, R: Threads + Wait + Abort + Sync + AllocGlobal>(
+    rt: &R,
+    opening: Opening,
+)
+    requires { opening ≡ J.session }
+{
+    let overtaking = Overtaking {
+        looked: AtomicU64::new(0),
+        stepped: AtomicU64::new(0),
+        gave_up: AtomicU64::new(0),
+    };
+    let (closed, deal, other, counts) = played::<J, R>(
+        rt,
+        rt.alloc(),
+        opening,
+        true,
+        &overtaking,
+    ).expect(rt, "a play");
+    assert_eq!(rt;
+        overtaking.gave_up.load(Ordering::SeqCst),
+        0,
+        "the other stepped"
+    );
+    assert!(rt;
+        counts[..] == [0, 6, 2],
+        "the one who was overtaken looked at both again"
+    );
+    let entries = closed.chain().entries();
+    assert_eq!(rt; entries.len(), 14);
+    assert!(rt;
+        is_too_late(&entries[10].reply),
+        "its first transaction came too late"
+    );
+    let other = other.expect(rt, "a second deal");
+    assert_eq!(rt;
+        steps_of(rt.alloc(), &closed, &deal),
+        Some(2),
+        "both stepped it"
+    );
+    assert_eq!(rt;
+        steps_of(rt.alloc(), &closed, &other),
+        Some(1),
+        "one stepped the other deal"
+    );
 }
 
 #[test]
@@ -184,4 +273,11 @@ fn who_is_overtaken_tries_again(rt: HostRuntime) {
     let chain = bank(rt.alloc(), 1).expect(&rt, "memory");
     let opening = Opening::new(chain, 3);
     is_overtaken::<Brand, _>(&rt, opening);
+}
+
+#[test]
+fn who_steps_two_at_once_and_is_overtaken_tries_again(rt: HostRuntime) {
+    let chain = bank(rt.alloc(), 2).expect(&rt, "memory");
+    let opening = Opening::new(chain, 3);
+    is_overtaken_in_one::<Brand, _>(&rt, opening);
 }

@@ -1,6 +1,6 @@
 -- What is accepted keeps a time lock.
-use Rattle.std.proofs.Common.{◌≡◌, ℕ, int_le, Bool, true, false, cond, List, ◌∷◌, refl, sym, ap, ◌∙◌, subst, Option, Some, None}
-use Rattle.std.specs.Prelude.{if◌then◌else◌, nat_lt, count_by}
+use Rattle.std.proofs.Common.{◌≡◌, ℕ, int_le, Bool, true, false, cond, List, refl, sym, ap, ◌∙◌, subst, Option, Some, None}
+use Rattle.std.specs.Prelude.{if◌then◌else◌}
 use Rattle.std.specs.Cmp.{tied_itself}
 use Rattle.std.specs.Ordering.{is_eq}
 use Rattle.std.specs.FinMap as map
@@ -10,7 +10,6 @@ use Rattle.names.specs.Totals.{bytes_total}
 use Rattle.names.specs.declared.party.Party.TheVariants.{Address}
 use Rattle.semantics.proofs.Integers.{true_le}
 use Rattle.eutxo_types.specs.declared.fault.TxFault.{TxFault}
-use Rattle.eutxo_types.specs.declared.fault.TxFault.TheVariants.{TwoContracts}
 use Rattle.eutxo_types.specs.declared.lock.Lock.{Lock}
 use Rattle.eutxo_types.specs.declared.lock.Lock.TheVariants.{Key, Payout, Contract}
 use Rattle.eutxo_types.specs.declared.output.Output.{Output}
@@ -18,17 +17,18 @@ use Rattle.eutxo_types.specs.declared.spend.Spend.{Spend}
 use Rattle.eutxo_types.specs.declared.tx.Tx.{Tx}
 use Rattle.eutxo_types.specs.declared.verdict.Verdict.{Verdict}
 use Rattle.eutxo_types.specs.declared.verdict.Verdict.TheVariants.{Accepted}
-use Rattle.eutxo_types.specs.Parts.{inputs_of, script_in, ContractLock, contract_in}
+use Rattle.eutxo_types.specs.Parts.{script_in, ContractLock, contract_in}
 use Rattle.eutxo.specs.declared.step_fault.StepFault.TheVariants.{NotAuthorised}
-use Rattle.eutxo.specs.declared.validator.StepAnswer.{StepAnswer}
-use Rattle.eutxo.specs.declared.validator.StepAnswer.TheVariants.{Refused, Ends}
+use Rattle.eutxo.specs.declared.validator.StepAnswer.TheVariants.{Takes}
+use Rattle.eutxo.specs.Blocks.{answer_by, step_asked, fault_in, step_fault, step_fault_unless}
 use Rattle.eutxo.specs.Faults.{or_else}
 use Rattle.eutxo.specs.Found.{script_at, whole}
 use Rattle.eutxo.specs.Local.{tx_fault, spent_rules, whole_fault, local, verdict_of}
-use Rattle.eutxo.specs.Rules.{has_signed, digests_in, wrong_datum, Step, steps_of, script_fault, step_fault, step_fault_unless, step_asked, after_answer}
-use Rattle.ledger_laws.proofs.PlainLaws.{and_true, few}
-use Rattle.ledger_laws.proofs.JudgedLemmas.{each_none, unless}
-use Rattle.ledger_laws.proofs.PairedLemmas.{holds, step_with, step_read}
+use Rattle.eutxo.specs.Rules.{has_signed, digests_in, wrong_datum, steps_of}
+use Rattle.ledger_laws.proofs.PlainLaws.{and_true}
+use Rattle.ledger_laws.proofs.JudgedLemmas.{each_none}
+use Rattle.ledger_laws.proofs.PairedLemmas.{step_with, step_read}
+use Rattle.ledger_laws.proofs.FindingLemmas.{taken_at}
 use Rattle.ledger_laws.proofs.DatumLaws.{told}
 use Rattle.uses.specs.declared.other_script.TimeLock.{TimeLock}
 use Rattle.uses.specs.Resolutions.{resolution_of}
@@ -42,9 +42,9 @@ none_refused : (o : Option TxFault) → verdict_of o ≡ Accepted → o ≡ None
 none_refused None h = refl
 none_refused (Some f) h = cc
 
-opens : (l : TimeLock) (os : List Output) (b : Bool) → (let answer : StepAnswer = if b then Ends else Refused (NotAuthorised (Address l.owner)) in after_answer os answer ≡ None) → b ≡ true
-opens l os true h = refl
-opens l os false h = cc
+opens : (l : TimeLock) (b : Bool) → fault_in (Takes (if b then None else Some (NotAuthorised (Address l.owner))) false 0) ≡ None → b ≡ true
+opens l true h = refl
+opens l false h = cc
 
 -- the lock is what is found under its id
 found_lock : (id : List ℕ) (l : TimeLock) → map.get (map.insert (map.empty {R = bytes_cmp}) id l) id ≡ Some l
@@ -66,10 +66,10 @@ keeps id l tx outputs v h spent n x a w at s =
     let brought : wrong_datum tx spent ≡ None = rules.1.1.1.1.1.1.0 in
     let judged : step_fault time_locks named tx spent (steps_of spent tx.datums) ≡ None = ap (λ (o : Option TxFault). step_fault_unless o time_locks named tx spent) (sym brought) ∙ rules.1.1.1.1.0 in
     let c = held_by x.1.lock id s in
-    let read = step_read spent tx.datums (digests_in tx.outputs) n x c.0 (told tx spent brought) (few (count_by holds spent) (unless (nat_lt 1 (count_by holds spent)) TwoContracts rules.1.0)) at c.1 in
-    let own = step_with c.0 read.datum (inputs_of x.0.redeemer) in
-    let of_script : step_fault time_locks named tx spent (own ∷ read.later) ≡ None = subst (λ (ss : List Step). step_fault time_locks named tx spent ss ≡ None) read.steps judged in
-    let of_lock : script_fault time_locks (Some l) (step_asked tx spent own) ≡ None =
-    subst (λ (o : Option TimeLock). script_fault time_locks o (step_asked tx spent own) ≡ None) (ap named c.2 ∙ found_lock id l) of_script in
-    let p = and_true (has_signed tx.signers l.owner) (int_le l.from tx.interval.from) (opens l tx.outputs (may_open l tx) of_lock) in
+    let read = step_read spent tx.datums (digests_in tx.outputs) n x c.0 (told tx spent brought) at c.1 in
+    let own = step_with c.0 x.0 read.datum in
+    let taken = taken_at time_locks named tx spent (steps_of spent tx.datums) read.number own judged read.step in
+    let of_lock : fault_in (answer_by time_locks (Some l) (step_asked tx spent taken.0 own)) ≡ None =
+    subst (λ (o : Option TimeLock). fault_in (answer_by time_locks o (step_asked tx spent taken.0 own)) ≡ None) (ap named c.2 ∙ found_lock id l) taken.1 in
+    let p = and_true (has_signed tx.signers l.owner) (int_le l.from tx.interval.from) (opens l (may_open l tx) of_lock) in
     (p.0, true_le l.from tx.interval.from p.1)

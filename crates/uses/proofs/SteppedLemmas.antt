@@ -104,7 +104,7 @@ at_so w (Some q) t k = output_so w q (unspent_at (past_of w) q) (made_datum (pas
 
 shown_so : (w : World) (r : Option OutputRef) (t : ThreadOutput) → thread_shown w r ≡ Some t → IsThere w t
 shown_so w None t k = cc
-shown_so w (Some r) t k = at_so w (end_of (past_of w) r) t k
+shown_so w (Some r) t k = at_so w (end_of (published_at w.published) (past_of w) r) t k
 
 -- so is the thread that a look shows
 there : (c : Course) (start : OutputRef) (e : Thread) → look_thread (thread_look c start) ≡ Some e → IsThere (world c) e.shown

@@ -1,5 +1,5 @@
 -- A script that isn't Marlowe's: an output is locked until a time, and then its owner's.
-use Rattle.std.specs.Prelude.{◌≡◌, ℕ, int_le, ◌≤ℤ◌, Bool, true, false, ◌&&◌, if◌then◌else◌, List, slice_get, Option, Some}
+use Rattle.std.specs.Prelude.{◌≡◌, ℕ, int_le, ◌≤ℤ◌, Bool, true, false, ◌&&◌, if◌then◌else◌, List, slice_get, Option, Some, None}
 use Rattle.names.specs.declared.party.Party.TheVariants.{Address}
 use Rattle.eutxo_types.specs.declared.output.Output.{Output}
 use Rattle.eutxo_types.specs.declared.spend.Spend.{Spend}
@@ -9,7 +9,7 @@ use Rattle.eutxo_types.specs.declared.verdict.Verdict.TheVariants.{Accepted}
 use Rattle.eutxo_types.specs.Parts.{script_in}
 use Rattle.eutxo.specs.declared.step_fault.StepFault.TheVariants.{NotAuthorised}
 use Rattle.eutxo.specs.declared.validator.StepAnswer.{StepAnswer}
-use Rattle.eutxo.specs.declared.validator.StepAnswer.TheVariants.{Refused, Ends}
+use Rattle.eutxo.specs.declared.validator.StepAnswer.TheVariants.{Takes}
 use Rattle.eutxo.specs.Asked.{Stepping, Judges}
 use Rattle.eutxo.specs.Found.{whole}
 use Rattle.eutxo.specs.Rules.{has_signed}
@@ -20,9 +20,9 @@ use Rattle.uses.specs.Resolutions.{resolution_of}
 abbrev pub may_open : TimeLock → Tx → Bool
 may_open l tx = has_signed tx.signers l.owner && int_le l.from tx.interval.from
 
--- what a lock answers to a step
+-- what a lock answers to a step: it never goes on, and nothing is due
 abbrev pub lock_answer : TimeLock → Stepping → StepAnswer
-lock_answer l s = if may_open l s.tx then Ends else Refused (NotAuthorised (Address l.owner))
+lock_answer l s = Takes (if may_open l s.tx then None else Some (NotAuthorised (Address l.owner))) false 0
 
 -- how locks judge: every output is a start, and no payout is granted
 abbrev pub time_locks : Judges TimeLock

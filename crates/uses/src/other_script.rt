@@ -38,14 +38,21 @@ impl Validator for TimeLock {
         _script: &[u8; 32],
         _datum: &Datum,
         _inputs: &[Input],
+        _from: usize,
         tx: &Tx,
         _spent: &[Spent<'_>],
     ) -> Result<StepAnswer, Memory> {
-        if has_signed(tx.signers.as_slice(), &self.owner) && self.from <= tx.interval.from {
-            return Ok(StepAnswer::Ends);
-        }
-        let owner = Party::Address(self.owner.try_clone()?);
-        Ok(StepAnswer::Refused(StepFault::NotAuthorised(owner)))
+        let opens = has_signed(tx.signers.as_slice(), &self.owner) && self.from <= tx.interval.from;
+        let fault = if opens {
+            None
+        } else {
+            Some(StepFault::NotAuthorised(Party::Address(self.owner.try_clone()?)))
+        };
+        Ok(StepAnswer::Takes {
+            fault,
+            goes_on: false,
+            payments: 0,
+        })
     }
 
     fn start(&self, _alloc: Global, _datum: &Datum, _amount: &Bundle) -> Result<bool, Memory> {

@@ -9,7 +9,7 @@ use Rattle.ledger_spec.specs.Replay.{Course, world, past_of}
 use Rattle.ledger_spec.proofs.LegalLaws.{legal_before}
 use Rattle.ledger_spec.proofs.StartsLaws.{shown_starts}
 use Rattle.chain.proofs.LegalLemmas.{legal_sound, fits_before}
-use Rattle.chain.proofs.HeadlineLemmas.{IsSoundCourse, accepts_steps, accepts_starts, accepts_claims, shows_standing}
+use Rattle.chain.proofs.HeadlineLemmas.{IsSoundCourse, accepts_steps, accepts_parts, accepts_starts, accepts_claims, shows_standing}
 use Rattle.chain.proofs.RunsLemmas.{runs_of_contracts}
 use Rattle.chain.proofs.EndsLemmas.{shows_where_runs_stand, shows_what_is_not_over}
 use Rattle.chain.proofs.ClosesLemmas.{closes_shown}
@@ -53,6 +53,7 @@ returns c whole all_legal begins all_fit = (both whole all_legal begins all_fit,
           },
           record {
             steps = accepts_steps c.steps_are_accepted.ensures.after d kept;
+            parts = accepts_parts c.parts_are_accepted.ensures.after d kept;
             starts = accepts_starts c.starts_are_accepted.ensures.after d kept;
             claims = accepts_claims c.claims_are_accepted.ensures.after d kept;
             shown = shows_standing current d kept;

@@ -8,3 +8,7 @@ returns-clause-agree g c =
 pub returns-clause-alike : goal.returns-clause-alike
 returns-clause-alike g c =
     judging.equal_resolutions_decide_alike g.V.Validator.judges g.V.PartialEq.eq g.met.V.Validator.alike
+
+pub returns-clause-places : goal.returns-clause-places
+returns-clause-places g c =
+    judging.equal_resolutions_go_on_alike g.V.Validator.judges g.V.PartialEq.eq g.met.V.Validator.alike

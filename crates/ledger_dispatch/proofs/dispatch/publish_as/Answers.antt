@@ -23,5 +23,5 @@ returns-in-Ok-clause-tied c =
     let compiled : publication c.args.contract.now c.args.currency.now ≡ Ok c.in-Ok.object = ap (publication c.args.contract.now) (sym c.in_ok-currency.ensures) ∙ c.in-Ok.ensures.ok in
     on_ok_weaker c.publish_object.result
     (λ n. λ (w : World) h. subst (λ (r : Result Published CompileFault). IsIndexOf next (let v : World = record w { published = with_object w.published r } in v)) (sym compiled)
-    (published_more c.publishing_is_sound.ensures c.args.index.now.present next w (Ok c.in-Ok.object) h n))
+    (published_more c.publishing_is_sound.ensures c.index_publishes_alike.ensures c.args.index.now.present next w (Ok c.in-Ok.object) h n))
     c.publish_object.ensures.present

@@ -5,7 +5,7 @@ use Rattle.ledger_spec.specs.Replay.{Pending, World, pending_entry, world}
 use Rattle.ledger_spec.specs.Calls.{fault_on, round_verdicts}
 use Rattle.ledger_kept.specs.Kept.{IsIndexOf}
 use Rattle.ledger_dispatch.specs.DispatchSupport.{with_places}
-use Rattle.ledger_dispatch.proofs.TiedLemmas.{can_be_added, tied_after}
+use Rattle.ledger_dispatch.proofs.TiedLemmas.{can_be_taken, tied_after}
 use Rattle.ledger_dispatch.proofs.RoundLemmas.{at_taken, begun, ticketed, stands_on, told_more}
 use Rattle.ledger_dispatch.proofs.dispatch.round.Goals as goal
 
@@ -25,7 +25,7 @@ loop-i-init c =
     }
 
 pub judge_one-requires : goal.judge_one-requires
-judge_one-requires c = can_be_added c.each_is_judged_alike.ensures c.loop-i.index.present (with_places (world c.args.kept.now) c.loop-i.places) c.pending_at-ticket.result.1.now c.loop-i.invariant.tied
+judge_one-requires c = can_be_taken c.each_is_judged_alike.ensures c.loop-i.index.present (with_places (world c.args.kept.now) c.loop-i.places) c.pending_at-ticket.result.1.now c.loop-i.invariant.tied
 
 pub loop-i-preserved : goal.loop-i-preserved
 loop-i-preserved c =

@@ -2,11 +2,11 @@ use Rattle.std.proofs.Common.{ℕ, List, sym, ◌∙◌, ap}
 use Rattle.ledger.specs.declared.call.Reply.TheVariants as replies
 use Rattle.ledger_spec.specs.Replay.{world}
 use Rattle.ledger_spec.specs.Calls.{submit_reply}
-use Rattle.ledger_dispatch.proofs.TiedLemmas.{can_be_added, tied_after}
+use Rattle.ledger_dispatch.proofs.TiedLemmas.{can_be_taken, tied_after}
 use Rattle.ledger_dispatch.proofs.dispatch.submit.Goals as goal
 
 pub judge_and_accept-requires : goal.judge_and_accept-requires
-judge_and_accept-requires c = can_be_added c.each_is_judged_alike.ensures c.args.index.now.present (world c.args.kept.now) c.args.tx.now c.requires.tied
+judge_and_accept-requires c = can_be_taken c.each_is_judged_alike.ensures c.args.index.now.present (world c.args.kept.now) c.args.tx.now c.requires.tied
 
 pub returns-in-Some-clause-reply : goal.returns-in-Some-clause-reply
 returns-in-Some-clause-reply c =

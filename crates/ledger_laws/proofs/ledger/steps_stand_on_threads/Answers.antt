@@ -2,7 +2,7 @@ use Rattle.ledger_laws.proofs.ThreadLaws.{steps_stand, contracts_are_stepped, st
 use Rattle.ledger_laws.proofs.ledger.steps_stand_on_threads.Goals as goal
 
 pub returns-clause-thread : goal.returns-clause-thread
-returns-clause-thread g c = steps_stand g.V.Validator.judges c.found_is_enough.ensures
+returns-clause-thread g c = steps_stand g.V.Validator.judges c.found_is_enough.ensures c.blocks_tell_contracts_apart.ensures.tell
 
 pub returns-clause-spends : goal.returns-clause-spends
 returns-clause-spends g c = contracts_are_stepped g.V.Validator.judges c.found_is_enough.ensures

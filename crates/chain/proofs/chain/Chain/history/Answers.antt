@@ -50,4 +50,4 @@ returns-clause-throughout c =
 pub returns-clause-shown : goal.returns-clause-shown
 returns-clause-shown c =
     rw (← c.self.view_is)
-    (shows c.found_is_enough.ensures c.starting_is_sound.ensures c.accepting_is_sound.ensures c.publishing_is_sound.ensures c.contracts_end_threads.ensures.unspent _ c.self.invariant.present.sound.keys c.self.invariant.legal)
+    (shows c.found_is_enough.ensures c.starting_is_sound.ensures c.accepting_is_sound.ensures c.publishing_is_sound.ensures c.contracts_end_threads.ensures.unspent c.threads_stay.ensures _ c.self.invariant.present.sound.keys c.self.invariant.legal)

@@ -1,4 +1,4 @@
-use Rattle.std.proofs.Common.{rules, ◌≡◌, ◌∷◌, [], ◌++◌, refl, sym, ◌∙◌, ap, subst, List, ℕ}
+use Rattle.std.proofs.Common.{rules, ◌≡◌, ◌∷◌, [], ◌++◌, refl, sym, ◌∙◌, ap, subst, List}
 use Rattle.chain.specs.ChainSupport.{IsKept}
 use Rattle.ledger.specs.declared.call.Entry.{Entry}
 use Rattle.ledger_laws.specs.Sound.{IsMore}

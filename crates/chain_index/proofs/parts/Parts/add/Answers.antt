@@ -1,12 +1,14 @@
-use Rattle.std.proofs.Common.{◌∙◌, ◌++◌, ◌∷◌, [], ◌||◌, ℕ, List, refl, ap}
+use Rattle.std.proofs.Common.{◌≡◌, ◌∙◌, ◌++◌, ◌∷◌, [], ◌||◌, ℕ, List, refl, sym, subst, ap}
 use Rattle.std.specs.List.{list_any}
 use Rattle.std.proofs.lemmas.Result.{on_ok_weaker}
 use Rattle.eutxo_types.specs.declared.output_ref.OutputRef.TheVariants.{Made}
 use Rattle.eutxo_types.specs.declared.spend.Spend.{Spend}
 use Rattle.eutxo_types.specs.Parts.{same_ref}
+use Rattle.eutxo.specs.Blocks.{places_in}
 use Rattle.ledger_laws.specs.Past.{with_references}
-use Rattle.chain_index.specs.Contents.{is_among}
-use Rattle.chain_index.specs.Moves.{moves_in}
+use Rattle.chain_index.specs.Contents.{blocks_in, is_among}
+use Rattle.chain_index.specs.PartsSupport.{Parts, contents_in}
+use Rattle.chain_index.specs.Moves.{moves_to}
 use Rattle.chain_index.specs.NamingSupport.{slots}
 use Rattle.chain_index.proofs.OutputLemmas.{made_named}
 use Rattle.chain_index.proofs.PartsLemmas.{takes_after}
@@ -16,6 +18,7 @@ pub returns-clause-ok : goal.returns-clause-ok
 returns-clause-ok c =
     let s = c.self.inside in
     let tx = c.args.tx.now in
+    let places = subst (λ (p : Parts). c.args.places.now ≡ places_in (blocks_in (contents_in p) tx)) (sym c.self.view_is) c.requires.places in
     on_ok_weaker c.put_id.result
     (λ e. takes_after c.self.view_is (record {
       entries =
@@ -24,7 +27,7 @@ returns-clause-ok c =
       leaving = λ r. c.in_ok-leave_all.ensures.ok r ∙ ap (λ (xs : List Spend). list_any (λ x. same_ref x.reference r) xs || is_among s.leaving.keys r) c.as_slice-2.ensures;
       ids = e ∙ ap (λ (id : List ℕ). s.ids.keys ++ id ∷ []) c.requires.named;
       objects = refl;
-      moves = c.in_ok-move_all.ensures.ok ∙ ap (λ n. s.moves.entries ++ moves_in n tx) c.len-number.ensures.len;
+      moves = c.in_ok-move_all.ensures.ok ∙ (λ i. s.moves.entries ++ moves_to (c.len-number.ensures.len i) tx tx.inputs (places i));
       starts = c.in_ok-start_all.ensures.ok;
       datums = c.in_ok-bring_all.ensures.ok;
     }))

@@ -1,6 +1,0 @@
-use Rattle.std.proofs.Common.{◌≡◌, ◌++◌, drop}
-use Rattle.builder_spec.specs.Steps.{deposits}
-use Rattle.coin_selection.proofs.amounts.deposits.Given as goal
-
-abbrev pub invariant-loop-input : goal.invariant-loop-input
-invariant-loop-input l = l.amounts.items ++ deposits (drop l.input-index l.inputs) ≡ deposits l.inputs

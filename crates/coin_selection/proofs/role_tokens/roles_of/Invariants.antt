@@ -1,6 +1,0 @@
-use Rattle.std.proofs.Common.{◌≡◌, ◌++◌, drop}
-use Rattle.builder_spec.specs.Steps.{roles_of}
-use Rattle.coin_selection.proofs.role_tokens.roles_of.Given as goal
-
-abbrev pub invariant-loop-input : goal.invariant-loop-input
-invariant-loop-input l = l.roles.items ++ roles_of l.currency (drop l.input-index l.inputs) ≡ roles_of l.currency l.inputs

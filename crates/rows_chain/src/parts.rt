@@ -1,0 +1,45 @@
+//! Parts of steps in one transaction.
+use builder::Part;
+use collections::{Items, Memory, TryClone};
+use contract::Input;
+use ledger::Look;
+use rows_text::{Known, RowFault, inputs_of};
+use std::alloc::Global;
+
+/// A part that is written: a look that shows a thread, and the inputs that it is given.
+#[derive(Drop)]
+pub struct WrittenPart {
+    look: Look,
+    inputs: Items<Input>,
+}
+
+/// Puts a part behind the others, from `INPUT ..`: the thread of the last look.
+pub fn put_part(
+    alloc: Global,
+    known: &Known,
+    look: &Option<Look>,
+    parts: &mut Vec<WrittenPart>,
+    words: &str,
+) -> Result<(), RowFault> {
+    match look {
+        Some(look) => {
+            let inputs = inputs_of(alloc, known, words)?;
+            let look = look.try_clone()?;
+            parts.push(WrittenPart { look, inputs })?;
+            Ok(())
+        }
+        None => Err(RowFault::NoSuchRow),
+    }
+}
+
+/// The parts, lent.
+pub fn lent(alloc: Global, parts: &[WrittenPart]) -> Result<Vec<Part<'_>>, Memory> {
+    let mut lent = Vec::new(alloc);
+    for part in parts {
+        lent.push(Part {
+            look: &part.look,
+            inputs: part.inputs.as_slice(),
+        })?;
+    }
+    Ok(lent)
+}
