@@ -1,3 +1,13 @@
 pub mod NumberLaws
 pub mod LinearLaws
+pub mod WalkLemmas
+pub mod QueryLemmas
+pub mod ChainLemmas
+pub mod KnownLaws
 pub mod SymbolLaws
+pub mod HeldLemmas
+pub mod JoinLemmas
+pub mod ResultLemmas
+pub mod EitherLemmas
+pub mod QuotientLaws
+pub mod QuotientLemmas

@@ -14,13 +14,13 @@ use Rattle.linear.specs.Linear.{some_passes, Linear, Valuation, sum_at, number_a
 
 -- ---- whole numbers
 
-spread_left : (a b c : ℤ) → (a +ℤ b) *ℤ c ≡ (a *ℤ c) +ℤ (b *ℤ c)
+pub spread_left : (a b c : ℤ) → (a +ℤ b) *ℤ c ≡ (a *ℤ c) +ℤ (b *ℤ c)
 spread_left a b c = omega (arith, ints, ap (λ (z : ℕ). z * up c) (sum_is_lem a b), ap (λ (z : ℕ). z * down c) (sum_is_lem a b))
 
-spread_right : (n a b : ℤ) → n *ℤ (a +ℤ b) ≡ (n *ℤ a) +ℤ (n *ℤ b)
+pub spread_right : (n a b : ℤ) → n *ℤ (a +ℤ b) ≡ (n *ℤ a) +ℤ (n *ℤ b)
 spread_right n a b = omega (arith, ints, ap (λ (z : ℕ). up n * z) (sum_is_lem a b), ap (λ (z : ℕ). down n * z) (sum_is_lem a b))
 
-times_assoc : (n c x : ℤ) → (n *ℤ c) *ℤ x ≡ n *ℤ (c *ℤ x)
+pub times_assoc : (n c x : ℤ) → (n *ℤ c) *ℤ x ≡ n *ℤ (c *ℤ x)
 times_assoc n c x =
     omega (
       arith,
@@ -38,16 +38,16 @@ times_assoc n c x =
 rotated : (a b c : ℤ) → b +ℤ (a +ℤ c) ≡ a +ℤ (b +ℤ c)
 rotated a b c = omega (arith, ints)
 
-joined : (a b c : ℤ) → (a +ℤ b) +ℤ c ≡ a +ℤ (b +ℤ c)
+pub joined : (a b c : ℤ) → (a +ℤ b) +ℤ c ≡ a +ℤ (b +ℤ c)
 joined a b c = omega (arith, ints)
 
-paired : (a b c d : ℤ) → (a +ℤ b) +ℤ (c +ℤ d) ≡ (a +ℤ c) +ℤ (b +ℤ d)
+pub paired : (a b c d : ℤ) → (a +ℤ b) +ℤ (c +ℤ d) ≡ (a +ℤ c) +ℤ (b +ℤ d)
 paired a b c d = omega (arith, ints)
 
-zero_plus : (a : ℤ) → a ≡ pos 0 +ℤ a
+pub zero_plus : (a : ℤ) → a ≡ pos 0 +ℤ a
 zero_plus a = omega (arith, ints)
 
-zero_times : (n x : ℤ) → n ≡ pos 0 → pos 0 ≤ℤ (n *ℤ x)
+pub zero_times : (n x : ℤ) → n ≡ pos 0 → pos 0 ≤ℤ (n *ℤ x)
 zero_times n x e = subst (λ m. pos 0 ≤ℤ (m *ℤ x)) (sym e) (none x)
   where
     none : (x : ℤ) → pos 0 ≤ℤ (pos 0 *ℤ x)
@@ -425,7 +425,7 @@ part_bound a p h k l = omega (arith, ints)
 neg_product : (c x : ℤ) → c *ℤ neg_ℤ x ≡ neg_ℤ (c *ℤ x)
 neg_product c x = omega (arith, ints, ap (λ (z : ℕ). up c * z) (neg_is x).0, ap (λ (z : ℕ). down c * z) (neg_is x).0, ap (λ (z : ℕ). up c * z) (neg_is x).1, ap (λ (z : ℕ). down c * z) (neg_is x).1)
 
-product_neg : (c x : ℤ) → neg_ℤ c *ℤ x ≡ neg_ℤ (c *ℤ x)
+pub product_neg : (c x : ℤ) → neg_ℤ c *ℤ x ≡ neg_ℤ (c *ℤ x)
 product_neg c x = omega (arith, ints, ap (λ (z : ℕ). z * up x) (neg_is c).0, ap (λ (z : ℕ). z * down x) (neg_is c).0, ap (λ (z : ℕ). z * up x) (neg_is c).1, ap (λ (z : ℕ). z * down x) (neg_is c).1)
 
 pub greater_is : (o p : Option ℤ) (n : ℤ) → IsFrom o n → IsFrom p n → IsFrom (greater_of o p) n

@@ -1,3 +1,12 @@
 pub mod Linear
+pub mod Combined
+pub mod Bounded
 pub mod Symbols
+pub mod Held
+pub mod Joined
+pub mod Results
+pub mod Either
+pub mod Quotients
 pub mod Laws
+pub mod WalkSupport
+pub mod ChainSupport

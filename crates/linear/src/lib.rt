@@ -1,11 +1,34 @@
 //! Linear expressions over symbols, which stand for whole numbers, and what is known of them.
 //!
-//! `specs/Linear.antt` has expressions, ranges of symbols and facts (expressions that are at least 0), and when an
-//! expression is shown to be at least 0. `specs/Symbols.antt` has what is known of symbols together, how it grows,
-//! and what holds in either of two cases. Whatever numbers the symbols stand for, as far as what is known allows:
-//! `what_is_shown_is_so`.
+//! A `Linear` is an expression with 128-bit coefficients. `Symbols` is what is known of symbols: their ranges, facts
+//! (expressions that are at least 0), expressions that aren't 0, and which symbols are products and quotients of what.
+//! A step either says what is known after it, or gives a new symbol for a number, whatever numbers the symbols stand for,
+//! as far as what is known allows: so each clause is over all numbers for symbols. Where a number would leave 128 bits
+//! there is no sum, and a product is a symbol of which less is known; where something isn't shown, nothing is said.
+//!
+//! `specs/Linear.antt` has expressions, ranges and facts, and `specs/Symbols.antt` what is known and how it grows. The
+//! functions there are one way to meet the clauses, of which `what_is_shown_is_so` is a law; the code is another.
 #![tactic(auto)]
 
+mod apart;
+mod bounds;
+mod chains;
+mod checked;
+mod either;
+mod join;
 mod laws;
+mod linear;
+mod named;
+mod narrowing;
+mod operations;
+mod quotients;
+mod symbols;
+mod terms;
 
+pub use bounds::{Bounds, MOST_FACTS};
+pub use either::number_of_either;
 pub use laws::what_is_shown_is_so;
+pub use linear::Linear;
+pub use named::Named;
+pub use symbols::Symbols;
+pub use terms::{MOST_SYMBOLS, Term};

@@ -1,9 +1,10 @@
-//! `marlowe`: what a Marlowe contract pays, and to whom, from JSON files; and what becomes of contracts that many parties
-//! step on one ledger.
+//! `marlowe`: what a Marlowe contract pays, and to whom, from JSON files; what it can warn of and pay in any run; and
+//! what becomes of contracts that many parties step on one ledger.
 //!
-//! Status 0: the outcome, the table or the lines of a play are on standard output, whatever the parties of a play were told.
-//! Status 1: the input is refused, by one line on standard error. Status 2: a file that can't be read, a fault of the command line, or a standard
-//! output that can't be written.
+//! Status 0: the outcome, the table, the analysis of a contract without alarms or the lines of a play are on standard
+//! output, whatever the parties of a play were told. Status 3: an analysis with alarms is there. Status 1: the input
+//! is refused, by one line on standard error. Status 2: a file that can't be read, a fault of the command line, or a
+//! standard output that can't be written.
 #![tactic(auto)]
 
 mod progress;
@@ -11,6 +12,7 @@ mod progress;
 use crate::progress::Progress;
 use clap::Error;
 use clap::error::ErrorKind;
+use marlowe_analyse::{Analysed, Reader, analyse_text};
 use marlowe_cli::{Task, WordsFault, line, words};
 use marlowe_io::{LoadFault, emit_output, load_file};
 use marlowe_play::{PlayFault, play_refusal, play_watched};
@@ -40,6 +42,13 @@ fn main(rt: HostRuntime) -> ExitCode {
             },
         ) => tell_answer(&rt, run_files(&rt, contract, state, transaction)),
         Ok(Task::Table { contract }) => tell_answer(&rt, table_of_file(&rt, contract)),
+        Ok(
+            Task::Analyse {
+                contract,
+                state,
+                json,
+            },
+        ) => tell_analysis(&rt, analyse_files(&rt, contract, state, json)),
         Ok(Task::Play { scenario, one }) => {
             let shown = rt.stderr().is_terminal();
             tell_answer(&rt, play_file(&rt, scenario, one, shown))
@@ -87,6 +96,25 @@ fn table_of_file<'a, R: Files + AllocGlobal>(
     table_text(rt.alloc(), contract.as_slice()).map_err(|fault| Stop::Refused(Fault::Table(fault)))
 }
 
+// Reads the contract's file, then that of a state if one is named, and then analyses the contract.
+fn analyse_files<'a, R: Files + AllocGlobal>(
+    rt: &R,
+    contract: &'a str,
+    state: Option<&'a str>,
+    json: bool,
+) -> Result<Analysed, Stop<'a>> {
+    let contract = text_of(rt, contract)?;
+    let state = match state {
+        Some(path) => Some(text_of(rt, path)?),
+        None => None,
+    };
+    let state = state.as_ref().map(|text| text.as_slice());
+    let reader = if json { Reader::Tools } else { Reader::People };
+    analyse_text(rt.alloc(), contract.as_slice(), state, reader).map_err(|fault| Stop::Refused(
+        Fault::Run(fault),
+    ))
+}
+
 // Reads the file, and then plays its scenario. If wanted, it shows meanwhile how far it is.
 fn play_file<'a, R: Files + AllocGlobal + Clock + Eprint + Threads + Wait + Sync>(
     rt: &R,
@@ -126,10 +154,26 @@ fn tell_answer(rt: &HostRuntime, answer: Result<Vec<u8>, Stop<'_>>) -> ExitCode 
     }
 }
 
+// Prints an analysis, and tells by the status whether it has alarms; or tells why there is none.
+fn tell_analysis(rt: &HostRuntime, answer: Result<Analysed, Stop<'_>>) -> ExitCode {
+    match answer {
+        Ok(Analysed { text, is_clear }) => {
+            let status = if is_clear { 0 } else { 3 };
+            print_with(rt, text.as_slice(), status)
+        }
+        Err(stop) => tell_answer(rt, Err(stop)),
+    }
+}
+
 // Prints a text.
 fn print(rt: &(impl Print + Eprint), text: &[u8]) -> ExitCode {
+    print_with(rt, text, 0)
+}
+
+// Prints a text, with this status where it is written.
+fn print_with(rt: &(impl Print + Eprint), text: &[u8], status: u8) -> ExitCode {
     match emit_output(rt, text) {
-        Ok(()) => ExitCode::SUCCESS,
+        Ok(()) => ExitCode::from(status),
         Err(_) => {
             let _ = eprintln!(rt; "unwritable");
             ExitCode::from(2)

@@ -1,9 +1,9 @@
 -- The command line: its commands and their arguments, as a command of the library that reads the words, and what a task says of them.
-use Rattle.std.specs.Prelude.{◌≡◌, Bool, List, Some, None, Option, true, false, codes}
+use Rattle.std.specs.Prelude.{◌≡◌, Bool, List, Some, None, Option, option_map, true, false, codes}
 use Rattle.clap.specs.Words.{App, Row, Rule, Text, first_of, one_of, new_app, new_rule, with_rule, with_subcommand}
 use Rattle.clap.specs.declared.builder.action.ArgAction.TheVariants.{SetTrue}
 use Rattle.marlowe_cli.specs.declared.task.Task.{Task}
-use Rattle.marlowe_cli.specs.declared.task.Task.TheVariants.{Run, Table, Play}
+use Rattle.marlowe_cli.specs.declared.task.Task.TheVariants.{Run, Table, Analyse, Play}
 
 -- an argument that has to be given, by its place
 abbrev pub given : Text → Rule
@@ -16,6 +16,14 @@ run_command = with_rule (with_rule (with_rule (new_app (codes "run")) (given (co
 -- `table CONTRACT`
 abbrev pub table_command : App
 table_command = with_rule (new_app (codes "table")) (given (codes "CONTRACT"))
+
+-- `--json`, which may be left out
+abbrev pub json_flag : Rule
+json_flag = record (new_rule (codes "json")) { long = Some (codes "json"); action = Some SetTrue }
+
+-- `analyse CONTRACT [STATE] [--json]`
+abbrev pub analyse_command : App
+analyse_command = with_rule (with_rule (with_rule (new_app (codes "analyse")) (given (codes "CONTRACT"))) (new_rule (codes "STATE"))) json_flag
 
 -- `--one`, which may be left out
 abbrev pub one_flag : Rule
@@ -33,7 +41,7 @@ program = record (new_app (codes "marlowe")) {
 
 -- the whole command line
 abbrev pub command_line : App
-command_line = with_subcommand (with_subcommand (with_subcommand program run_command.top) table_command.top) play_command.top
+command_line = with_subcommand (with_subcommand (with_subcommand (with_subcommand program run_command.top) table_command.top) analyse_command.top) play_command.top
 
 -- a flag is set where its text is `true`, and not where that is `false` or there is none
 abbrev pub IsFlag : Option Text → Bool → Type 0
@@ -41,7 +49,7 @@ IsFlag text flag = (text ≡ Some (codes "true") → flag ≡ true)
     × (text ≡ Some (codes "false") → flag ≡ false)
     × (text ≡ None → flag ≡ false)
 
--- a task is what is asked: the command's name, the word that was given for each argument, and the flag
+-- a task is what is asked: the command's name, the word that was given for each argument, if one was, and the flag
 abbrev pub IsAsked : Option (Text × List Row) → Task → Type 0
 IsAsked None task = ⊥
 IsAsked (Some (name, words)) (Run contract state transaction) = (name ≡ codes "run")
@@ -49,5 +57,9 @@ IsAsked (Some (name, words)) (Run contract state transaction) = (name ≡ codes 
     × (first_of (codes "STATE") words ≡ Some state.now)
     × (first_of (codes "TX") words ≡ Some transaction.now)
 IsAsked (Some (name, words)) (Table contract) = (name ≡ codes "table") × (first_of (codes "CONTRACT") words ≡ Some contract.now)
+IsAsked (Some (name, words)) (Analyse contract state json) = (name ≡ codes "analyse")
+    × (first_of (codes "CONTRACT") words ≡ Some contract.now)
+    × (first_of (codes "STATE") words ≡ option_map (λ path. path.now) state)
+    × IsFlag (one_of (codes "json") words) json
 IsAsked (Some (name, words)) (Play scenario one) = (name ≡ codes "play") × (first_of (codes "SCENARIO") words ≡ Some scenario.now)
     × IsFlag (one_of (codes "one") words) one

@@ -79,6 +79,18 @@ fn line_row(alloc: Global, text: &str) -> Result<Vec<u8>, AllocError> {
             let told = format!(in alloc; "table {contract}")?;
             Ok(told.into_bytes())
         }
+        Ok(
+            Task::Analyse {
+                contract,
+                state,
+                json,
+            },
+        ) => {
+            let state = state.unwrap_or("without a state");
+            let how = if json { "as JSON" } else { "in lines" };
+            let told = format!(in alloc; "analyse {contract} {state} {how}")?;
+            Ok(told.into_bytes())
+        }
         Ok(Task::Play { scenario, one }) => {
             let how = if one { "one after another" } else { "at once" };
             let told = format!(in alloc; "play {scenario} {how}")?;

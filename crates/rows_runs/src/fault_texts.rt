@@ -116,7 +116,12 @@ fn after_task(task: Task<'static>) -> Option<Task<'static>> {
             scenario: "a",
             one: true,
         }),
-        Task::Play { .. } => None,
+        Task::Play { .. } => Some(Task::Analyse {
+            contract: "a",
+            state: Some("b"),
+            json: true,
+        }),
+        Task::Analyse { .. } => None,
     }
 }
 

@@ -1,0 +1,189 @@
+#!/usr/bin/env python3
+"""Has `marlowe analyse` look at contracts whose texts grow to 1 MiB, and prints instructions for each node, beside those of `marlowe table`, seconds and memory.
+
+Needs    (cd crates/marlowe && rt run -- --version), another program may be named as the argument; valgrind, and Debian's package `time`
+Usage    analysis_growth.py [PROGRAM [FAMILY..]]
+Expect   of each family as many instructions for a node at the largest text as at the smallest, within 1.3; of the wide Whens at most four times those of `table`;
+         no text over ten seconds or 128 MiB. Else the script ends with status 1.
+Mind     instructions are exact and the same on a busy machine; seconds and KiB are of one run at the largest text, and waver.
+"""
+import json
+import os
+import re
+import subprocess
+import sys
+import tempfile
+
+from growth import ADA, PROGRAM, TIME, deep_arithmetic, many_forms, wide_pays, wide_when
+
+SIZES = [16 << 10, 64 << 10, 256 << 10, 1 << 20]
+STEEPEST, MOST_TIMES, MOST_SECONDS, MOST_KIB = 1.3, 4, 10, 128 << 10
+A, B = {"role_token": "a"}, {"role_token": "b"}
+# Texts nest at most 127 arrays and objects: so many forms one in another fit, a When with its case being three of them.
+DEEP, DEEP_WHENS = 100, 38
+
+
+def choice(i):
+    return {"choice_name": f"c{i}", "choice_owner": A}
+
+
+def chosen(i):
+    return {"value_of_choice": choice(i)}
+
+
+def waits(action, then):
+    return {"when": [{"case": action, "then": then}], "timeout": 1000, "timeout_continuation": "close"}
+
+
+def chooses(i, then, low=1, high=100):
+    return waits({"for_choice": choice(i), "choose_between": [{"from": low, "to": high}]}, then)
+
+
+def pays(amount, then, account=A):
+    return {"pay": amount, "token": ADA, "from_account": account, "to": {"party": B}, "then": then}
+
+
+def beside(n, make):
+    """A When of n notifications, each of which goes on with a contract of its own."""
+    cases = [{"case": {"notify_if": True}, "then": make(i)} for i in range(n)]
+    return {"when": cases, "timeout": 100000, "timeout_continuation": "close"}, None, None
+
+
+def chain(length, make, last="close"):
+    contract = last
+    for i in reversed(range(length)):
+        contract = make(i, contract)
+    return contract
+
+
+def many_alarms(n):
+    """Pays from empty accounts, one behind the other and beside each other: each has its alarm and its run."""
+    return beside(n // DEEP, lambda _: chain(DEEP, lambda i, rest: pays(5, rest)))
+
+
+def many_choices(n):
+    """Choices one in another, of which sums are bound and compared."""
+    def stage(i, rest):
+        total = {"add": chosen(i), "and": chosen(max(0, i - 1))}
+        return chooses(i, {"if": {"value": total, "gt": 7}, "then": rest, "else": "close"})
+    return beside(n // 25, lambda _: chain(25, stage))
+
+
+def many_quotients(n):
+    """Shares of what was chosen, each paid out of one pot."""
+    def pot(_):
+        shares = chain(30, lambda i, rest: pays({"divide": chosen(0), "by": i + 40}, rest))
+        return chooses(0, waits({"party": A, "deposits": chosen(0), "of_token": ADA, "into_account": A}, shares), 5000, 10000)
+    return beside(n // 30, pot)
+
+
+def many_products(n):
+    """Products of the same two choices and of others, bound to names."""
+    def stage(i, rest):
+        return {"let": f"x{i}", "be": {"multiply": chosen(i % 2), "times": {"add": chosen((i + 1) % 2), "and": i % 7}}, "then": rest}
+    return beside(n // 40, lambda _: chooses(0, chooses(1, chain(40, stage))))
+
+
+def many_clamps(n):
+    """Clamps by Cond of Conds."""
+    def stage(i, rest):
+        last = {"use_value": f"x{i - 1}"} if i else chosen(0)
+        clamp = {"if": {"value": last, "gt": 100 - i}, "then": 100 - i, "else": last}
+        return {"let": f"x{i}", "be": clamp, "then": rest}
+    return beside(n // 40, lambda _: chooses(0, chain(40, stage)))
+
+
+def many_conditions(n):
+    """Observations of many comparisons, joined by `either`."""
+    def observation(i):
+        o = {"value": chosen(0), "gt": i}
+        for j in range(30):
+            o = {"either" if j % 2 else "both": {"value": chosen(j % 3), "lt": i + j}, "or" if j % 2 else "and": o}
+        return o
+    def part(i):
+        return chooses(0, chooses(1, chooses(2, {"if": observation(i % 50), "then": pays(chosen(0), "close"), "else": "close"})))
+    return beside(n // 35, part)
+
+
+def many_cases_of_a_choice(n):
+    """A When of choices of one id, whose bounds follow each other: each leaves out what earlier ones take."""
+    cases = [{"case": {"for_choice": choice(0), "choose_between": [{"from": i, "to": i + 1}]}, "then": "close"} for i in range(n)]
+    return {"when": cases, "timeout": 100, "timeout_continuation": "close"}, None, None
+
+
+def many_accounts_paid(n):
+    """Deposits of many parties in turn, and Pays from all of them."""
+    def stage(i, rest):
+        who = {"role_token": f"r{i}"}
+        return waits({"party": who, "deposits": i + 1, "of_token": ADA, "into_account": who}, pays(i + 1, rest, who))
+    return beside(n // DEEP_WHENS, lambda _: chain(DEEP_WHENS // 2, stage))
+
+
+FAMILIES = [wide_when, many_forms, wide_pays, deep_arithmetic, many_alarms, many_choices, many_quotients, many_products, many_clamps, many_conditions,
+            many_cases_of_a_choice, many_accounts_paid]
+WIDE = [wide_when, many_forms, wide_pays]
+
+
+def text_of(make, size):
+    """The longest text of this family that has at most so many bytes."""
+    step = 100 if make is deep_arithmetic else 1
+    low, high, found = 1, size // (10 * step), None
+    while low <= high:
+        middle = (low + high) // 2
+        text = json.dumps(make(middle * step)[0], separators=(",", ":"))
+        if len(text) <= size:
+            low, found = middle + 1, text
+        else:
+            high = middle - 1
+    return found
+
+
+def nodes_of(text):
+    """The objects and numbers of a text: what is gone through."""
+    return text.count("{") + len(re.findall(r"(?<![\w\"])-?\d+", text))
+
+
+def instructions(program, word, path):
+    with tempfile.NamedTemporaryFile() as out:
+        line = ["valgrind", "--tool=callgrind", f"--callgrind-out-file={out.name}", program, word, path]
+        run = subprocess.run(line, capture_output=True)
+    if run.returncode not in (0, 3):
+        sys.exit(f"{word} ended with status {run.returncode}: {run.stderr[-300:]}")
+    return int(re.search(rb"Collected : (\d+)", run.stderr)[1])
+
+
+def spent(program, path):
+    """Processor seconds and KiB of an analysis."""
+    run = subprocess.run([TIME, "-f", "%U %S %M", program, "analyse", path], stdout=subprocess.DEVNULL, stderr=subprocess.PIPE, text=True)
+    user, system, kib = run.stderr.split()[-3:]
+    return float(user) + float(system), int(kib)
+
+
+def main():
+    program, names = (sys.argv[1] if len(sys.argv) > 1 else PROGRAM), sys.argv[2:]
+    failed = False
+    with tempfile.TemporaryDirectory() as folder:
+        path = os.path.join(folder, "contract.json")
+        for make in FAMILIES:
+            if names and make.__name__ not in names:
+                continue
+            print(f"{make.__name__}: {make.__doc__}")
+            first = None
+            for size in SIZES:
+                text = text_of(make, size)
+                if text is None:
+                    continue
+                with open(path, "w") as file:
+                    file.write(text)
+                nodes, count, table = nodes_of(text), instructions(program, "analyse", path), instructions(program, "table", path)
+                a_node = count / nodes
+                first = first or a_node
+                print(f"  {len(text):8} bytes, {nodes:7} nodes: {a_node:9.0f} instructions a node, {count / table:6.2f} times `table`", flush=True)
+            seconds, kib = spent(program, path)
+            print(f"  {seconds:.2f} s, {kib} KiB; for a node {a_node / first:.2f} times as many at the largest")
+            failed |= a_node > STEEPEST * first or make in WIDE and count > MOST_TIMES * table or seconds > MOST_SECONDS or kib > MOST_KIB
+    sys.exit(1 if failed else 0)
+
+
+if __name__ == "__main__":
+    main()

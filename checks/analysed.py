@@ -1,0 +1,470 @@
+#!/usr/bin/env python3
+"""Makes contracts and runs at random, and compares what the built program's `run` says of each run with what its `analyse` said of all.
+
+Needs    (cd crates/marlowe && rt run -- --version)
+Usage    checks/analysed.py [--seconds N] [--seed N] [--workers N] [--runs N] [--program FILE] [--contract FILE [--state FILE]] [--show SEED.NUMBER]
+         for N seconds (60) with so many workers (1), each a process; so many runs of each contract (20); a worker makes the same contracts in the
+         same order again for the same seed; --program asks another program, or checks/stand_in.py; --contract plays runs of that contract alone, from that state; --show prints one contract and its analysis
+Expect   how many contracts, runs and transactions there were, which alarms were raised, with a run or not known, which warnings came, and
+         `N contracts, N runs, no difference`
+Else     what differs, and a folder with the contract, the state and the transactions; then status 1
+
+Half of the contracts are made form by form: choices, deposits, Lets, Ifs and Pays of amounts that may be asked for or held, so that some never
+warn. The others are those of rows_analysis/data with a few numbers, parties or comparisons changed. Of each it asks:
+- status 0 and no alarm, or status 3 and alarms;
+- each run that is told is accepted up to its last transaction, which warns of that kind, or is refused with Leaves128;
+- in no random run a warning of a kind comes that no alarm has, nor Leaves128 without its alarm;
+- in each what a party was paid of a token is never above its `most`, 0 where it has no line, and no less than its `least` once all is closed.
+A random run takes choices at the ends of their bounds and elsewhere, intervals about timeouts, deposits as asked, and now and then others.
+"""
+import argparse, collections, copy, glob, json, multiprocessing, os, random, subprocess, sys, tempfile, time
+
+ROOT = os.path.dirname(os.path.dirname(os.path.abspath(__file__)))
+sys.path.insert(0, f"{ROOT}/checks")
+import interpreter
+from interpreter import has, party, token
+import stand_in
+from stand_in import EMPTY, rows_of
+
+PROGRAM = f"{ROOT}/crates/marlowe/out/marlowe"
+WRITTEN = -2**63, 2**64 - 1
+MOST_TRANSACTIONS, MOST_FAULTS = 14, 20
+PARTIES = [{"role_token": "a"}, {"role_token": "b"}, {"role_token": "c"}, {"address": "x"}]
+TOKENS = [{"currency_symbol": "", "token_name": ""}] * 3 + [{"currency_symbol": "aa", "token_name": "t"}]
+ADA = TOKENS[0]
+COMPARISONS = ["ge_than", "gt", "lt", "le_than", "equal_to"]
+SMALL = [0, 1, 2, 3, 5, 7, 10, 50, 100]
+LARGE = [-1, -7, 2**31, 2**62, 2**63 - 1, 2**63, 2**64 - 1, -2**63]
+
+
+# ---- contracts
+
+class Maker:
+    """Makes a contract form by form. It knows which choices and names there may be, and what was deposited."""
+
+    def __init__(self, chance):
+        self.chance, self.time, self.choices, self.names, self.amounts = chance, 0, [], [], []
+
+    def one(self, *many):
+        return self.chance.choice(many)
+
+    def number(self):
+        return self.chance.choice(SMALL if self.chance.random() < 0.9 else LARGE)
+
+    def choice_id(self):
+        return {"choice_name": self.one("n", "m"), "choice_owner": self.chance.choice(PARTIES)}
+
+    def value(self, depth):
+        kind = self.chance.randrange(6 if depth <= 0 else 14)
+        if kind < 2:
+            return self.number()
+        if kind == 2 and self.choices:
+            return {"value_of_choice": self.chance.choice(self.choices)}
+        if kind == 3 and self.names:
+            return {"use_value": self.chance.choice(self.names)}
+        if kind == 4:
+            return {"amount_of_token": self.chance.choice(TOKENS), "in_account": self.chance.choice(PARTIES)}
+        if kind == 5:
+            return self.one("time_interval_start", "time_interval_end", {"value_of_choice": self.choice_id()}, self.number())
+        if kind == 6:
+            return {"negate": self.value(depth - 1)}
+        if kind in (7, 8):
+            return {"add": self.value(depth - 1), "and": self.value(depth - 1)}
+        if kind == 9:
+            return {"value": self.value(depth - 1), "minus": self.value(depth - 1)}
+        if kind == 10:
+            return {"multiply": self.value(depth - 1), "times": self.value(depth - 1)}
+        if kind == 11:
+            return {"divide": self.value(depth - 1), "by": self.one(self.value(depth - 1), 2, 3, 100, -2)}
+        if kind == 12:
+            return {"if": self.observation(depth - 1), "then": self.value(depth - 1), "else": self.value(depth - 1)}
+        return self.number()
+
+    def observation(self, depth):
+        kind = self.chance.randrange(4 if depth <= 0 else 10)
+        if kind == 0:
+            return self.chance.random() < 0.5
+        if kind == 1:
+            return {"chose_something_for": self.chance.choice(self.choices) if self.choices else self.choice_id()}
+        if kind == 2 and depth > 0:
+            return {"not": self.observation(depth - 1)}
+        if kind == 3 and depth > 0:
+            one, other = self.one(("both", "and"), ("either", "or"))
+            return {one: self.observation(depth - 1), other: self.observation(depth - 1)}
+        return {"value": self.value(depth), self.chance.choice(COMPARISONS): self.value(depth)}
+
+    def amount(self):
+        """An amount for a deposit or a Pay: mostly a number above 0 or something that was asked for before."""
+        kind = self.chance.random()
+        if kind < 0.4 and self.amounts:
+            return self.chance.choice(self.amounts)[2]
+        return self.chance.choice(SMALL[1:]) if kind < 0.75 else self.value(2)
+
+    def contract(self, depth):
+        if depth <= 0 or self.chance.random() < 0.04:
+            return "close"
+        kind = self.chance.random()
+        kept = self.time, list(self.choices), list(self.names), list(self.amounts)
+        if kind < 0.42:
+            made = self.when(depth)
+        elif kind < 0.67:
+            made = self.pay(depth)
+        elif kind < 0.82:
+            o = self.observation(2)
+            made = {"if": o, "then": self.contract(depth - 1), "else": self.contract(depth - 2)}
+        elif kind < 0.95:
+            name, bound = f"x{len(self.names)}" if self.chance.random() < 0.9 else "x0", self.value(3)
+            self.names.append(name)
+            made = {"let": name, "be": bound, "then": self.contract(depth - 1)}
+        else:
+            made = {"assert": self.observation(2), "then": self.contract(depth - 1)}
+        self.time, self.choices, self.names, self.amounts = kept
+        return made
+
+    def pay(self, depth):
+        if self.amounts and self.chance.random() < 0.8:
+            account, coin, amount = self.chance.choice(self.amounts)
+            amount = amount if self.chance.random() < 0.7 else {"amount_of_token": coin, "in_account": account} if self.chance.random() < 0.4 else self.amount()
+        else:
+            account, coin, amount = self.chance.choice(PARTIES), self.chance.choice(TOKENS), self.amount()
+        to = {self.one("party", "party", "account"): self.chance.choice(PARTIES)}
+        pay = {"pay": amount, "token": coin, "from_account": account, "to": to, "then": self.contract(depth - 1)}
+        if self.chance.random() < 0.3:
+            return {"if": {"value": amount, "gt": 0}, "then": pay, "else": "close"}
+        return pay
+
+    def when(self, depth):
+        timeout = self.time + self.one(10, 10, 10, 50, 1, 0, -5)
+        self.time = max(self.time, timeout)
+        cases = []
+        for _ in range(self.one(0, 1, 1, 1, 2, 3)):
+            kept = list(self.choices), list(self.amounts)
+            kind = self.chance.random()
+            if kind < 0.5:
+                account, coin, amount = self.chance.choice(PARTIES), self.chance.choice(TOKENS), self.amount()
+                action = {"party": self.chance.choice(PARTIES), "deposits": amount, "of_token": coin, "into_account": account}
+                self.amounts.append((account, coin, amount))
+            elif kind < 0.9:
+                name = self.choice_id()
+                low = self.one(0, 1, 1, 1, 5, -3)
+                action = {"for_choice": name, "choose_between": [{"from": low, "to": low + self.one(0, 1, 4, 99, -1)} for _ in range(self.one(1, 1, 1, 2))]}
+                self.choices.append(name)
+            else:
+                action = {"notify_if": self.observation(2)}
+            cases.append({"case": action, "then": self.contract(depth - 1)})
+            self.choices, self.amounts = kept
+        return {"when": cases, "timeout": timeout, "timeout_continuation": self.contract(depth - 2)}
+
+
+def made_state(chance):
+    if chance.random() < 0.6:
+        return EMPTY
+    accounts = [[[p, t], chance.choice([1, 5, 10, 100, 2**63])] for p in PARTIES for t in (ADA, TOKENS[-1]) if chance.random() < 0.3]
+    choices = [[{"choice_name": n, "choice_owner": p}, chance.choice([0, 1, 7, -1])] for n in "nm" for p in PARTIES if chance.random() < 0.1]
+    bound = [[x, chance.choice([0, 1, 5])] for x in ("x0", "x1") if chance.random() < 0.1]
+    return {"accounts": accounts, "boundValues": bound, "choices": choices, "minTime": chance.choice([0, 0, 5, 20, -10])}
+
+
+def places(json, found):
+    """All places of a contract's text where something may be changed: its holder and its key."""
+    todo = [json]
+    while todo:
+        it = todo.pop()
+        for key, part in (it.items() if isinstance(it, dict) else enumerate(it) if isinstance(it, list) else ()):
+            if isinstance(part, int) or isinstance(part, dict) and (has(part, "role_token") or has(part, "address")):
+                found.append((it, key))
+            if isinstance(it, dict) and key in COMPARISONS:
+                found.append((it, key))
+            if not isinstance(part, int):
+                todo.append(part)
+    return found
+
+
+def changed(chance, contract):
+    """A contract with a few numbers, parties or comparisons changed."""
+    contract = copy.deepcopy(contract)
+    for _ in range(chance.choice([0, 1, 1, 2, 3])):
+        where = places([contract], [])
+        if not where:
+            break
+        it, key = chance.choice(where)
+        if key in COMPARISONS and chance.random() < 0.5:
+            other = chance.choice(COMPARISONS)
+            it[other] = it.pop(key)
+        elif isinstance(it[key], bool):
+            it[key] = not it[key]
+        elif isinstance(it[key], int):
+            it[key] = min(max(chance.choice([it[key] + 1, it[key] - 1, 0, 1, it[key] * 2, it[key] // 2]), -2**63), 2**63 - 1)
+        elif isinstance(it[key], dict) and len(where) > 1:
+            others = [part[name] for part, name in where if isinstance(part[name], dict) and (has(part[name], "role_token") or has(part[name], "address"))]
+            if others and (has(it[key], "role_token") or has(it[key], "address")):
+                it[key] = copy.deepcopy(chance.choice(others))
+    return contract
+
+
+def made(given, number, corpus):
+    """The contract and the state of a number, or those that are given."""
+    chance = random.Random(f"{given.seed}.{number}")
+    if given.contract:
+        return chance, loaded(given.contract), loaded(given.state) if given.state else EMPTY
+    if chance.random() < 0.5:
+        return chance, Maker(chance).contract(chance.choice([2, 4, 6, 8])), made_state(chance)
+    contract, state = chance.choice(corpus)
+    return chance, changed(chance, contract), state
+
+
+def loaded(name):
+    with open(name) as file:
+        return json.load(file)
+
+
+def contracts_of_rows():
+    found = {}
+    for file in sorted(glob.glob(f"{ROOT}/crates/rows_analysis/data/*.txt")):
+        for _, contract, state, _, _, _ in rows_of(file):
+            found[contract + state] = json.loads(contract), json.loads(state) if state else EMPTY
+    return list(found.values())
+
+
+# ---- runs
+
+class Program:
+    """Asks the program, over files of its own."""
+
+    def __init__(self, program, room):
+        self.line, self.room = [program], room
+
+    def ask(self, word, *texts, flags=()):
+        files = []
+        for name, it in zip(("contract", "state", "transaction"), texts):
+            files.append(f"{self.room}/{name}.json")
+            with open(files[-1], "w") as file:
+                json.dump(it, file)
+        done = subprocess.run([*self.line, word, *files, *flags], capture_output=True, text=True)
+        return done.returncode, done.stdout, done.stderr.strip()
+
+
+def asked(given, room):
+    """What is asked: the program, or the stand-in beside this file without a process of its own."""
+    return stand_in if given.program.endswith("stand_in.py") else Program(given.program, room)
+
+
+def timeouts(c, found):
+    todo = [c]
+    while todo and len(found) < 40:
+        it = todo.pop()
+        if isinstance(it, dict):
+            if "timeout" in it:
+                found.append(it["timeout"])
+            todo += it.values()
+        elif isinstance(it, list):
+            todo += it
+    return found
+
+
+def made_interval(chance, state, contract):
+    now, some = state["minTime"], timeouts(contract, [])[:6]
+    ends = [now, now + 1, now + 100] + [t + d for t in some for d in (-1, -1, 0, 0, 1)]
+    start = now if chance.random() < 0.5 else chance.choice(ends)
+    end = start if chance.random() < 0.5 else max(start, chance.choice(ends))
+    if chance.random() < 0.03:
+        start, end = chance.choice([(now - 5, now - 1), (end, start), (now - 3, end), (now, 2**63 - 1)])
+    return {"from": max(-2**63, min(2**63 - 1, start)), "to": max(-2**63, min(2**63 - 1, end))}
+
+
+def made_input(chance, machine, case):
+    """An input for a case, where it can be made and written."""
+    action = case["case"]
+    if has(action, "party", "deposits", "of_token", "into_account"):
+        try:
+            amount = machine.value(action["deposits"])
+        except interpreter.Refused:
+            amount = 1
+        if chance.random() < 0.03:
+            amount += chance.choice([-1, 1])
+        amount = amount if WRITTEN[0] <= amount <= WRITTEN[1] else 1
+        return {"input_from_party": action["party"], "that_deposits": amount, "of_token": action["of_token"], "into_account": action["into_account"]}
+    if has(action, "for_choice", "choose_between"):
+        bounds = [b for b in action["choose_between"] if b["from"] <= b["to"]] or [{"from": 0, "to": 0}]
+        b = chance.choice(bounds)
+        kind = chance.random()
+        number = b["from"] if kind < 0.35 else b["to"] if kind < 0.7 else chance.randint(b["from"], b["to"])
+        return {"for_choice_id": action["for_choice"], "input_that_chooses_num": max(WRITTEN[0], min(WRITTEN[1], number))}
+    return "input_notify"
+
+
+def made_transaction(chance, contract, state):
+    """A transaction that likely does something: its inputs are for the cases that the contract comes to."""
+    interval, inputs = made_interval(chance, state, contract), []
+    try:
+        machine = interpreter.Transaction(state, interval)
+        left = machine.settle(contract)
+        for _ in range(chance.choice([0, 1, 1, 1, 1, 2, 3])):
+            if left == "close" or not left["when"]:
+                break
+            inputs.append(made_input(chance, machine, chance.choice(left["when"])))
+            left = machine.settle(machine.apply(inputs[-1], left))
+    except interpreter.Refused:
+        pass
+    return {"tx_inputs": inputs, "tx_interval": interval}
+
+
+class Difference(Exception):
+    """What the analysis said, and what came."""
+
+    def __init__(self, text, transactions=()):
+        super().__init__(text)
+        self.transactions = list(transactions)
+
+
+def is_read_again(state):
+    """Whether JSON has each number of a state that was printed."""
+    return all(isinstance(n, int) for key in ("accounts", "boundValues", "choices") for _, n in state[key])
+
+
+def whole(number):
+    return int(number) if isinstance(number, str) else number
+
+
+def analysis_of(program, contract, state):
+    status, out, err = program.ask("analyse", contract, state, flags=["--json"])
+    if status not in (0, 3):
+        raise Difference(f"analyse ended with status {status}: {err}")
+    told = json.loads(out)
+    if (status == 3) != bool(told["alarms"]):
+        raise Difference(f"status {status} with {len(told['alarms'])} alarms")
+    return told
+
+
+def replay(program, contract, state, alarm):
+    """Plays a run that is told, up to its warning."""
+    run, start = alarm["run"], contract
+    for number, tx in enumerate(run, 1):
+        status, out, err = program.ask("run", contract, state, tx)
+        is_last = number == len(run)
+        if is_last and alarm["kind"] == "Leaves128":
+            if err != "refused Leaves128":
+                raise Difference(f"the run to Leaves128 ends with status {status}: {err}", run)
+            return
+        if status:
+            raise Difference(f"transaction {number} of the run to {alarm['kind']} is {err}", run)
+        answer = json.loads(out)
+        contract, state = answer["contract"], answer["state"]
+        if not is_last and not is_read_again(state):
+            raise Difference(f"transaction {number} of the run to {alarm['kind']} leaves a state that isn't read again", run)
+        if is_last and alarm["kind"] not in {it["warning"] for it in answer["warnings"]}:
+            raise Difference(f"the run to {alarm['kind']} at {alarm['place']} doesn't warn so", run)
+    if not run:
+        raise Difference(f"the run to {alarm['kind']} has no transaction")
+
+
+def play(program, chance, contract, state, told, count):
+    """Plays a random run, and looks whether all that comes was said."""
+    kinds = {it["kind"] for it in told["alarms"]}
+    bounds = {(party(it["party"]), token(it["token"])): (whole(it["least"]), whole(it["most"])) for it in told["ranges"]}
+    paid, transactions = collections.Counter(), []
+    for _ in range(MOST_TRANSACTIONS):
+        tx = made_transaction(chance, contract, state)
+        transactions.append(tx)
+        status, out, err = program.ask("run", contract, state, tx)
+        count["transactions"] += 1
+        if status:
+            count[err] += 1
+            if err == "refused Leaves128" and "Leaves128" not in kinds:
+                raise Difference("a number leaves 128 bits, without an alarm", transactions)
+            continue
+        answer = json.loads(out)
+        for it in answer["warnings"]:
+            count[f"warned of {it['warning']}"] += 1
+            if it["warning"] not in kinds:
+                raise Difference(f"{it['warning']} comes, without an alarm", transactions)
+        for it in answer["payments"]:
+            if "party" in it["to"]:
+                paid[party(it["to"]["party"]), token(it["token"])] += whole(it["amount"])
+        for who, amount in paid.items():
+            most = bounds.get(who, (0, 0))[1]
+            if most is not None and amount > most:
+                raise Difference(f"{who} is paid {amount}, more than {most}", transactions)
+        contract, state = answer["contract"], answer["state"]
+        if contract == "close" and not state["accounts"]:
+            count["runs that closed"] += 1
+            for who, (least, _) in bounds.items():
+                if least is not None and paid[who] < least:
+                    raise Difference(f"{who} is paid {paid[who]}, less than {least}", transactions)
+            return
+        if not is_read_again(state):
+            count["runs to a state that isn't read again"] += 1
+            return
+
+
+def kept(contract, state, transactions):
+    """A folder with copies of all that shows a difference."""
+    folder = tempfile.mkdtemp(prefix="analysed-")
+    for name, it in [("contract", contract), ("state", state), *((f"transaction_{n}", it) for n, it in enumerate(transactions))]:
+        with open(f"{folder}/{name}.json", "w") as file:
+            json.dump(it, file)
+    return folder
+
+
+def work(arguments):
+    """A worker's part: how many there were of each kind, and what differs."""
+    number, given = arguments
+    count, faults, ends = collections.Counter(), [], time.monotonic() + given.seconds
+    corpus = contracts_of_rows()
+    with tempfile.TemporaryDirectory(prefix="analysed-", dir="/dev/shm") as room:
+        program = asked(given, room)
+        while time.monotonic() < ends and len(faults) < MOST_FAULTS:
+            name = f"{given.seed}.{number}"
+            chance, contract, state = made(given, number, corpus)
+            number += given.workers
+            try:
+                told = analysis_of(program, contract, state)
+                count["contracts"] += 1
+                count["contracts that never warn"] += not told["alarms"]
+                for alarm in told["alarms"]:
+                    count[f"alarm of {alarm['kind']}, {'not known' if alarm['run'] is None else 'by a run'}"] += 1
+                    if alarm["run"] is not None:
+                        replay(program, contract, state, alarm)
+                for _ in range(given.runs):
+                    play(program, chance, contract, state, told, count)
+                    count["runs"] += 1
+                    if time.monotonic() > ends:
+                        break
+            except Difference as fault:
+                faults.append(f"{name}: {fault}: {kept(contract, state, fault.transactions)}")
+    return count, faults
+
+
+def main():
+    words = argparse.ArgumentParser(description="compares random runs with what was said of all runs")
+    words.add_argument("--seconds", type=float, default=60)
+    words.add_argument("--seed", type=int, default=0)
+    words.add_argument("--workers", type=int, default=1)
+    words.add_argument("--runs", type=int, default=20)
+    words.add_argument("--program", default=PROGRAM)
+    words.add_argument("--contract", default="")
+    words.add_argument("--state", default="")
+    words.add_argument("--show", default="")
+    given = words.parse_args()
+    if not os.path.exists(given.program):
+        sys.exit(f"{given.program} isn't built")
+    if given.show:
+        given.seed, number = given.show.split(".")
+        _, contract, state = made(given, int(number), contracts_of_rows())
+        print(json.dumps(contract), json.dumps(state), sep="\n")
+        with tempfile.TemporaryDirectory(prefix="analysed-") as room:
+            print(*asked(given, room).ask("analyse", contract, state)[1:], sep="")
+        return 0
+    with multiprocessing.Pool(given.workers) as pool:
+        told = pool.map(work, [(it, given) for it in range(given.workers)])
+    count, faults = sum((it[0] for it in told), collections.Counter()), [it for part in told for it in part[1]]
+    for kind, many in sorted(count.items()):
+        print(f"{many:9} {kind}")
+    for fault in faults:
+        print(fault)
+    print(f"{count['contracts']} contracts, {count['runs']} runs, {len(faults) or 'no'} difference{'s' * (len(faults) > 1)}")
+    return 1 if faults else 0
+
+
+if __name__ == "__main__":
+    sys.exit(main())

@@ -1,0 +1,2 @@
+mod ClosesLemmas
+mod KnowingLemmas

@@ -1,0 +1,4 @@
+pub mod RowLemmas
+pub mod FoundLemmas
+pub mod AnalysedLemmas
+pub mod NodesLemmas

@@ -1,0 +1,2 @@
+mod CounterRunLemmas
+mod PlacesLemmas

@@ -1,0 +1,2 @@
+pub mod CounterRuns
+pub mod Places

@@ -1,0 +1,219 @@
+-- Numbers of a choice that no earlier case takes.
+use Rattle.std.proofs.Common.{◌≡◌, ℕ, zero, suc, ◌+◌, ◌<◌, ◌≤◌, ℤ, pos, negsuc, neg_ℤ, FitsSigned, ◌+ℤ◌, ◌-ℤ◌, ◌^◌, ◌≤ℤ◌, ◌<ℤ◌, int_le, Bool, true, false, cond, ◌&&◌, ◌||◌, List, [], ◌∷◌, length, get_or, take, drop, All, ◌⊎◌, inl, inr, refl, sym, ap, ◌∙◌, subst, arith, Option, Some, None, IfSome}
+use Rattle.std.proofs.lemmas.Int.{ints}
+use Rattle.std.proofs.lemmas.List.Elements.{All-nil, All-weaker, All-drop, All-more, recursion_from_All}
+use Rattle.std.proofs.lemmas.List.{take_all}
+use Rattle.std.specs.Int.{w128, int_min, int_max}
+use Rattle.std.specs.List.{list_any, AllByRecursion}
+use Rattle.std.specs.Ordering.{eq_by_cmp}
+use Rattle.std.specs.FinMap.Entries.{find}
+use Rattle.std.specs.FinMap.{get, insert, get-insert}
+use Rattle.names.specs.declared.bound.Bound.{Bound}
+use Rattle.names.specs.declared.choice_id.ChoiceId.{ChoiceId}
+use Rattle.names.specs.Orders.{choice_id_cmp}
+use Rattle.names.specs.Totals.{choice_id_total}
+use Rattle.contract.specs.declared.input.Input.TheVariants.{Choice}
+use Rattle.contract.specs.declared.interval.Interval.{Interval}
+use Rattle.contract.specs.declared.payment.Payment.{Payment}
+use Rattle.contract.specs.declared.tree.Case.{Case}
+use Rattle.contract.specs.Tree.{ActionTree, action_tree}
+use Rattle.states.specs.States.{StateMaps}
+use Rattle.semantics.specs.Applying.{in_bound, matches}
+use Rattle.linear.specs.Linear.{Linear, Valuation, number_at}
+use Rattle.linear.specs.Held.{GivesAny}
+use Rattle.linear.proofs.NumberLaws.{both, true_le, false_le, le_true}
+use Rattle.analysis_walk.specs.Limits.{Scope, any_runs, written_runs, Allowed}
+use Rattle.analysis_walk.specs.Covered.{NoneTakes}
+use Rattle.analysis_walk.specs.Domain.{ChoosesSo}
+use Rattle.analysis_domain.specs.Known.{View, Known, IsSeen, IsDescribed}
+use Rattle.analysis_domain.specs.Expressions.{known}
+use Rattle.analysis_domain.proofs.ViewLemmas.{fits_between}
+use Rattle.analysis_steps.specs.Chosen.{IsIn, HasActions, IsFromTo, IsWithin, IsHull, IsPassed, IsEndOf, IsChosen}
+use Rattle.analysis_steps.proofs.AmountLemmas.{min_left, min_right, max_left, max_right}
+use Rattle.analysis_steps.proofs.ConcludedLemmas.{entry_at, entry_allowed}
+use Rattle.analysis_steps.proofs.MovedLemmas.{described_on}
+
+reach : (a b c : ℤ) → a ≤ℤ b → b ≤ℤ c → a ≤ℤ c
+reach a b c h k = omega (arith, ints)
+
+-- ---- bounds
+
+in_bound_is : (n : ℤ) (b : Bound) → in_bound n b ≡ true → IsFromTo b n
+in_bound_is n b h = let q = both (int_le b.from n) (int_le n b.to) h in (true_le b.from n q.0, true_le n b.to q.1)
+
+is_in_bound : (n : ℤ) (b : Bound) → IsFromTo b n → in_bound n b ≡ true
+is_in_bound n b h = ap (λ t. t && int_le n b.to) (le_true b.from n h.0) ∙ le_true n b.to h.1
+
+never : {P : Type 0} (b : Bool) → b ≡ true → b ≡ false → P
+never b h k = absurd (cc)
+
+empty_bound : (a b n : ℤ) → b <ℤ a → a ≤ℤ n → n ≤ℤ b → ⊥
+empty_bound a b n h k l = omega (arith, ints)
+
+pub wider_none : (o : Option Bound) (b : Bound) (n : ℤ) → b.to <ℤ b.from → IsWithin o n ⊎ (in_bound n b ≡ true) → IsWithin o n
+wider_none o b n h (inl k) = k
+wider_none o b n h (inr k) = let q = in_bound_is n b k in absurd (empty_bound b.from b.to n h q.0 q.1)
+
+pub wider_first : (b : Bound) (n : ℤ) → IsWithin None n ⊎ (in_bound n b ≡ true) → IsWithin (Some b) n
+wider_first b n (inl k) = absurd k
+wider_first b n (inr k) = in_bound_is n b k
+
+pub wider_both : (a b c : Bound) (n : ℤ) → c.from ≡ int_min a.from b.from → c.to ≡ int_max a.to b.to → IsWithin (Some a) n ⊎ (in_bound n b ≡ true) → IsWithin (Some c) n
+wider_both a b c n e f (inl k) = (
+  subst (λ z. z ≤ℤ n) (sym e) (reach (int_min a.from b.from) a.from n (min_left a.from b.from) k.0),
+  subst (λ z. n ≤ℤ z) (sym f) (reach n a.to (int_max a.to b.to) k.1 (max_left a.to b.to)),
+)
+wider_both a b c n e f (inr k) =
+    let q = in_bound_is n b k in (
+      subst (λ z. z ≤ℤ n) (sym e) (reach (int_min a.from b.from) b.from n (min_right a.from b.from) q.0),
+      subst (λ z. n ≤ℤ z) (sym f) (reach n b.to (int_max a.to b.to) q.1 (max_right a.to b.to)),
+    )
+
+-- the range has a number, where it is within the bound
+abbrev Has : ℤ → Option Bound → Bound → Type 0
+Has n o b = in_bound n b ≡ true → IsWithin o n
+
+-- it has those of each bound before a place
+abbrev pub IsHullBefore : List Bound → ℕ → Option Bound → Type 0
+IsHullBefore bs m o = (n : ℤ) → All (Has n o) (take m bs)
+
+pub hull_none : (bs : List Bound) → IsHullBefore bs 0 None
+hull_none bs n = All-nil (Has n None)
+
+pub hull_on : (bs : List Bound) (m : ℕ) (d : Bound) (o p : Option Bound) → m < length bs → IsHullBefore bs m o → ((n : ℤ) → IsWithin o n ⊎ (in_bound n (get_or bs m d) ≡ true) → IsWithin p n) → IsHullBefore bs (m + 1) p
+hull_on bs m d o p l h w n = All-more (Has n p) bs m d l (All-weaker (Has n o) (Has n p) (λ b f e. w n (inl (f e))) (take m bs) (h n)) (λ e. w n (inr e))
+
+any_all : (n : ℤ) (o : Option Bound) (bs : List Bound) → AllByRecursion (Has n o) bs → list_any (in_bound n) bs ≡ true → IsWithin o n
+any_all n o [] h k = absurd (cc)
+any_all n o (b ∷ bs) h k = by_test (in_bound n b) refl (any_all n o bs h.1) k
+  where
+    by_test : (t : Bool) → in_bound n b ≡ t → (list_any (in_bound n) bs ≡ true → IsWithin o n) → t || list_any (in_bound n) bs ≡ true → IsWithin o n
+    by_test true e go f = h.0 e
+    by_test false e go f = go f
+
+pub hull_all : (bs : List Bound) (m : ℕ) (o : Option Bound) → length bs ≤ m → IsHullBefore bs m o → IsHull bs o
+hull_all bs m o l h n = any_all n o bs (recursion_from_All (Has n o) bs (subst (All (Has n o)) (take_all m bs l) (h n)))
+
+or_neither : (a b : Bool) → a || b ≡ false → (a ≡ false) × (b ≡ false)
+or_neither true b h = absurd (cc)
+or_neither false b h = (refl, h)
+
+pub outside_at : (p : Bound → Bool) (bs : List Bound) (i : ℕ) (d : Bound) → list_any p bs ≡ false → i < length bs → p (get_or bs i d) ≡ false
+outside_at p [] i d h l = absurd (omega arith)
+outside_at p (c ∷ bs) zero d h l = (or_neither (p c) (list_any p bs) h).0
+outside_at p (c ∷ bs) (suc i) d h l = outside_at p bs i d (or_neither (p c) (list_any p bs) h).1 (omega arith)
+
+pub ends_at : (ks ls : List Case) (n : ℕ) → ls ≡ drop n ks → IsEndOf ks ls
+ends_at ks ls n e = (n, e)
+
+next_after : (a b : ℤ) → a <ℤ b → (a +ℤ pos 1) ≤ℤ b
+next_after a b h = omega (arith, ints)
+
+last_before : (a b : ℤ) → b <ℤ a → b ≤ℤ (a -ℤ pos 1)
+last_before a b h = omega (arith, ints)
+
+pub and_right : (a b : Bool) → a ≡ true → a && b ≡ false → b ≡ false
+and_right true b e h = h
+and_right false b e h = absurd (cc)
+
+and_left : (a b : Bool) → b ≡ true → a && b ≡ false → a ≡ false
+and_left true true e h = h
+and_left true false e h = absurd (cc)
+and_left false b e h = refl
+
+pub raised_behind : (b : Bound) (from n : ℤ) → b.from ≤ℤ from → in_bound n b ≡ false → from ≤ℤ n → (b.to +ℤ pos 1) ≤ℤ n
+raised_behind b from n f h k = next_after b.to n (false_le n b.to (and_right (int_le b.from n) (int_le n b.to) (le_true b.from n (reach b.from from n f k)) h))
+
+pub lowered_before : (b : Bound) (to n : ℤ) → to ≤ℤ b.to → in_bound n b ≡ false → n ≤ℤ to → n ≤ℤ (b.from -ℤ pos 1)
+lowered_before b to n f h k = last_before b.from n (false_le b.from n (and_left (int_le b.from n) (int_le n b.to) (le_true n b.to (reach n to b.to k f)) h))
+
+-- ---- cases
+
+-- no case takes it where none of these actions does
+pub passed_at : (i : Interval) (s : StateMaps) (id : ChoiceId) (n : ℤ) (k : Case) (es : List ActionTree) → NoneTakes i s (Choice id n) es → IsIn es (action_tree k.action) → IsPassed id n k
+passed_at i s id n k [] h g = absurd g
+passed_at i s id n k (e ∷ es) h (inl g) = (i, s, ap (matches i s (Choice id n)) g ∙ h.0)
+passed_at i s id n k (e ∷ es) h (inr g) = passed_at i s id n k es h.1 g
+
+-- ---- the number that is chosen
+
+no_more : (m : ℕ) → neg_ℤ (pos m) ≤ℤ pos 0
+no_more m = omega (arith, ints)
+
+no_less : (n : ℕ) → pos 0 ≤ℤ pos n
+no_less n = omega (arith, ints)
+
+above_opposite : (m n : ℕ) → n < m → neg_ℤ (pos m) ≤ℤ negsuc n
+above_opposite m n h = omega (arith, ints)
+
+below_natural : (m n : ℕ) → n < m → pos n <ℤ pos m
+below_natural m n h = omega (arith, ints)
+
+below_any : (m n : ℕ) → negsuc n <ℤ pos m
+below_any m n = omega (arith, ints)
+
+pub low_of : (n : ℤ) → FitsSigned w128 n → neg_ℤ (pos (2 ^ 127)) ≤ℤ n
+low_of (pos n) h = reach (neg_ℤ (pos (2 ^ 127))) (pos 0) (pos n) (no_more (2 ^ 127)) (no_less n)
+low_of (negsuc n) h = above_opposite (2 ^ 127) n h.sfits
+
+pub high_of : (n : ℤ) → FitsSigned w128 n → n <ℤ pos (2 ^ 127)
+high_of (pos n) h = below_natural (2 ^ 127) n h.sfits
+high_of (negsuc n) h = below_any (2 ^ 127) n
+
+less_first : (n b c : ℤ) → n ≤ℤ b → b <ℤ c → n <ℤ c
+less_first n b c h k = omega (arith, ints)
+
+allowed_between : (scope : Scope) (b : Bound) (n : ℤ) → neg_ℤ (pos (2 ^ 127)) ≤ℤ b.from → b.to <ℤ pos (2 ^ 127) → IsFromTo b n → Allowed scope n
+allowed_between any_runs b n h k g = tt
+allowed_between written_runs b n h k g = fits_between n (reach (neg_ℤ (pos (2 ^ 127))) b.from n h g.0) (less_first n b.to (pos (2 ^ 127)) g.1 k)
+
+chosen_seen : (scope : Scope) (r : Valuation) (v : View) (i : Interval) (s : StateMaps) (ps : List Payment) (id : ChoiceId) (l : Linear) (n : ℤ) → IsSeen scope r v i s ps → n ≡ number_at r l → Allowed scope n
+    → IsSeen scope r (record v { choices = (id, l) ∷ v.choices }) i (record s { choices = insert s.choices id n }) ps
+chosen_seen scope r v i s ps id l n e f h = record {
+  accounts = e.accounts;
+  choices = λ x. get-insert choice_id_total s.choices id n x ∙ ap (cond (eq_by_cmp choice_id_cmp x id) (Some n)) (e.choices x) ∙ entry_at r (eq_by_cmp choice_id_cmp x id) n l (find choice_id_cmp x v.choices) f;
+  bound = e.bound;
+  paid = e.paid;
+  start = e.start;
+  end = e.end;
+  valid = e.valid;
+  times = e.times;
+  natural = e.natural;
+  money = e.money;
+  chosen = λ x. subst (λ o. IfSome o (Allowed scope)) (sym (get-insert choice_id_total s.choices id n x)) (entry_allowed (Allowed scope) (eq_by_cmp choice_id_cmp x id) n (get s.choices x) h (e.chosen x));
+  values = e.values;
+  from = e.from;
+  to = e.to;
+}
+
+-- the numbers that are left
+abbrev pub IsLeft : List Case → ChoiceId → List Bound → Option Bound → Type 0
+IsLeft earlier id bounds o = (n : ℤ) → All (IsPassed id n) earlier → list_any (in_bound n) bounds ≡ true → IsWithin o n
+
+module _ (earlier : List Case) (es : List ActionTree) (id : ChoiceId) (bounds : List Bound) (known_in : HasActions es earlier) where
+  all_passed : (i : Interval) (s : StateMaps) (n : ℤ) → NoneTakes i s (Choice id n) es → All (IsPassed id n) earlier
+  all_passed i s n h = All-weaker (λ (k : Case). IsIn es (action_tree k.action)) (IsPassed id n) (λ k g. passed_at i s id n k es h g) earlier known_in
+
+  pub chooses_none : (k : Known) → IsLeft earlier id bounds None → ChoosesSo IsDescribed k es id bounds (record { kinds = []; known = None })
+  chooses_none k left scope i s ps n d z h = absurd (left n (all_passed i s n z) h)
+
+  pub chooses_so : (k m : Known) (b : Bound) → IsLeft earlier id bounds (Some b) → IsChosen k id b m → ChoosesSo IsDescribed k es id bounds (record { kinds = []; known = Some m })
+  chooses_so k m b left chosen scope i s ps n d z h = record { warned = tt; numbers = λ _. tt; known = λ _. chosen scope i s ps n d (left n (all_passed i s n z) h) }
+
+pub chosen_by : (k w m : Known) (id : ChoiceId) (e : Linear) (b : Bound) → neg_ℤ (pos (2 ^ 127)) ≤ℤ b.from → b.to <ℤ pos (2 ^ 127) → GivesAny k.symbols w.symbols e (Some b.from) (Some b.to)
+    → w.view ≡ k.view → m ≡ known w.symbols (record (w.view) { choices = (id, e) ∷ w.view.choices }) → IsChosen k id b m
+chosen_by k w m id e b low high fresh same set scope i s ps n d q =
+    let g = fresh d.numbers n d.closed d.valued q.0 q.1 in
+    let f = described_on scope k i s ps d w e n same g in
+    let c = f.below in
+    subst (λ m. IsDescribed scope m i (record s { choices = insert s.choices id n }) ps) (sym set)
+    (record {
+      closed = g.closed;
+      below = record { accounts = c.accounts; choices = (g.below, c.choices); bound = c.bound; paid = c.paid; start = c.start; end = c.end; times = c.times };
+      numbers = g.values;
+      valued = g.valued;
+      seen = chosen_seen scope g.values w.view i s ps id e n f.seen g.number (allowed_between scope b n low high q);
+    })
+
+pub passed_of_end : (id : ChoiceId) (n : ℤ) (ks ls : List Case) → IsEndOf ks ls → All (IsPassed id n) ks → All (IsPassed id n) ls
+passed_of_end id n ks ls e h = subst (All (IsPassed id n)) (sym e.1) (All-drop (IsPassed id n) e.0 ks h)

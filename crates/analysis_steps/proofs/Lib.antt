@@ -1,0 +1,7 @@
+pub mod AmountLemmas
+pub mod MovedLemmas
+pub mod ConcludedLemmas
+pub mod TimeLemmas
+pub mod ChosenLemmas
+pub mod CloseLemmas
+pub mod StartLemmas

@@ -1,0 +1,5 @@
+pub mod Concluded
+pub mod Amounts
+pub mod Moved
+pub mod Chosen
+pub mod Times

@@ -1,0 +1,198 @@
+//! Choices.
+ghost use Rattle.std.specs.Prelude.{◌≡◌, ℤ, ◌≤ℤ◌, true, false, ◌&&◌, List, All, ◌⊎◌, IfOk};
+ghost use Rattle.std.specs.Int.{int_min, int_max};
+ghost use Rattle.std.specs.List.{list_any};
+ghost use Rattle.names.specs.Equal.{same_choice_id};
+ghost use Rattle.contract.specs.Tree.{ActionTree};
+ghost use Rattle.semantics.specs.Applying.{in_bound};
+ghost use Rattle.analysis_walk.specs.Domain.{ChoosesSo};
+ghost use Rattle.analysis_domain.specs.Known.{IsDescribed};
+ghost use Rattle.analysis_steps.specs.Concluded.{concluded};
+ghost use Rattle.analysis_steps.specs.Chosen.{HasActions, IsFromTo, IsWithin, IsHull, IsPassed, IsEndOf, IsChosen};
+
+use crate::conclusion::Conclusion;
+use analysis_values::Known;
+use collections::{Items, Memory, Same};
+use contract::{Action, Case};
+use names::{Bound, ChoiceId};
+use std::alloc::Global;
+
+/// The most earlier cases that `choose` looks at: the last 64. A number that an older case takes is then thought to be
+/// left, which bounds the time.
+pub const MOST_CASES: usize = 64;
+
+// A range and one bound more, unless that is empty.
+#[tactic(auto, using(crate::proofs::ChosenLemmas::wider_none, crate::proofs::ChosenLemmas::wider_first, crate::proofs::ChosenLemmas::wider_both))]
+fn wider(range: Option<Bound>, bound: Bound) -> Option<Bound>
+    ensures { (n : ℤ) → IsWithin range n ⊎ (in_bound n bound ≡ true) → IsWithin result n }
+{
+    if bound.from > bound.to {
+        return range;
+    }
+    match range {
+        Some(old) => Some(joined(old, bound)),
+        None => Some(bound),
+    }
+}
+
+fn joined(a: Bound, b: Bound) -> Bound
+    ensures least { result.from ≡ int_min a.from b.from }
+    ensures greatest { result.to ≡ int_max a.to b.to }
+{
+    Bound {
+        from: if b.from < a.from { b.from } else { a.from },
+        to: if b.to < a.to { a.to } else { b.to },
+    }
+}
+
+// The range of all bounds that aren't empty; none where all are.
+fn hull(bounds: &[Bound]) -> Option<Bound>
+    ensures { IsHull bounds.now result }
+{
+    let mut range: Option<Bound> = None;
+    for bound in bounds {
+        range = wider(range, *bound);
+    }
+    range
+}
+
+// A number, or the first behind a bound that it is in.
+fn raised_by_one(bound: Bound, from: i128) -> i128
+    ensures { (n : ℤ) → in_bound n bound ≡ false → from ≤ℤ n → result ≤ℤ n }
+{
+    if bound.from <= from && from <= bound.to && bound.to < i128::MAX {
+        bound.to + 1
+    } else {
+        from
+    }
+}
+
+// A number, or the last before a bound that it is in.
+fn lowered_by_one(bound: Bound, to: i128) -> i128
+    ensures { (n : ℤ) → in_bound n bound ≡ false → n ≤ℤ to → n ≤ℤ result }
+{
+    if bound.from <= to && to <= bound.to && i128::MIN < bound.from {
+        bound.from - 1
+    } else {
+        to
+    }
+}
+
+// A range without the numbers at its ends that are in some bounds, each in turn.
+fn narrowed_by(bounds: &[Bound], range: Bound) -> Bound
+    ensures { (n : ℤ) → list_any (in_bound n) bounds.now ≡ false → IsFromTo range n → IsFromTo result n }
+{
+    let mut left = range;
+    for bound in bounds {
+        left = Bound {
+            from: raised_by_one(*bound, left.from),
+            to: lowered_by_one(*bound, left.to),
+        };
+    }
+    left
+}
+
+fn same_choice(id: &ChoiceId, of: &ChoiceId) -> bool
+    ensures { result ≡ same_choice_id id.now of.now }
+{
+    id.same(of)
+}
+
+// A range without the numbers at its ends that a case of a choice takes.
+fn narrowed_by_choice(of: &ChoiceId, bounds: &[Bound], id: &ChoiceId, range: Bound) -> Bound
+    ensures { (n : ℤ) → (same_choice_id id.now of.now && list_any (in_bound n) bounds.now) ≡ false → IsFromTo range n → IsFromTo result n }
+{
+    let same = same_choice(id, of);
+    if same {
+        narrowed_by(bounds, range)
+    } else {
+        range
+    }
+}
+
+// A range without the numbers at its ends that a case takes.
+fn narrowed_by_case(case: &Case, id: &ChoiceId, range: Bound) -> Bound
+    ensures { (n : ℤ) → IsPassed id.now n case.now → IsFromTo range n → IsFromTo result n }
+{
+    match &case.action {
+        Action::Choice(of, bounds) => narrowed_by_choice(of, bounds.as_slice(), id, range),
+        _ => range,
+    }
+}
+
+// A range without the numbers at its ends that these cases take, each in turn.
+fn narrowed(cases: &[Case], id: &ChoiceId, range: Bound) -> Bound
+    ensures { (n : ℤ) → All (IsPassed id.now n) cases.now → IsFromTo range n → IsFromTo result n }
+{
+    let mut left = range;
+    for case in cases {
+        left = narrowed_by_case(case, id, left);
+    }
+    left
+}
+
+// The range of the numbers within bounds that the last of the earlier cases don't take; none where there is none.
+fn range_left(earlier: &[Case], id: &ChoiceId, bounds: &[Bound]) -> Option<Bound>
+    ensures { (n : ℤ) → All (IsPassed id.now n) earlier.now → list_any (in_bound n) bounds.now ≡ true → IsWithin result n }
+{
+    let range = hull(bounds)?;
+    let left = narrowed(last_of(earlier), id, range);
+    unless_empty(left)
+}
+
+// A range that holds a number.
+fn unless_empty(range: Bound) -> Option<Bound>
+    ensures { (n : ℤ) → IsFromTo range n → IsWithin result n }
+{
+    if range.from > range.to {
+        None
+    } else {
+        Some(range)
+    }
+}
+
+// The last of the cases, as many as are looked at.
+#[tactic(auto, using(crate::proofs::ChosenLemmas::ends_at))]
+fn last_of(cases: &[Case]) -> &[Case]
+    ensures { IsEndOf cases.now result.now }
+{
+    if cases.len() > MOST_CASES {
+        &cases[cases.len() - MOST_CASES..]
+    } else {
+        cases
+    }
+}
+
+// A number of a choice in a range.
+fn chosen_from(known: Known, id: &ChoiceId, range: Bound) -> Result<Known, Memory>
+    ensures { IfOk result (IsChosen known id.now range) }
+{
+    let mut known = known;
+    let number = known.fresh(Some(range.from), Some(range.to))?;
+    known.set_choice(id, number)?;
+    Ok(known)
+}
+
+/// The number of a choice within bounds, which no earlier case takes (Marlowe specification version 3, "Apply cases"):
+/// none where there is none.
+pub fn choose(
+    alloc: Global,
+    known: Known,
+    earlier: &[Case],
+    id: &ChoiceId,
+    bounds: &[Bound],
+) -> Result<Conclusion, Memory>
+    ensures { IfOk result (λ x. (es : List ActionTree) → HasActions es earlier.now → ChoosesSo IsDescribed known es id.now bounds.now (concluded x)) }
+{
+    let kinds = Items::new(alloc);
+    match range_left(earlier, id, bounds) {
+        None => Ok(Conclusion { kinds, known: None }),
+        Some(range) => {
+            let chosen = chosen_from(known, id, range)?;
+            Ok(Conclusion {
+                kinds,
+                known: Some(chosen),
+            })
+        }
+    }
+}

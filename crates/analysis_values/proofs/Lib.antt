@@ -1,0 +1,5 @@
+mod StepLemmas
+mod TruthLemmas
+mod TimeLemmas
+mod LookupLemmas
+mod NumberedLemmas

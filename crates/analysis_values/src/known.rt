@@ -1,0 +1,267 @@
+//! What is known at a place of a contract.
+ghost use Rattle.std.specs.Prelude.{◌≡◌, [], ◌∷◌, ◌++◌, true, is_some, IfOk, OnOk};
+ghost use Rattle.std.specs.FinMap.{entries};
+ghost use Rattle.std.specs.FinMap.Entries.{find};
+ghost use Rattle.names.specs.Orders.{choice_id_cmp, bytes_cmp};
+ghost use Rattle.semantics.specs.Reduction.{account_of};
+ghost use Rattle.linear.specs.Linear.{number_at};
+ghost use Rattle.linear.specs.Bounded.{IsShown, IsFromAll, IsUpToAll};
+ghost use Rattle.linear.specs.Held.{GivesAny, Learns, Assumes, IsRefuted};
+ghost use Rattle.linear.specs.Joined.{Joins};
+ghost use Rattle.analysis_domain.specs.Known.{held};
+ghost use Rattle.analysis_domain.specs.Start.{in_numbers};
+ghost use Rattle.analysis_domain.specs.Expressions.{with_amount};
+ghost use Rattle.analysis_values.specs.Answered.{StaysWhereSaid, AddsTime};
+ghost use Rattle.analysis_values.specs.Entries.{keys_of};
+
+use crate::lookup::in_expressions;
+use crate::stays::stays;
+use crate::view::View;
+use collections::{Items, Memory, Text, TryClone};
+use linear::{Linear, Symbols};
+use names::{Account, ChoiceId, Party, Token};
+use states::State;
+use std::alloc::Global;
+use std::marker::Model;
+
+/// What is known at a place of a contract, of whatever run comes there: symbols that stand for whole numbers, and the
+/// state, the interval of the transaction and what parties were paid, in expressions over them. Clauses see the
+/// definitions' record.
+#[derive(Drop)]
+pub struct Known {
+    pub(crate) symbols: Symbols,
+    pub(crate) view: View,
+}
+
+impl Model for Known {
+    ghost use Rattle.analysis_domain.specs.Known.{Known as AllKnown};
+
+    ghost Value = { AllKnown };
+
+    ghost view = { λ a. record { symbols = a.symbols; view = a.view } };
+}
+
+impl TryClone for Known {
+    fn try_clone(&self) -> Result<Known, Memory> {
+        let symbols = self.symbols.try_clone()?;
+        let view = self.view.try_clone()?;
+        Ok(Known { symbols, view })
+    }
+}
+
+impl Known {
+    /// The entries of a state, which nobody was paid of yet, in an interval of two expressions; none of the symbols is
+    /// known to be a time.
+    pub fn of_state(
+        alloc: Global,
+        state: &State,
+        symbols: Symbols,
+        start: Linear,
+        end: Linear,
+    ) -> Result<Known, Memory>
+        ensures { IfOk result (λ k. k ≡ record {
+          symbols = symbols;
+          view = record { accounts = in_numbers (entries state.now.accounts); choices = in_numbers (entries state.now.choices); bound = in_numbers (entries state.now.bound_values); paid = []; start = start; end = end; times = [] };
+        }) }
+    {
+        let accounts = in_expressions(alloc, state.accounts())?;
+        let choices = in_expressions(alloc, state.choices())?;
+        let bound = in_expressions(alloc, state.bound_values())?;
+        let view = View {
+            accounts,
+            choices,
+            bound,
+            paid: Vec::new(alloc),
+            start,
+            end,
+            times: Vec::new(alloc),
+        };
+        Ok(Known { symbols, view })
+    }
+
+    /// What is known of the symbols.
+    pub fn symbols(&self) -> &Symbols
+        ensures { result.now ≡ self.now.symbols }
+    {
+        &self.symbols
+    }
+
+    // The state, the interval and what was paid.
+    pub(crate) fn view(&self) -> &View
+        ensures { result.now ≡ self.now.view }
+    {
+        &self.view
+    }
+
+    // ---- what is held
+
+    /// What the account of a party holds of a token: 0 where it has no entry.
+    pub fn held(&self, owner: &Party, token: &Token) -> Result<Linear, Memory>
+        ensures { IfOk result (λ e. e ≡ held self.now.view.accounts (account_of owner.now token.now)) }
+    {
+        self.view.held(owner, token)
+    }
+
+    /// What a party was paid of a token.
+    pub fn paid(&self, party: &Party, token: &Token) -> Result<Linear, Memory>
+        ensures { IfOk result (λ e. e ≡ held self.now.view.paid (account_of party.now token.now)) }
+    {
+        self.view.paid(party, token)
+    }
+
+    /// The accounts that have an entry, of what is held or of what parties were paid: the others hold 0, and their owners
+    /// were paid nothing of their tokens. In no order, and one may stand there more than once.
+    pub fn named(&self) -> Result<Items<Account>, Memory>
+        ensures { IfOk result (λ ns. ns ≡ keys_of self.now.view.accounts ++ keys_of self.now.view.paid) }
+    {
+        self.view.named()
+    }
+
+    /// The number that was chosen, if one was.
+    pub fn choice(&self, id: &ChoiceId) -> Result<Option<Linear>, Memory>
+        ensures { IfOk result (λ o. o ≡ find choice_id_cmp id.now self.now.view.choices) }
+    {
+        self.view.choice(id)
+    }
+
+    /// The value that is bound to a name, if one is.
+    pub fn bound(&self, name: &Text) -> Result<Option<Linear>, Memory>
+        ensures { IfOk result (λ o. o ≡ find bytes_cmp name.now self.now.view.bound) }
+    {
+        self.view.bound(name)
+    }
+
+    /// Whether a value is bound to a name.
+    pub fn is_bound(&self, name: &Text) -> bool
+        ensures { result ≡ is_some (find bytes_cmp name.now self.now.view.bound) }
+    {
+        self.view.is_bound(name)
+    }
+
+    /// The start of the interval.
+    pub fn start(&self) -> &Linear
+        ensures { result.now ≡ self.now.view.start }
+    {
+        self.view.start()
+    }
+
+    /// The end of the interval.
+    pub fn end(&self) -> &Linear
+        ensures { result.now ≡ self.now.view.end }
+    {
+        self.view.end()
+    }
+
+    // ---- what is set
+
+    /// Sets what the account of a party holds of a token.
+    pub fn set_account(
+        &mut self,
+        owner: &Party,
+        token: &Token,
+        amount: Linear,
+    ) -> Result<(), Memory>
+        ensures { OnOk result (self.new ≡ record { symbols = self.old.symbols; view = with_amount self.old.view owner.now token.now amount }) }
+    {
+        self.view.put_account(owner, token, amount)
+    }
+
+    /// Sets what a party was paid of a token.
+    pub fn set_paid(&mut self, party: &Party, token: &Token, amount: Linear) -> Result<(), Memory>
+        ensures { OnOk result (self.new ≡ record { symbols = self.old.symbols; view = record (self.old.view) { paid = (account_of party.now token.now, amount) ∷ self.old.view.paid } }) }
+    {
+        self.view.put_paid(party, token, amount)
+    }
+
+    /// Sets the number of a choice.
+    pub fn set_choice(&mut self, id: &ChoiceId, number: Linear) -> Result<(), Memory>
+        ensures { OnOk result (self.new ≡ record { symbols = self.old.symbols; view = record (self.old.view) { choices = (id.now, number) ∷ self.old.view.choices } }) }
+    {
+        self.view.put_choice(id, number)
+    }
+
+    /// Binds a value to a name.
+    pub fn set_bound(&mut self, name: &Text, value: Linear) -> Result<(), Memory>
+        ensures { OnOk result (self.new ≡ record { symbols = self.old.symbols; view = record (self.old.view) { bound = (name.now, value) ∷ self.old.view.bound } }) }
+    {
+        self.view.put_bound(name, value)
+    }
+
+    /// Sets the two ends of the interval.
+    pub fn set_interval(&mut self, start: Linear, end: Linear)
+        ensures { self.new ≡ record { symbols = self.old.symbols; view = record (self.old.view) { start = start; end = end } } }
+    {
+        self.view.put_interval(start, end);
+    }
+
+    // ---- what is known of symbols
+
+    /// A new symbol for a number in a range, as `Symbols::fresh`.
+    pub fn fresh(&mut self, least: Option<i128>, greatest: Option<i128>) -> Result<Linear, Memory>
+        ensures symbols { IfOk result (λ e. GivesAny self.old.symbols self.new.symbols e least greatest) }
+        ensures view { self.new.view ≡ self.old.view }
+    {
+        self.symbols.fresh(least, greatest)
+    }
+
+    /// A new symbol for a time: in runs whose times JSON can write it has 64 bits.
+    pub fn new_time(&mut self) -> Result<Linear, Memory>
+        ensures { IfOk result (AddsTime self.old self.new) }
+    {
+        let name = self.symbols.count();
+        let e = self.symbols.unknown()?;
+        self.view.put_time(name)?;
+        Ok(e)
+    }
+
+    /// More is known where an expression is at least 0, as `Symbols::learn`.
+    pub fn learn(&mut self, fact: Linear) -> Result<(), Memory>
+        ensures symbols { OnOk result (Learns self.old.symbols self.new.symbols fact) }
+        ensures view { self.new.view ≡ self.old.view }
+    {
+        self.symbols.learn(fact)
+    }
+
+    /// More is known where an expression is at least 0; false where that is shown to be impossible.
+    pub fn assume(&mut self, number: &Linear) -> Result<bool, Memory>
+        ensures symbols { IfOk result (Assumes self.old.symbols self.new.symbols number.now) }
+        ensures view { self.new.view ≡ self.old.view }
+    {
+        self.symbols.assume(number)
+    }
+
+    /// Whether an expression is shown to be at least 0.
+    pub fn shows(&self, number: &Linear) -> bool
+        ensures { result ≡ true → IsShown self.now.symbols.ranges self.now.symbols.facts number.now }
+    {
+        self.symbols.shows(number)
+    }
+
+    /// Whether an expression is shown to be below 0.
+    pub fn refutes(&self, number: &Linear) -> bool
+        ensures { result ≡ true → IsRefuted self.now.symbols.ranges self.now.symbols.facts number.now }
+    {
+        self.symbols.refutes(number)
+    }
+
+    /// The greatest number that an expression is shown not to be below, if there is one.
+    pub fn least(&self, number: &Linear) -> Option<i128>
+        ensures { IsFromAll self.now.symbols.ranges self.now.symbols.facts (λ r. number_at r number.now) result }
+    {
+        self.symbols.least(number)
+    }
+
+    /// The least number that an expression is shown not to be above, if there is one.
+    pub fn greatest(&self, number: &Linear) -> Option<i128>
+        ensures { IsUpToAll self.now.symbols.ranges self.now.symbols.facts (λ r. number_at r number.now) result }
+    {
+        self.symbols.greatest(number)
+    }
+
+    /// Whether an expression is shown to fit 128 bits, in runs whose times JSON can write.
+    pub fn stays(&self, number: &Linear) -> Result<bool, Memory>
+        ensures { IfOk result (StaysWhereSaid self.now number.now) }
+    {
+        stays(&self.view, &self.symbols, number)
+    }
+}

@@ -1,0 +1,222 @@
+//! A state, an interval and what was paid, in expressions.
+ghost use Rattle.std.specs.Prelude.{◌≡◌, ◌∷◌, ◌++◌, pos, is_some, IfOk, OnOk};
+ghost use Rattle.std.specs.Option.{unwrap_or};
+ghost use Rattle.std.specs.FinMap.Entries.{find};
+ghost use Rattle.names.specs.Orders.{choice_id_cmp, bytes_cmp};
+ghost use Rattle.semantics.specs.Reduction.{account_of};
+ghost use Rattle.linear.specs.Linear.{number};
+ghost use Rattle.analysis_domain.specs.Known.{held};
+ghost use Rattle.analysis_domain.specs.Expressions.{with_amount};
+ghost use Rattle.analysis_values.specs.Entries.{keys_of};
+
+use crate::lookup::{
+    AccountOf, copied_entries, copied_times, found, has, or_zero, put_first, put_keys, put_time,
+};
+use collections::{Items, Memory, Text, TryClone};
+use linear::Linear;
+use names::{Account, ChoiceId, Party, Token};
+use std::alloc::Global;
+use std::marker::Model;
+
+/// A state, the interval of its transaction, and what was paid, in expressions over symbols. The entry that was set
+/// last stands first, and of two entries of a key the first counts.
+#[derive(Drop)]
+pub(crate) struct View {
+    pub(crate) accounts: Vec<(Account, Linear)>,
+    pub(crate) choices: Vec<(ChoiceId, Linear)>,
+    pub(crate) bound: Vec<(Text, Linear)>,
+    pub(crate) paid: Vec<(Account, Linear)>,
+    pub(crate) start: Linear,
+    pub(crate) end: Linear,
+    pub(crate) times: Vec<usize>,
+}
+
+impl Model for View {
+    ghost use Rattle.analysis_domain.specs.Known.{View as Seen};
+
+    ghost Value = { Seen };
+
+    ghost view = { λ a. record { accounts = a.accounts.items; choices = a.choices.items; bound = a.bound.items; paid = a.paid.items; start = a.start; end = a.end; times = a.times.items } };
+}
+
+impl TryClone for View {
+    fn try_clone(&self) -> Result<View, Memory> {
+        let alloc = *self.times.allocator();
+        let accounts = copied_entries(alloc, &self.accounts)?;
+        let choices = copied_entries(alloc, &self.choices)?;
+        let bound = copied_entries(alloc, &self.bound)?;
+        let paid = copied_entries(alloc, &self.paid)?;
+        let start = self.start.try_clone()?;
+        let end = self.end.try_clone()?;
+        let times = copied_times(alloc, &self.times)?;
+        Ok(View {
+            accounts,
+            choices,
+            bound,
+            paid,
+            start,
+            end,
+            times,
+        })
+    }
+}
+
+impl View {
+    // Where it takes memory from.
+    pub(crate) fn memory(&self) -> Global {
+        *self.times.allocator()
+    }
+
+    /// A number, as an expression.
+    pub(crate) fn number(&self, value: i128) -> Linear
+        ensures { result ≡ number value }
+    {
+        Linear::number(self.memory(), value)
+    }
+
+    /// The start of the interval.
+    pub(crate) fn start(&self) -> &Linear
+        ensures { result.now ≡ self.now.start }
+    {
+        &self.start
+    }
+
+    /// The end of the interval.
+    pub(crate) fn end(&self) -> &Linear
+        ensures { result.now ≡ self.now.end }
+    {
+        &self.end
+    }
+
+    /// The symbols that are times.
+    pub(crate) fn times(&self) -> &[usize]
+        ensures { result.now ≡ self.now.times }
+    {
+        &self.times
+    }
+
+    /// What the account of a party holds of a token.
+    pub(crate) fn held(&self, owner: &Party, token: &Token) -> Result<Linear, Memory>
+        ensures { IfOk result (λ e. e ≡ held self.now.accounts (account_of owner.now token.now)) }
+    {
+        let entry = found(&self.accounts, &AccountOf { owner, token })?;
+        Ok(or_zero(self.memory(), entry))
+    }
+
+    /// What a party was paid of a token.
+    pub(crate) fn paid(&self, owner: &Party, token: &Token) -> Result<Linear, Memory>
+        ensures { IfOk result (λ e. e ≡ held self.now.paid (account_of owner.now token.now)) }
+    {
+        let entry = found(&self.paid, &AccountOf { owner, token })?;
+        Ok(or_zero(self.memory(), entry))
+    }
+
+    /// The accounts that have an entry, of what is held or of what was paid: the others hold 0, and were paid nothing.
+    pub(crate) fn named(&self) -> Result<Items<Account>, Memory>
+        ensures { IfOk result (λ ns. ns ≡ keys_of self.now.accounts ++ keys_of self.now.paid) }
+    {
+        let mut names = Items::new(self.memory());
+        put_keys(&mut names, &self.accounts)?;
+        put_keys(&mut names, &self.paid)?;
+        Ok(names)
+    }
+
+    /// The number that was chosen, if one was.
+    pub(crate) fn choice(&self, id: &ChoiceId) -> Result<Option<Linear>, Memory>
+        ensures { IfOk result (λ o. o ≡ find choice_id_cmp id.now self.now.choices) }
+    {
+        let entry = found(&self.choices, id)?;
+        Ok(entry)
+    }
+
+    /// The number that was chosen: 0 where none was.
+    pub(crate) fn chosen(&self, id: &ChoiceId) -> Result<Linear, Memory>
+        ensures { IfOk result (λ e. e ≡ unwrap_or (find choice_id_cmp id.now self.now.choices) (number (pos 0))) }
+    {
+        let entry = self.choice(id)?;
+        Ok(or_zero(self.memory(), entry))
+    }
+
+    /// Whether a number was chosen.
+    pub(crate) fn has_choice(&self, id: &ChoiceId) -> bool
+        ensures { result ≡ is_some (find choice_id_cmp id.now self.now.choices) }
+    {
+        has(&self.choices, id)
+    }
+
+    /// The value that is bound to a name, if one is.
+    pub(crate) fn bound(&self, name: &Text) -> Result<Option<Linear>, Memory>
+        ensures { IfOk result (λ o. o ≡ find bytes_cmp name.now self.now.bound) }
+    {
+        let entry = found(&self.bound, name)?;
+        Ok(entry)
+    }
+
+    /// The value that is bound to a name: 0 where none is.
+    pub(crate) fn bound_to(&self, name: &Text) -> Result<Linear, Memory>
+        ensures { IfOk result (λ e. e ≡ unwrap_or (find bytes_cmp name.now self.now.bound) (number (pos 0))) }
+    {
+        let entry = self.bound(name)?;
+        Ok(or_zero(self.memory(), entry))
+    }
+
+    /// Whether a value is bound to a name.
+    pub(crate) fn is_bound(&self, name: &Text) -> bool
+        ensures { result ≡ is_some (find bytes_cmp name.now self.now.bound) }
+    {
+        has(&self.bound, name)
+    }
+
+    /// Sets what the account of a party holds of a token.
+    pub(crate) fn put_account(
+        &mut self,
+        owner: &Party,
+        token: &Token,
+        amount: Linear,
+    ) -> Result<(), Memory>
+        ensures { OnOk result (self.new ≡ with_amount self.old owner.now token.now amount) }
+    {
+        put_first(&mut self.accounts, &AccountOf { owner, token }, amount)
+    }
+
+    /// Sets what a party was paid of a token.
+    pub(crate) fn put_paid(
+        &mut self,
+        owner: &Party,
+        token: &Token,
+        amount: Linear,
+    ) -> Result<(), Memory>
+        ensures { OnOk result (self.new ≡ record self.old { paid = (account_of owner.now token.now, amount) ∷ self.old.paid }) }
+    {
+        put_first(&mut self.paid, &AccountOf { owner, token }, amount)
+    }
+
+    /// Sets the number of a choice.
+    pub(crate) fn put_choice(&mut self, id: &ChoiceId, number: Linear) -> Result<(), Memory>
+        ensures { OnOk result (self.new ≡ record self.old { choices = (id.now, number) ∷ self.old.choices }) }
+    {
+        put_first(&mut self.choices, id, number)
+    }
+
+    /// Binds a value to a name.
+    pub(crate) fn put_bound(&mut self, name: &Text, value: Linear) -> Result<(), Memory>
+        ensures { OnOk result (self.new ≡ record self.old { bound = (name.now, value) ∷ self.old.bound }) }
+    {
+        put_first(&mut self.bound, name, value)
+    }
+
+    /// Sets the two ends of the interval.
+    pub(crate) fn put_interval(&mut self, start: Linear, end: Linear)
+        ensures { self.new ≡ record self.old { start = start; end = end } }
+    {
+        self.start = start;
+        self.end = end;
+    }
+
+    /// Says that a symbol is a time.
+    pub(crate) fn put_time(&mut self, symbol: usize) -> Result<(), Memory>
+        ensures { OnOk result (self.new ≡ record self.old { times = symbol ∷ self.old.times }) }
+    {
+        put_time(&mut self.times, symbol)
+    }
+}

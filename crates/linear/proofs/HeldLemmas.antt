@@ -1,0 +1,167 @@
+-- What the code holds of symbols, step by step.
+use Rattle.std.proofs.Common.{◌≡◌, ℕ, zero, suc, ◌+◌, ◌<◌, ◌≤◌, pos, ◌≤ℤ◌, List, [], ◌∷◌, ◌++◌, length, get_or, set, ℤ, ◌+ℤ◌, ◌*ℤ◌, ◌<ℤ◌, negsuc, Bool, true, Some, refl, sym, ap, ◌∙◌, subst, arith, length-append}
+use Rattle.std.proofs.lemmas.Int.{ints}
+use Rattle.std.proofs.lemmas.List.{length-set}
+use Rattle.linear.specs.declared.bounds.Bounds.{Bounds}
+use Rattle.linear.specs.Linear.{Linear, Valuation, number_at, number, symbol, Range, IsBelow, IsFrom, IsUpTo, AreInRange}
+use Rattle.linear.specs.Bounded.{numbered, IsUpToAll}
+use Rattle.linear.specs.Combined.{StandsFor, AreBelow, combined_at}
+use Rattle.linear.specs.Symbols.{Symbols, Operation, RangesBelow, FactsBelow, OperationsBelow, AreApart}
+use Rattle.linear.specs.Held.{symbols_of, GivesAny, Learns, Assumes, Distinguishes, IsRangeBy, AreNarrowed, Cancels, RulesOut, IsNever, IsSharpened, IsRefuted}
+use Rattle.linear.proofs.SymbolLaws.{fresh_closed, fresh_valued, with_value, new_gives}
+use Rattle.linear.proofs.KnownLaws.{knows_itself, natural_both, below_both}
+
+-- ---- ranges
+
+pub in_range_append : (r : Valuation) (n : ℕ) (bs : List Bounds) (b : Bounds) → AreInRange r (numbered n bs) → IsFrom b.least (r (n + length bs)) → IsUpTo b.greatest (r (n + length bs))
+    → AreInRange r (numbered n (bs ++ b ∷ []))
+in_range_append r n [] b h f g = let e : n + 0 ≡ n = omega arith in (subst (λ m. IsFrom b.least (r m)) e f, subst (λ m. IsUpTo b.greatest (r m)) e g, tt)
+in_range_append r n (c ∷ bs) b h f g =
+    let e : n + suc (length bs) ≡ suc n + length bs = omega arith in
+    (h.0, h.1, in_range_append r (suc n) bs b h.2 (subst (λ m. IsFrom b.least (r m)) e f) (subst (λ m. IsUpTo b.greatest (r m)) e g))
+
+pub ranges_below : (m n : ℕ) (bs : List Bounds) → n + length bs ≤ m → RangesBelow m (numbered n bs)
+ranges_below m n [] h = tt
+ranges_below m n (b ∷ bs) h = (omega arith, ranges_below m (suc n) bs (omega arith))
+
+pub one_more : (bs : List Bounds) (b : Bounds) → length (bs ++ b ∷ []) ≡ suc (length bs)
+one_more bs b = omega (arith, length-append bs (b ∷ []))
+
+-- ---- a new symbol
+
+pub fresh_held : (bs : List Bounds) (b : Bounds) (fs ds : List Linear) (os : List Operation)
+    → GivesAny (symbols_of bs fs ds os) (symbols_of (bs ++ b ∷ []) fs ds os) (symbol (length bs)) b.least b.greatest
+fresh_held bs b fs ds os r x c v f g =
+    let k = symbols_of bs fs ds os in
+    let m = symbols_of (bs ++ b ∷ []) fs ds os in
+    let e = one_more bs b in
+    let d = fresh_closed k b.least b.greatest c in
+    let w = fresh_valued k r b.least b.greatest x c v f g in
+    let q = with_value r (length bs) x in
+    let i : length bs ≡ 0 + length bs = omega arith in
+    new_gives k r x m e
+    (record {
+      ranges = ranges_below (length (bs ++ b ∷ [])) 0 (bs ++ b ∷ []) (omega arith);
+      facts = subst (λ n. FactsBelow n fs) (sym e) d.facts;
+      apart = subst (λ n. FactsBelow n ds) (sym e) d.apart;
+      operations = subst (λ n. OperationsBelow n os) (sym e) d.operations;
+    })
+    (record {
+      ranges = in_range_append q 0 bs b w.ranges.2 (subst (λ n. IsFrom b.least (q n)) i w.ranges.0) (subst (λ n. IsUpTo b.greatest (q n)) i w.ranges.1);
+      facts = w.facts;
+      apart = w.apart;
+      operations = w.operations;
+    })
+
+pub put_symbol_held : (bs cs : List Bounds) (b : Bounds) (n : ℕ) (e : Linear) → cs ≡ bs ++ b ∷ [] → n ≡ length bs → e ≡ symbol n → (fs ds : List Linear) (os : List Operation)
+    → GivesAny (symbols_of bs fs ds os) (symbols_of cs fs ds os) e b.least b.greatest
+put_symbol_held bs cs b n e p q i fs ds os =
+    subst (λ xs. GivesAny (symbols_of bs fs ds os) (symbols_of xs fs ds os) e b.least b.greatest) (sym p)
+    (subst (λ x. GivesAny (symbols_of bs fs ds os) (symbols_of (bs ++ b ∷ []) fs ds os) x b.least b.greatest) (sym (i ∙ ap symbol q)) (fresh_held bs b fs ds os))
+
+-- ---- facts
+
+pub narrowed_none : (bs : List Bounds) (l : Linear) → AreNarrowed bs bs l
+narrowed_none bs l = record { same = refl; ranges = λ r h g. h }
+
+pub narrowed_then : (bs cs es : List Bounds) (l : Linear) → AreNarrowed bs cs l → AreNarrowed cs es l → AreNarrowed bs es l
+narrowed_then bs cs es l h k = record { same = k.same ∙ h.same; ranges = λ r g n. k.ranges r (h.ranges r g n) n }
+
+in_range_set : (r : Valuation) (n i : ℕ) (bs : List Bounds) (b : Bounds) → AreInRange r (numbered n bs) → IsFrom b.least (r (n + i)) → IsUpTo b.greatest (r (n + i))
+    → AreInRange r (numbered n (set bs i b))
+in_range_set r n i [] b h f g = tt
+in_range_set r n zero (c ∷ bs) b h f g = let e : n + 0 ≡ n = omega arith in (subst (λ m. IsFrom b.least (r m)) e f, subst (λ m. IsUpTo b.greatest (r m)) e g, h.2)
+in_range_set r n (suc i) (c ∷ bs) b h f g =
+    let e : n + suc i ≡ suc n + i = omega arith in
+    (h.0, h.1, in_range_set r (suc n) i bs b h.2 (subst (λ m. IsFrom b.least (r m)) e f) (subst (λ m. IsUpTo b.greatest (r m)) e g))
+
+pub narrowed_at : (bs : List Bounds) (l : Linear) (x : ℕ) (b : Bounds) → IsRangeBy bs l x b → AreNarrowed bs (set bs x b) l
+narrowed_at bs l x b h = record {
+  same = length-set bs x b;
+  ranges = λ r g n.
+      let e : x ≡ 0 + x = omega arith in
+      let k = h r g n in
+      in_range_set r 0 x bs b g (subst (λ m. IsFrom b.least (r m)) e k.0) (subst (λ m. IsUpTo b.greatest (r m)) e k.1);
+}
+
+pub learn_held : (bs cs : List Bounds) (fs ds : List Linear) (os : List Operation) (l : Linear) → AreNarrowed bs cs l → Learns (symbols_of bs fs ds os) (symbols_of cs (fs ++ l ∷ []) ds os) l
+learn_held bs cs fs ds os l h r c v b g =
+    let e = h.same in
+    record {
+      next = e;
+      closed = record {
+        ranges = ranges_below (length cs) 0 cs (omega arith);
+        facts = subst (λ n. FactsBelow n (fs ++ l ∷ [])) (sym e) (below_both (length bs) fs (l ∷ []) c.facts (b, tt));
+        apart = subst (λ n. FactsBelow n ds) (sym e) c.apart;
+        operations = subst (λ n. OperationsBelow n os) (sym e) c.operations;
+      };
+      valued = record {
+        ranges = h.ranges r v.ranges g;
+        facts = natural_both r fs (l ∷ []) v.facts (g, tt);
+        apart = v.apart;
+        operations = v.operations;
+      };
+    }
+
+pub distinguish_held : (bs : List Bounds) (fs ds : List Linear) (os : List Operation) (l : Linear) → Distinguishes (symbols_of bs fs ds os) (symbols_of bs fs (ds ++ l ∷ []) os) l
+distinguish_held bs fs ds os l r c v b g = record {
+  next = refl;
+  closed = record { ranges = c.ranges; facts = c.facts; apart = below_both (length bs) ds (l ∷ []) c.apart (b, tt); operations = c.operations };
+  valued = record { ranges = v.ranges; facts = v.facts; apart = apart_both r ds (l ∷ []) v.apart (g, tt); operations = v.operations };
+}
+  where
+    apart_both : (r : Valuation) (ds es : List Linear) → AreApart r ds → AreApart r es → AreApart r (ds ++ es)
+    apart_both r [] es h k = k
+    apart_both r (d ∷ ds) es h k = (h.0, apart_both r ds es h.1 k)
+
+pub learns_nothing : (k : Symbols) (l : Linear) → Learns k k l
+learns_nothing k l r c v b g = knows_itself k r c v
+
+-- ---- what isn't 0
+
+apart_at : (r : Valuation) (ds : List Linear) (i : ℕ) (d : Linear) → i < length ds → AreApart r ds → number_at r (get_or ds i d) ≡ pos 0 → ⊥
+apart_at r [] i d l h e = absurd (omega arith)
+apart_at r (x ∷ ds) zero d l h e = h.0 e
+apart_at r (x ∷ ds) (suc i) d l h e = apart_at r ds i d (omega arith) h.1 e
+
+no_rest : (d x : ℤ) → pos 0 +ℤ pos 0 ≡ (pos 1 *ℤ d) +ℤ x → d +ℤ x ≡ pos 0
+no_rest d x h = omega (arith, ints)
+
+pub cancels_by : (d l rest : Linear) (q : ℤ) → StandsFor (combined_at (pos 1) d q l) (AreBelow d l) rest → rest ≡ number (pos 0) → Cancels d q l
+cancels_by d l rest q s e r = no_rest (number_at r d) (q *ℤ number_at r l) (ap (number_at r) (sym e) ∙ s.number r)
+
+zero_then : (a q b : ℤ) → a +ℤ (q *ℤ b) ≡ pos 0 → b ≡ pos 0 → a ≡ pos 0
+zero_then a q b h e = at_zero a q (subst (λ z. a +ℤ (q *ℤ z) ≡ pos 0) e h)
+  where
+    at_zero : (a q : ℤ) → a +ℤ (q *ℤ pos 0) ≡ pos 0 → a ≡ pos 0
+    at_zero a q h = omega (arith, ints)
+
+pub rules_out_by : (d : Linear) (q : ℤ) (l : Linear) → Cancels d q l → RulesOut d l
+rules_out_by d q l c r h e = h (zero_then (number_at r d) q (number_at r l) (c r) e)
+
+pub never_by : (ds : List Linear) (i : ℕ) (d l : Linear) → i < length ds → d ≡ get_or ds i d → RulesOut d l → IsNever ds l
+never_by ds i d l h is c r a e = c r (λ z. apart_at r ds i d h a (subst (λ (x : Linear). number_at r x ≡ pos 0) is z)) e
+
+pub sharpened_less : (ds : List Linear) (l e : Linear) → IsNever ds l → StandsFor (λ r. number_at r l +ℤ negsuc 0) (λ n. IsBelow n l) e → IsSharpened ds l e
+sharpened_less ds l e h s = record {
+  below = s.below;
+  natural = λ r a n. subst (λ z. pos 0 ≤ℤ z) (sym (s.number r)) (above (number_at r l) n (h r a));
+}
+  where
+    above : (a : ℤ) → pos 0 ≤ℤ a → (a ≡ pos 0 → ⊥) → pos 0 ≤ℤ (a +ℤ negsuc 0)
+    above a h k = omega (arith, ints, k)
+
+pub sharpened_same : (ds : List Linear) (l e : Linear) → e ≡ l → IsSharpened ds l e
+sharpened_same ds l e q = record { below = λ n h. subst (λ x. IsBelow n x) (sym q) h; natural = λ r a n. subst (λ x. pos 0 ≤ℤ number_at r x) (sym q) n }
+
+pub refuted_by : (es : List Range) (fs : List Linear) (l : Linear) (b : ℤ) → IsUpToAll es fs (λ r. number_at r l) (Some b) → b <ℤ pos 0 → IsRefuted es fs l
+refuted_by es fs l b h k r a n g = between (number_at r l) b (h r a n) k g
+  where
+    between : (x b : ℤ) → x ≤ℤ b → b <ℤ pos 0 → pos 0 ≤ℤ x → ⊥
+    between x b h k g = omega (arith, ints)
+
+pub assumes_none : (k : Symbols) (l e : Linear) (possible : Bool) → IsSharpened k.apart l e → IsRefuted k.ranges k.facts e → Assumes k k l possible
+assumes_none k l e possible s h r c v b n = absurd (h r v.ranges v.facts (s.natural r v.apart n))
+
+pub assumes_some : (k m : Symbols) (l e : Linear) → IsSharpened k.apart l e → Learns k m e → Assumes k m l true
+assumes_some k m l e s h r c v b n = (refl, h r c v (s.below k.next b) (s.natural r v.apart n))

@@ -1,0 +1,115 @@
+-- What holds in either of two cases.
+use Rattle.std.proofs.Common.{◌≡◌, ℕ, zero, suc, ◌+◌, ◌<◌, ◌≤◌, ℤ, pos, ◌≤ℤ◌, ◌⊎◌, inl, inr, List, [], ◌∷◌, ◌++◌, length, take, get_or, Option, refl, sym, ap, ◌∙◌, subst, arith, length-append}
+use Rattle.linear.specs.declared.bounds.Bounds.{Bounds}
+use Rattle.linear.specs.Linear.{Linear, Valuation, number_at, TermsBelow, IsBelow, Range, IsFrom, IsUpTo, AreInRange, AreNatural}
+use Rattle.linear.specs.Bounded.{numbered, IsShown}
+use Rattle.linear.specs.Symbols.{Symbols, Operation, FactsBelow, OperationsBelow, Agree, Leads}
+use Rattle.linear.specs.Held.{symbols_of}
+use Rattle.linear.specs.Joined.{Joins, IsFromEither, IsUpToEither, IsHull, AreShared, AreJoined}
+use Rattle.linear.proofs.KnownLaws.{natural_both, below_both}
+use Rattle.linear.proofs.LinearLaws.{same_number}
+use Rattle.linear.proofs.QueryLemmas.{natural_at}
+use Rattle.linear.proofs.HeldLemmas.{in_range_append, ranges_below}
+
+-- ---- ranges
+
+pub hull_none : (bs cs : List Bounds) → IsHull bs cs []
+hull_none bs cs q r a h = tt
+
+pub hull_on : (bs cs out new : List Bounds) (b : Bounds) (s : ℕ) (l m g h : Option ℤ) → length out ≡ s → IsHull bs cs out → new ≡ out ++ b ∷ []
+    → ((r : Valuation) → AreInRange r (numbered 0 bs) → IsFrom l (r s)) → ((r : Valuation) → AreInRange r (numbered 0 cs) → IsFrom m (r s)) → IsFromEither l m b.least
+    → ((r : Valuation) → AreInRange r (numbered 0 bs) → IsUpTo g (r s)) → ((r : Valuation) → AreInRange r (numbered 0 cs) → IsUpTo h (r s)) → IsUpToEither g h b.greatest
+    → (length new ≡ s + 1) × IsHull bs cs new
+hull_on bs cs out new b s l m g h e i n x y z u v w = (
+  ap length n ∙ length-append out (b ∷ []) ∙ ap (λ k. k + 1) e,
+  subst (IsHull bs cs) (sym n) (λ q r a j.
+      let k : length out < length (out ++ b ∷ []) = omega (arith, length-append out (b ∷ [])) in
+      let t : 0 + length out ≡ length out = omega arith in
+      let f : q s ≡ r s = subst (λ p. q p ≡ r p) e (a (length out) k) in
+      in_range_append r 0 out b (i q r (λ p c. a p (omega arith)) j)
+      (subst (λ p. IsFrom b.least (r p)) (sym e ∙ sym t) (subst (λ p. IsFrom b.least p) f (z (q s) (least_in q j))))
+      (subst (λ p. IsUpTo b.greatest (r p)) (sym e ∙ sym t) (subst (λ p. IsUpTo b.greatest p) f (w (q s) (greatest_in q j))))),
+)
+  where
+    least_in : (q : Valuation) → AreInRange q (numbered 0 bs) ⊎ AreInRange q (numbered 0 cs) → IsFrom l (q s) ⊎ IsFrom m (q s)
+    least_in q (inl j) = inl (x q j)
+    least_in q (inr j) = inr (y q j)
+
+    greatest_in : (q : Valuation) → AreInRange q (numbered 0 bs) ⊎ AreInRange q (numbered 0 cs) → IsUpTo g (q s) ⊎ IsUpTo h (q s)
+    greatest_in q (inl j) = inl (u q j)
+    greatest_in q (inr j) = inr (v q j)
+
+-- ---- facts
+
+pub shared_none : (n : ℕ) (own : List Linear) (es : List Range) (others old : List Linear) → AreShared n own es others old old
+shared_none n own es others old = record { below = λ h. h; by_own = λ q r a h k. k; by_other = λ q r a h i k. k }
+
+pub shared_then : (n : ℕ) (own : List Linear) (es : List Range) (others a b c : List Linear) → AreShared n own es others a b → AreShared n own es others b c → AreShared n own es others a c
+shared_then n own es others a b c x y = record {
+  below = λ h. y.below (x.below h);
+  by_own = λ q r g h k. y.by_own q r g h (x.by_own q r g h k);
+  by_other = λ q r g h i k. y.by_other q r g h i (x.by_other q r g h i k);
+}
+
+pub shared_one : (n : ℕ) (own : List Linear) (es : List Range) (others old new : List Linear) (i : ℕ) (f e : Linear) → i < length own → f ≡ get_or own i f → IsBelow n f → IsShown es others f
+    → e ≡ f → new ≡ old ++ e ∷ []
+    → AreShared n own es others old new
+shared_one n own es others old new i f e l is b s p m =
+    let k : new ≡ old ++ f ∷ [] = m ∙ ap (λ x. old ++ x ∷ []) p in
+    record {
+      below = λ h. subst (FactsBelow n) (sym k) (below_both n old (f ∷ []) h (b, tt));
+      by_own = λ q r a h g.
+          subst (AreNatural r) (sym k)
+          (natural_both r old (f ∷ []) g (subst (λ z. pos 0 ≤ℤ z) (same_number n q r a f b) (subst (λ (x : Linear). pos 0 ≤ℤ number_at q x) (sym is) (natural_at q own i f l h)), tt));
+      by_other = λ q r a h j g. subst (AreNatural r) (sym k) (natural_both r old (f ∷ []) g (subst (λ z. pos 0 ≤ℤ z) (same_number n q r a f b) (s q h j), tt));
+    }
+
+below_next : (n : ℕ) (ts : List (ℕ × ℤ)) (i : ℕ) (d : ℕ × ℤ) → i < length ts → TermsBelow n (take i ts) → (get_or ts i d).0 < n → TermsBelow n (take (suc i) ts)
+below_next n [] i d l h k = absurd (omega arith)
+below_next n (t ∷ ts) zero d l h k = (k, tt)
+below_next n (t ∷ ts) (suc i) d l h k = (h.0, below_next n ts i d (omega arith) h.1 k)
+
+pub below_take : (n : ℕ) (ts : List (ℕ × ℤ)) (i : ℕ) (d : ℕ × ℤ) → i < length ts → TermsBelow n (take i ts) → (get_or ts i d).0 < n → TermsBelow n (take (i + 1) ts)
+below_take n ts i d l h k = let e : suc i ≡ i + 1 = omega arith in subst (λ m. TermsBelow n (take m ts)) e (below_next n ts i d l h k)
+
+pub below_all : (n : ℕ) (ts : List (ℕ × ℤ)) (i : ℕ) → length ts ≤ i → TermsBelow n (take i ts) → TermsBelow n ts
+below_all n [] i l h = tt
+below_all n (t ∷ ts) zero l h = absurd (omega arith)
+below_all n (t ∷ ts) (suc i) l h = (h.0, below_all n ts i (omega arith) h.1)
+
+-- ---- both
+
+pub joined_facts : (n : ℕ) (es fs : List Range) (b c own gs ks : List Linear) → AreShared n b fs c own gs → AreShared n c es b gs ks → AreJoined n own es b fs c ks
+joined_facts n es fs b c own gs ks x y = record {
+  below = λ h. y.below (x.below h);
+  left = λ q r a i h k. y.by_other q r a i h (x.by_own q r a h k);
+  right = λ q r a i h k. y.by_own q r a h (x.by_other q r a i h k);
+}
+
+pub join_held : (bs hs cb cc : List Bounds) (fs ds ks fb fc : List Linear) (os : List Operation) (b c : Symbols) (n : ℕ) → n ≡ length bs → length hs ≡ n → numbered 0 cb ≡ b.ranges
+    → numbered 0 cc ≡ c.ranges → fb ≡ b.facts → fc ≡ c.facts
+    → IsHull cb cc hs → AreJoined n fs (numbered 0 cb) fb (numbered 0 cc) fc ks → Joins (symbols_of bs fs ds os) b c (symbols_of hs ks ds os)
+join_held bs hs cb cc fs ds ks fb fc os b c n m a p q s t i x r d v h =
+    let e : length hs ≡ length bs = a ∙ m in
+    record {
+      closed = record {
+        ranges = ranges_below (length hs) 0 hs (omega arith);
+        facts = subst (λ k. FactsBelow k ks) (sym a) (x.below (subst (λ k. FactsBelow k fs) (sym m) d.facts));
+        apart = subst (λ k. FactsBelow k ds) (sym e) d.apart;
+        operations = subst (λ k. OperationsBelow k os) (sym e) d.operations;
+      };
+      grows = omega arith;
+      values = r;
+      agrees = λ k l. refl;
+      valued = record { ranges = of_ranges h; facts = of_facts h; apart = v.apart; operations = v.operations };
+    }
+  where
+    of_ranges : Leads (symbols_of bs fs ds os) r b ⊎ Leads (symbols_of bs fs ds os) r c → AreInRange r (numbered 0 hs)
+    of_ranges (inl g) = i g.values r (subst (λ k. Agree k g.values r) (sym (a ∙ m)) g.agrees) (inl (subst (AreInRange g.values) (sym p) g.valued.ranges))
+    of_ranges (inr g) = i g.values r (subst (λ k. Agree k g.values r) (sym (a ∙ m)) g.agrees) (inr (subst (AreInRange g.values) (sym q) g.valued.ranges))
+
+    of_facts : Leads (symbols_of bs fs ds os) r b ⊎ Leads (symbols_of bs fs ds os) r c → AreNatural r ks
+    of_facts (inl g) = x.left g.values r (subst (λ k. Agree k g.values r) (sym m) g.agrees) (subst (AreInRange g.values) (sym p) g.valued.ranges)
+        (subst (AreNatural g.values) (sym s) g.valued.facts) v.facts
+    of_facts (inr g) = x.right g.values r (subst (λ k. Agree k g.values r) (sym m) g.agrees) (subst (AreInRange g.values) (sym q) g.valued.ranges)
+        (subst (AreNatural g.values) (sym t) g.valued.facts) v.facts

@@ -1,0 +1,186 @@
+-- Products and quotients that have a symbol.
+use Rattle.std.proofs.Common.{◌≡◌, ℕ, zero, suc, ◌+◌, ◌<◌, ℤ, pos, negsuc, ◌+ℤ◌, ◌*ℤ◌, ◌≤ℤ◌, int_lt, cond, Bool, true, false, List, [], ◌∷◌, ◌++◌, length, get_or, Option, Some, None, refl, sym, ap, ◌∙◌, subst, arith}
+use Rattle.std.proofs.lemmas.Int.{ints}
+use Rattle.std.specs.Int.{int_min, int_max}
+use Rattle.linear.specs.declared.bounds.Bounds.{Bounds}
+use Rattle.linear.specs.declared.named.Named.{Named}
+use Rattle.linear.specs.Linear.{Linear, Valuation, number_at, symbol, IsBelow, IsFrom, IsUpTo}
+use Rattle.linear.specs.Bounded.{IsFromAll, IsUpToAll}
+use Rattle.linear.specs.Combined.{StandsFor}
+use Rattle.linear.specs.Symbols.{Symbols, Operation, result, AreResults, OperationsBelow, FactsBelow, Gives}
+use Rattle.linear.specs.Held.{symbols_of, operation_of, operations_of, Cancels, GivesAny}
+use Rattle.linear.specs.Results.{GivesInRange, GivesResult, GivesMultiple, IsOf, IsSymbolOf, IsNamed, AreCorners, IsProductRange, IsQuotientRange}
+use Rattle.linear.proofs.KnownLaws.{with_value, gives_here}
+use Rattle.linear.proofs.LinearLaws.{symbol_at, reach}
+use Rattle.linear.proofs.SymbolLaws.{operation_closed, operation_valued, new_gives, corner_low, corner_high, no_terms, flipped}
+use Rattle.linear.proofs.HeldLemmas.{in_range_append, ranges_below, one_more}
+
+-- ---- what is known
+
+same_as : (a b : ℤ) → a +ℤ (negsuc 0 *ℤ b) ≡ pos 0 → b ≡ a
+same_as a b h = omega (arith, ints)
+
+pub is_of_by : (o : Named) (d : Bool) (l m : Linear) → o.divides ≡ d → Cancels o.left (negsuc 0) l → Cancels o.right (negsuc 0) m → IsOf o d l m
+is_of_by o d l m e x y = record { divides = e; left = λ r. same_as (number_at r o.left) (number_at r l) (x r); right = λ r. same_as (number_at r o.right) (number_at r m) (y r) }
+
+named_below : (ns : List Named) (i : ℕ) (d : Named) (n : ℕ) → i < length ns → OperationsBelow n (operations_of ns) → (get_or ns i d).symbol < n
+named_below [] i d n l h = absurd (omega arith)
+named_below (o ∷ ns) zero d n l h = h.0
+named_below (o ∷ ns) (suc i) d n l h = named_below ns i d n (omega arith) h.3
+
+named_value : (ns : List Named) (i : ℕ) (d : Named) (r : Valuation) → i < length ns → AreResults r (operations_of ns)
+    → r (get_or ns i d).symbol ≡ result (get_or ns i d).divides (number_at r (get_or ns i d).left) (number_at r (get_or ns i d).right)
+named_value [] i d r l h = absurd (omega arith)
+named_value (o ∷ ns) zero d r l h = h.0
+named_value (o ∷ ns) (suc i) d r l h = named_value ns i d r (omega arith) h.1
+
+pub named_at : (ns : List Named) (i : ℕ) (o : Named) (d : Bool) (l m : Linear) → i < length ns → o ≡ get_or ns i o → IsOf o d l m → IsNamed (operations_of ns) d l m o.symbol
+named_at ns i o d l m h is y = record {
+  below = λ n b. subst (λ (x : Named). x.symbol < n) (sym is) (named_below ns i o n h b);
+  value = λ r a.
+      subst (λ (x : Named). r x.symbol ≡ result x.divides (number_at r x.left) (number_at r x.right)) (sym is) (named_value ns i o r h a)
+      ∙ ap (λ b. result b (number_at r o.left) (number_at r o.right)) y.divides ∙ ap (λ z. result d z (number_at r o.right)) (sym (y.left r)) ∙ ap (λ z. result d (number_at r l) z) (sym (y.right r));
+}
+
+pub named_gives : (k : Symbols) (d : Bool) (l m e : Linear) (x : ℕ) → IsNamed k.operations d l m x → e ≡ symbol x → GivesResult d k k l m e
+named_gives k d l m e x h i r c v a b =
+    subst (λ (y : Linear). Gives k r (k, y) (result d (number_at r l) (number_at r m))) (sym i)
+    (gives_here k r (symbol x) (result d (number_at r l) (number_at r m)) c v (h.below k.next c.operations, tt) (sym (symbol_at r x ∙ h.value r v.operations)))
+
+-- ---- a new symbol
+
+results_both : (r : Valuation) (os ps : List Operation) → AreResults r os → AreResults r ps → AreResults r (os ++ ps)
+results_both r [] ps h k = k
+results_both r (o ∷ os) ps h k = (h.0, results_both r os ps h.1 k)
+
+below_both_ways : (n : ℕ) (os ps : List Operation) → OperationsBelow n os → OperationsBelow n ps → OperationsBelow n (os ++ ps)
+below_both_ways n [] ps h k = k
+below_both_ways n (o ∷ os) ps h k = (h.0, h.1, h.2, below_both_ways n os ps h.3 k)
+
+operations_append : (ns : List Named) (o : Named) → operations_of (ns ++ o ∷ []) ≡ operations_of ns ++ operation_of o ∷ []
+operations_append [] o = refl
+operations_append (n ∷ ns) o = ap (λ os. operation_of n ∷ os) (operations_append ns o)
+
+operation_held : (bs : List Bounds) (b : Bounds) (fs ds : List Linear) (os : List Operation) (d : Bool) (l m : Linear)
+    → GivesInRange d b.least b.greatest (symbols_of bs fs ds os) (symbols_of (bs ++ b ∷ []) fs ds (os ++ (record { divides = d; left = l; right = m; symbol = length bs }) ∷ [])) l m
+    (symbol (length bs))
+operation_held bs b fs ds os d l m r c v x y f g =
+    let k = symbols_of bs fs ds os in
+    let o : Operation = record { divides = d; left = l; right = m; symbol = length bs } in
+    let z = symbols_of (bs ++ b ∷ []) fs ds (os ++ o ∷ []) in
+    let n = result d (number_at r l) (number_at r m) in
+    let e = one_more bs b in
+    let h = operation_closed k d l m b.least b.greatest c x y in
+    let w = operation_valued k r d l m b.least b.greatest n c v x y refl f g in
+    let q = with_value r (length bs) n in
+    let i : length bs ≡ 0 + length bs = omega arith in
+    new_gives k r n z e
+    (record {
+      ranges = ranges_below (length (bs ++ b ∷ [])) 0 (bs ++ b ∷ []) (omega arith);
+      facts = subst (λ p. FactsBelow p fs) (sym e) h.facts;
+      apart = subst (λ p. FactsBelow p ds) (sym e) h.apart;
+      operations = subst (λ p. OperationsBelow p (os ++ o ∷ [])) (sym e) (below_both_ways (suc (length bs)) os (o ∷ []) h.operations.3 (h.operations.0, h.operations.1, h.operations.2, tt));
+    })
+    (record {
+      ranges = in_range_append q 0 bs b w.ranges.2 (subst (λ p. IsFrom b.least (q p)) i w.ranges.0) (subst (λ p. IsUpTo b.greatest (q p)) i w.ranges.1);
+      facts = w.facts;
+      apart = w.apart;
+      operations = results_both q os (o ∷ []) w.operations.1 (w.operations.0, tt);
+    })
+
+pub put_operation_held : (bs cs : List Bounds) (b : Bounds) (fs ds : List Linear) (ns ps : List Named) (d : Bool) (l m e : Linear) (n : ℕ) → cs ≡ bs ++ b ∷ [] → n ≡ length bs → e ≡ symbol n
+    → ps ≡ ns ++ (record { divides = d; left = l; right = m; symbol = n }) ∷ []
+    → GivesInRange d b.least b.greatest (symbols_of bs fs ds (operations_of ns)) (symbols_of cs fs ds (operations_of ps)) l m e
+put_operation_held bs cs b fs ds ns ps d l m e n p q i j =
+    let o : Named = record { divides = d; left = l; right = m; symbol = length bs } in
+    let h : operations_of ps ≡ operations_of ns ++ operation_of o ∷ [] =
+    ap operations_of (j ∙ ap (λ x. ns ++ (record { divides = d; left = l; right = m; symbol = x }) ∷ []) q) ∙ operations_append ns o in
+    subst (λ xs. GivesInRange d b.least b.greatest (symbols_of bs fs ds (operations_of ns)) (symbols_of xs fs ds (operations_of ps)) l m e) (sym p)
+    (subst (λ x. GivesInRange d b.least b.greatest (symbols_of bs fs ds (operations_of ns)) (symbols_of (bs ++ b ∷ []) fs ds (operations_of ps)) l m x) (sym (i ∙ ap symbol q))
+    (subst (λ os. GivesInRange d b.least b.greatest (symbols_of bs fs ds (operations_of ns)) (symbols_of (bs ++ b ∷ []) fs ds os) l m (symbol (length bs))) (sym h)
+    (operation_held bs b fs ds (operations_of ns) d l m)))
+
+-- ---- ranges of products
+
+under_min : (n a b : ℤ) → n ≤ℤ a → n ≤ℤ b → n ≤ℤ int_min a b
+under_min n a b h k = by_test (int_lt b a)
+  where
+    by_test : (t : Bool) → n ≤ℤ cond t b a
+    by_test true = k
+    by_test false = h
+
+over_max : (n a b : ℤ) → a ≤ℤ n → b ≤ℤ n → int_max a b ≤ℤ n
+over_max n a b h k = by_test (int_lt b a)
+  where
+    by_test : (t : Bool) → cond t a b ≤ℤ n
+    by_test true = h
+    by_test false = k
+
+-- bounds of four numbers
+pub record AreAround (low high p q s t : ℤ) : Type 0 where
+  pub low_p : low ≤ℤ p
+  pub low_q : low ≤ℤ q
+  pub low_s : low ≤ℤ s
+  pub low_t : low ≤ℤ t
+  pub high_p : p ≤ℤ high
+  pub high_q : q ≤ℤ high
+  pub high_s : s ≤ℤ high
+  pub high_t : t ≤ℤ high
+
+pub corners_are : (a b c d ca da cb db low high : ℤ) → ca ≡ c *ℤ a → da ≡ d *ℤ a → cb ≡ c *ℤ b → db ≡ d *ℤ b → AreAround low high ca da cb db → AreCorners a b c d (low, high)
+corners_are a b c d ca da cb db low high p q s t o = record {
+  low = λ x y h k l m.
+      reach low (int_min (int_min (c *ℤ a) (d *ℤ a)) (int_min (c *ℤ b) (d *ℤ b))) (x *ℤ y)
+      (under_min low (int_min (c *ℤ a) (d *ℤ a)) (int_min (c *ℤ b) (d *ℤ b))
+      (under_min low (c *ℤ a) (d *ℤ a) (subst (λ z. low ≤ℤ z) p o.low_p) (subst (λ z. low ≤ℤ z) q o.low_q))
+      (under_min low (c *ℤ b) (d *ℤ b) (subst (λ z. low ≤ℤ z) s o.low_s) (subst (λ z. low ≤ℤ z) t o.low_t)))
+      (corner_low a b c d x y h k l m);
+  high = λ x y h k l m.
+      reach (x *ℤ y) (int_max (int_max (c *ℤ a) (d *ℤ a)) (int_max (c *ℤ b) (d *ℤ b))) high (corner_high a b c d x y h k l m)
+      (over_max high (int_max (c *ℤ a) (d *ℤ a)) (int_max (c *ℤ b) (d *ℤ b))
+      (over_max high (c *ℤ a) (d *ℤ a) (subst (λ z. z ≤ℤ high) p o.high_p) (subst (λ z. z ≤ℤ high) q o.high_q))
+      (over_max high (c *ℤ b) (d *ℤ b) (subst (λ z. z ≤ℤ high) s o.high_s) (subst (λ z. z ≤ℤ high) t o.high_t)));
+}
+
+pub no_range : (a b c d : Option ℤ) → IsProductRange a b c d None None
+no_range a b c d = record { low = λ x y h k l m. tt; high = λ x y h k l m. tt }
+
+pub corners_range : (a b c d low high : ℤ) → AreCorners a b c d (low, high) → IsProductRange (Some a) (Some b) (Some c) (Some d) (Some low) (Some high)
+corners_range a b c d low high h = record { low = h.low; high = h.high }
+
+-- ---- products
+
+pub multiple_times : (k : Symbols) (l e : Linear) (p : ℤ) → StandsFor (λ r. p *ℤ number_at r l) (λ n. IsBelow n l) e → GivesMultiple p k k l e
+multiple_times k l e p s r c v b = gives_here k r e (p *ℤ number_at r l) c v (s.below k.next b) (sym (s.number r))
+
+pub multiple_unknown : (k m : Symbols) (l e : Linear) (p : ℤ) → GivesAny k m e None None → GivesMultiple p k m l e
+multiple_unknown k m l e p h r c v b = h r (p *ℤ number_at r l) c v tt tt
+
+pub product_left : (k z : Symbols) (l m e : Linear) (p : ℤ) → p ≡ l.constant → l.terms ≡ [] → GivesMultiple p k z m e → GivesResult false k z l m e
+product_left k z l m e p q n h r c v x y = subst (λ w. Gives k r (z, e) (w *ℤ number_at r m)) (q ∙ sym (no_terms r l n)) (h r c v y)
+
+pub product_right : (k z : Symbols) (l m e : Linear) (p : ℤ) → p ≡ m.constant → m.terms ≡ [] → GivesMultiple p k z l e → GivesResult false k z l m e
+product_right k z l m e p q n h r c v x y =
+    subst (λ w. Gives k r (z, e) w) (flipped p (number_at r l) ∙ ap (λ w. number_at r l *ℤ w) (q ∙ sym (no_terms r m n))) (h r c v x)
+
+pub product_ranged : (k z : Symbols) (l m e : Linear) (a b c d low high : Option ℤ) → IsFromAll k.ranges k.facts (λ r. number_at r l) a → IsUpToAll k.ranges k.facts (λ r. number_at r l) b
+    → IsFromAll k.ranges k.facts (λ r. number_at r m) c → IsUpToAll k.ranges k.facts (λ r. number_at r m) d → IsProductRange a b c d low high → GivesInRange false low high k z l m e → GivesResult
+    false k z l m e
+product_ranged k z l m e a b c d low high f g h i p o r cl v x y =
+    o r cl v x y
+    (p.low (number_at r l) (number_at r m) (f r v.ranges v.facts) (g r v.ranges v.facts) (h r v.ranges v.facts) (i r v.ranges v.facts))
+    (p.high (number_at r l) (number_at r m) (f r v.ranges v.facts) (g r v.ranges v.facts) (h r v.ranges v.facts) (i r v.ranges v.facts))
+
+pub quotient_ranged : (k z : Symbols) (l m e : Linear) (a b c d low high : Option ℤ) → IsFromAll k.ranges k.facts (λ r. number_at r l) a → IsUpToAll k.ranges k.facts (λ r. number_at r l) b
+    → IsFromAll k.ranges k.facts (λ r. number_at r m) c → IsUpToAll k.ranges k.facts (λ r. number_at r m) d → IsQuotientRange a b c d low high → GivesInRange true low high k z l m e → GivesResult
+    true k z l m e
+quotient_ranged k z l m e a b c d low high f g h i p o r cl v x y =
+    o r cl v x y
+    (p.low (number_at r l) (number_at r m) (f r v.ranges v.facts) (g r v.ranges v.facts) (h r v.ranges v.facts) (i r v.ranges v.facts))
+    (p.high (number_at r l) (number_at r m) (f r v.ranges v.facts) (g r v.ranges v.facts) (h r v.ranges v.facts) (i r v.ranges v.facts))
+
+pub in_any_range : (d : Bool) (low high : Option ℤ) (k m : Symbols) (l n e : Linear) → GivesResult d k m l n e → GivesInRange d low high k m l n e
+in_any_range d low high k m l n e h r c v x y f g = h r c v x y
+
+pub symbol_named : (ns : List Named) (i : ℕ) (o : Named) (d : Bool) (l m : Linear) (x : ℕ) → i < length ns → o ≡ get_or ns i o → IsSymbolOf o d l m x → IsNamed (operations_of ns) d l m x
+symbol_named ns i o d l m x h is s = subst (λ y. IsNamed (operations_of ns) d l m y) (sym s.1) (named_at ns i o d l m h is s.0)

@@ -1,0 +1,7 @@
+use Rattle.std.proofs.Common.{◌*ℤ◌}
+use Rattle.linear.specs.Linear.{number_at}
+use Rattle.linear.specs.Bounded.{numbered, IsFromAll}
+use Rattle.linear.proofs.bounds.least_by_facts.Given as goal
+
+abbrev pub invariant-loop-at : goal.invariant-loop-at
+invariant-loop-at l = IsFromAll (numbered 0 l.bounds) l.facts (λ r. l.factor *ℤ number_at r l.expression) l.best

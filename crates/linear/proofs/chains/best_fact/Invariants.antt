@@ -1,0 +1,6 @@
+use Rattle.std.proofs.Common.{◌<◌, length}
+use Rattle.std.specs.Option.{IfSome}
+use Rattle.linear.proofs.chains.best_fact.Given as goal
+
+abbrev pub invariant-loop-at : goal.invariant-loop-at
+invariant-loop-at l = IfSome l.found (λ at. at < length l.facts)

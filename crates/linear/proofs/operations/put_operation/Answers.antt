@@ -1,0 +1,15 @@
+use Rattle.std.proofs.Common.{◌≡◌, [], ◌∷◌, ◌++◌, length, ap, ◌∙◌, arith}
+use Rattle.linear.specs.Linear.{Linear}
+use Rattle.linear.proofs.ResultLemmas.{put_operation_held}
+use Rattle.linear.proofs.operations.put_operation.Goals as goal
+
+pub returns : goal.returns
+returns c = λ fs ds.
+    let n : c.len-symbol.result ≡ length c.args.bounds.now.items = omega (arith, c.len-symbol.ensures, c.args.bounds.now.ok.0) in
+    let j : c.push-2.new.self ≡ c.args.operations.now ++ (record { divides = c.args.divides; left = c.args.first.now; right = c.args.second.now; symbol = c.len-symbol.result }) ∷ [] =
+    c.in_ok-push-2.ensures.added
+    ∙ ap (λ (x : Linear). c.args.operations.now ++ (record { divides = c.args.divides; left = x; right = c.in_ok-right.right; symbol = c.len-symbol.result }) ∷ []) c.in_ok-left.ensures
+    ∙ ap (λ (x : Linear). c.args.operations.now ++ (record { divides = c.args.divides; left = c.args.first.now; right = x; symbol = c.len-symbol.result }) ∷ []) c.in_ok-right.ensures in
+    put_operation_held c.args.bounds.now.items c.push.new.self.items c.args.range fs ds c.args.operations.now c.push-2.new.self c.args.divides c.args.first.now c.args.second.now c.in_ok-e.e
+    c.len-symbol.result c.in_ok-push.ensures.items n
+    c.in_ok-e.ensures j

@@ -1,0 +1,64 @@
+-- What the code holds of symbols, and what its steps answer.
+use Rattle.std.specs.Prelude.{◌≡◌, ℕ, ℤ, pos, ◌+ℤ◌, ◌*ℤ◌, ◌≤ℤ◌, Bool, true, List, [], ◌∷◌, length, Option}
+use Rattle.linear.specs.declared.bounds.Bounds.{Bounds}
+use Rattle.linear.specs.declared.named.Named.{Named}
+use Rattle.linear.specs.Linear.{Linear, Valuation, number_at, Range, IsBelow, IsFrom, IsUpTo, AreInRange, AreNatural}
+use Rattle.linear.specs.Bounded.{numbered}
+use Rattle.linear.specs.Symbols.{Symbols, Operation, AreApart, IsValued, IsClosed, Knows, Gives}
+
+abbrev pub operation_of : Named → Operation
+operation_of o = record { divides = o.divides; left = o.left; right = o.right; symbol = o.symbol }
+
+abbrev pub operations_of : List Named → List Operation
+operations_of [] = []
+operations_of (o ∷ os) = operation_of o ∷ operations_of os
+
+-- the ranges of symbols in their order, facts, what isn't 0, and named operations
+abbrev pub symbols_of : List Bounds → List Linear → List Linear → List Operation → Symbols
+symbols_of bs fs ds os = record { next = length bs; ranges = numbered 0 bs; facts = fs; apart = ds; operations = os }
+
+-- whatever numbers symbols stand for: the expression stands for a number that may be any in the range
+abbrev pub GivesAny : Symbols → Symbols → Linear → Option ℤ → Option ℤ → Type 0
+GivesAny k m e low high = (r : Valuation) (x : ℤ) → IsClosed k → IsValued r k → IsFrom low x → IsUpTo high x → Gives k r (m, e) x
+
+-- .. more is known where an expression is at least 0
+abbrev pub Learns : Symbols → Symbols → Linear → Type 0
+Learns k m l = (r : Valuation) → IsClosed k → IsValued r k → IsBelow k.next l → pos 0 ≤ℤ number_at r l → Knows k r m
+
+-- .. and that is said to be possible
+abbrev pub Assumes : Symbols → Symbols → Linear → Bool → Type 0
+Assumes k m l possible = (r : Valuation) → IsClosed k → IsValued r k → IsBelow k.next l → pos 0 ≤ℤ number_at r l → (possible ≡ true) × Knows k r m
+
+-- .. or where it isn't 0
+abbrev pub Distinguishes : Symbols → Symbols → Linear → Type 0
+Distinguishes k m l = (r : Valuation) → IsClosed k → IsValued r k → IsBelow k.next l → (number_at r l ≡ pos 0 → ⊥) → Knows k r m
+
+-- the range of a symbol where an expression is at least 0
+abbrev pub IsRangeBy : List Bounds → Linear → ℕ → Bounds → Type 0
+IsRangeBy bs l x b = (r : Valuation) → AreInRange r (numbered 0 bs) → pos 0 ≤ℤ number_at r l → IsFrom b.least (r x) × IsUpTo b.greatest (r x)
+
+-- ranges of the same symbols, narrower where an expression is at least 0
+pub record AreNarrowed (bs cs : List Bounds) (l : Linear) : Type 0 where
+  pub same : length cs ≡ length bs
+  pub ranges : (r : Valuation) → AreInRange r (numbered 0 bs) → pos 0 ≤ℤ number_at r l → AreInRange r (numbered 0 cs)
+
+-- an expression and q times another are 0 together
+abbrev pub Cancels : Linear → ℤ → Linear → Type 0
+Cancels d q l = (r : Valuation) → number_at r d +ℤ (q *ℤ number_at r l) ≡ pos 0
+
+-- an expression isn't 0 where another isn't
+abbrev pub RulesOut : Linear → Linear → Type 0
+RulesOut d l = (r : Valuation) → (number_at r d ≡ pos 0 → ⊥) → number_at r l ≡ pos 0 → ⊥
+
+-- an expression is never 0 where these aren't
+abbrev pub IsNever : List Linear → Linear → Type 0
+IsNever ds l = (r : Valuation) → AreApart r ds → number_at r l ≡ pos 0 → ⊥
+
+-- over the same symbols, and at least 0 where the other is and these aren't 0
+pub record IsSharpened (ds : List Linear) (l e : Linear) : Type 0 where
+  pub below : (n : ℕ) → IsBelow n l → IsBelow n e
+  pub natural : (r : Valuation) → AreApart r ds → pos 0 ≤ℤ number_at r l → pos 0 ≤ℤ number_at r e
+
+-- an expression is below 0, whatever symbols stand for, as far as ranges and facts allow
+abbrev pub IsRefuted : List Range → List Linear → Linear → Type 0
+IsRefuted es fs l = (r : Valuation) → AreInRange r es → AreNatural r fs → pos 0 ≤ℤ number_at r l → ⊥

@@ -1,0 +1,98 @@
+//! Ranges that a fact makes narrower.
+ghost use Rattle.std.specs.Prelude.{◌≡◌, ℕ, ℤ, pos, ◌≤ℤ◌, IfOk, OnOk, length, List};
+ghost use Rattle.linear.specs.Linear.{Linear as Expression, Valuation, number_at, IsFrom, IsUpTo, AreInRange};
+ghost use Rattle.linear.specs.Bounded.{numbered};
+ghost use Rattle.linear.specs.Symbols.{Operation};
+ghost use Rattle.linear.specs.Held.{symbols_of, AreNarrowed, IsRangeBy, Learns};
+
+use crate::bounds::{Bounds, above_zero, greater, greatest_of, least_of, least_without, lesser};
+use crate::checked::negation;
+use crate::linear::Linear;
+use collections::{Items, Memory};
+
+// The range of a symbol with this coefficient in an expression that is at least 0.
+fn range_by(
+    bounds: &[Bounds],
+    expression: &Linear,
+    symbol: usize,
+    coefficient: i128,
+) -> Result<Bounds, Memory>
+    ensures { IfOk result (IsRangeBy bounds.now expression.now symbol) }
+{
+    let x = Linear::symbol(expression.memory(), symbol)?;
+    let least = least_of(bounds, symbol);
+    let greatest = greatest_of(bounds, symbol);
+    if coefficient > 0 {
+        let least = greater(least, lower_by(bounds, expression, &x, coefficient));
+        Ok(Bounds { least, greatest })
+    } else {
+        let greatest = lesser(greatest, upper_by(bounds, expression, &x, coefficient));
+        Ok(Bounds { least, greatest })
+    }
+}
+
+// A lower bound of an expression that another, which is at least 0, has so many times.
+fn lower_by(
+    bounds: &[Bounds],
+    expression: &Linear,
+    wanted: &Linear,
+    coefficient: i128,
+) -> Option<i128>
+    ensures { (r : Valuation) → AreInRange r (numbered 0 bounds.now) → pos 0 ≤ℤ number_at r expression.now → IsFrom result (number_at r wanted.now) }
+{
+    let m = above_zero(coefficient)?;
+    least_without(bounds, 1, wanted, m, -1, expression)
+}
+
+// An upper bound, where the coefficient is below 0.
+fn upper_by(
+    bounds: &[Bounds],
+    expression: &Linear,
+    wanted: &Linear,
+    coefficient: i128,
+) -> Option<i128>
+    ensures { (r : Valuation) → AreInRange r (numbered 0 bounds.now) → pos 0 ≤ℤ number_at r expression.now → IsUpTo result (number_at r wanted.now) }
+{
+    let m = above_zero(coefficient)?;
+    let bound = least_without(bounds, -1, wanted, m, -1, expression)?;
+    negation(bound)
+}
+
+// Makes the range of one symbol narrower.
+fn narrow_one(
+    bounds: &mut Vec<Bounds>,
+    expression: &Linear,
+    symbol: usize,
+    coefficient: i128,
+) -> Result<(), Memory>
+    ensures { OnOk result (AreNarrowed bounds.old.items bounds.new.items expression.now) }
+{
+    let range = range_by(bounds, expression, symbol, coefficient)?;
+    if symbol < bounds.len() {
+        bounds[symbol] = range;
+    }
+    Ok(())
+}
+
+// Makes the range of each symbol of an expression that is at least 0 narrower.
+fn narrow(bounds: &mut Vec<Bounds>, expression: &Linear) -> Result<(), Memory>
+    ensures { OnOk result (AreNarrowed bounds.old.items bounds.new.items expression.now) }
+{
+    for term in expression.terms() {
+        narrow_one(bounds, expression, term.0, term.1)?;
+    }
+    Ok(())
+}
+
+/// One fact more, which makes ranges narrower.
+pub(crate) fn put_fact(
+    bounds: &mut Vec<Bounds>,
+    facts: &mut Items<Linear>,
+    fact: Linear,
+) -> Result<(), Memory>
+    ensures { OnOk result ((ds : List Expression) (os : List Operation) → Learns (symbols_of bounds.old.items facts.old ds os) (symbols_of bounds.new.items facts.new ds os) fact) }
+{
+    narrow(bounds, &fact)?;
+    facts.push(fact)?;
+    Ok(())
+}

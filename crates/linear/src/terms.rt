@@ -1,0 +1,124 @@
+//! Terms: symbols with their coefficients, the newest symbol first.
+ghost use Rattle.std.specs.Prelude.{◌≡◌, ◌≤◌, ◌+ℤ◌, ◌*ℤ◌, length, drop, IfOk, true};
+ghost use Rattle.std.specs.Option.{IfSome, MatchOption};
+ghost use Rattle.linear.specs.WalkSupport.{IsTaken, IsStep, IsPut, IsNext, AreCombined};
+
+use crate::checked::{product, sum};
+use collections::Memory;
+use std::alloc::Global;
+
+/// A symbol and its coefficient.
+pub type Term = (usize, i128);
+
+/// The most symbols of an expression: 32. Where a sum would have more there is no sum, which bounds the time
+/// and the memory of each step; the expressions of real contracts have a few.
+pub const MOST_SYMBOLS: usize = 32;
+
+// The newest symbol of what is left of two lists of terms; none where nothing is left.
+pub(crate) fn next_symbol(
+    left: &[Term],
+    left_at: usize,
+    right: &[Term],
+    right_at: usize,
+) -> Option<usize>
+    ensures { MatchOption result ((length left.now ≤ left_at) × (length right.now ≤ right_at)) (IsNext left.now left_at right.now right_at) }
+{
+    if left_at < left.len() {
+        if right_at < right.len() && left[left_at].0 < right[right_at].0 {
+            Some(right[right_at].0)
+        } else {
+            Some(left[left_at].0)
+        }
+    } else if right_at < right.len() {
+        Some(right[right_at].0)
+    } else {
+        None
+    }
+}
+
+// The coefficient of a term.
+pub(crate) fn number_of(term: &Term) -> i128
+    ensures { result ≡ term.now.1 }
+{
+    term.1
+}
+
+// A multiple of the coefficient of a symbol, 0 where the symbol doesn't come next, and where what is left begins.
+fn taken(factor: i128, terms: &[Term], at: usize, symbol: usize) -> Option<(i128, usize)>
+    requires { at ≤ length terms.now }
+    ensures { IfSome result (IsTaken factor terms.now at symbol) }
+{
+    if at < terms.len() && terms[at].0 == symbol {
+        let coefficient = product(factor, number_of(&terms[at]))?;
+        Some((coefficient, at + 1))
+    } else {
+        Some((0, at))
+    }
+}
+
+// A symbol's coefficient in a multiple of what is left of some terms and one of what is left of others, and where what
+// is left of each begins then.
+pub(crate) fn step(
+    factor: i128,
+    left: &[Term],
+    left_at: usize,
+    other_factor: i128,
+    right: &[Term],
+    right_at: usize,
+    symbol: usize,
+) -> Option<(i128, usize, usize)>
+    requires left { left_at ≤ length left.now }
+    requires right { right_at ≤ length right.now }
+    ensures { IfSome result (IsStep factor left.now left_at other_factor right.now right_at symbol) }
+{
+    let (a, k) = taken(factor, left, left_at, symbol)?;
+    let (b, l) = taken(other_factor, right, right_at, symbol)?;
+    let coefficient = sum(a, b)?;
+    Some((coefficient, k, l))
+}
+
+// Puts a symbol behind others, unless its coefficient is 0; false where there are too many.
+fn put(terms: &mut Vec<Term>, symbol: usize, coefficient: i128) -> Result<bool, Memory>
+    requires { length terms.old.items ≤ 32 }
+    ensures { IfOk result (λ done. done ≡ true → IsPut terms.old.items terms.new.items symbol coefficient) }
+{
+    if coefficient == 0 {
+        return Ok(true);
+    }
+    if terms.len() >= MOST_SYMBOLS {
+        return Ok(false);
+    }
+    terms.push((symbol, coefficient))?;
+    Ok(true)
+}
+
+/// The terms of a multiple of some and one of others, added; none where a coefficient leaves 128 bits or there are too many.
+pub(crate) fn combined(
+    alloc: Global,
+    factor: i128,
+    left: &[Term],
+    other_factor: i128,
+    right: &[Term],
+) -> Result<Option<Vec<Term>>, Memory>
+    ensures { IfOk result (λ o. IfSome o (λ out. AreCombined factor left.now other_factor right.now out.items)) }
+{
+    let mut out = Vec::new(alloc);
+    let mut i = 0;
+    let mut j = 0;
+    for _ in 0..2 * MOST_SYMBOLS + 1 {
+        match next_symbol(left, i, right, j) {
+            None => return Ok(Some(out)),
+            Some(symbol) => match step(factor, left, i, other_factor, right, j, symbol) {
+                None => return Ok(None),
+                Some((coefficient, k, l)) => {
+                    if !put(&mut out, symbol, coefficient)? {
+                        return Ok(None);
+                    }
+                    i = k;
+                    j = l;
+                }
+            },
+        }
+    }
+    Ok(None)
+}

@@ -1,0 +1,5 @@
+mod PlacesLemmas
+mod LinesLemmas
+mod RunsLemmas
+mod AnalysedLemmas
+mod ReadLemmas

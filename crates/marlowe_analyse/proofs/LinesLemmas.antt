@@ -1,0 +1,107 @@
+-- Lines behind lines.
+use Rattle.std.proofs.Common.{◌≡◌, ℕ, ◌+◌, ◌<◌, Bool, true, false, List, [], ◌∷◌, ◌++◌, map, take, length, refl, sym, ap, ◌∙◌, subst, append_assoc, Option, Some, None}
+use Rattle.std.specs.Prelude.{flat_map, codes, ◌==◌}
+use Rattle.std.proofs.Math.ListN.{get_or}
+use Rattle.std.proofs.lemmas.List.{take_more, flat_map_more, get_or_default}
+use Rattle.contract.specs.declared.transaction.Transaction.{Transaction}
+use Rattle.analysis_walk.specs.declared.paid.PaidRange.{PaidRange}
+use Rattle.json.specs.Print.{print}
+use Rattle.json.specs.Written.{Written}
+use Rattle.serde_json.specs.Data.{Data, array, string}
+use Rattle.serde_json.specs.View.{items_of}
+use Rattle.serde_json.specs.Written.{compact_text}
+use Rattle.serde_json.proofs.Texts.{print-outline}
+use Rattle.json_write_contracts.specs.Tokens.{Puts, data_tokens}
+use Rattle.marlowe_analyse.specs.declared.told.Key.{Key}
+use Rattle.marlowe_analyse.specs.declared.told.ToldAlarm.{ToldAlarm}
+use Rattle.marlowe_analyse.specs.declared.told.Key.TheVariants as keys
+use Rattle.marlowe_analyse.specs.Places.{key_word}
+use Rattle.marlowe_analyse.specs.ToldLines.{line_of}
+use Rattle.marlowe_analyse.specs.Lines.{key_text, transaction_line, run_lines, alarm_lines, alarms_lines}
+use Rattle.marlowe_analyse.specs.Tools.{key_json, alarm_json, told_json}
+use Rattle.marlowe_analyse.proofs.AnalysedLemmas.{not_zero}
+
+-- two pieces, three, four
+pub two_pieces : (a b c x y : List ℕ) → b ≡ a ++ x → c ≡ b ++ y → c ≡ a ++ (x ++ y)
+two_pieces a b c x y e f = f ∙ ap (λ z. z ++ y) e ∙ append_assoc a x y
+
+pub three_pieces : (a b c d x y z : List ℕ) → b ≡ a ++ x → c ≡ b ++ y → d ≡ c ++ z → d ≡ a ++ (x ++ (y ++ z))
+three_pieces a b c d x y z e f g = two_pieces a b d x (y ++ z) e (two_pieces b c d y z f g)
+
+pub four_pieces : (a b c d e x y z w : List ℕ) → b ≡ a ++ x → c ≡ b ++ y → d ≡ c ++ z → e ≡ d ++ w → e ≡ a ++ (x ++ (y ++ (z ++ w)))
+four_pieces a b c d e x y z w f g h i = two_pieces a b e x (y ++ (z ++ w)) f (three_pieces b c d e y z w g h i)
+
+-- one piece more
+pub piece_more : {X : Type 0} (f : X → List ℕ) (xs : List X) (i : ℕ) (x : X) (a b c : List ℕ) → i < length xs → x ≡ get_or xs i x → b ≡ a ++ flat_map f (take i xs) → c ≡ b ++ f x → c ≡ a ++ flat_map f (take (i + 1) xs)
+piece_more f xs i x a b c l is e g =
+    g ∙ ap (λ z. z ++ f x) e ∙ flat_map_more f a (take i xs) x ∙ ap (λ ys. a ++ flat_map f ys) (sym (take_more xs i x l ∙ ap (λ y. take i xs ++ y ∷ []) (sym is)))
+
+pub piece_more_at : {X : Type 0} (d : X) (f : X → List ℕ) (xs : List X) (i : ℕ) (a b c : List ℕ) → i < length xs → b ≡ a ++ flat_map f (take i xs) → c ≡ b ++ f (get_or xs i d) → c ≡ a ++ flat_map f (take (i + 1) xs)
+piece_more_at d f xs i a b c l e g = piece_more f xs i (get_or xs i d) a b c l (get_or_default xs i d (get_or xs i d) l) e g
+
+-- a key that is no place of an item
+pub word_text : (key : Key) → ((n : ℕ) → key ≡ keys.Item n → ⊥) → key_text key ≡ codes "." ++ key_word key
+word_text (keys.Item n) h = absurd (h n refl)
+word_text keys.Then h = refl
+word_text keys.Else h = refl
+word_text keys.TimeoutContinuation h = refl
+word_text keys.When h = refl
+word_text keys.Case h = refl
+word_text keys.Close h = refl
+word_text keys.Pay h = refl
+word_text keys.If h = refl
+word_text keys.Let h = refl
+word_text keys.Assert h = refl
+word_text keys.Deposits h = refl
+word_text keys.ChooseBetween h = refl
+word_text keys.NotifyIf h = refl
+
+-- lines of told alarms
+pub lines_each : (ts : List ToldAlarm) → flat_map alarm_lines (map line_of ts) ≡ flat_map (λ t. alarm_lines (line_of t)) ts
+lines_each [] = refl
+lines_each (t ∷ ts) = ap (λ ls. alarm_lines (line_of t) ++ ls) (lines_each ts)
+
+pub lines_some : (ts : List ToldAlarm) (b : Bool) → b ≡ (length ts == 0) → b ≡ false → flat_map (λ t. alarm_lines (line_of t)) ts ≡ alarms_lines (map line_of ts)
+lines_some [] b e h = absurd (cc)
+lines_some (t ∷ ts) b e h = sym (lines_each (t ∷ ts))
+
+pub lines_none : (ts : List ToldAlarm) (b : Bool) → b ≡ (length ts == 0) → b ≡ true → codes "never warns, stays within 128 bits" ++ 10 ∷ [] ≡ alarms_lines (map line_of ts)
+lines_none [] b e h = refl
+lines_none (t ∷ ts) b e h = absurd (not_zero (length ts) b e h)
+
+-- a run that is known
+pub run_pieces : (a b d : List ℕ) (o : Option (List Transaction)) (ts us : List Transaction) → o ≡ Some ts → us ≡ ts → b ≡ a ++ (codes ", by this run:" ++ 10 ∷ []) → d ≡ b ++ flat_map transaction_line us → d ≡ a ++ run_lines o
+run_pieces a b d o ts us e f g h =
+    two_pieces a b d (codes ", by this run:" ++ 10 ∷ []) (flat_map transaction_line us) g h ∙ ap (λ (xs : List Transaction). a ++ ((codes ", by this run:" ++ 10 ∷ []) ++ flat_map transaction_line xs)) f
+    ∙ ap (λ (z : Option (List Transaction)). a ++ run_lines z) (sym e)
+
+-- what a party is paid
+pub range_pieces : (p q t u b d line : List ℕ) → line ≡ p ++ (codes " " ++ (t ++ (codes " " ++ (b ++ codes "\n")))) → p ≡ q → t ≡ u → b ≡ d → line ≡ q ++ (codes " " ++ (u ++ (codes " " ++ (d ++ 10 ∷ []))))
+range_pieces p q t u b d line e f g h =
+    e ∙ ap (λ x. x ++ (codes " " ++ (t ++ (codes " " ++ (b ++ codes "\n"))))) f ∙ ap (λ x. q ++ (codes " " ++ (x ++ (codes " " ++ (b ++ codes "\n"))))) g ∙ ap (λ x. q ++ (codes " " ++ (u ++ (codes " " ++ (x ++ codes "\n"))))) h
+
+-- ---- JSON
+
+map_after : {X Y Z : Type 0} (f : Y → Z) (g : X → Y) (xs : List X) → map (λ x. f (g x)) xs ≡ map f (map g xs)
+map_after f g [] = refl
+map_after f g (x ∷ xs) = ap (λ zs. f (g x) ∷ zs) (map_after f g xs)
+
+pub alarms_put : (a b : Written) (ts : List ToldAlarm) → Puts a b (array (items_of (map (λ t. alarm_json (line_of t)) ts))) → Puts a b (array (items_of (map alarm_json (map line_of ts))))
+alarms_put a b ts h = subst (λ (ds : List Data). Puts a b (array (items_of ds))) (map_after alarm_json line_of ts) h
+
+pub word_put : (a b : Written) (w v : List ℕ) → w ≡ v → Puts a b (string w) → Puts a b (string v)
+word_put a b w v e h = subst (λ (x : List ℕ). Puts a b (string x)) e h
+
+pub place_put : (a b : Written) (ks ls : List Key) → ks ≡ ls → Puts a b (array (items_of (map key_json ks))) → Puts a b (array (items_of (map key_json ls)))
+place_put a b ks ls e h = subst (λ (x : List Key). Puts a b (array (items_of (map key_json x)))) e h
+
+pub told_put : (a b : Written) (ts us : List ToldAlarm) (rs qs : List PaidRange) → ts ≡ us → rs ≡ qs → Puts a b (told_json (map line_of ts) rs) → Puts a b (told_json (map line_of us) qs)
+told_put a b ts us rs qs e f h = subst (λ (x : List PaidRange). Puts a b (told_json (map line_of us) x)) f (subst (λ (x : List ToldAlarm). Puts a b (told_json (map line_of x) rs)) e h)
+
+-- the text of a whole value, from a new writer
+module _ (a b : Written) (start bytes : List ℕ) (d : Data) (empty : start ≡ []) (before : a.before ≡ start) (none : a.tokens ≡ []) (put : Puts a b d) (is : bytes ≡ b.before ++ print b.tokens) where
+  whole_tokens : b.tokens ≡ data_tokens d
+  whole_tokens = put.tokens ∙ ap (λ ts. ts ++ data_tokens d) none
+
+  pub whole_text : bytes ≡ compact_text d
+  whole_text = is ∙ ap (λ xs. xs ++ print b.tokens) (put.before ∙ before ∙ empty) ∙ ap print whole_tokens ∙ print-outline d

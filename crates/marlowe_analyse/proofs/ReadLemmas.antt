@@ -1,0 +1,75 @@
+-- What is read, and what is told of it.
+use Rattle.std.proofs.Common.{◌≡◌, ◌≢◌, ℕ, Bool, true, List, refl, sym, ap, ◌∙◌, subst, Option, Result, Ok, Err, MatchResult}
+use Rattle.std.specs.Prelude.{IfOk}
+use Rattle.collections.specs.Answers.{◌>>=◌, AsideBy}
+use Rattle.contract.specs.declared.tree.Contract.{Contract}
+use Rattle.contract.specs.Tree.{ContractTree, contract_tree}
+use Rattle.states.specs.States.{StateMaps}
+use Rattle.json_read_names.specs.declared.fault.JsonFault.{JsonFault}
+use Rattle.json_read_names.specs.declared.fault.JsonFault.TheVariants as json
+use Rattle.marlowe_run.specs.declared.fault.RunFault.{RunFault}
+use Rattle.marlowe_run.specs.declared.fault.RunFault.TheVariants as run
+use Rattle.marlowe_run.specs.Faults.{read_as, contract_fault, state_fault}
+use Rattle.json_read_names.specs.ReadsText.{of_text}
+use Rattle.json_read_contracts.specs.ReadsContract.{contract}
+use Rattle.marlowe_analyse.specs.declared.analysed.Analysed.{Analysed}
+use Rattle.marlowe_analyse.specs.declared.analysed.Reader.{Reader}
+use Rattle.marlowe_analyse.specs.Told.{start_of}
+use Rattle.marlowe_analyse.specs.Printed.{is_read, IsClear, TellsOfTree, TellsSo}
+use Rattle.marlowe_analyse.specs.RunsSupport.{TellsFrom, is_started}
+use Rattle.marlowe_analyse.proofs.AnalysedLemmas.{never_alarms}
+
+-- a contract and a state are read
+abbrev read_both : Result Contract JsonFault → Result StateMaps JsonFault → Result (StateMaps × ContractTree) RunFault
+read_both o r = read_as contract_fault o >>= λ given. read_as state_fault r >>= λ s. Ok (s, contract_tree given)
+
+abbrev are_read : Result Contract JsonFault → Result StateMaps JsonFault → Result (Unit {0}) RunFault
+are_read o r = read_both o r >>= λ _. Ok tt
+
+the_parts : (o : Result Contract JsonFault) (r : Result StateMaps JsonFault) (given : Contract) (s : StateMaps) (c : ContractTree) → o ≡ Ok given → read_both o r ≡ Ok (s, c) → (r ≡ Ok s) × (contract_tree given ≡ c)
+the_parts (Err f) r given s c e h = absurd (cc)
+the_parts (Ok g) (Err f) given s c e h = absurd (cc)
+the_parts (Ok g) (Ok z) given s c e h =
+    let same : g ≡ given = cc in
+    let p : ◌≡◌ {A = StateMaps × ContractTree} (z, contract_tree g) (s, c) = cc in
+    (ap (λ (q : StateMaps × ContractTree). let y : Result StateMaps JsonFault = Ok q.0 in y) p, ap contract_tree (sym same) ∙ ap (λ (q : StateMaps × ContractTree). q.1) p)
+
+module _ (reader : Reader) (text : List ℕ) (start : Option (List ℕ)) (given : Contract) (is : of_text contract text ≡ Ok given) where
+  tells : (clear : Bool) (out : List ℕ) → TellsFrom reader (contract_tree given) (start_of start) clear out → TellsSo reader text start clear out
+  tells clear out h s c e =
+      let p = the_parts (of_text contract text) (start_of start) given s c is e in
+      subst (λ (t : ContractTree). TellsOfTree reader s t clear out) p.1 (h s p.0)
+
+  pub all_told_so : (r : Result Analysed RunFault) → IfOk r (λ t. TellsFrom reader (contract_tree given) (start_of start) t.is_clear t.text.items) → IfOk r (λ t. TellsSo reader text start t.is_clear t.text.items)
+  all_told_so (Ok t) h = tells t.is_clear t.text.items h
+  all_told_so (Err f) h = tt
+
+  pub is_clear_so : (r : Result Analysed RunFault) → IfOk r (λ t. TellsFrom reader (contract_tree given) (start_of start) t.is_clear t.text.items) → IfOk r (λ t. t.is_clear ≡ true → IsClear text start)
+  is_clear_so (Ok t) h = λ e s c q. never_alarms reader s c t.is_clear t.text.items (tells t.is_clear t.text.items h s c q) e
+  is_clear_so (Err f) h = tt
+
+-- why nothing is read
+same_read : (o : Result Contract JsonFault) (r : Result StateMaps JsonFault) (given : Contract) → o ≡ Ok given → is_started r ≡ are_read o r
+same_read (Err f) r given e = absurd (cc)
+same_read (Ok g) (Err f) given e = refl
+same_read (Ok g) (Ok z) given e = refl
+
+pub read_as_started : (text : List ℕ) (start : Option (List ℕ)) (given : Contract) (r : Result Analysed RunFault) → of_text contract text ≡ Ok given → AsideBy run.Memory (λ _. tt) r (is_started (start_of start)) → AsideBy run.Memory (λ _. tt) r (is_read text start)
+read_as_started text start given r e h = subst (λ (a : Result (Unit {0}) RunFault). AsideBy run.Memory (λ _. tt) r a) (same_read (of_text contract text) (start_of start) given e) h
+
+fault_of : (o : Result Contract JsonFault) (r : Result StateMaps JsonFault) (f : JsonFault) (g : RunFault) → (f ≢ json.Memory → o ≡ Err f) → g ≡ contract_fault f → g ≢ run.Memory → are_read o r ≡ Err g
+fault_of o r f g h e n = ap (λ (z : Result Contract JsonFault). are_read z r) (h (λ m. n (e ∙ ap contract_fault m))) ∙ ap (λ (x : RunFault). let y : Result (Unit {0}) RunFault = Err x in y) (sym e)
+
+pub not_read : (text : List ℕ) (start : Option (List ℕ)) (f : JsonFault) (g : RunFault) → (f ≢ json.Memory → of_text contract text ≡ Err f) → g ≡ contract_fault f → g ≢ run.Memory → is_read text start ≡ Err g
+not_read text start f g h e n = fault_of (of_text contract text) (start_of start) f g h e n
+
+-- where the state is read
+pub tells_from : (reader : Reader) (c : ContractTree) (start : Result StateMaps JsonFault) (s : StateMaps) (clear : Bool) (out : List ℕ) → start ≡ Ok s → TellsOfTree reader s c clear out → TellsFrom reader c start clear out
+tells_from reader c start s clear out e h z f = let same : s ≡ z = cc in subst (λ (x : StateMaps). TellsOfTree reader x c clear out) same h
+
+pub started : (start : Result StateMaps JsonFault) (s : StateMaps) → start ≡ Ok s → is_started start ≡ Ok tt
+started (Ok z) s e = refl
+started (Err f) s e = absurd (cc)
+
+pub not_started : (start : Result StateMaps JsonFault) (f : JsonFault) (g : RunFault) → (f ≢ json.Memory → start ≡ Err f) → g ≡ state_fault f → g ≢ run.Memory → is_started start ≡ Err g
+not_started start f g h e n = ap is_started (h (λ m. n (e ∙ ap state_fault m))) ∙ ap (λ (x : RunFault). let y : Result (Unit {0}) RunFault = Err x in y) (sym e)

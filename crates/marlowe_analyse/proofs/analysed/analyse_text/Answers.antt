@@ -1,0 +1,19 @@
+use Rattle.std.specs.Option.{option_map}
+use Rattle.marlowe_analyse.proofs.ReadLemmas.{all_told_so, is_clear_so, read_as_started, not_read}
+use Rattle.marlowe_analyse.proofs.analysed.analyse_text.Goals as goal
+
+pub returns-in-Ok : goal.returns-in-Ok
+returns-in-Ok c =
+    let text = c.args.contract.now in
+    let start = option_map (λ t. t.now) c.args.state in
+    let given = c.in-Ok.given in
+    let is = c.in-Ok.ensures.reading in
+    let r = c.analysed_from.result in
+    record {
+      told = all_told_so c.args.reader text start given is r c.analysed_from.ensures.told;
+      clear = is_clear_so c.args.reader text start given is r c.analysed_from.ensures.told;
+      read = read_as_started text start given r is c.analysed_from.ensures.read;
+    }
+
+pub returns-in-Err-clause-read : goal.returns-in-Err-clause-read
+returns-in-Err-clause-read c = not_read c.args.contract.now (option_map (λ t. t.now) c.args.state) c.in-Err.fault c.of_contract.result c.in-Err.ensures.reading c.of_contract.ensures

@@ -1,0 +1,17 @@
+use Rattle.std.specs.Option.{option_map}
+use Rattle.contract.specs.Tree.{contract_tree}
+use Rattle.marlowe_analyse.specs.Told.{start_of}
+use Rattle.marlowe_analyse.proofs.ReadLemmas.{tells_from, started, not_started}
+use Rattle.marlowe_analyse.proofs.analysed.analysed_from.Goals as goal
+
+pub returns-in_ok-told-in-Ok : goal.returns-in_ok-told-in-Ok
+returns-in_ok-told-in-Ok c =
+    let start = start_of (option_map (λ t. t.now) c.args.state) in
+    let told = c.in_ok-told-in-Ok.told in
+    record {
+      told = tells_from c.args.reader (contract_tree c.args.contract.now) start c.in-Ok.first told.is_clear told.text.items c.in-Ok.ensures c.in_ok-told-in-Ok.ensures;
+      read = started start c.in-Ok.first c.in-Ok.ensures;
+    }
+
+pub returns-in-Err-clause-read : goal.returns-in-Err-clause-read
+returns-in-Err-clause-read c = not_started (start_of (option_map (λ t. t.now) c.args.state)) c.in-Err.fault c.of_state.result c.in-Err.ensures c.of_state.ensures

@@ -1,0 +1,13 @@
+use Rattle.std.proofs.Common.{List, ap, ◌∙◌}
+use Rattle.contract.specs.Tree.{contract_tree}
+use Rattle.analysis_walk.specs.declared.path.PathStep.{PathStep}
+use Rattle.marlowe_analyse.specs.declared.told.Key.{Key}
+use Rattle.marlowe_analyse.specs.Places.{keys_of}
+use Rattle.marlowe_analyse.specs.ToldLines.{Line}
+use Rattle.marlowe_analyse.proofs.runs.told_alarm.Goals as goal
+
+pub returns-clause-line : goal.returns-clause-line
+returns-clause-line c =
+    let tree = contract_tree c.args.contract.now in
+    ap (λ (ks : List Key). let l : Line = record { kind = c.args.alarm.now.kind; place = ks; run = c.in_ok-run.run' } in l)
+    (c.in_ok-place.ensures ∙ ap (λ (p : List PathStep). keys_of p tree) c.as_slice.ensures)

@@ -1,0 +1,7 @@
+pub mod Told
+pub mod Places
+pub mod ToldLines
+pub mod Lines
+pub mod Tools
+pub mod Printed
+pub mod RunsSupport

@@ -1,0 +1,57 @@
+-- The lines for people.
+use Rattle.std.specs.Prelude.{ℕ, ℤ, List, [], ◌∷◌, ◌++◌, flat_map, Option, Some, None, codes, decimal}
+use Rattle.std.specs.Fmt.{signed_decimal}
+use Rattle.serde_json.specs.Written.{compact_text}
+use Rattle.contract.specs.declared.transaction.Transaction.{Transaction}
+use Rattle.json_write_contracts.specs.WrittenNames.{party_json, token_json}
+use Rattle.contract_json.specs.WrittenInput.{transaction_json}
+use Rattle.analysis_spec.specs.declared.kind.AlarmKind.{AlarmKind}
+use Rattle.analysis_spec.specs.declared.kind.AlarmKind.TheVariants.{NonPositiveDeposit, NonPositivePay, PartialPay, Shadowing, AssertionFailed, Leaves128}
+use Rattle.analysis_walk.specs.declared.paid.PaidRange.{PaidRange}
+use Rattle.marlowe_analyse.specs.declared.told.Key.{Key}
+use Rattle.marlowe_analyse.specs.declared.told.Key.TheVariants as keys
+use Rattle.marlowe_analyse.specs.Places.{key_word}
+use Rattle.marlowe_analyse.specs.ToldLines.{Line}
+
+abbrev pub kind_name : AlarmKind → List ℕ
+kind_name NonPositiveDeposit = codes "NonPositiveDeposit"
+kind_name NonPositivePay = codes "NonPositivePay"
+kind_name PartialPay = codes "PartialPay"
+kind_name Shadowing = codes "Shadowing"
+kind_name AssertionFailed = codes "AssertionFailed"
+kind_name Leaves128 = codes "Leaves128"
+
+-- a key with `.` before it, and the place of an item in brackets
+abbrev pub key_text : Key → List ℕ
+key_text (keys.Item n) = codes "[" ++ (decimal n ++ codes "]")
+key_text key = codes "." ++ key_word key
+
+-- the compact JSON of a transaction, on a line
+abbrev pub transaction_line : Transaction → List ℕ
+transaction_line t = compact_text (transaction_json t) ++ 10 ∷ []
+
+abbrev pub run_lines : Option (List Transaction) → List ℕ
+run_lines None = codes ", not known" ++ 10 ∷ []
+run_lines (Some ts) = codes ", by this run:" ++ (10 ∷ flat_map transaction_line ts)
+
+-- the kind of an alarm, its place and its run
+abbrev pub alarm_lines : Line → List ℕ
+alarm_lines l = kind_name l.kind ++ (codes " at " ++ (flat_map key_text l.place ++ run_lines l.run))
+
+-- all alarms, or that there is none
+abbrev pub alarms_lines : List Line → List ℕ
+alarms_lines [] = codes "never warns, stays within 128 bits" ++ 10 ∷ []
+alarms_lines (l ∷ ls) = flat_map alarm_lines (l ∷ ls)
+
+-- what a party is paid of a token
+abbrev pub bounds_text : Option ℤ → Option ℤ → List ℕ
+bounds_text (Some m) (Some n) = codes "at least " ++ (signed_decimal m ++ (codes ", at most " ++ signed_decimal n))
+bounds_text (Some m) None = codes "at least " ++ signed_decimal m
+bounds_text None (Some n) = codes "at most " ++ signed_decimal n
+bounds_text None None = codes "not known"
+
+abbrev pub range_line : PaidRange → List ℕ
+range_line r = compact_text (party_json r.party) ++ (codes " " ++ (compact_text (token_json r.token) ++ (codes " " ++ (bounds_text r.least r.most ++ 10 ∷ []))))
+
+abbrev pub lines_of : List Line → List PaidRange → List ℕ
+lines_of lines ranges = alarms_lines lines ++ flat_map range_line ranges

@@ -1,0 +1,47 @@
+-- What is printed of a contract's text and a state's.
+use Rattle.std.specs.Prelude.{◌≡◌, ◌↔◌, ℕ, Bool, true, List, [], ◌∷◌, ◌++◌, map, Option, Result, Ok}
+use Rattle.collections.specs.Answers.{◌>>=◌}
+use Rattle.serde_json.specs.Written.{compact_text}
+use Rattle.contract.specs.Tree.{ContractTree, contract_tree}
+use Rattle.contract.specs.declared.tree.Contract.{Contract}
+use Rattle.states.specs.States.{StateMaps}
+use Rattle.json_read_names.specs.ReadsText.{of_text}
+use Rattle.json_read_contracts.specs.ReadsContract.{contract}
+use Rattle.analysis_walk.specs.declared.paid.PaidRange.{PaidRange}
+use Rattle.marlowe_run.specs.declared.fault.RunFault.{RunFault}
+use Rattle.marlowe_run.specs.Faults.{read_as, contract_fault, state_fault}
+use Rattle.marlowe_analyse.specs.declared.analysed.Reader.{Reader}
+use Rattle.marlowe_analyse.specs.declared.analysed.Reader.TheVariants.{People, OfAlarms, Tools}
+use Rattle.marlowe_analyse.specs.Told.{Alarms, IsSo, NeverAlarms, start_of}
+use Rattle.marlowe_analyse.specs.ToldLines.{Line, line_at}
+use Rattle.marlowe_analyse.specs.Lines.{alarms_lines, lines_of}
+use Rattle.marlowe_analyse.specs.Tools.{told_json}
+
+abbrev pub printed : Reader → List Line → List PaidRange → List ℕ
+printed People lines ranges = lines_of lines ranges
+printed OfAlarms lines ranges = alarms_lines lines
+printed Tools lines ranges = compact_text (told_json lines ranges) ++ 10 ∷ []
+
+-- the contract is read first, and then the state
+abbrev pub what_is_read : List ℕ → Option (List ℕ) → Result (StateMaps × ContractTree) RunFault
+what_is_read text start = read_as contract_fault (of_text contract text) >>= λ given. read_as state_fault (start_of start) >>= λ s. Ok (s, contract_tree given)
+
+-- or why one of them isn't
+abbrev pub is_read : List ℕ → Option (List ℕ) → Result (Unit {0}) RunFault
+is_read text start = what_is_read text start >>= λ _. Ok tt
+
+abbrev pub IsReadAs : List ℕ → Option (List ℕ) → StateMaps → ContractTree → Type 0
+IsReadAs text start s c = what_is_read text start ≡ Ok (s, c)
+
+-- what is printed tells what is so of a contract and a state, and it is said to be clear where there is no alarm
+abbrev pub TellsOfTree : Reader → StateMaps → ContractTree → Bool → List ℕ → Type 0
+TellsOfTree reader s c clear out =
+    (alarms : Alarms) × (ranges : List PaidRange) × IsSo s c alarms ranges × (out ≡ printed reader (map (line_at c) alarms) ranges) × (clear ≡ true ↔ alarms ≡ [])
+
+-- .. of those that the texts are read as
+abbrev pub TellsSo : Reader → List ℕ → Option (List ℕ) → Bool → List ℕ → Type 0
+TellsSo reader text start clear out = (s : StateMaps) (c : ContractTree) → IsReadAs text start s c → TellsOfTree reader s c clear out
+
+-- it never warns, and stays within 128 bits
+abbrev pub IsClear : List ℕ → Option (List ℕ) → Type 0
+IsClear text start = (s : StateMaps) (c : ContractTree) → IsReadAs text start s c → NeverAlarms s c

@@ -1,0 +1,52 @@
+-- What is told of a contract and the state in which it starts, and when that is so.
+use Rattle.std.specs.Prelude.{◌≡◌, ℕ, pos, List, map, Option, Some, None, IfSome, Result, Ok}
+use Rattle.std.specs.FinMap.{empty}
+use Rattle.std.specs.List.{AllByRecursion}
+use Rattle.contract.specs.Tree.{ContractTree, contract_tree}
+use Rattle.contract.specs.declared.transaction.Transaction.{Transaction}
+use Rattle.states.specs.States.{StateMaps}
+use Rattle.json_read_names.specs.declared.fault.JsonFault.{JsonFault}
+use Rattle.json_read_names.specs.ReadsText.{of_text}
+use Rattle.json_read_contracts.specs.ReadsContract.{contract}
+use Rattle.json_read_inputs.specs.ReadsState.{state}
+use Rattle.semantics.specs.Walk.{standing}
+use Rattle.analysis_spec.specs.declared.kind.AlarmKind.{AlarmKind}
+use Rattle.analysis_spec.specs.Promises.{NeverWarns, StaysWithin128}
+use Rattle.analysis_walk.specs.declared.alarm.Alarm.{Alarm}
+use Rattle.analysis_walk.specs.declared.paid.PaidRange.{PaidRange}
+use Rattle.analysis.specs.Analysed.{NamesWhatComes, StaysUnlessTold, PaysWithinRanges, PaysOthersNothing}
+use Rattle.analysis_runs.specs.CounterRuns.{EndsIn}
+
+-- alarms, and of each a run that ends in it where one is known
+abbrev pub Alarms : Type 0
+Alarms = List (Alarm × Option (List Transaction))
+
+abbrev pub without_runs : Alarms → List Alarm
+without_runs = map (λ (a : Alarm × Option (List Transaction)). a.0)
+
+-- each run ends in its alarm
+abbrev pub EndSo : StateMaps → ContractTree → Alarms → Type 0
+EndSo s c = AllByRecursion (λ (a : Alarm × Option (List Transaction)). IfSome a.1 (EndsIn a.0.kind (standing s c)))
+
+-- a kind without an alarm never comes, each run ends in its alarm, and what is paid lies in its range, or is nothing
+pub record IsSo (s : StateMaps) (c : ContractTree) (alarms : Alarms) (ranges : List PaidRange) : Type 0 where
+  pub warnings : NamesWhatComes (without_runs alarms) s c
+  pub numbers : StaysUnlessTold (without_runs alarms) s c
+  pub runs : EndSo s c alarms
+  pub paid : PaysWithinRanges ranges s c
+  pub unpaid : PaysOthersNothing ranges s c
+
+-- no transaction of any run warns, and none is refused because a number leaves 128 bits
+abbrev pub NeverAlarms : StateMaps → ContractTree → Type 0
+NeverAlarms s c = ((kind : AlarmKind) → NeverWarns kind s c) × StaysWithin128 s c
+
+-- ---- where runs start
+
+-- without entries, at time 0
+abbrev pub at_first : StateMaps
+at_first = record { accounts = empty; choices = empty; bound_values = empty; min_time = pos 0 }
+
+-- the state of a text, or where there is none that one
+abbrev pub start_of : Option (List ℕ) → Result StateMaps JsonFault
+start_of None = Ok at_first
+start_of (Some text) = of_text state text

@@ -1,0 +1,34 @@
+-- The JSON for tools.
+use Rattle.std.specs.Prelude.{ℕ, ℤ, pos, List, map, Option, Some, None, codes}
+use Rattle.serde_json.specs.Data.{Data, string, array, null}
+use Rattle.serde_json.specs.View.{items_of}
+use Rattle.contract.specs.declared.transaction.Transaction.{Transaction}
+use Rattle.json_write_contracts.specs.WrittenNames.{two, three, four, number_json, wide_json, party_json, token_json}
+use Rattle.contract_json.specs.WrittenInput.{transaction_json}
+use Rattle.analysis_walk.specs.declared.paid.PaidRange.{PaidRange}
+use Rattle.marlowe_analyse.specs.declared.told.Key.{Key}
+use Rattle.marlowe_analyse.specs.declared.told.Key.TheVariants as keys
+use Rattle.marlowe_analyse.specs.Places.{key_word}
+use Rattle.marlowe_analyse.specs.ToldLines.{Line}
+use Rattle.marlowe_analyse.specs.Lines.{kind_name}
+
+abbrev pub key_json : Key → Data
+key_json (keys.Item n) = number_json (pos n)
+key_json key = string (key_word key)
+
+abbrev pub run_json : Option (List Transaction) → Data
+run_json None = null
+run_json (Some ts) = array (items_of (map transaction_json ts))
+
+abbrev pub alarm_json : Line → Data
+alarm_json l = three (codes "kind") (string (kind_name l.kind)) (codes "place") (array (items_of (map key_json l.place))) (codes "run") (run_json l.run)
+
+abbrev pub bound_json : Option ℤ → Data
+bound_json None = null
+bound_json (Some n) = wide_json n
+
+abbrev pub range_json : PaidRange → Data
+range_json r = four (codes "least") (bound_json r.least) (codes "most") (bound_json r.most) (codes "party") (party_json r.party) (codes "token") (token_json r.token)
+
+abbrev pub told_json : List Line → List PaidRange → Data
+told_json lines ranges = two (codes "alarms") (array (items_of (map alarm_json lines))) (codes "ranges") (array (items_of (map range_json ranges)))

@@ -1,0 +1,144 @@
+//! The analysis of a contract, from text to text.
+ghost use Rattle.std.specs.Prelude.{◌≡◌, ◌++◌, true, map, All, IfOk, OnOk, option_map};
+ghost use Rattle.collections.specs.Answers.{Aside, AsideBy};
+ghost use Rattle.contract.specs.Tree.{contract_tree};
+ghost use Rattle.marlowe_analyse.specs.Told.{start_of};
+ghost use Rattle.marlowe_analyse.specs.ToldLines.{line_of, LineFits};
+ghost use Rattle.marlowe_analyse.specs.Lines.{lines_of, alarms_lines};
+ghost use Rattle.marlowe_analyse.specs.Printed.{printed, IsClear, TellsOfTree, TellsSo, is_read};
+ghost use Rattle.marlowe_analyse.specs.RunsSupport.{TellsFrom, is_started};
+
+use crate::lines::{put_alarms, put_ranges};
+use crate::runs::told_alarms;
+use crate::told::Told;
+use crate::tools::put_told;
+use analyser::analyse;
+use analysis::Analysis;
+use collections::Memory;
+use contract::{Contract, State};
+use contract_json::{JsonFault, read_contract, read_state};
+use marlowe_run::RunFault;
+use std::alloc::Global;
+
+/// Who reads what is printed.
+#[derive(Clone, Copy, Debug)]
+pub enum Reader {
+    /// Lines for people: alarms with their runs, and then what is paid.
+    People,
+    /// Of these lines those of alarms alone.
+    OfAlarms,
+    /// JSON for tools.
+    Tools,
+}
+
+/// What is printed of a contract, with a line feed at the end, and whether it never warns and stays within 128 bits.
+#[derive(Drop)]
+pub struct Analysed {
+    pub text: Vec<u8>,
+    pub is_clear: bool,
+}
+
+/// Analyses a contract from a state, both as JSON texts of at most 1,048,576 bytes; without a state its runs start
+/// without entries, at time 0. Refused is a text that is no contract or no state. For each alarm it looks for a run
+/// that ends in it, within a number of tries that grows less with the length of the texts.
+pub fn analyse_text(
+    alloc: Global,
+    contract: &[u8],
+    state: Option<&[u8]>,
+    reader: Reader,
+) -> Result<Analysed, RunFault>
+    ensures told { IfOk result (λ told. TellsSo reader contract.now (option_map (λ text. text.now) state.entry) told.is_clear told.text.items) }
+    ensures clear { IfOk result (λ told. told.is_clear ≡ true → IsClear contract.now (option_map (λ text. text.now) state.entry)) }
+    ensures read { AsideBy RunFault.Memory (λ _. tt) result (is_read contract.now (option_map (λ text. text.now) state.entry)) }
+{
+    let length = contract.len().saturating_add(length_of(state));
+    match read_contract(alloc, contract) {
+        Ok(given) => analysed_from(alloc, &given, state, length, reader),
+        Err(fault) => Err(RunFault::of_contract(fault)),
+    }
+}
+
+// What is printed of a contract and the text of a state, if there is one.
+fn analysed_from(
+    alloc: Global,
+    contract: &Contract,
+    state: Option<&[u8]>,
+    length: usize,
+    reader: Reader,
+) -> Result<Analysed, RunFault>
+    ensures told { IfOk result (λ told. TellsFrom reader (contract_tree contract.now) (start_of (option_map (λ text. text.now) state.entry)) told.is_clear told.text.items) }
+    ensures read { AsideBy RunFault.Memory (λ _. tt) result (is_started (start_of (option_map (λ text. text.now) state.entry))) }
+{
+    match start(alloc, state) {
+        Ok(first) => {
+            let told = analysis_text(alloc, contract, &first, length, reader)?;
+            Ok(told)
+        }
+        Err(fault) => Err(RunFault::of_state(fault)),
+    }
+}
+
+// What is printed of a contract that starts in a state, of which the texts have so many bytes.
+fn analysis_text(
+    alloc: Global,
+    contract: &Contract,
+    state: &State,
+    length: usize,
+    reader: Reader,
+) -> Result<Analysed, Memory>
+    ensures { IfOk result (λ told. TellsOfTree reader state.now (contract_tree contract.now) told.is_clear told.text.items) }
+{
+    let Analysis { alarms, ranges } = analyse(alloc, contract, state)?;
+    let alarms = told_alarms(alloc, contract, state, alarms.as_slice(), length)?;
+    let is_clear = alarms.is_empty();
+    let told = Told { alarms, ranges };
+    let text = printed(alloc, &told, reader)?;
+    Ok(Analysed { text, is_clear })
+}
+
+fn length_of(state: Option<&[u8]>) -> usize {
+    match state {
+        Some(text) => text.len(),
+        None => 0,
+    }
+}
+
+// The state of a text, or where there is none the one without entries, at time 0.
+fn start(alloc: Global, state: Option<&[u8]>) -> Result<State, JsonFault>
+    ensures { Aside JsonFault.Memory result (start_of (option_map (λ text. text.now) state.entry)) }
+{
+    match state {
+        Some(text) => read_state(alloc, text),
+        None => Ok(State::new(alloc, 0)),
+    }
+}
+
+fn printed(alloc: Global, told: &Told, reader: Reader) -> Result<Vec<u8>, Memory>
+    requires { All LineFits told.now.alarms.items }
+    ensures { IfOk result (λ text. text.items ≡ printed reader (map line_of told.now.alarms.items) told.now.ranges) }
+{
+    match reader {
+        Reader::People => for_people(alloc, told),
+        Reader::OfAlarms => of_alarms(alloc, told),
+        Reader::Tools => put_told(alloc, told),
+    }
+}
+
+fn for_people(alloc: Global, told: &Told) -> Result<Vec<u8>, Memory>
+    requires { All LineFits told.now.alarms.items }
+    ensures { IfOk result (λ text. text.items ≡ lines_of (map line_of told.now.alarms.items) told.now.ranges) }
+{
+    let mut out = Vec::new(alloc);
+    put_alarms(alloc, &mut out, &told.alarms)?;
+    put_ranges(alloc, &mut out, told.ranges.as_slice())?;
+    Ok(out)
+}
+
+fn of_alarms(alloc: Global, told: &Told) -> Result<Vec<u8>, Memory>
+    requires { All LineFits told.now.alarms.items }
+    ensures { IfOk result (λ text. text.items ≡ alarms_lines (map line_of told.now.alarms.items)) }
+{
+    let mut out = Vec::new(alloc);
+    put_alarms(alloc, &mut out, &told.alarms)?;
+    Ok(out)
+}

@@ -1,0 +1,177 @@
+//! Lines for people.
+ghost use Rattle.std.specs.Prelude.{◌≡◌, [], ◌∷◌, ◌++◌, true, map, flat_map, codes, All, IfOk, IfSome, OnOk, string_bytes};
+ghost use Rattle.serde_json.specs.Written.{compact_text};
+ghost use Rattle.contract_json.specs.WrittenInput.{transaction_json, transaction_fits};
+ghost use Rattle.marlowe_analyse.specs.ToldLines.{line_of, LineFits, RunFits};
+ghost use Rattle.marlowe_analyse.specs.Lines.{key_text, transaction_line, run_lines, alarm_lines, alarms_lines, bounds_text, range_line};
+
+use crate::told::{Key, ToldAlarm, key_word, kind_name};
+use analysis_walk::PaidRange;
+use collections::{Items, Memory};
+use contract::Transaction;
+use contract_json::{PutJson, WriteFault};
+use json::Writer;
+use json_terms::term_text;
+use std::alloc::{AllocError, Global};
+
+/// A line that there is no alarm, or the lines of each.
+pub(crate) fn put_alarms(
+    alloc: Global,
+    out: &mut Vec<u8>,
+    alarms: &[ToldAlarm],
+) -> Result<(), Memory>
+    requires { All LineFits alarms.now }
+    ensures { OnOk result (out.new.items ≡ out.old.items ++ alarms_lines (map line_of alarms.now)) }
+{
+    let none = alarms.is_empty();
+    if none {
+        return put_bytes(out, b"never warns, stays within 128 bits\n");
+    }
+    put_each(alloc, out, alarms)
+}
+
+fn put_each(alloc: Global, out: &mut Vec<u8>, alarms: &[ToldAlarm]) -> Result<(), Memory>
+    requires { All LineFits alarms.now }
+    ensures { OnOk result (out.new.items ≡ out.old.items ++ flat_map (λ t. alarm_lines (line_of t)) alarms.now) }
+{
+    for alarm in alarms {
+        put_alarm(alloc, out, alarm)?;
+    }
+    Ok(())
+}
+
+fn put_bytes(out: &mut Vec<u8>, bytes: &[u8]) -> Result<(), Memory>
+    ensures { OnOk result (out.new.items ≡ out.old.items ++ bytes.now) }
+{
+    out.extend_from_slice(bytes)?;
+    Ok(())
+}
+
+// The kind of an alarm and its place, and then a line for each transaction of its run.
+fn put_alarm(alloc: Global, out: &mut Vec<u8>, alarm: &ToldAlarm) -> Result<(), Memory>
+    requires { LineFits alarm.now }
+    ensures { OnOk result (out.new.items ≡ out.old.items ++ alarm_lines (line_of alarm.now)) }
+{
+    put_bytes(out, kind_name(alarm.kind).as_bytes())?;
+    put_bytes(out, b" at ")?;
+    put_place(alloc, out, &alarm.place)?;
+    put_run(alloc, out, &alarm.run)
+}
+
+fn put_place(alloc: Global, out: &mut Vec<u8>, place: &[Key]) -> Result<(), Memory>
+    ensures { OnOk result (out.new.items ≡ out.old.items ++ flat_map key_text place.now) }
+{
+    for key in place {
+        put_key(alloc, out, *key)?;
+    }
+    Ok(())
+}
+
+// A key with `.` before it, and the place of an item in brackets.
+fn put_key(alloc: Global, out: &mut Vec<u8>, key: Key) -> Result<(), Memory>
+    ensures { OnOk result (out.new.items ≡ out.old.items ++ key_text key) }
+{
+    match key {
+        Key::Item(index) => put_item(alloc, out, index),
+        word => put_word(out, key_word(word)),
+    }
+}
+
+fn put_item(alloc: Global, out: &mut Vec<u8>, index: usize) -> Result<(), Memory>
+    ensures { OnOk result (out.new.items ≡ out.old.items ++ key_text (Key.Item index)) }
+{
+    let text = format!(in alloc; "[{index}]")?;
+    put_bytes(out, text.as_bytes())
+}
+
+fn put_word(out: &mut Vec<u8>, word: &str) -> Result<(), Memory>
+    ensures { OnOk result (out.new.items ≡ out.old.items ++ (codes "." ++ word.now)) }
+{
+    put_bytes(out, b".")?;
+    put_bytes(out, word.as_bytes())
+}
+
+// The transactions of a run, each on a line, if it is known.
+fn put_run(alloc: Global, out: &mut Vec<u8>, run: &Option<Items<Transaction>>) -> Result<(), Memory>
+    requires { IfSome run.now RunFits }
+    ensures { OnOk result (out.new.items ≡ out.old.items ++ run_lines run.now) }
+{
+    match run {
+        Some(run) => {
+            put_bytes(out, b", by this run:\n")?;
+            put_transactions(alloc, out, run.as_slice())
+        }
+        None => put_bytes(out, b", not known\n"),
+    }
+}
+
+fn put_transactions(alloc: Global, out: &mut Vec<u8>, run: &[Transaction]) -> Result<(), Memory>
+    requires { RunFits run.now }
+    ensures { OnOk result (out.new.items ≡ out.old.items ++ flat_map transaction_line run.now) }
+{
+    for transaction in run {
+        put_transaction(alloc, out, transaction)?;
+    }
+    Ok(())
+}
+
+// The compact JSON of a transaction, on a line.
+fn put_transaction(
+    alloc: Global,
+    out: &mut Vec<u8>,
+    transaction: &Transaction,
+) -> Result<(), Memory>
+    requires { transaction_fits transaction.now ≡ true }
+    ensures { OnOk result (out.new.items ≡ out.old.items ++ transaction_line transaction.now) }
+{
+    let text = transaction_text(alloc, transaction)?;
+    put_bytes(out, text.as_slice())?;
+    put_bytes(out, b"\n")
+}
+
+fn transaction_text(alloc: Global, transaction: &Transaction) -> Result<Vec<u8>, Memory>
+    requires { transaction_fits transaction.now ≡ true }
+    ensures { IfOk result (λ text. text.items ≡ compact_text (transaction_json transaction.now)) }
+{
+    let mut out = Writer::new(Vec::new(alloc));
+    match transaction.put(alloc, &mut out) {
+        Ok(()) => Ok(out.into_inner()),
+        Err(WriteFault::Memory) => Err(AllocError),
+        Err(WriteFault::OutOfRange) => unreachable!(),
+    }
+}
+
+/// A line for each party and token: what it is paid, as far as that is known.
+pub(crate) fn put_ranges(
+    alloc: Global,
+    out: &mut Vec<u8>,
+    ranges: &[PaidRange],
+) -> Result<(), Memory>
+    ensures { OnOk result (out.new.items ≡ out.old.items ++ flat_map range_line ranges.now) }
+{
+    for range in ranges {
+        put_range(alloc, out, range)?;
+    }
+    Ok(())
+}
+
+fn put_range(alloc: Global, out: &mut Vec<u8>, range: &PaidRange) -> Result<(), Memory>
+    ensures { OnOk result (out.new.items ≡ out.old.items ++ range_line range.now) }
+{
+    let party = term_text(alloc, &range.party)?;
+    let token = term_text(alloc, &range.token)?;
+    let bounds = bounds_text(alloc, range.least, range.most)?;
+    let line = format!(in alloc; "{party} {token} {bounds}\n")?;
+    put_bytes(out, line.as_bytes())
+}
+
+fn bounds_text(alloc: Global, least: Option<i128>, most: Option<i128>) -> Result<String, Memory>
+    ensures { IfOk result (λ text. string_bytes text ≡ bounds_text least most) }
+{
+    match (least, most) {
+        (Some(least), Some(most)) => format!(in alloc; "at least {least}, at most {most}"),
+        (Some(least), None) => format!(in alloc; "at least {least}"),
+        (None, Some(most)) => format!(in alloc; "at most {most}"),
+        (None, None) => format!(in alloc; "not known"),
+    }
+}

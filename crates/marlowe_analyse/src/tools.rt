@@ -1,0 +1,186 @@
+//! JSON for tools.
+ghost use Rattle.std.specs.Prelude.{◌≡◌, [], ◌∷◌, ◌++◌, true, map, All, IfOk, IfSome, OnOk, Some, None};
+ghost use Rattle.serde_json.specs.Data.{array};
+ghost use Rattle.serde_json.specs.View.{items_of};
+ghost use Rattle.serde_json.specs.Written.{compact_text};
+ghost use Rattle.json_write_contracts.specs.Tokens.{Puts};
+ghost use Rattle.contract_json.specs.WrittenInput.{transaction_json, transaction_fits};
+ghost use Rattle.marlowe_analyse.specs.ToldLines.{line_of, LineFits, RunFits};
+ghost use Rattle.marlowe_analyse.specs.Tools.{key_json, run_json, alarm_json, bound_json, range_json, told_json};
+
+use crate::told::{Key, Told, ToldAlarm, key_word, kind_name};
+use analysis_walk::PaidRange;
+use collections::{Items, Memory};
+use contract::Transaction;
+use contract_json::{PutJson, WriteFault};
+use json::Writer;
+use json_write_contracts::{put_amount, put_party, put_token, word};
+use std::alloc::{AllocError, Global};
+
+/// All that is told, as one JSON text, and a line feed.
+pub(crate) fn put_told(alloc: Global, told: &Told) -> Result<Vec<u8>, Memory>
+    requires { All LineFits told.now.alarms.items }
+    ensures { IfOk result (λ text. text.items ≡ compact_text (told_json (map line_of told.now.alarms.items) told.now.ranges) ++ 10 ∷ []) }
+{
+    let mut out = Writer::new(Vec::new(alloc));
+    put_all(alloc, &mut out, &told.alarms, told.ranges.as_slice())?;
+    let mut text = out.into_inner();
+    text.push(b'\n')?;
+    Ok(text)
+}
+
+fn put_all(
+    alloc: Global,
+    out: &mut Writer,
+    alarms: &[ToldAlarm],
+    ranges: &[PaidRange],
+) -> Result<(), Memory>
+    requires { All LineFits alarms.now }
+    ensures { OnOk result (Puts out.old out.new (told_json (map line_of alarms.now) ranges.now)) }
+{
+    out.begin_object()?;
+    out.key("alarms")?;
+    put_alarms(alloc, out, alarms)?;
+    out.key("ranges")?;
+    put_ranges(alloc, out, ranges)?;
+    out.end_object()?;
+    Ok(())
+}
+
+fn put_alarms(alloc: Global, out: &mut Writer, alarms: &[ToldAlarm]) -> Result<(), Memory>
+    requires { All LineFits alarms.now }
+    ensures { OnOk result (Puts out.old out.new (array (items_of (map (λ t. alarm_json (line_of t)) alarms.now)))) }
+{
+    out.begin_array()?;
+    for alarm in alarms {
+        put_alarm(alloc, out, alarm)?;
+    }
+    out.end_array()?;
+    Ok(())
+}
+
+fn put_alarm(alloc: Global, out: &mut Writer, alarm: &ToldAlarm) -> Result<(), Memory>
+    requires { LineFits alarm.now }
+    ensures { OnOk result (Puts out.old out.new (alarm_json (line_of alarm.now))) }
+{
+    out.begin_object()?;
+    out.key("kind")?;
+    word(out, kind_name(alarm.kind))?;
+    out.key("place")?;
+    put_place(out, &alarm.place)?;
+    out.key("run")?;
+    put_run(alloc, out, &alarm.run)?;
+    out.end_object()?;
+    Ok(())
+}
+
+fn put_place(out: &mut Writer, place: &[Key]) -> Result<(), Memory>
+    ensures { OnOk result (Puts out.old out.new (array (items_of (map key_json place.now)))) }
+{
+    out.begin_array()?;
+    for key in place {
+        put_key(out, *key)?;
+    }
+    out.end_array()?;
+    Ok(())
+}
+
+fn put_key(out: &mut Writer, key: Key) -> Result<(), Memory>
+    ensures { OnOk result (Puts out.old out.new (key_json key)) }
+{
+    match key {
+        Key::Item(index) => put_item(out, index),
+        name => word(out, key_word(name)),
+    }
+}
+
+fn put_item(out: &mut Writer, index: usize) -> Result<(), Memory>
+    ensures { OnOk result (Puts out.old out.new (key_json (Key.Item index))) }
+{
+    out.u64(index as u64)?;
+    Ok(())
+}
+
+// A list of transactions, or null where no run is known.
+fn put_run(alloc: Global, out: &mut Writer, run: &Option<Items<Transaction>>) -> Result<(), Memory>
+    requires { IfSome run.now RunFits }
+    ensures { OnOk result (Puts out.old out.new (run_json run.now)) }
+{
+    match run {
+        Some(run) => put_transactions(alloc, out, run.as_slice()),
+        None => put_null(out),
+    }
+}
+
+fn put_null(out: &mut Writer) -> Result<(), Memory>
+    ensures { OnOk result (Puts out.old out.new (run_json None)) }
+{
+    out.null()?;
+    Ok(())
+}
+
+fn put_transactions(alloc: Global, out: &mut Writer, run: &[Transaction]) -> Result<(), Memory>
+    requires { RunFits run.now }
+    ensures { OnOk result (Puts out.old out.new (array (items_of (map transaction_json run.now)))) }
+{
+    out.begin_array()?;
+    for transaction in run {
+        put_transaction(alloc, out, transaction)?;
+    }
+    out.end_array()?;
+    Ok(())
+}
+
+fn put_transaction(alloc: Global, out: &mut Writer, transaction: &Transaction) -> Result<(), Memory>
+    requires { transaction_fits transaction.now ≡ true }
+    ensures { OnOk result (Puts out.old out.new (transaction_json transaction.now)) }
+{
+    match transaction.put(alloc, out) {
+        Ok(()) => Ok(()),
+        Err(WriteFault::Memory) => Err(AllocError),
+        Err(WriteFault::OutOfRange) => unreachable!(),
+    }
+}
+
+fn put_ranges(alloc: Global, out: &mut Writer, ranges: &[PaidRange]) -> Result<(), Memory>
+    ensures { OnOk result (Puts out.old out.new (array (items_of (map range_json ranges.now)))) }
+{
+    out.begin_array()?;
+    for range in ranges {
+        put_range(alloc, out, range)?;
+    }
+    out.end_array()?;
+    Ok(())
+}
+
+fn put_range(alloc: Global, out: &mut Writer, range: &PaidRange) -> Result<(), Memory>
+    ensures { OnOk result (Puts out.old out.new (range_json range.now)) }
+{
+    out.begin_object()?;
+    out.key("least")?;
+    put_bound(alloc, out, range.least)?;
+    out.key("most")?;
+    put_bound(alloc, out, range.most)?;
+    out.key("party")?;
+    put_party(out, &range.party)?;
+    out.key("token")?;
+    put_token(alloc, out, &range.token)?;
+    out.end_object()?;
+    Ok(())
+}
+
+// A number, or null where it is not known.
+fn put_bound(alloc: Global, out: &mut Writer, bound: Option<i128>) -> Result<(), Memory>
+    ensures { OnOk result (Puts out.old out.new (bound_json bound)) }
+{
+    match bound {
+        Some(number) => put_number(alloc, out, number),
+        None => put_null(out),
+    }
+}
+
+fn put_number(alloc: Global, out: &mut Writer, number: i128) -> Result<(), Memory>
+    ensures { OnOk result (Puts out.old out.new (bound_json (Some number))) }
+{
+    put_amount(alloc, out, &number)
+}
