@@ -1,0 +1,136 @@
+#!/usr/bin/env python3
+"""Whether the tutorial says what its files hold and what the program prints, and whether the links of all pages lead somewhere.
+
+Usage    pages.py
+Needs    nothing built: what is printed stands in the rows of crates/rows_commands/data/tutorial, which the gate runs.
+Expect   `N files and M commands as written, L links lead somewhere`. In docs/tutorial.md a line with a file's name has the file's text below it. Each
+         command is a row, and one that ends its block has below it what it prints, which may be folded at any comma: a line goes on with one that
+         begins with a space. Each file and each row of that folder comes up. A file that the rows give is a part of what a row before it prints,
+         since that is where the reader takes it from. A link within the repository leads to a file or a folder, and one with a `#` to a heading
+         of it.
+Else     a line for each fault, and status 1."""
+import re
+import subprocess
+import sys
+from pathlib import Path
+
+TOP = Path(__file__).resolve().parent.parent
+PAGE = TOP / "docs" / "tutorial.md"
+DATA = TOP / "crates" / "rows_commands" / "data" / "tutorial"
+
+
+def blocks(text):
+    """The blocks of a page: the line above, the kind, and the lines."""
+    lines, place = text.splitlines(), 0
+    while place < len(lines):
+        if lines[place].startswith("```"):
+            end = lines.index("```", place + 1)
+            yield lines[place - 1], lines[place][3:], lines[place + 1:end]
+            place = end
+        place += 1
+
+
+def rows():
+    """What stands below each command of the rows, and the files that they give, each with whether a row before printed its text."""
+    found, given, command = {}, {}, None
+    for line in (DATA / "rows.txt").read_text().splitlines():
+        if line.startswith("marlowe "):
+            command = line.replace("tutorial/", "")
+            found[command] = []
+        elif line.startswith("="):
+            found[command].append(line[1:].removeprefix(" "))
+        elif line.startswith("file "):
+            _, name, text = line.split(" ", 2)
+            given[name.removeprefix("tutorial/")] = any(text in each for printed in found.values() for each in printed)
+    return found, given
+
+
+def unfolded(lines):
+    """Lines as they were before they were folded: one that begins with a space goes on with the one above."""
+    found = []
+    for line in lines:
+        if line.startswith(" ") and found:
+            found[-1] += line.lstrip()
+        else:
+            found.append(line)
+    return found
+
+
+def commands(lines):
+    """The commands of the program in a block, without what is done with what they print, each with whether it stands last."""
+    for line in lines:
+        if line.startswith("marlowe "):
+            yield re.split(r" [|>] ", line)[0], line == lines[-1]
+
+
+def faults_of_tutorial(counts):
+    (known, given), files, command = rows(), {path.name for path in DATA.glob("*.json")}, None
+    for above, kind, lines in blocks(PAGE.read_text()):
+        if kind == "json":
+            name = above.strip("`")
+            if name not in files:
+                yield f"{above}: no such file"
+            elif (DATA / name).read_text().splitlines() != lines:
+                yield f"{name}: the file has another text"
+            counts["files"].add(name)
+        elif kind == "sh":
+            command = None
+            for each, is_last in commands(lines):
+                if each not in known:
+                    yield f"{each}: no such row"
+                elif is_last:
+                    command = each
+        elif command:
+            if unfolded(lines) != known[command]:
+                yield f"{command}: the row answers otherwise"
+            counts["commands"].add(command)
+            command = None
+    yield from (f"{name}: not in the tutorial" for name in sorted(files - counts["files"]))
+    yield from (f"{name}: not in the tutorial" for name in known if name not in counts["commands"])
+    yield from (f"{name}: no row before prints it" for name, is_printed in given.items() if not is_printed)
+
+
+# ---- links
+
+def pages():
+    listed = subprocess.run(["git", "-C", str(TOP), "ls-files", "*.md"], capture_output=True, text=True, check=True).stdout
+    return [TOP / name for name in listed.splitlines() if (TOP / name).exists()]
+
+
+def without_code(text):
+    return re.sub(r"`[^`\n]*`", "", re.sub(r"^```.*?^```", "", text, flags=re.M | re.S))
+
+
+def anchors(path):
+    """The names by which a page's headings and marks are linked."""
+    found = set(re.findall(r'<a (?:id|name)="([^"]+)"', path.read_text()))
+    for heading in re.findall(r"^#+ (.*)$", path.read_text(), re.M):
+        found.add(re.sub(r"[^\w\- ]", "", heading.lower().replace("`", "")).replace(" ", "-"))
+    return found
+
+
+def faults_of_links(counts):
+    for page in pages():
+        for link in re.findall(r"\]\(([^)\s]+)\)", without_code(page.read_text())):
+            if re.match(r"[a-z]+:", link):
+                continue
+            counts["links"] += 1
+            name, _, anchor = link.partition("#")
+            path = (page.parent / name).resolve() if name else page
+            if not path.exists():
+                yield f"{page.relative_to(TOP)}: {link}: no such file"
+            elif anchor and path.suffix == ".md" and anchor not in anchors(path):
+                yield f"{page.relative_to(TOP)}: {link}: no such heading"
+
+
+def main():
+    counts = {"files": set(), "commands": set(), "links": 0}
+    faults = [*faults_of_tutorial(counts), *faults_of_links(counts)]
+    for fault in faults:
+        print(fault)
+    if not faults:
+        print(f"{len(counts['files'])} files and {len(counts['commands'])} commands as written, {counts['links']} links lead somewhere")
+    return int(bool(faults))
+
+
+sys.exit(main())
