@@ -24,9 +24,9 @@ TOP = Path(__file__).resolve().parent.parent
 CRATES = [line.split(":")[0].split()[0] for line in (TOP / "crates.txt").read_text().splitlines() if ":" in line and line[0] != "#"]
 ROWS = [crate for crate in CRATES if crate.startswith("rows_")]
 TESTS = ["tests", "tests_threads"]
-LIBRARIES = [crate for crate in CRATES if crate not in ROWS + TESTS + ["marlowe", "uses"]]
+LIBRARIES = [crate for crate in CRATES if crate not in ROWS + TESTS + ["marlowe", "uses", "refused_calls", "tests_memory"]]
 # The crates whose calls a user makes.
-PUBLIC = """marlowe_run marlowe_play marlowe_cli marlowe_io contract_json json_read_scenarios evaluation semantics states compiler table machine contract_bytes
+PUBLIC = """marlowe_run marlowe_analyse marlowe_play marlowe_cli marlowe_io contract_json json_read_scenarios evaluation semantics states compiler table machine contract_bytes
             bundle eutxo_types eutxo parallel_check roles ledger chain builder hub parties""".split()
 
 # Where the names of an enum's variants are printed, and for a variant that isn't printed by its own name, how.
@@ -105,6 +105,7 @@ COMPARED = {
 MEMORY = "answered only where memory was refused"
 EXACT = "its clause is an equation without \"memory aside\", and its one fault is Leaves128"
 ONE = "it has one value"
+KNOWN = "each If that rows_analysis analyses copies what is known"
 LEFT = {
     "fault SemFault::Memory": MEMORY,
     "fault CompileFault::Memory": MEMORY,
@@ -122,6 +123,12 @@ LEFT = {
     "reply Reply::IdInUse": "needs two contracts of one SHA-256",
     "== LockName": "no crate above can name it; the looks of rows_chain compare it",
     "copy Carried": "no crate above can name it; each call by a seat is copied in it",
+    "copy Linear": KNOWN,
+    "copy Named": KNOWN,
+    "copy Symbols": KNOWN,
+    "copy Known": KNOWN,
+    "copy View": KNOWN,
+    "copy Runs": KNOWN,
     "call evaluation::known": EXACT,
     "call evaluation::negation": EXACT,
     "call evaluation::sum": EXACT,
@@ -135,6 +142,7 @@ LEFT = {
     "call table::Table::push_observation": "each observation of a table that a row prints was put there by it",
     "call table::Table::push_case": "each case of a table that a row prints was put there by it",
     "call table::Table::push_cont": "each continuation of a table that a row prints was put there by it",
+    "call eutxo::rejudge": "each row of a check at hand prints what `recheck` makes of its answer",
     "call roles::only": "each output for a payment that a row's built step prints holds it",
     "call roles::put_due": "each built step of a row prints what it puts",
     "call roles::continuation": "each built start of a row prints what it makes",

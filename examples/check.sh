@@ -29,6 +29,15 @@ for example in examples/plays/*/; do
   if [ "$(echo "$out" | grep '^thread ')" = "$(grep '^thread ' "$example/output.txt")" ]; then echo "$name, at once: as written"
   else echo "$name, at once: $out"; failed=1; fi
 done
+# an analysis without alarms, one with an alarm, and one of a text that is no contract
+for wanted in "escrow_1_the_buyer_deposits 0" "partial_pay 3" "not_json 1"; do
+  name=${wanted% *}
+  example=crates/rows_runs/data/examples/$name
+  "$program" analyse "$example/contract.json" "$example/state.json" >/dev/null 2>&1
+  status=$?
+  if [ "$status" = "${wanted#* }" ]; then echo "$name, analysed: as written"
+  else echo "$name, analysed: status $status"; failed=1; fi
+done
 # no file, and a word that is no text in UTF-8
 out=$("$program" run no_such_file no_such_file no_such_file 2>&1)
 status=$?
