@@ -2,21 +2,38 @@
 """Has each read, open and write of the built program fail in turn, by the system's own faults, and gives it files that are none.
 
 Needs    (cd crates/marlowe && rt run -- --version); strace
-Usage    checks/failing_files.py
-Expect   for each word of the command line how many calls were made to fail, a line for each odd file, then `each answered rightly`; a minute
+Usage    checks/failing_files.py [--words WORD,..] [--program FILE]
+         --words takes some of run, table, play and analyse in place of all; --program tries another program
+Expect   for each command how many calls were made to fail, a line for each odd file, then `each answered rightly`; two minutes
 Else     what was done, and what came in place of what; then status 1
 
-`run` is given its three files, `table` and `play --one` their one. Where the n-th read or open of a file fails, n from the first up, the
-program must end with status 2 and the one line `unreadable FILE`; where a write to standard output fails, with status 2 and `unwritable`,
-and what was written before is a beginning of the answer. A read or write of one byte in place of several changes nothing.
+`run` is given its three files, `table` and `play --one` their one, `analyse` a contract alone and with a state, without alarms and with one.
+Where the n-th read or open of a file fails, n from the first up, the program must end with status 2 and the one line `unreadable FILE`; where a
+write to standard output fails, with status 2 and `unwritable`, and what was written before is a beginning of the answer. A read or write of one
+byte in place of several changes nothing.
 """
-import os, shutil, subprocess, sys, tempfile, threading
+import argparse, os, shutil, subprocess, sys, tempfile, threading
 
 ROOT = os.path.dirname(os.path.dirname(os.path.abspath(__file__)))
 PROGRAM = f"{ROOT}/crates/marlowe/out/marlowe"
-EXAMPLE = f"{ROOT}/crates/rows_runs/data/examples/escrow_1_the_buyer_deposits"
+EXAMPLES = f"{ROOT}/crates/rows_runs/data/examples"
 PLAY = f"{ROOT}/examples/plays/escrow/scenario.json"
 wrong = []
+
+
+def tasks():
+    """Of each command the name, the words, the files among them, which stand last, and the status of the answer."""
+    files = [f"{EXAMPLES}/escrow_1_the_buyer_deposits/{it}.json" for it in ("contract", "state", "transaction")]
+    warns = [f"{EXAMPLES}/partial_pay/{it}.json" for it in ("contract", "state")]
+    return [
+        ("run", ["run", *files], files, 0),
+        ("table", ["table", files[0]], files[:1], 0),
+        ("play", ["play", "--one", PLAY], [PLAY], 0),
+        ("analyse", ["analyse", files[0]], files[:1], 0),
+        ("analyse from a state", ["analyse", *files[:2]], files[:2], 0),
+        ("analyse with an alarm", ["analyse", warns[0]], warns[:1], 3),
+        ("analyse with an alarm from a state, for tools", ["analyse", "--json", *warns], warns, 3),
+    ]
 
 
 def ran(words, before=(), **how):
@@ -42,7 +59,7 @@ def was_hit(room):
     return "(INJECTED)" in open(f"{room}/trace", errors="replace").read()
 
 
-def each_fails(words, files, answer, room):
+def each_fails(name, words, files, wanted, answer, room):
     """Has each open and each read of each file, and each write of the answer, fail in turn. Answers how many did."""
     count = 0
     for file in files:
@@ -51,9 +68,9 @@ def each_fails(words, files, answer, room):
             while True:
                 came = ran(words, tracing(call, file, "error=EIO", n, room))
                 if not was_hit(room):
-                    see(f"{words[0]}, nothing fails", came, (0, answer, b""))
+                    see(f"{name}, nothing fails", came, (wanted, answer, b""))
                     break
-                see(f"{words[0]}, {call} {n} of {file}", came, (2, b"", f"unreadable {file}\n".encode()))
+                see(f"{name}, {call} {n} of {file}", came, (2, b"", f"unreadable {file}\n".encode()))
                 count, n = count + 1, n + 1
     n = 1
     while True:
@@ -62,10 +79,10 @@ def each_fails(words, files, answer, room):
             status, _, told = ran(words, tracing("write", out, "error=EIO", n, room), stdout=it)
         text = open(out, "rb").read()
         if not was_hit(room):
-            see(f"{words[0]}, no write fails", (status, text, told), (0, answer, b""))
+            see(f"{name}, no write fails", (status, text, told), (wanted, answer, b""))
             break
-        see(f"{words[0]}, write {n}", (status, told), (2, b"unwritable\n"))
-        see(f"{words[0]}, before write {n}", answer.startswith(text), True)
+        see(f"{name}, write {n}", (status, told), (2, b"unwritable\n"))
+        see(f"{name}, before write {n}", answer.startswith(text), True)
         count, n = count + 1, n + 1
     return count
 
@@ -93,21 +110,27 @@ def by_bytes(words, texts, ends, room):
 
 
 def main():
+    global PROGRAM
+    flags = argparse.ArgumentParser(description="has reads, opens and writes of the program fail")
+    flags.add_argument("--words", default="run,table,play,analyse")
+    flags.add_argument("--program", default=PROGRAM)
+    given = flags.parse_args()
+    PROGRAM, chosen = given.program, [it for it in tasks() if it[1][0] in given.words.split(",")]
+    if not chosen:
+        flags.error("--words takes some of run, table, play and analyse")
     if not os.path.exists(PROGRAM):
         sys.exit(f"{PROGRAM} isn't built")
     if not shutil.which("strace"):
         sys.exit("strace isn't there")
     room = tempfile.mkdtemp(prefix="failing-")
-    files = [f"{EXAMPLE}/{it}.json" for it in ("contract", "state", "transaction")]
-    tasks = [("run", ["run", *files], files), ("table", ["table", files[0]], files[:1]), ("play", ["play", "--one", PLAY], [PLAY])]
-    for name, words, read in tasks:
+    for name, words, read, wanted in chosen:
         status, answer, told = ran(words)
-        see(f"{name} as it is", (status, told), (0, b""))
-        count = each_fails(words, read, answer, room)
+        see(f"{name} as it is", (status, told), (wanted, b""))
+        count = each_fails(name, words, read, wanted, answer, room)
         print(f"{name}: {count} calls failed in turn")
         texts = [open(it, "rb").read() for it in read]
         # a byte at a time, and a text that ends early
-        see(f"{name} a byte at a time", by_bytes(words[: len(words) - len(read)], texts, None, room), (0, answer, b""))
+        see(f"{name} a byte at a time", by_bytes(words[: len(words) - len(read)], texts, None, room), (wanted, answer, b""))
         status, out, told = by_bytes(words[: len(words) - len(read)], texts, len(texts[-1]) // 2, room)
         see(f"{name} of a pipe that ends early", (status, out, told.startswith(b"refused ") and told.endswith(b" NotJson\n")), (1, b"", True))
         with open("/dev/full", "wb") as full:

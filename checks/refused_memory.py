@@ -163,13 +163,17 @@ def of_program(pool, library, words, on):
 
 def command_lines():
     """For each task of the program what it is run on."""
-    lines = {"run": [], "table": [], "play": []}
+    lines = {"run": [], "table": [], "play": [], "analyse": []}
     for name in sorted(os.listdir(EXAMPLES)):
         files = [f"{EXAMPLES}/{name}/{it}.json" for it in ("contract", "state", "transaction")]
         lines["run"].append(["run", *files])
         lines["table"].append(["table", files[0]])
     for name in sorted(os.listdir(PLAYS)):
         lines["play"].append(["play", f"{PLAYS}/{name}/scenario.json", "--one"])
+    # one without alarms, and one with an alarm for which a run is found
+    for name in ("escrow_1_the_buyer_deposits", "partial_pay"):
+        files = [f"{EXAMPLES}/{name}/{it}.json" for it in ("contract", "state")]
+        lines["analyse"] += [["analyse", files[0]], ["analyse", *files, "--json"]]
     return lines
 
 

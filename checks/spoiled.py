@@ -2,8 +2,9 @@
 """Spoils the texts of the examples and the rows of transactions, and asks the built programs what they make of each.
 
 Needs    (cd crates/marlowe && rt run -- --version); for --rows also (cd crates/rows_transactions && rt run -- data/sums.txt)
-Usage    checks/spoiled.py [--seconds N] [--seed N] [--workers N] [--rows]
+Usage    checks/spoiled.py [--seconds N] [--seed N] [--workers N] [--words WORD,..] [--program FILE] [--slow N] [--rows]
          for N seconds (60) with so many workers (1), each a process; a worker spoils the same texts in the same order again for the same seed;
+         --words takes some of run, table, play and analyse in place of all; --program asks another program, which may take --slow N times as long;
          --rows spoils the rows of transactions in place of the texts
 Expect   how many texts there were of each command, were spoiled in each way and were answered in each kind, and `N spoiled texts, none at fault`;
          beside other work some 700 to 1,900 a second with four workers
@@ -11,17 +12,29 @@ Else     what is wrong, the command line over copies of its files, and what it w
 
 Each text is spoiled once or a few times: a byte changed, a part cut out or doubled, a key renamed, a number put to an end of its range,
 a name in some script of the world, a number written as a text or a text as a number, a part exchanged for one of another text. A play is in
-threads or, with --one, in turn.
+threads or, with --one, in turn; an analysis has a state or none, and is for people or, with --json, for tools. It is also of the contracts of
+rows_analysis, which have alarms of all kinds.
 Of each answer it asks: status 0, with a text on standard output alone, or status 1, with one line `refused ..` on standard error alone; at
 most a second; at most 64 MiB. Of rows: status 0 or 1, and nothing on standard error. What takes longer than a second beside the other workers
 is asked again alone before it is at fault.
+An analysis may take 20 seconds, since an alarm for which no run is found takes all its tries, and its text may have status 3 too. It is also asked:
+- that with and without --json the status is the same, and all that is told: kinds, places, runs, parties, tokens and numbers;
+- that it has the lines, or the keys, of docs/formats.md, in its order; that its places are in the contract's text, with a form that can warn so;
+- that it has alarms where its status is 3, and none where it is 0;
+- that it refuses the contract or the state just where `run` does, by the same line.
 """
 import argparse, collections, glob, json, multiprocessing, os, random, re, shutil, signal, sys, tempfile, time, typing
+from stand_in import EMPTY, action_of, form_of, rows_of
 
 ROOT = os.path.dirname(os.path.dirname(os.path.abspath(__file__)))
 PROGRAM = f"{ROOT}/crates/marlowe/out/marlowe"
 ROWS = f"{ROOT}/crates/rows_transactions/out/rows_transactions"
+WORDS = ["run", "table", "play", "analyse"]
 MOST_SECONDS, MOST_KIB, MOST_FAULTS = 1.0, 64 * 1024, 100
+# An analysis takes a number of tries for each alarm, however short the texts are.
+ANALYSIS_SECONDS = 10
+# The other files of a `run` of an analysed contract.
+BESIDE = f"{ROOT}/crates/rows_runs/data/examples/escrow_1_the_buyer_deposits"
 # The bytes of a spoiled text at most: twice those that a program reads of a file.
 MOST_BYTES = 1 << 21
 
@@ -50,6 +63,23 @@ NUMBER = re.compile(rb'(?<![\w".])-?\d+(?![\w".])')
 TEXT = re.compile(rb'(?<![^\s{[,:])"(?:[^"\\]|\\.)*"')
 KEY = re.compile(rb'(?<![^\s{,])"(?:[^"\\]|\\.)*"\s*:')
 PART = re.compile(rb'\{[^{}]*\}|\[[^][]*\]|(?<![^\s{[,:])"(?:[^"\\]|\\.)*"|-?\d+|true|false|null')
+
+
+CLEAR = "never warns, stays within 128 bits"
+ALARM = re.compile(r"(\w+) at (\S+)(?:, by this run:|(, not known))")
+CASE = r"\.when\[(?:0|[1-9]\d*)\]"
+PLACE = re.compile(rf"(?:\.then|\.else|\.timeout_continuation|{CASE}\.then)*(?:\.(?:pay|if|let|assert)|{CASE}\.case\.(?:deposits|notify_if))")
+RANGE = re.compile(r"at least (?P<least>0|-?[1-9]\d*)(?:, at most (?P<most>0|-?[1-9]\d*))?|at most (?P<only>0|-?[1-9]\d*)|not known")
+# The kinds of alarms in their order, each with the keys of the forms that have it; Leaves128 is had by all.
+ALARMS = {
+    "NonPositiveDeposit": ["deposits"], "NonPositivePay": ["pay"], "PartialPay": ["pay"], "Shadowing": ["let"], "AssertionFailed": ["assert"],
+    "Leaves128": ["pay", "if", "let", "assert", "deposits", "notify_if"],
+}
+# The forms of contracts that each step of a place goes on from.
+STEPS = {"then": ("pay", "let", "assert", "if"), "else": ("if",), "timeout_continuation": ("when",), "when": ("when",)}
+TEXT_FAULTS = "NotJson|TooLong|NoForm|NotWhole|OutOfRange|BadHex"
+NOT_READ = re.compile(rf"refused (?:contract (?:{TEXT_FAULTS}|Merkleized)|state (?:{TEXT_FAULTS}|BadState))\n".encode())
+INPUTS = [{"for_choice_id", "input_that_chooses_num"}, {"input_from_party", "into_account", "of_token", "that_deposits"}]
 
 
 def one_of(chance, pattern, text):
@@ -143,10 +173,11 @@ class Answer(typing.NamedTuple):
 class Runner:
     """Runs one program after another. Their streams are files in memory, and a clock ends a program that stays."""
 
-    def __init__(self):
+    def __init__(self, slow=1.0):
+        self.slow = slow
         self.streams = os.memfd_create("out"), os.memfd_create("err")
         self.actions = [(os.POSIX_SPAWN_DUP2, it, number) for number, it in enumerate(self.streams, 1)]
-        self.pid, self.begun = 0, 0.0
+        self.pid, self.begun, self.most = 0, 0.0, 0.0
 
     def __enter__(self):
         signal.signal(signal.SIGALRM, self.end_what_stays)
@@ -157,11 +188,16 @@ class Runner:
         signal.setitimer(signal.ITIMER_REAL, 0)
 
     def end_what_stays(self, *_):
-        if self.pid and time.monotonic() - self.begun > MOST_SECONDS:
+        if self.pid and time.monotonic() - self.begun > self.most:
             os.kill(self.pid, signal.SIGKILL)
 
-    def ask(self, line):
+    def most_of(self, word):
+        """The seconds that a command may take."""
+        return self.slow * (ANALYSIS_SECONDS if word == "analyse" else MOST_SECONDS)
+
+    def ask(self, word, line):
         """Runs a command line without an environment."""
+        self.most = self.most_of(word)
         self.begun = time.monotonic()
         self.pid = pid = os.posix_spawn(line[0], line, {}, file_actions=self.actions)
         # (it has ended, but its number is still its own: the clock can't end another)
@@ -183,24 +219,167 @@ def take(stream):
     return text
 
 
-def fault_of(word, text, answer):
+def judged(runner, word, line, text):
+    """The answer to a command line about a text, and what is wrong with it, or None."""
+    answer = runner.ask(word, line)
+    fault = fault_of(runner, word, text, answer)
+    return answer, fault_beside(runner, line, answer) if word == "analyse" and not fault else fault
+
+
+def fault_of(runner, word, text, answer):
     """What is wrong with an answer, or None."""
-    if answer.seconds > MOST_SECONDS:
+    if answer.seconds > runner.most_of(word):
         return f"took {answer.seconds:.1f} s or longer"
     if answer.kib > MOST_KIB:
         return f"took {answer.kib} KiB"
-    return fault_of_rows(text, answer) if word == "rows" else fault_of_command(answer)
+    return fault_of_rows(text, answer) if word == "rows" else fault_of_command(word, answer)
 
 
-def fault_of_command(answer):
+def is_late(fault):
+    return re.search(r"took [\d.]+ s", fault) is not None
+
+
+def fault_of_command(word, answer):
     """What is wrong with the status and the streams of `marlowe`, or None."""
     status, out, err = answer[:3]
-    if status == 0:
+    if status == 0 or status == 3 and word == "analyse":
         return None if out and not err else "an answer, and not on standard output alone"
     if status == 1:
         is_line = err.startswith(b"refused ") and err.endswith(b"\n") and err.count(b"\n") == 1
         return None if is_line and not out else "a refusal that isn't one line on standard error alone"
     return f"status {status}"
+
+
+def fault_beside(runner, line, answer):
+    """What is wrong with an analysis, beside that for the other reader and a `run` of the same texts, or None."""
+    files = [it for it in line[2:] if it != "--json"]
+    other = runner.ask("analyse", [*line[:2], *files] if "--json" in line else [*line, "--json"])
+    run = runner.ask("run", [line[0], "run", *(files if files[1:] else [files[0], f"{BESIDE}/state.json"]), f"{BESIDE}/transaction.json"])
+    for word, what, it in (("analyse", "for the other reader", other), ("run", "of a run", run)):
+        if fault := fault_of(runner, word, b"", it):
+            return f"{what}: {fault}"
+    refused = run.err if NOT_READ.fullmatch(run.err) else b""
+    if answer.err != refused or other.err != refused:
+        return f"refused otherwise than by run, {refused!r}"
+    if answer.status != other.status:
+        return f"status {answer.status}, and {other.status} for the other reader"
+    try:
+        if not refused:
+            told = told_of(answer)
+            see(told == told_of(other), "another analysis for the other reader")
+            see(bool(told[0]) == (answer.status == 3), f"status {answer.status} with {len(told[0])} alarms")
+            see_told(json.loads(text_of(files[0]).decode()), *told)
+        return None
+    except (ValueError, LookupError, TypeError, AttributeError, StopIteration) as fault:
+        return f"{type(fault).__name__}: {fault}"
+
+
+def see(is_so, what):
+    if not is_so:
+        raise ValueError(what)
+
+
+def told_of(answer):
+    """What an analysis says: of each alarm the kind, the place as for people and the run, of each range the party, the token, the least, the most."""
+    text = answer.out.decode()
+    see(text.endswith("\n"), "no line feed at the end")
+    if text.startswith('{"alarms"'):
+        return told_by_json(text[:-1])
+    lines, alarms = text.split("\n")[-2::-1], []
+    is_clear = lines[-1] == CLEAR
+    if is_clear:
+        lines.pop()
+    while lines and not is_clear and (found := ALARM.fullmatch(lines[-1])):
+        lines.pop()
+        run = None if found[3] else []
+        while run is not None and lines and lines[-1].startswith('{"tx_'):
+            run.append(compact(lines.pop()))
+        alarms.append((found[1], found[2], run))
+    see(alarms or is_clear, "no alarm and not that it never warns")
+    return alarms, [range_of(it) for it in reversed(lines)]
+
+
+def range_of(line):
+    _, one = json.JSONDecoder().raw_decode(line)
+    _, two = json.JSONDecoder().raw_decode(line, one + 1)
+    found = RANGE.fullmatch(line, two + 1)
+    see(found and line[one] == line[two] == " ", f"no line of a range: {line}")
+    least, most = (None if it is None else int(it) for it in (found["least"], found["most"] or found["only"]))
+    return compact(line[:one]), compact(line[one + 1 : two]), least, most
+
+
+def told_by_json(text):
+    told = compact(text)
+    see(list(told) == ["alarms", "ranges"], f"keys {list(told)}")
+    for keys, some in (["kind", "place", "run"], told["alarms"]), (["least", "most", "party", "token"], told["ranges"]):
+        see(all(list(it) == keys for it in some), f"keys other than {keys}")
+    alarms = [(it["kind"], "".join(f"[{key}]" if type(key) is int else f".{key}" for key in it["place"]), it["run"]) for it in told["alarms"]]
+    return alarms, [(it["party"], it["token"], number_of(it["least"]), number_of(it["most"])) for it in told["ranges"]]
+
+
+def number_of(it):
+    """A number or None; outside -2^63 to 2^64 - 1 it is a text of its digits."""
+    see(it is None or type(it) in (int, str) and str(int(it)) == str(it) and (-(2**63) <= int(it) < 2**64) == (type(it) is int), f"no number: {it!r}")
+    return None if it is None else int(it)
+
+
+def compact(text):
+    """What a JSON text says, which has no blanks, and its keys in order."""
+    it = json.loads(text, object_pairs_hook=in_order)
+    # (how a text spells what must be escaped isn't asked)
+    see("\\" in text or json.dumps(it, ensure_ascii=False, separators=(",", ":")) == text, f"JSON that isn't compact: {text[:200]}")
+    return it
+
+
+def in_order(pairs):
+    keys = [key for key, _ in pairs]
+    see(keys == sorted(set(keys)), f"keys out of order: {keys}")
+    return dict(pairs)
+
+
+def see_told(contract, alarms, ranges):
+    """Sees that what an analysis says may be said of the contract of a text: the places, the runs' forms, the order."""
+    order = []
+    for kind, place, run in alarms:
+        steps = re.findall(r"\w+", place)
+        see(kind in ALARMS and PLACE.fullmatch(place) and steps[-1] in ALARMS[kind], f"no alarm: {kind} at {place}")
+        see(form_at(contract, steps) == steps[-1], f"{place} isn't in the contract")
+        see(run is None or run and all(map(is_transaction, run)), f"no run to {kind} at {place}: {run}")
+        order.append((order_of(steps), list(ALARMS).index(kind)))
+    see(order == sorted(set(order)), "alarms out of order")
+    order = [((list(party) == ["role_token"], *map(str.encode, party.values())), (bytes.fromhex(token["currency_symbol"]), token["token_name"].encode()))
+             for party, token, _, _ in ranges]
+    see(order == sorted(set(order)), "ranges out of order")
+    see(all(list(party) in (["address"], ["role_token"]) and list(token) == ["currency_symbol", "token_name"] for party, token, _, _ in ranges),
+        "no party or no token")
+    # (a run without a transaction pays nothing)
+    see(all(most is None or most >= 0 for _, _, _, most in ranges), "at most less than 0")
+
+
+def form_at(contract, steps):
+    """The key by which the form is known to which the steps but the last lead through the contract's text."""
+    it, form, way = contract, form_of, iter(steps[:-1])
+    for step in way:
+        see(form_of(it) in STEPS[step], f"no {step} there")
+        if step == "when":
+            it, step = it["when"][int(next(way))], next(way)
+            form = action_of if step == "case" else form_of
+        it = it[step]
+    return form(it)
+
+
+def order_of(steps):
+    """The order of a place in the contract: before those that go on from it, cases by their numbers, and the timeout's continuation last."""
+    order, way = [], iter(steps[:-1])
+    for step in way:
+        order.append((int(next(way)), next(way) == "then") if step == "when" else (["then", "else", "timeout_continuation"].index(step) << 64, False))
+    return tuple(order)
+
+
+def is_transaction(it):
+    interval = it["tx_interval"]
+    inputs = all(one == "input_notify" or set(one) in INPUTS for one in it["tx_inputs"])
+    return inputs and list(it) == ["tx_inputs", "tx_interval"] and list(interval) == ["from", "to"] and all(type(n) is int for n in interval.values())
 
 
 def fault_of_rows(text, answer):
@@ -221,6 +400,8 @@ def kinds_of(word, answer):
     """The kinds of an answer: of rows each line's verdict, else of a refusal its names without what is particular to the text."""
     if word == "rows":
         return [f"{word}: {it[1]}" for it in map(VERDICT.match, answer.out.decode("utf-8", "replace").split("\n")) if it]
+    if word == "analyse" and answer.status != 1:
+        return [f"{word}: {kind} {'not known' if run is None else 'with a run'}" for kind, _, run in told_of(answer)[0]] or [f"{word}: never warns"]
     if answer.status == 0:
         return [f"{word}: an answer"]
     return [f"{word}: {' '.join(filter(NAME.fullmatch, answer.err.decode('utf-8', 'replace').split()))}"]
@@ -231,7 +412,9 @@ def texts_of_examples():
     folders = sorted(glob.glob(f"{ROOT}/crates/rows_runs/data/examples/*/"))
     runs = [[text_of(f"{folder}/{it}.json") for it in ("contract", "state", "transaction")] for folder in folders]
     plays = [[text_of(it)] for it in sorted(glob.glob(f"{ROOT}/examples/plays/*/scenario.json"))]
-    return {"run": runs, "table": [texts[:1] for texts in runs], "play": plays}
+    analyses = {(contract, state or json.dumps(EMPTY)) for it in glob.glob(f"{ROOT}/crates/rows_analysis/data/*.txt") for _, contract, state, *_ in rows_of(it)}
+    analyses = [texts[:2] for texts in runs] + [[it.encode() for it in texts] for texts in sorted(analyses)]
+    return {"run": runs, "table": [texts[:1] for texts in runs], "play": plays, "analyse": analyses}
 
 
 def text_of(file):
@@ -251,23 +434,25 @@ def rows_of_transactions():
     return found
 
 
-def spoil_texts(chance, room):
+def spoil_texts(chance, room, given):
     """Spoils a text of an example, again and again: what is asked about which text, and what was done to it."""
     examples = texts_of_examples()
     everything = [it for some in examples.values() for texts in some for it in texts]
     files = {word: [files_of(f"{room}/{word}_{number}", it) for number, it in enumerate(some)] for word, some in examples.items()}
     while True:
-        word = chance.choice(["run", "table", "play"])
+        word = chance.choice(given.words)
         number = chance.randrange(len(examples[word]))
-        line, texts = [PROGRAM, word, *files[word][number]], examples[word][number]
+        line, texts = [given.program, word, *files[word][number]], examples[word][number]
         place = chance.randrange(len(texts))
         line[2 + place] = f"{room}/spoiled"
         text, done = spoiled(chance, texts[place], everything)
-        is_in_turn = word == "play" and chance.random() < 0.5
-        yield word, [*line, "--one"] if is_in_turn else line, text, done
+        if word == "analyse" and place == 0 and chance.random() < 0.5:
+            line.pop()
+        flags = {"play": ["--one"], "analyse": ["--json"]}.get(word, []) if chance.random() < 0.5 else []
+        yield word, [*line, *flags], text, done
 
 
-def spoil_rows(chance, room):
+def spoil_rows(chance, room, given):
     """Spoils a line among some rows of transactions."""
     rows = rows_of_transactions()
     everything = [it for some in texts_of_examples().values() for texts in some for it in texts]
@@ -302,16 +487,16 @@ def work(arguments):
     number, given = arguments
     chance, spoil, ends = random.Random(f"{given.seed} {number}"), spoil_rows if given.rows else spoil_texts, time.monotonic() + given.seconds
     kinds, faults, seconds, kib = collections.Counter(), [], 0, 0
-    with tempfile.TemporaryDirectory(prefix="spoiled-", dir="/dev/shm") as room, Runner() as runner:
+    with tempfile.TemporaryDirectory(prefix="spoiled-", dir="/dev/shm") as room, Runner(given.slow) as runner:
         file = os.open(f"{room}/spoiled", os.O_WRONLY | os.O_CREAT)
-        for word, line, text, done in spoil(chance, room):
+        for word, line, text, done in spoil(chance, room, given):
             if time.monotonic() > ends or len(faults) == MOST_FAULTS:
                 break
             os.pwrite(file, text, 0)
             os.ftruncate(file, len(text))
-            answer = runner.ask(line)
-            if fault_of(word, text, answer):
-                faults.append((word, kept(line), text, answer))
+            answer, fault = judged(runner, word, line, text)
+            if fault:
+                faults.append((word, kept(line), text, answer, fault))
             else:
                 kinds.update(kinds_of(word, answer))
                 seconds, kib = max(seconds, answer.seconds), max(kib, answer.kib)
@@ -319,15 +504,15 @@ def work(arguments):
     return kinds, faults, seconds, kib
 
 
-def ask_again(faults):
+def ask_again(faults, slow):
     """Of the inputs at fault those that are so still. What was late beside other workers is asked again alone."""
     still = []
-    with Runner() as runner:
-        for word, line, text, answer in faults:
-            if answer.seconds > MOST_SECONDS:
-                answer = runner.ask(line)
-            if fault_of(word, text, answer):
-                still.append((word, line, text, answer))
+    with Runner(slow) as runner:
+        for word, line, text, answer, fault in faults:
+            if is_late(fault):
+                answer, fault = judged(runner, word, line, text)
+            if fault:
+                still.append((line, answer, fault))
     return still
 
 
@@ -336,9 +521,14 @@ def main():
     words.add_argument("--seconds", type=float, default=60)
     words.add_argument("--seed", type=int, default=0)
     words.add_argument("--workers", type=int, default=1)
+    words.add_argument("--words", type=lambda it: it.split(","), default=WORDS)
+    words.add_argument("--program", default=PROGRAM)
+    words.add_argument("--slow", type=float, default=1)
     words.add_argument("--rows", action="store_true")
     given = words.parse_args()
-    program = ROWS if given.rows else PROGRAM
+    if not set(given.words) <= set(WORDS):
+        words.error(f"--words takes some of {','.join(WORDS)}")
+    program = ROWS if given.rows else given.program
     if not os.path.exists(program):
         sys.exit(f"{program} isn't built")
     with multiprocessing.Pool(given.workers) as pool:
@@ -346,9 +536,9 @@ def main():
     kinds, faults = sum((it[0] for it in told), collections.Counter()), [it for part in told for it in part[1]]
     for kind, count in sorted(kinds.items()):
         print(f"{count:9} {kind}")
-    late, still = sum(it[3].seconds > MOST_SECONDS for it in faults), ask_again(faults)
-    for word, line, text, answer in still:
-        print(f"{fault_of(word, text, answer)}: {' '.join(line)}: {answer.err[:300]!r}")
+    late, still = sum(is_late(it[4]) for it in faults), ask_again(faults, given.slow)
+    for line, answer, fault in still:
+        print(f"{fault}: {' '.join(line)}: {answer.err[:300]!r}")
     asked = sum(count for kind, count in kinds.items() if kind.startswith("asked "))
     most = f"{max(it[2] for it in told):.2f} s and {max(it[3] for it in told)} KiB"
     print(f"{asked / given.seconds:.0f} a second, at most {most}, {late} asked again alone")
