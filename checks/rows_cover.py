@@ -124,6 +124,7 @@ LEFT = {
     "== LockName": "no crate above can name it; the looks of rows_chain compare it",
     "copy Carried": "no crate above can name it; each call by a seat is copied in it",
     "copy Linear": KNOWN,
+    "copy Branched": KNOWN,
     "copy Named": KNOWN,
     "copy Symbols": KNOWN,
     "copy Known": KNOWN,

@@ -627,7 +627,7 @@ later_is scope k i j s ps d h w o =
     let b = sees_more n (suc (suc n)) (up_two n) k.view d.below in
     let g = same_seen scope n r d.numbers k.view i s ps (λ z l. agree_below q (suc n) j.to z (less_suc z n l) ∙ agree_below d.numbers n j.from z l) d.below d.seen in
     record {
-      closed = record { ranges = c.ranges; facts = (minus_below (suc (suc n)) end start y x, (minus_below (suc (suc n)) start k.view.start x b.start, c.facts)); apart = c.apart; operations = c.operations };
+      closed = record { ranges = c.ranges; facts = (minus_below (suc (suc n)) end start y x, (minus_below (suc (suc n)) start k.view.start x b.start, c.facts)); apart = c.apart; operations = c.operations; branches = c.branches };
       below = record { accounts = b.accounts; choices = b.choices; bound = b.bound; paid = b.paid; start = x; end = y; times = (in_two n, (at_one (suc n), b.times)) };
       numbers = r;
       valued = record {
@@ -638,6 +638,7 @@ later_is scope k i j s ps d h w o =
         );
         apart = v.apart;
         operations = v.operations;
+        branches = v.branches;
       };
       seen = record {
         accounts = g.accounts;

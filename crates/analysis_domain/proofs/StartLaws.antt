@@ -101,7 +101,7 @@ started scope s above fit i g h o =
     let gap_at : number_at r (minus (symbol 1) (symbol 0)) ≡ i.to +ℤ (neg_ℤ (pos 1) *ℤ i.from) =
     minus_at r (symbol 1) (symbol 0) ∙ ap (λ z. z +ℤ (neg_ℤ (pos 1) *ℤ number_at r (symbol 0))) (symbol_at r 1) ∙ ap (λ z. i.to +ℤ (neg_ℤ (pos 1) *ℤ z)) (symbol_at r 0) in
     record {
-      closed = record { ranges = (omega arith, tt); facts = (minus_below 2 (symbol 1) (symbol 0) (omega arith, tt) (omega arith, tt), tt); apart = tt; operations = tt };
+      closed = record { ranges = (omega arith, tt); facts = (minus_below 2 (symbol 1) (symbol 0) (omega arith, tt) (omega arith, tt), tt); apart = tt; operations = tt; branches = tt };
       below = record {
         accounts = numbers_below 2 (entries s.accounts);
         choices = numbers_below 2 (entries s.choices);
@@ -112,7 +112,7 @@ started scope s above fit i g h o =
         times = (omega arith, (omega arith, tt));
       };
       numbers = r;
-      valued = record { ranges = (g, tt, tt); facts = (subst (λ z. pos 0 ≤ℤ z) (sym gap_at) (gap i.to i.from h), tt); apart = tt; operations = tt };
+      valued = record { ranges = (g, tt, tt); facts = (subst (λ z. pos 0 ≤ℤ z) (sym gap_at) (gap i.to i.from h), tt); apart = tt; operations = tt; branches = tt };
       seen = record {
         accounts = λ a. ap (λ o. unwrap_or o (pos 0)) (get-entries s.accounts a) ∙ held_numbers account_cmp r (entries s.accounts) a;
         choices = λ id. get-entries s.choices id ∙ found_numbers choice_id_cmp r (entries s.choices) id;

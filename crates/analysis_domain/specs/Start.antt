@@ -21,7 +21,7 @@ in_numbers (e ∷ es) = (e.0, number e.1) ∷ in_numbers es
 abbrev pub starting_with : List (Account × ℤ) → List (ChoiceId × ℤ) → List (List ℕ × ℤ) → ℤ → Known
 starting_with accounts choices bound time =
     record {
-      symbols = record { next = 2; ranges = record { symbol = 0; least = Some time; greatest = None } ∷ []; facts = minus (symbol 1) (symbol 0) ∷ []; apart = []; operations = [] };
+      symbols = record { next = 2; ranges = record { symbol = 0; least = Some time; greatest = None } ∷ []; facts = minus (symbol 1) (symbol 0) ∷ []; apart = []; operations = []; branches = [] };
       view = record { accounts = in_numbers accounts; choices = in_numbers choices; bound = in_numbers bound; paid = []; start = symbol 0; end = symbol 1; times = 0 ∷ 1 ∷ [] };
     }
 

@@ -84,7 +84,7 @@ fits_short (negsuc n) h =
 -- a state's entries, and no time yet
 abbrev pub entries_alone : StateMaps → Known
 entries_alone s = record {
-  symbols = symbols_of [] [] [] [];
+  symbols = symbols_of [] [] [] [] [];
   view = record {
     accounts = in_numbers (entries s.accounts);
     choices = in_numbers (entries s.choices);
@@ -100,7 +100,7 @@ entries_described : (scope : Scope) (s : StateMaps) → AllPositive (entries s.a
 entries_described scope s above fit time =
     let r : Valuation = λ n. pos 0 in
     record {
-      closed = record { ranges = tt; facts = tt; apart = tt; operations = tt };
+      closed = record { ranges = tt; facts = tt; apart = tt; operations = tt; branches = tt };
       below = record {
         accounts = numbers_below 0 (entries s.accounts);
         choices = numbers_below 0 (entries s.choices);
@@ -111,7 +111,7 @@ entries_described scope s above fit time =
         times = tt;
       };
       numbers = r;
-      valued = record { ranges = tt; facts = tt; apart = tt; operations = tt };
+      valued = record { ranges = tt; facts = tt; apart = tt; operations = tt; branches = tt };
       seen = record {
         accounts = λ a. ap (λ o. unwrap_or o (pos 0)) (get-entries s.accounts a) ∙ held_numbers account_cmp r (entries s.accounts) a;
         choices = λ id. get-entries s.choices id ∙ found_numbers choice_id_cmp r (entries s.choices) id;

@@ -1,6 +1,7 @@
 -- Comparisons, observations, and one of two values.
 use Rattle.std.proofs.Common.{◌≡◌, ℤ, pos, ◌+ℤ◌, ◌-ℤ◌, ◌≤ℤ◌, ◌<ℤ◌, int_lt, Bool, true, false, not, cond, ◌&&◌, ◌||◌, List, [], ◌++◌, refl, sym, ap, ◌∙◌, subst, arith, Option, Some, None, Result, inl, inr}
 use Rattle.std.proofs.lemmas.Int.{ints}
+use Rattle.std.proofs.lemmas.List.{append_assoc}
 use Rattle.std.specs.Prelude.{IfOk, is_some}
 use Rattle.std.specs.List.{AllByRecursion}
 use Rattle.std.specs.Option.{IsSomeAnd}
@@ -24,7 +25,7 @@ use Rattle.linear.specs.Either.{GivesEither}
 use Rattle.linear.proofs.NumberLaws.{true_lt, false_lt, true_le, false_le}
 use Rattle.linear.proofs.LinearLaws.{same_number}
 use Rattle.linear.proofs.SymbolLaws.{terms_more, knows_leads, is_some_map}
-use Rattle.linear.proofs.KnownLaws.{leads_gives}
+use Rattle.linear.proofs.KnownLaws.{leads_gives, gives_leads}
 use Rattle.analysis_spec.specs.declared.kind.AlarmKind.TheVariants.{Leaves128}
 use Rattle.analysis_walk.specs.Limits.{Scope, Allowed, GoesOn}
 use Rattle.analysis_walk.specs.Domain.{ObservesSo}
@@ -37,7 +38,7 @@ use Rattle.analysis_values.specs.declared.comparisons.Comparison.{Comparison}
 use Rattle.analysis_values.specs.declared.comparisons.Comparison.TheVariants.{NoLess, Greater, Less, NoGreater, Same}
 use Rattle.analysis_values.specs.declared.values.Truths.{Truths}
 use Rattle.analysis_values.specs.Answered.{GoesTo, Evaluates, FitsWhereSaid, Decides, Unites}
-use Rattle.analysis_values.specs.Steps.{EvaluatesBoth, BothFitWhereSaid, KnowsWhere, IsNoLess, IsLess, IsSame, IsOther, test_of, HoldsOf, FailsOf, LeadsEither, DecidesIn, LooksWhereSaid, EvaluatesEither}
+use Rattle.analysis_values.specs.Steps.{EvaluatesBoth, BothFitWhereSaid, KnowsWhere, IsNoLess, IsLess, IsSame, IsOther, test_of, HoldsOf, FailsOf, LeadsEither, DecidesIn, LeadsThere, DecidesThere, LooksWhereSaid, LeadsOn, EvaluatesEither}
 use Rattle.analysis_values.proofs.StepLemmas.{described_leads, through, leads_itself, goes_both}
 
 -- ---- comparisons of two expressions
@@ -128,19 +129,25 @@ either_one k m r c v (inr h) = absurd h
 
 -- ---- observations
 
+there : (k : Symbols) (r : Valuation) (m : Symbols) (o : Option Symbols) → LeadsThere k r m o → IsSomeAnd o (Leads k r)
+there k r m o h = some_leads k r m h.leads o h.on
+
+pub decides_at_once : (v : View) (k m : Symbols) (o : ObservationTree) (p q : Option Symbols) → DecidesThere v k m o p q → DecidesIn v k o p q
+decides_at_once v k m o p q h scope i s ps d = there k d.numbers m (cond (holds i s o) p q) (h scope i s ps d)
+
 module _ (v : View) (k m : Symbols) (x y : ValueTree) (a b : Linear) where
   -- what two numbers are compared by
   pub compared_decides : (P Q : ℤ → ℤ → Type 0) (o : ObservationTree) (if_true if_false : Option Symbols) → ((i : Interval) (s : StateMaps) → holds i s o ≡ true → P (eval i s x) (eval i s y))
-      → ((i : Interval) (s : StateMaps) → holds i s o ≡ false → Q (eval i s x) (eval i s y)) → EvaluatesBoth v k x y m a b → KnowsWhere P m a b if_true → KnowsWhere Q m a b if_false → DecidesIn v k o if_true if_false
+      → ((i : Interval) (s : StateMaps) → holds i s o ≡ false → Q (eval i s x) (eval i s y)) → EvaluatesBoth v k x y m a b → KnowsWhere P m a b if_true → KnowsWhere Q m a b if_false → DecidesThere v k m o if_true if_false
   compared_decides P Q o if_true if_false f g h t e scope i s ps d = by_test (holds i s o) refl
     where
-      at : (R : ℤ → ℤ → Type 0) (p : Option Symbols) → KnowsWhere R m a b p → R (eval i s x) (eval i s y) → IsSomeAnd p (Leads k d.numbers)
+      at : (R : ℤ → ℤ → Type 0) (p : Option Symbols) → KnowsWhere R m a b p → R (eval i s x) (eval i s y) → LeadsThere k d.numbers m p
       at R p f2 h2 =
           let q = h scope i s ps d in
           let l = q.leads in
-          some_leads k d.numbers m l p (f2 l.values l.closed l.valued q.left_below q.right_below (subst (λ z. R z (number_at l.values b)) q.left (subst (R (eval i s x)) q.right h2)))
+          record { leads = l; on = f2 l.values l.closed l.valued q.left_below q.right_below (subst (λ z. R z (number_at l.values b)) q.left (subst (R (eval i s x)) q.right h2)) }
 
-      by_test : (z : Bool) → holds i s o ≡ z → IsSomeAnd (cond z if_true if_false) (Leads k d.numbers)
+      by_test : (z : Bool) → holds i s o ≡ z → LeadsThere k d.numbers m (cond z if_true if_false)
       by_test true w = at P if_true t (f i s w)
       by_test false w = at Q if_false e (g i s w)
 
@@ -179,7 +186,7 @@ test_looked NoGreater x y i s = refl
 test_looked Same x y i s = refl
 
 module _ (v : View) (k m : Symbols) (x y : ValueTree) (a b : Linear) (c : Comparison) where
-  pub test_decides : (if_true if_false : Option Symbols) → EvaluatesBoth v k x y m a b → KnowsWhere (HoldsOf c) m a b if_true → KnowsWhere (FailsOf c) m a b if_false → DecidesIn v k (test_of c x y) if_true if_false
+  pub test_decides : (if_true if_false : Option Symbols) → EvaluatesBoth v k x y m a b → KnowsWhere (HoldsOf c) m a b if_true → KnowsWhere (FailsOf c) m a b if_false → DecidesThere v k m (test_of c x y) if_true if_false
   test_decides if_true if_false h t f =
       compared_decides v k m x y a b (HoldsOf c) (FailsOf c) (test_of c x y) if_true if_false (λ i s e. test_true c x y i s e) (λ i s e. test_false c x y i s e) h t f
 
@@ -188,99 +195,198 @@ module _ (v : View) (k m : Symbols) (x y : ValueTree) (a b : Linear) (c : Compar
 
 -- a truth that is known
 pub truth_decides : (v : View) (k m : Symbols) (o : ObservationTree) (truth : Bool) (if_true if_false : Option Symbols) → m ≡ k → cond truth if_true if_false ≡ Some m
-    → ((scope : Scope) (i : Interval) (s : StateMaps) (ps : List Payment) → IsDescribed scope (known k v) i s ps → holds i s o ≡ truth) → DecidesIn v k o if_true if_false
+    → ((scope : Scope) (i : Interval) (s : StateMaps) (ps : List Payment) → IsDescribed scope (known k v) i s ps → holds i s o ≡ truth) → DecidesThere v k k o if_true if_false
 truth_decides v k m o truth if_true if_false e f h scope i s ps d =
-    subst (λ t. IsSomeAnd (cond t if_true if_false) (Leads k d.numbers)) (sym (h scope i s ps d)) (subst (λ p. IsSomeAnd p (Leads k d.numbers)) (sym f) (subst (Leads k d.numbers) (sym e) (leads_itself k d.numbers d.closed d.valued)))
+    let l = leads_itself k d.numbers d.closed d.valued in
+    record {
+      leads = l;
+      on = subst (λ t. IsSomeAnd (cond t if_true if_false) (Leads k l.values)) (sym (h scope i s ps d)) (subst (λ p. IsSomeAnd p (Leads k l.values)) (sym f) (subst (Leads k l.values) (sym e) (leads_itself k l.values l.closed l.valued)));
+    }
 
 pub chose_decides : (v : View) (k m : Symbols) (id : ChoiceId) (truth : Bool) (if_true if_false : Option Symbols) → m ≡ k → truth ≡ is_some (find choice_id_cmp id v.choices) → cond truth if_true if_false ≡ Some m
-    → DecidesIn v k (chose_something id) if_true if_false
+    → DecidesThere v k k (chose_something id) if_true if_false
 chose_decides v k m id truth if_true if_false e f g =
     truth_decides v k m (chose_something id) truth if_true if_false e g (λ scope i s ps d. ap is_some (d.seen.choices id) ∙ is_some_map (number_at d.numbers) (find choice_id_cmp id v.choices) ∙ sym f)
 
 pub looks_none : (v : View) (k : Symbols) (o : ObservationTree) (said : Bool) → ((i : Interval) (s : StateMaps) → looked i s o ≡ []) → LooksWhereSaid v k o said
 looks_none v k o said same scope i s ps d g = subst (AllByRecursion (Allowed scope)) (sym (same i s)) tt
 
-pub not_decides : (v : View) (k : Symbols) (o : ObservationTree) (if_true if_false : Option Symbols) → DecidesIn v k o if_true if_false → DecidesIn v k (not_obs o) if_false if_true
-not_decides v k o if_true if_false h scope i s ps d = by_test (holds i s o) (h scope i s ps d)
+pub not_decides : (v : View) (k m : Symbols) (o : ObservationTree) (if_true if_false : Option Symbols) → DecidesThere v k m o if_true if_false → DecidesThere v k m (not_obs o) if_false if_true
+not_decides v k m o if_true if_false h scope i s ps d = by_test (holds i s o) (h scope i s ps d)
   where
-    by_test : (t : Bool) → IsSomeAnd (cond t if_true if_false) (Leads k d.numbers) → IsSomeAnd (cond (not t) if_false if_true) (Leads k d.numbers)
+    by_test : (t : Bool) → LeadsThere k d.numbers m (cond t if_true if_false) → LeadsThere k d.numbers m (cond (not t) if_false if_true)
     by_test true g = g
     by_test false g = g
 
-module _ (v : View) (k : Symbols) (x y : ObservationTree) (w : Option Symbols) where
+module _ (v : View) (k n : Symbols) (x y : ObservationTree) (w : Option Symbols) where
   -- the first is never true
-  pub and_never : DecidesIn v k x None w → DecidesIn v k (and_obs x y) None w
+  pub and_never : DecidesThere v k n x None w → DecidesThere v k n (and_obs x y) None w
   and_never h scope i s ps d = by_test (holds i s x) (h scope i s ps d)
     where
-      by_test : (t : Bool) → IsSomeAnd (cond t None w) (Leads k d.numbers) → IsSomeAnd (cond (t && holds i s y) None w) (Leads k d.numbers)
-      by_test true g = absurd g
+      by_test : (t : Bool) → LeadsThere k d.numbers n (cond t None w) → LeadsThere k d.numbers n (cond (t && holds i s y) None w)
+      by_test true g = absurd g.on
       by_test false g = g
 
-  pub and_never_looks : (said : Bool) → DecidesIn v k x None w → LooksWhereSaid v k x said → LooksWhereSaid v k (and_obs x y) said
+  pub and_never_looks : (said : Bool) → DecidesThere v k n x None w → LooksWhereSaid v k x said → LooksWhereSaid v k (and_obs x y) said
   and_never_looks said h f scope i s ps d g = all_append (Allowed scope) (looked i s x) (cond (holds i s x) (looked i s y) []) (f scope i s ps d g) (by_test (holds i s x) (h scope i s ps d))
     where
-      by_test : (t : Bool) → IsSomeAnd (cond t None w) (Leads k d.numbers) → AllByRecursion (Allowed scope) (cond t (looked i s y) [])
-      by_test true g = absurd g
+      by_test : (t : Bool) → LeadsThere k d.numbers n (cond t None w) → AllByRecursion (Allowed scope) (cond t (looked i s y) [])
+      by_test true g = absurd g.on
       by_test false g = tt
 
   -- the first is never false
-  pub or_never : DecidesIn v k x w None → DecidesIn v k (or_obs x y) w None
+  pub or_never : DecidesThere v k n x w None → DecidesThere v k n (or_obs x y) w None
   or_never h scope i s ps d = by_test (holds i s x) (h scope i s ps d)
     where
-      by_test : (t : Bool) → IsSomeAnd (cond t w None) (Leads k d.numbers) → IsSomeAnd (cond (t || holds i s y) w None) (Leads k d.numbers)
+      by_test : (t : Bool) → LeadsThere k d.numbers n (cond t w None) → LeadsThere k d.numbers n (cond (t || holds i s y) w None)
       by_test true g = g
-      by_test false g = absurd g
+      by_test false g = absurd g.on
 
-  pub or_never_looks : (said : Bool) → DecidesIn v k x w None → LooksWhereSaid v k x said → LooksWhereSaid v k (or_obs x y) said
+  pub or_never_looks : (said : Bool) → DecidesThere v k n x w None → LooksWhereSaid v k x said → LooksWhereSaid v k (or_obs x y) said
   or_never_looks said h f scope i s ps d g = all_append (Allowed scope) (looked i s x) (cond (holds i s x) [] (looked i s y)) (f scope i s ps d g) (by_test (holds i s x) (h scope i s ps d))
     where
-      by_test : (t : Bool) → IsSomeAnd (cond t w None) (Leads k d.numbers) → AllByRecursion (Allowed scope) (cond t [] (looked i s y))
+      by_test : (t : Bool) → LeadsThere k d.numbers n (cond t w None) → AllByRecursion (Allowed scope) (cond t [] (looked i s y))
       by_test true g = tt
-      by_test false g = absurd g
+      by_test false g = absurd g.on
 
-module _ (v : View) (k m : Symbols) (x y : ObservationTree) (p q w : Option Symbols) where
-  -- p where the first alone decides; q and w are the second's, in m
-  pub and_decides : DecidesIn v k x (Some m) p → DecidesIn v m y q w → (o : Option Symbols) → LeadsEither k p w o → DecidesIn v k (and_obs x y) q o
+module _ (v : View) (k n m j : Symbols) (x y : ObservationTree) (p q w : Option Symbols) where
+  -- p where the first alone decides, once n is known; q and w are the second's, which comes from m
+  pub and_decides : DecidesThere v k n x (Some m) p → DecidesThere v m j y q w → (o : Option Symbols) → LeadsEither n p w o → DecidesThere v k n (and_obs x y) q o
   and_decides h f o g scope i s ps d = by_first (holds i s x) (h scope i s ps d)
     where
-      by_second : (l : Leads k d.numbers m) → (t : Bool) → IsSomeAnd (cond t q w) (Leads m l.values) → IsSomeAnd (cond t q o) (Leads k d.numbers)
-      by_second l true z = some_leads k d.numbers m l q z
-      by_second l false z = g d.numbers d.closed d.valued (inr (some_leads k d.numbers m l w z))
+      by_second : (l : Leads k d.numbers n) → (e : Leads n l.values m) → (t : Bool) → LeadsThere m e.values j (cond t q w) → IsSomeAnd (cond t q o) (Leads n l.values)
+      by_second l e true z = some_leads n l.values m e q (there m e.values j q z)
+      by_second l e false z = g l.values l.closed l.valued (inr (some_leads n l.values m e w (there m e.values j w z)))
 
-      by_first : (t : Bool) → IsSomeAnd (cond t (Some m) p) (Leads k d.numbers) → IsSomeAnd (cond (t && holds i s y) q o) (Leads k d.numbers)
-      by_first true l = by_second l (holds i s y) (f scope i s ps (described_leads scope i s ps k m v d l))
-      by_first false z = g d.numbers d.closed d.valued (inl z)
+      by_first : (t : Bool) → LeadsThere k d.numbers n (cond t (Some m) p) → LeadsThere k d.numbers n (cond (t && holds i s y) q o)
+      by_first true z = let l = z.leads in record { leads = l; on = by_second l z.on (holds i s y) (f scope i s ps (described_leads scope i s ps k m v d (through k d.numbers n m l z.on))) }
+      by_first false z = let l = z.leads in record { leads = l; on = g l.values l.closed l.valued (inl z.on) }
 
-  pub or_decides : DecidesIn v k x p (Some m) → DecidesIn v m y q w → (o : Option Symbols) → LeadsEither k p q o → DecidesIn v k (or_obs x y) o w
+  pub or_decides : DecidesThere v k n x p (Some m) → DecidesThere v m j y q w → (o : Option Symbols) → LeadsEither n p q o → DecidesThere v k n (or_obs x y) o w
   or_decides h f o g scope i s ps d = by_first (holds i s x) (h scope i s ps d)
     where
-      by_second : (l : Leads k d.numbers m) → (t : Bool) → IsSomeAnd (cond t q w) (Leads m l.values) → IsSomeAnd (cond t o w) (Leads k d.numbers)
-      by_second l true z = g d.numbers d.closed d.valued (inr (some_leads k d.numbers m l q z))
-      by_second l false z = some_leads k d.numbers m l w z
+      by_second : (l : Leads k d.numbers n) → (e : Leads n l.values m) → (t : Bool) → LeadsThere m e.values j (cond t q w) → IsSomeAnd (cond t o w) (Leads n l.values)
+      by_second l e true z = g l.values l.closed l.valued (inr (some_leads n l.values m e q (there m e.values j q z)))
+      by_second l e false z = some_leads n l.values m e w (there m e.values j w z)
 
-      by_first : (t : Bool) → IsSomeAnd (cond t p (Some m)) (Leads k d.numbers) → IsSomeAnd (cond (t || holds i s y) o w) (Leads k d.numbers)
-      by_first true z = g d.numbers d.closed d.valued (inl z)
-      by_first false l = by_second l (holds i s y) (f scope i s ps (described_leads scope i s ps k m v d l))
+      by_first : (t : Bool) → LeadsThere k d.numbers n (cond t p (Some m)) → LeadsThere k d.numbers n (cond (t || holds i s y) o w)
+      by_first true z = let l = z.leads in record { leads = l; on = g l.values l.closed l.valued (inl z.on) }
+      by_first false z = let l = z.leads in record { leads = l; on = by_second l z.on (holds i s y) (f scope i s ps (described_leads scope i s ps k m v d (through k d.numbers n m l z.on))) }
 
-  pub and_looks : (b c : Bool) → DecidesIn v k x (Some m) p → LooksWhereSaid v k x b → LooksWhereSaid v m y c → LooksWhereSaid v k (and_obs x y) (b && c)
+module _ (v : View) (k n m : Symbols) (x y : ObservationTree) (p : Option Symbols) where
+  pub and_looks : (b c : Bool) → DecidesThere v k n x (Some m) p → LooksWhereSaid v k x b → LooksWhereSaid v m y c → LooksWhereSaid v k (and_obs x y) (b && c)
   and_looks b c h f g scope i s ps d z =
       let o = goes_both scope b c z in
-      all_append (Allowed scope) (looked i s x) (cond (holds i s x) (looked i s y) []) (f scope i s ps d o.0) (by_test (holds i s x) (h scope i s ps d) o.1)
+      all_append (Allowed scope) (looked i s x) (cond (holds i s x) (looked i s y) []) (f scope i s ps d o.0) (by_test (holds i s x) (there k d.numbers n (cond (holds i s x) (Some m) p) (h scope i s ps d)) o.1)
     where
       by_test : (t : Bool) → IsSomeAnd (cond t (Some m) p) (Leads k d.numbers) → GoesOn scope (unless c Leaves128) → AllByRecursion (Allowed scope) (cond t (looked i s y) [])
       by_test true l u = g scope i s ps (described_leads scope i s ps k m v d l) u
       by_test false l u = tt
 
-  pub or_looks : (b c : Bool) → DecidesIn v k x p (Some m) → LooksWhereSaid v k x b → LooksWhereSaid v m y c → LooksWhereSaid v k (or_obs x y) (b && c)
+  pub or_looks : (b c : Bool) → DecidesThere v k n x p (Some m) → LooksWhereSaid v k x b → LooksWhereSaid v m y c → LooksWhereSaid v k (or_obs x y) (b && c)
   or_looks b c h f g scope i s ps d z =
       let o = goes_both scope b c z in
-      all_append (Allowed scope) (looked i s x) (cond (holds i s x) [] (looked i s y)) (f scope i s ps d o.0) (by_test (holds i s x) (h scope i s ps d) o.1)
+      all_append (Allowed scope) (looked i s x) (cond (holds i s x) [] (looked i s y)) (f scope i s ps d o.0) (by_test (holds i s x) (there k d.numbers n (cond (holds i s x) p (Some m)) (h scope i s ps d)) o.1)
     where
       by_test : (t : Bool) → IsSomeAnd (cond t p (Some m)) (Leads k d.numbers) → GoesOn scope (unless c Leaves128) → AllByRecursion (Allowed scope) (cond t [] (looked i s y))
       by_test true l u = tt
       by_test false l u = g scope i s ps (described_leads scope i s ps k m v d l) u
 
 -- ---- one of two values
+
+pub leads_on_itself : (v : View) (k : Symbols) → LeadsOn v k k
+leads_on_itself v k scope i s ps d = leads_itself k d.numbers d.closed d.valued
+
+pub leads_on_by : (v : View) (k m : Symbols) (x : ValueTree) (e : Linear) → Evaluates (known k v) x (known m v) e → LeadsOn v k m
+leads_on_by v k m x e h scope i s ps d = gives_leads k d.numbers (m, e) (eval i s x) (h.gives scope i s ps d)
+
+module _ (v : View) (k m : Symbols) (h : LeadsOn v k m) where
+  -- what is answered where more is known
+  pub leads_on_then : (n : Symbols) → LeadsOn v m n → LeadsOn v k n
+  leads_on_then n f scope i s ps d =
+      let l = h scope i s ps d in
+      through k d.numbers m n l (f scope i s ps (described_leads scope i s ps k m v d l))
+
+  pub evaluated_on : (x : ValueTree) (n : Symbols) (e : Linear) → Evaluates (known m v) x (known n v) e → Evaluates (known k v) x (known n v) e
+  evaluated_on x n e f = record {
+    view = refl;
+    gives = λ scope i s ps d.
+        let l = h scope i s ps d in
+        leads_gives k d.numbers m (n, e) (eval i s x) l (f.gives scope i s ps (described_leads scope i s ps k m v d l));
+  }
+
+  pub fits_on : (x : ValueTree) (said : Bool) → FitsWhereSaid (known m v) x said → FitsWhereSaid (known k v) x said
+  fits_on x said f scope i s ps d z = f scope i s ps (described_leads scope i s ps k m v d (h scope i s ps d)) z
+
+-- a Cond of another observation is one of its parts
+not_chosen : (i : Interval) (s : StateMaps) (o : ObservationTree) (x y : ValueTree) → eval i s (cond_value (not_obs o) x y) ≡ eval i s (cond_value o y x)
+not_chosen i s o x y = by_test (holds i s o)
+  where
+    by_test : (t : Bool) → cond (not t) (eval i s x) (eval i s y) ≡ cond t (eval i s y) (eval i s x)
+    by_test true = refl
+    by_test false = refl
+
+not_visited : (i : Interval) (s : StateMaps) (o : ObservationTree) (x y : ValueTree) → visited i s (cond_value (not_obs o) x y) ≡ visited i s (cond_value o y x)
+not_visited i s o x y = ap (λ ns. looked i s o ++ ns) (by_test (holds i s o))
+  where
+    by_test : (t : Bool) → cond (not t) (visited i s x) (visited i s y) ≡ cond t (visited i s y) (visited i s x)
+    by_test true = refl
+    by_test false = refl
+
+and_chosen : (i : Interval) (s : StateMaps) (o p : ObservationTree) (x y : ValueTree) → eval i s (cond_value (and_obs o p) x y) ≡ eval i s (cond_value o (cond_value p x y) y)
+and_chosen i s o p x y = by_test (holds i s o)
+  where
+    by_test : (t : Bool) → cond (t && holds i s p) (eval i s x) (eval i s y) ≡ cond t (cond (holds i s p) (eval i s x) (eval i s y)) (eval i s y)
+    by_test true = refl
+    by_test false = refl
+
+and_visited : (i : Interval) (s : StateMaps) (o p : ObservationTree) (x y : ValueTree) → visited i s (cond_value (and_obs o p) x y) ≡ visited i s (cond_value o (cond_value p x y) y)
+and_visited i s o p x y = by_test (holds i s o)
+  where
+    by_test : (t : Bool) → (looked i s o ++ cond t (looked i s p) []) ++ cond (t && holds i s p) (visited i s x) (visited i s y) ≡ looked i s o ++ cond t (looked i s p ++ cond (holds i s p) (visited i s x) (visited i s y)) (visited i s y)
+    by_test true = append_assoc (looked i s o) (looked i s p) (cond (holds i s p) (visited i s x) (visited i s y))
+    by_test false = append_assoc (looked i s o) [] (visited i s y)
+
+or_chosen : (i : Interval) (s : StateMaps) (o p : ObservationTree) (x y : ValueTree) → eval i s (cond_value (or_obs o p) x y) ≡ eval i s (cond_value o x (cond_value p x y))
+or_chosen i s o p x y = by_test (holds i s o)
+  where
+    by_test : (t : Bool) → cond (t || holds i s p) (eval i s x) (eval i s y) ≡ cond t (eval i s x) (cond (holds i s p) (eval i s x) (eval i s y))
+    by_test true = refl
+    by_test false = refl
+
+or_visited : (i : Interval) (s : StateMaps) (o p : ObservationTree) (x y : ValueTree) → visited i s (cond_value (or_obs o p) x y) ≡ visited i s (cond_value o x (cond_value p x y))
+or_visited i s o p x y = by_test (holds i s o)
+  where
+    by_test : (t : Bool) → (looked i s o ++ cond t [] (looked i s p)) ++ cond (t || holds i s p) (visited i s x) (visited i s y) ≡ looked i s o ++ cond t (visited i s x) (looked i s p ++ cond (holds i s p) (visited i s x) (visited i s y))
+    by_test true = append_assoc (looked i s o) [] (visited i s x)
+    by_test false = append_assoc (looked i s o) (looked i s p) (cond (holds i s p) (visited i s x) (visited i s y))
+
+module _ (k n : Known) (z x : ValueTree) where
+  evaluated_alike : (e : Linear) → ((i : Interval) (s : StateMaps) → eval i s z ≡ eval i s x) → Evaluates k x n e → Evaluates k z n e
+  evaluated_alike e same h = record { view = h.view; gives = λ scope i s ps d. subst (λ m. Gives k.symbols d.numbers (n.symbols, e) m) (sym (same i s)) (h.gives scope i s ps d) }
+
+  fits_alike : (said : Bool) → ((i : Interval) (s : StateMaps) → visited i s z ≡ visited i s x) → FitsWhereSaid k x said → FitsWhereSaid k z said
+  fits_alike said same h scope i s ps d g = subst (AllByRecursion (Allowed scope)) (sym (same i s)) (h scope i s ps d g)
+
+module _ (k n : Known) (o : ObservationTree) (x y : ValueTree) where
+  pub not_evaluated : (e : Linear) → Evaluates k (cond_value o y x) n e → Evaluates k (cond_value (not_obs o) x y) n e
+  not_evaluated e h = evaluated_alike k n (cond_value (not_obs o) x y) (cond_value o y x) e (λ i s. not_chosen i s o x y) h
+
+  pub not_fits : (said : Bool) → FitsWhereSaid k (cond_value o y x) said → FitsWhereSaid k (cond_value (not_obs o) x y) said
+  not_fits said h = fits_alike k n (cond_value (not_obs o) x y) (cond_value o y x) said (λ i s. not_visited i s o x y) h
+
+module _ (k n : Known) (o p : ObservationTree) (x y : ValueTree) where
+  pub and_evaluated : (e : Linear) → Evaluates k (cond_value o (cond_value p x y) y) n e → Evaluates k (cond_value (and_obs o p) x y) n e
+  and_evaluated e h = evaluated_alike k n (cond_value (and_obs o p) x y) (cond_value o (cond_value p x y) y) e (λ i s. and_chosen i s o p x y) h
+
+  pub and_fits : (said : Bool) → FitsWhereSaid k (cond_value o (cond_value p x y) y) said → FitsWhereSaid k (cond_value (and_obs o p) x y) said
+  and_fits said h = fits_alike k n (cond_value (and_obs o p) x y) (cond_value o (cond_value p x y) y) said (λ i s. and_visited i s o p x y) h
+
+  pub or_evaluated : (e : Linear) → Evaluates k (cond_value o x (cond_value p x y)) n e → Evaluates k (cond_value (or_obs o p) x y) n e
+  or_evaluated e h = evaluated_alike k n (cond_value (or_obs o p) x y) (cond_value o x (cond_value p x y)) e (λ i s. or_chosen i s o p x y) h
+
+  pub or_fits : (said : Bool) → FitsWhereSaid k (cond_value o x (cond_value p x y)) said → FitsWhereSaid k (cond_value (or_obs o p) x y) said
+  or_fits said h = fits_alike k n (cond_value (or_obs o p) x y) (cond_value o x (cond_value p x y)) said (λ i s. or_visited i s o p x y) h
 
 -- neither is possible
 pub neither_evaluated : (v : View) (k n : Symbols) (o : ObservationTree) (x y : ValueTree) (e : Linear) → DecidesIn v k o None None → Evaluates (known k v) (cond_value o x y) (known n v) e
@@ -343,35 +449,44 @@ module _ (v : View) (k l m : Symbols) (o : ObservationTree) (x y : ValueTree) wh
       by_test false q p r = j scope i s ps (described_leads scope i s ps k m v d q) r
 
 -- both are: a number of one of them
-pub either_evaluated : (v : View) (k l m p q n : Symbols) (o : ObservationTree) (x y : ValueTree) (a b e : Linear) → DecidesIn v k o (Some l) (Some m) → Evaluates (known l v) x (known p v) a → Evaluates (known m v) y (known q v) b
-    → GivesEither k n p a q b e → Evaluates (known k v) (cond_value o x y) (known n v) e
-either_evaluated v k l m p q n o x y a b e h f g u = record { view = refl; gives = λ scope i s ps d. by_test scope i s ps d (holds i s o) (h scope i s ps d) }
+pub either_evaluated : (v : View) (k j l m p q n : Symbols) (o : ObservationTree) (x y : ValueTree) (a b e : Linear) → DecidesThere v k j o (Some l) (Some m) → Evaluates (known l v) x (known p v) a → Evaluates (known m v) y (known q v) b
+    → GivesEither j n p a q b e → Evaluates (known k v) (cond_value o x y) (known n v) e
+either_evaluated v k j l m p q n o x y a b e h f g u = record { view = refl; gives = λ scope i s ps d. by_test scope i s ps d (holds i s o) (h scope i s ps d) }
   where
-    by_test : (scope : Scope) (i : Interval) (s : StateMaps) (ps : List Payment) → (d : IsDescribed scope (known k v) i s ps) → (t : Bool) → IsSomeAnd (cond t (Some l) (Some m)) (Leads k d.numbers) → Gives k d.numbers (n, e) (cond t (eval i s x) (eval i s y))
-    by_test scope i s ps d true w = u d.numbers (eval i s x) d.closed d.valued (inl (leads_gives k d.numbers l (p, a) (eval i s x) w (f.gives scope i s ps (described_leads scope i s ps k l v d w))))
-    by_test scope i s ps d false w = u d.numbers (eval i s y) d.closed d.valued (inr (leads_gives k d.numbers m (q, b) (eval i s y) w (g.gives scope i s ps (described_leads scope i s ps k m v d w))))
+    by_test : (scope : Scope) (i : Interval) (s : StateMaps) (ps : List Payment) → (d : IsDescribed scope (known k v) i s ps) → (t : Bool) → LeadsThere k d.numbers j (cond t (Some l) (Some m)) → Gives k d.numbers (n, e) (cond t (eval i s x) (eval i s y))
+    by_test scope i s ps d true z =
+        let c = z.leads in
+        let w = z.on in
+        let r = described_leads scope i s ps k l v d (through k d.numbers j l c w) in
+        leads_gives k d.numbers j (n, e) (eval i s x) c (u c.values (eval i s x) c.closed c.valued (inl (leads_gives j c.values l (p, a) (eval i s x) w (f.gives scope i s ps r))))
+    by_test scope i s ps d false z =
+        let c = z.leads in
+        let w = z.on in
+        let r = described_leads scope i s ps k m v d (through k d.numbers j m c w) in
+        leads_gives k d.numbers j (n, e) (eval i s y) c (u c.values (eval i s y) c.closed c.valued (inr (leads_gives j c.values m (q, b) (eval i s y) w (g.gives scope i s ps r))))
 
 -- as what is known in each case allows
-pub neither_counts : (k n : Symbols) (e : Linear) (others : Bool) → EvaluatesEither k None None others n e others
-neither_counts k n e others v o x y None None h f g = (neither_evaluated v k n o x y e h, λ l. neither_fits v k o x y others h)
-neither_counts k n e others v o x y None (Some m) h f g = absurd g
-neither_counts k n e others v o x y (Some l) q h f g = absurd f
+pub neither_counts : (j n : Symbols) (e : Linear) (others : Bool) → EvaluatesEither j None None others n e others
+neither_counts j n e others k v o x y None None h f g = let z = decides_at_once v k j o None None h in (neither_evaluated v k n o x y e z, λ l. neither_fits v k o x y others z)
+neither_counts j n e others k v o x y None (Some m) h f g = absurd g
+neither_counts j n e others k v o x y (Some l) q h f g = absurd f
 
-pub first_counts : (k : Symbols) (b : Counted) (others : Bool) → EvaluatesEither k (Some b) None others b.symbols b.number (others && b.fits)
-first_counts k b others v o x y None q h f g = absurd (cc)
-first_counts k b others v o x y (Some l) None h f g = (first_evaluated v k l b.symbols o x y b.number h f.0, λ w. first_fits v k l l o x y others b.fits h w f.1)
-first_counts k b others v o x y (Some l) (Some m) h f g = absurd g
+pub first_counts : (j : Symbols) (b : Counted) (others : Bool) → EvaluatesEither j (Some b) None others b.symbols b.number (others && b.fits)
+first_counts j b others k v o x y None q h f g = absurd (cc)
+first_counts j b others k v o x y (Some l) None h f g = let z = decides_at_once v k j o (Some l) None h in (first_evaluated v k l b.symbols o x y b.number z f.0, λ w. first_fits v k l l o x y others b.fits z w f.1)
+first_counts j b others k v o x y (Some l) (Some m) h f g = absurd g
 
-pub second_counts : (k : Symbols) (b : Counted) (others : Bool) → EvaluatesEither k None (Some b) others b.symbols b.number (others && b.fits)
-second_counts k b others v o x y p None h f g = absurd (cc)
-second_counts k b others v o x y None (Some m) h f g = (second_evaluated v k m b.symbols o x y b.number h g.0, λ w. second_fits v k m m o x y others b.fits h w g.1)
-second_counts k b others v o x y (Some l) (Some m) h f g = absurd f
+pub second_counts : (j : Symbols) (b : Counted) (others : Bool) → EvaluatesEither j None (Some b) others b.symbols b.number (others && b.fits)
+second_counts j b others k v o x y p None h f g = absurd (cc)
+second_counts j b others k v o x y None (Some m) h f g = let z = decides_at_once v k j o None (Some m) h in (second_evaluated v k m b.symbols o x y b.number z g.0, λ w. second_fits v k m m o x y others b.fits z w g.1)
+second_counts j b others k v o x y (Some l) (Some m) h f g = absurd f
 
-pub both_count : (k n : Symbols) (b c : Counted) (e : Linear) (others : Bool) → GivesEither k n b.symbols b.number c.symbols c.number e → EvaluatesEither k (Some b) (Some c) others n e (others && (b.fits && c.fits))
-both_count k n b c e others z v o x y None q h f g = absurd (cc)
-both_count k n b c e others z v o x y (Some l) None h f g = absurd (cc)
-both_count k n b c e others z v o x y (Some l) (Some m) h f g =
-    (either_evaluated v k l m b.symbols c.symbols n o x y b.number c.number e h f.0 g.0 z, λ w. both_fit_too v k l m o x y others b.fits c.fits h w f.1 g.1)
+pub both_count : (j n : Symbols) (b c : Counted) (e : Linear) (others : Bool) → GivesEither j n b.symbols b.number c.symbols c.number e → EvaluatesEither j (Some b) (Some c) others n e (others && (b.fits && c.fits))
+both_count j n b c e others z k v o x y None q h f g = absurd (cc)
+both_count j n b c e others z k v o x y (Some l) None h f g = absurd (cc)
+both_count j n b c e others z k v o x y (Some l) (Some m) h f g =
+    let t = decides_at_once v k j o (Some l) (Some m) h in
+    (either_evaluated v k j l m b.symbols c.symbols n o x y b.number c.number e h f.0 g.0 z, λ w. both_fit_too v k l m o x y others b.fits c.fits t w f.1 g.1)
 
 -- ---- what is known of a view
 
@@ -421,9 +536,9 @@ either_both k a b m h r c v g = h r c v g
 
 -- ---- what a step answers
 
-module _ {E : Type 0} (o : Result Truths E) (v : View) (k : Symbols) where
-  pub truths_as : (x y : ObservationTree) → x ≡ y → IfOk o (λ p. DecidesIn v k y p.if_true p.if_false) → IfOk o (λ p. DecidesIn v k x p.if_true p.if_false)
-  truths_as x y e h = subst (λ z. IfOk o (λ (p : Truths). DecidesIn v k z p.if_true p.if_false)) (sym e) h
+module _ {E : Type 0} (o : Result Truths E) (v : View) (k m : Symbols) where
+  pub truths_as : (x y : ObservationTree) → x ≡ y → IfOk o (λ p. DecidesThere v k m y p.if_true p.if_false) → IfOk o (λ p. DecidesThere v k m x p.if_true p.if_false)
+  truths_as x y e h = subst (λ z. IfOk o (λ (p : Truths). DecidesThere v k m z p.if_true p.if_false)) (sym e) h
 
   pub looks_as : (x y : ObservationTree) → x ≡ y → IfOk o (λ p. LooksWhereSaid v k y p.fits) → IfOk o (λ p. LooksWhereSaid v k x p.fits)
   looks_as x y e h = subst (λ z. IfOk o (λ (p : Truths). LooksWhereSaid v k z p.fits)) (sym e) h

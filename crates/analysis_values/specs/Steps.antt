@@ -113,11 +113,23 @@ LeadsEither k a b o = (r : Valuation) → IsClosed k → IsValued r k → IsSome
 abbrev pub DecidesIn : View → Symbols → ObservationTree → Option Symbols → Option Symbols → Type 0
 DecidesIn v k o if_true if_false = (scope : Scope) (i : Interval) (s : StateMaps) (ps : List Payment) → (d : IsDescribed scope (known k v) i s ps) → IsSomeAnd (cond (holds i s o) if_true if_false) (Leads k d.numbers)
 
+-- .. which lead on from what is known once its numbers have expressions
+pub record LeadsThere (k : Symbols) (r : Valuation) (m : Symbols) (o : Option Symbols) : Type 0 where
+  pub leads : Leads k r m
+  pub on : IsSomeAnd o (Leads m leads.values)
+
+abbrev pub DecidesThere : View → Symbols → Symbols → ObservationTree → Option Symbols → Option Symbols → Type 0
+DecidesThere v k m o if_true if_false = (scope : Scope) (i : Interval) (s : StateMaps) (ps : List Payment) → (d : IsDescribed scope (known k v) i s ps) → LeadsThere k d.numbers m (cond (holds i s o) if_true if_false)
+
 -- where the numbers that it looks at are said to fit, the runs that are spoken of may visit them
 abbrev pub LooksWhereSaid : View → Symbols → ObservationTree → Bool → Type 0
 LooksWhereSaid v k o said = (scope : Scope) (i : Interval) (s : StateMaps) (ps : List Payment) → IsDescribed scope (known k v) i s ps → GoesOn scope (unless said Leaves128) → AllByRecursion (Allowed scope) (looked i s o)
 
 -- ---- one of two values
+
+-- more is known of the same view
+abbrev pub LeadsOn : View → Symbols → Symbols → Type 0
+LeadsOn v k m = (scope : Scope) (i : Interval) (s : StateMaps) (ps : List Payment) → (d : IsDescribed scope (known k v) i s ps) → Leads k d.numbers m
 
 -- where something is known, an expression stands for the number of a value there, and its numbers fit where that is said
 abbrev pub EvaluatesIn : View → Option Symbols → ValueTree → Option Counted → Type 0
@@ -127,8 +139,8 @@ EvaluatesIn v (Some m) x o = IsSomeAnd o (λ b. Evaluates (known m v) x (known b
 -- an expression stands for the number of one of two values, by an observation that is true or false where these count; its numbers
 -- fit where that is said, if those of the observation do where that is said
 abbrev pub EvaluatesEither : Symbols → Option Counted → Option Counted → Bool → Symbols → Linear → Bool → Type 0
-EvaluatesEither k b c others n e said =
-    (v : View) (o : ObservationTree) (x y : ValueTree) (p q : Option Symbols) → DecidesIn v k o p q → EvaluatesIn v p x b → EvaluatesIn v q y c
+EvaluatesEither m b c others n e said =
+    (k : Symbols) (v : View) (o : ObservationTree) (x y : ValueTree) (p q : Option Symbols) → DecidesThere v k m o p q → EvaluatesIn v p x b → EvaluatesIn v q y c
     → Evaluates (known k v) (cond_value o x y) (known n v) e × (LooksWhereSaid v k o others → FitsWhereSaid (known k v) (cond_value o x y) said)
 
 -- ---- times

@@ -27,10 +27,19 @@ use std::marker::Model;
 /// What is known at a place of a contract, of whatever run comes there: symbols that stand for whole numbers, and the
 /// state, the interval of the transaction and what parties were paid, in expressions over them. Clauses see the
 /// definitions' record.
-#[derive(Drop)]
 pub struct Known {
     pub(crate) symbols: Symbols,
     pub(crate) view: View,
+}
+
+// Dropped once.
+impl Drop for Known {
+    fn drop(self) {
+        let Known {
+            symbols: _,
+            view: _,
+        } = self;
+    }
 }
 
 impl Model for Known {

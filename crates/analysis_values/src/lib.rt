@@ -4,7 +4,8 @@
 //! the interval and what was paid in expressions over them. `evaluate` answers an expression for the number of a value
 //! and whether the numbers on the way are shown to fit 128 bits; `observe` what is known where an observation is true
 //! and where it is false. Their clauses (`specs/Answered.antt`) hold of whatever run all that is known is true of:
-//! where less is shown, a number is a new symbol, or both truths are possible.
+//! where less is shown, a number is a new symbol, or both truths are possible. A `Cond` that stands twice has one symbol,
+//! where its comparisons and the numbers of its branches are known to be the same.
 #![tactic(auto)]
 
 mod cases;
@@ -14,6 +15,7 @@ mod known;
 mod lookup;
 mod observed;
 mod operations;
+mod plain;
 mod stays;
 mod sums;
 mod truths;

@@ -30,8 +30,8 @@ pub fn observe(known: &Known, observation: &Observation) -> Result<Observed, Mem
     ensures conclusion { IfOk result (λ b. ObservesSo IsDescribed known.now (observation_tree observation.now) (record { kinds = unless b.fits Leaves128; if_true = b.if_true; if_false = b.if_false })) }
 {
     let seen = known.view();
-    let symbols = known.symbols();
-    let truths = truth_in(seen, symbols, observation)?;
+    let mut symbols = known.symbols().try_clone()?;
+    let truths = truth_in(seen, &mut symbols, observation)?;
     let if_true = in_view(seen, truths.if_true)?;
     let if_false = in_view(seen, truths.if_false)?;
     Ok(Observed {

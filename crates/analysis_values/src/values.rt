@@ -1,20 +1,24 @@
 //! Values and observations over what is known of symbols, in a view.
-ghost use Rattle.std.specs.Prelude.{◌≡◌, ◌&&◌, IfOk, Some, true, cond};
+ghost use Rattle.std.specs.Prelude.{◌≡◌, ◌&&◌, IfOk, OnOk, Some, true, cond};
 ghost use Rattle.contract.specs.Tree.{value_tree, available_money, constant, neg_value, choice_value, time_interval_start, time_interval_end, use_value, cond_value};
 ghost use Rattle.contract.specs.Tree.{observation_tree, and_obs, or_obs, not_obs, chose_something, true_obs, false_obs};
 ghost use Rattle.analysis_domain.specs.Expressions.{known};
 ghost use Rattle.analysis_values.specs.Answered.{Evaluates, FitsWhereSaid};
-ghost use Rattle.analysis_values.specs.Steps.{tree_of, test_of, EvaluatesBoth, BothFitWhereSaid, EvaluatesIn, DecidesIn, LooksWhereSaid};
+ghost use Rattle.analysis_values.specs.Steps.{LeadsOn, tree_of, test_of, EvaluatesBoth, BothFitWhereSaid, EvaluatesIn, DecidesThere, LooksWhereSaid};
 
 use crate::cases::{Counted, of_either};
 use crate::comparisons::{Comparison, where_false, where_true};
 use crate::operations::{Arithmetic, operated, turned};
+use crate::plain::is_plain;
 use crate::truths::joined;
 use crate::view::View;
 use collections::{Boxed, Memory, Text, TryClone};
 use contract::{Observation, Value};
 use linear::{Linear, Symbols};
 use names::{ChoiceId, Party, Token};
+
+// The most parts of a Cond's observation (comparisons, and what joins them) that it is taken apart to: 8.
+const MOST_JOINED: u32 = 8;
 
 /// An expression for the number of a value, and whether all numbers that are visited on the way are shown to fit 128
 /// bits in runs whose times JSON can write.
@@ -205,8 +209,159 @@ fn one_of_two(
     ensures number { IfOk result (λ a. Evaluates (known symbols.old view.now) (cond_value (observation_tree condition.now) (value_tree first.now) (value_tree second.now)) (known symbols.new view.now) a.number) }
     ensures fits { IfOk result (λ a. FitsWhereSaid (known symbols.old view.now) (cond_value (observation_tree condition.now) (value_tree first.now) (value_tree second.now)) a.fits) }
 {
+    name_operations(view, symbols, first)?;
+    name_operations(view, symbols, second)?;
     let inner = condition.get();
+    taken_apart(view, symbols, inner, first, second, MOST_JOINED)
+}
+
+// Takes an observation of so many parts apart, to a Cond of each of its comparisons, which is known again where it stands
+// another time. What stands in two of these is a plain value.
+#[cycle(values)]
+fn taken_apart(
+    view: &View,
+    symbols: &mut Symbols,
+    condition: &Observation,
+    first: &Boxed<Value>,
+    second: &Boxed<Value>,
+    joined: u32,
+) -> Result<Evaluated, Memory>
+    ensures number { IfOk result (λ a. Evaluates (known symbols.old view.now) (cond_value (observation_tree condition.now) (value_tree first.now) (value_tree second.now)) (known symbols.new view.now) a.number) }
+    ensures fits { IfOk result (λ a. FitsWhereSaid (known symbols.old view.now) (cond_value (observation_tree condition.now) (value_tree first.now) (value_tree second.now)) a.fits) }
+{
+    if joined == 0 {
+        return by_truth(view, symbols, condition, first, second);
+    }
+    let rest = joined - 1;
+    match condition {
+        Observation::NotObs(a) => by_opposite(view, symbols, a, first, second, rest),
+        Observation::AndObs(a, b) => {
+            if is_plain(second.get()) {
+                by_both(view, symbols, a, b, first, second, rest)
+            } else {
+                by_truth(view, symbols, condition, first, second)
+            }
+        }
+        Observation::OrObs(a, b) => {
+            if is_plain(first.get()) {
+                by_one(view, symbols, a, b, first, second, rest)
+            } else {
+                by_truth(view, symbols, condition, first, second)
+            }
+        }
+        _ => by_truth(view, symbols, condition, first, second),
+    }
+}
+
+// The first value is the number where an observation is false.
+#[cycle(values)]
+fn by_opposite(
+    view: &View,
+    symbols: &mut Symbols,
+    condition: &Boxed<Observation>,
+    first: &Boxed<Value>,
+    second: &Boxed<Value>,
+    joined: u32,
+) -> Result<Evaluated, Memory>
+    ensures number { IfOk result (λ a. Evaluates (known symbols.old view.now) (cond_value (not_obs (observation_tree condition.now)) (value_tree first.now) (value_tree second.now)) (known symbols.new view.now) a.number) }
+    ensures fits { IfOk result (λ a. FitsWhereSaid (known symbols.old view.now) (cond_value (not_obs (observation_tree condition.now)) (value_tree first.now) (value_tree second.now)) a.fits) }
+{
+    let inner = condition.get();
+    taken_apart(view, symbols, inner, second, first, joined)
+}
+
+// .. where two observations are true.
+#[cycle(values)]
+fn by_both(
+    view: &View,
+    symbols: &mut Symbols,
+    left: &Boxed<Observation>,
+    right: &Boxed<Observation>,
+    first: &Boxed<Value>,
+    second: &Boxed<Value>,
+    joined: u32,
+) -> Result<Evaluated, Memory>
+    ensures number { IfOk result (λ a. Evaluates (known symbols.old view.now) (cond_value (and_obs (observation_tree left.now) (observation_tree right.now)) (value_tree first.now) (value_tree second.now)) (known symbols.new view.now) a.number) }
+    ensures fits { IfOk result (λ a. FitsWhereSaid (known symbols.old view.now) (cond_value (and_obs (observation_tree left.now) (observation_tree right.now)) (value_tree first.now) (value_tree second.now)) a.fits) }
+{
+    let inner = left.get();
     let truths = truth_in(view, symbols, inner)?;
+    let Truths {
+        fits,
+        if_true,
+        if_false,
+    } = truths;
+    let one = apart_where(view, if_true, right, first, second, joined)?;
+    let other = value_where(view, if_false, second)?;
+    of_either(symbols, one, other, fits)
+}
+
+// .. where one of two observations is true.
+#[cycle(values)]
+fn by_one(
+    view: &View,
+    symbols: &mut Symbols,
+    left: &Boxed<Observation>,
+    right: &Boxed<Observation>,
+    first: &Boxed<Value>,
+    second: &Boxed<Value>,
+    joined: u32,
+) -> Result<Evaluated, Memory>
+    ensures number { IfOk result (λ a. Evaluates (known symbols.old view.now) (cond_value (or_obs (observation_tree left.now) (observation_tree right.now)) (value_tree first.now) (value_tree second.now)) (known symbols.new view.now) a.number) }
+    ensures fits { IfOk result (λ a. FitsWhereSaid (known symbols.old view.now) (cond_value (or_obs (observation_tree left.now) (observation_tree right.now)) (value_tree first.now) (value_tree second.now)) a.fits) }
+{
+    let inner = left.get();
+    let truths = truth_in(view, symbols, inner)?;
+    let Truths {
+        fits,
+        if_true,
+        if_false,
+    } = truths;
+    let one = value_where(view, if_true, first)?;
+    let other = apart_where(view, if_false, right, first, second, joined)?;
+    of_either(symbols, one, other, fits)
+}
+
+// The number of one of two values where more is known, if that can be.
+#[cycle(values)]
+fn apart_where(
+    view: &View,
+    symbols: Option<Symbols>,
+    condition: &Boxed<Observation>,
+    first: &Boxed<Value>,
+    second: &Boxed<Value>,
+    joined: u32,
+) -> Result<Option<Counted>, Memory>
+    ensures { IfOk result (EvaluatesIn view.now symbols (cond_value (observation_tree condition.now) (value_tree first.now) (value_tree second.now))) }
+{
+    match symbols {
+        None => Ok(None),
+        Some(there) => {
+            let mut more = there;
+            let inner = condition.get();
+            let evaluated = taken_apart(view, &mut more, inner, first, second, joined)?;
+            Ok(Some(Counted {
+                symbols: more,
+                number: evaluated.number,
+                fits: evaluated.fits,
+            }))
+        }
+    }
+}
+
+// One of two values, by the truth of an observation as a whole.
+#[cycle(values)]
+fn by_truth(
+    view: &View,
+    symbols: &mut Symbols,
+    condition: &Observation,
+    first: &Boxed<Value>,
+    second: &Boxed<Value>,
+) -> Result<Evaluated, Memory>
+    ensures number { IfOk result (λ a. Evaluates (known symbols.old view.now) (cond_value (observation_tree condition.now) (value_tree first.now) (value_tree second.now)) (known symbols.new view.now) a.number) }
+    ensures fits { IfOk result (λ a. FitsWhereSaid (known symbols.old view.now) (cond_value (observation_tree condition.now) (value_tree first.now) (value_tree second.now)) a.fits) }
+{
+    let truths = truth_in(view, symbols, condition)?;
     let Truths {
         fits,
         if_true,
@@ -215,6 +370,19 @@ fn one_of_two(
     let one = value_where(view, if_true, first)?;
     let other = value_where(view, if_false, second)?;
     of_either(symbols, one, other, fits)
+}
+
+// Gives the products and quotients of a plain value symbols where it stands, so that each branch of a Cond has the same ones.
+#[cycle(values)]
+fn name_operations(view: &View, symbols: &mut Symbols, value: &Boxed<Value>) -> Result<(), Memory>
+    ensures { OnOk result (LeadsOn view.now symbols.old symbols.new) }
+{
+    let inner = value.get();
+    let plain = is_plain(inner);
+    if plain {
+        value_in(view, symbols, inner)?;
+    }
+    Ok(())
 }
 
 // The number of a value where more is known, if that can be.
@@ -241,15 +409,16 @@ fn value_where(
     }
 }
 
-/// What is known where an observation is true, and where it is false.
+/// What is known where an observation is true, and where it is false, which both come from what is known once the numbers that
+/// are compared have expressions.
 #[cycle(values)]
 pub(crate) fn truth_in(
     view: &View,
-    symbols: &Symbols,
+    symbols: &mut Symbols,
     observation: &Observation,
 ) -> Result<Truths, Memory>
-    ensures truths { IfOk result (λ p. DecidesIn view.now symbols.now (observation_tree observation.now) p.if_true p.if_false) }
-    ensures fits { IfOk result (λ p. LooksWhereSaid view.now symbols.now (observation_tree observation.now) p.fits) }
+    ensures truths { IfOk result (λ p. DecidesThere view.now symbols.old symbols.new (observation_tree observation.now) p.if_true p.if_false) }
+    ensures fits { IfOk result (λ p. LooksWhereSaid view.now symbols.old (observation_tree observation.now) p.fits) }
 {
     match observation {
         Observation::AndObs(a, b) => both_of(view, symbols, a, b),
@@ -270,18 +439,17 @@ pub(crate) fn truth_in(
 #[cycle(values)]
 fn compare(
     view: &View,
-    symbols: &Symbols,
+    symbols: &mut Symbols,
     comparison: Comparison,
     left: &Boxed<Value>,
     right: &Boxed<Value>,
 ) -> Result<Truths, Memory>
-    ensures truths { IfOk result (λ p. DecidesIn view.now symbols.now (test_of comparison (value_tree left.now) (value_tree right.now)) p.if_true p.if_false) }
-    ensures fits { IfOk result (λ p. LooksWhereSaid view.now symbols.now (test_of comparison (value_tree left.now) (value_tree right.now)) p.fits) }
+    ensures truths { IfOk result (λ p. DecidesThere view.now symbols.old symbols.new (test_of comparison (value_tree left.now) (value_tree right.now)) p.if_true p.if_false) }
+    ensures fits { IfOk result (λ p. LooksWhereSaid view.now symbols.old (test_of comparison (value_tree left.now) (value_tree right.now)) p.fits) }
 {
-    let mut more = symbols.try_clone()?;
-    let operands = both_values(view, &mut more, left, right)?;
-    let if_true = where_true(&more, comparison, &operands.left, &operands.right)?;
-    let if_false = where_false(&more, comparison, &operands.left, &operands.right)?;
+    let operands = both_values(view, symbols, left, right)?;
+    let if_true = where_true(symbols, comparison, &operands.left, &operands.right)?;
+    let if_false = where_false(symbols, comparison, &operands.left, &operands.right)?;
     Ok(Truths {
         fits: operands.fits,
         if_true,
@@ -293,11 +461,11 @@ fn compare(
 #[cycle(values)]
 fn none_of(
     view: &View,
-    symbols: &Symbols,
+    symbols: &mut Symbols,
     observation: &Boxed<Observation>,
 ) -> Result<Truths, Memory>
-    ensures truths { IfOk result (λ p. DecidesIn view.now symbols.now (not_obs (observation_tree observation.now)) p.if_true p.if_false) }
-    ensures fits { IfOk result (λ p. LooksWhereSaid view.now symbols.now (not_obs (observation_tree observation.now)) p.fits) }
+    ensures truths { IfOk result (λ p. DecidesThere view.now symbols.old symbols.new (not_obs (observation_tree observation.now)) p.if_true p.if_false) }
+    ensures fits { IfOk result (λ p. LooksWhereSaid view.now symbols.old (not_obs (observation_tree observation.now)) p.fits) }
 {
     let inner = observation.get();
     let truths = truth_in(view, symbols, inner)?;
@@ -312,12 +480,12 @@ fn none_of(
 #[cycle(values)]
 fn both_of(
     view: &View,
-    symbols: &Symbols,
+    symbols: &mut Symbols,
     left: &Boxed<Observation>,
     right: &Boxed<Observation>,
 ) -> Result<Truths, Memory>
-    ensures truths { IfOk result (λ p. DecidesIn view.now symbols.now (and_obs (observation_tree left.now) (observation_tree right.now)) p.if_true p.if_false) }
-    ensures fits { IfOk result (λ p. LooksWhereSaid view.now symbols.now (and_obs (observation_tree left.now) (observation_tree right.now)) p.fits) }
+    ensures truths { IfOk result (λ p. DecidesThere view.now symbols.old symbols.new (and_obs (observation_tree left.now) (observation_tree right.now)) p.if_true p.if_false) }
+    ensures fits { IfOk result (λ p. LooksWhereSaid view.now symbols.old (and_obs (observation_tree left.now) (observation_tree right.now)) p.fits) }
 {
     let outer = left.get();
     let first = truth_in(view, symbols, outer)?;
@@ -333,8 +501,9 @@ fn both_of(
             if_false,
         }),
         Some(more) => {
+            let mut there = more;
             let inner = right.get();
-            let second = truth_in(view, &more, inner)?;
+            let second = truth_in(view, &mut there, inner)?;
             let either = joined(symbols, if_false, second.if_false)?;
             let fit = both(fits, second.fits);
             Ok(Truths {
@@ -350,12 +519,12 @@ fn both_of(
 #[cycle(values)]
 fn one_of(
     view: &View,
-    symbols: &Symbols,
+    symbols: &mut Symbols,
     left: &Boxed<Observation>,
     right: &Boxed<Observation>,
 ) -> Result<Truths, Memory>
-    ensures truths { IfOk result (λ p. DecidesIn view.now symbols.now (or_obs (observation_tree left.now) (observation_tree right.now)) p.if_true p.if_false) }
-    ensures fits { IfOk result (λ p. LooksWhereSaid view.now symbols.now (or_obs (observation_tree left.now) (observation_tree right.now)) p.fits) }
+    ensures truths { IfOk result (λ p. DecidesThere view.now symbols.old symbols.new (or_obs (observation_tree left.now) (observation_tree right.now)) p.if_true p.if_false) }
+    ensures fits { IfOk result (λ p. LooksWhereSaid view.now symbols.old (or_obs (observation_tree left.now) (observation_tree right.now)) p.fits) }
 {
     let outer = left.get();
     let first = truth_in(view, symbols, outer)?;
@@ -371,8 +540,9 @@ fn one_of(
             if_false: None,
         }),
         Some(more) => {
+            let mut there = more;
             let inner = right.get();
-            let second = truth_in(view, &more, inner)?;
+            let second = truth_in(view, &mut there, inner)?;
             let either = joined(symbols, if_true, second.if_true)?;
             let fit = both(fits, second.fits);
             Ok(Truths {
@@ -386,7 +556,7 @@ fn one_of(
 
 // A number was chosen.
 fn chosen_of(view: &View, symbols: &Symbols, id: &ChoiceId) -> Result<Truths, Memory>
-    ensures truths { IfOk result (λ p. DecidesIn view.now symbols.now (chose_something id.now) p.if_true p.if_false) }
+    ensures truths { IfOk result (λ p. DecidesThere view.now symbols.now symbols.now (chose_something id.now) p.if_true p.if_false) }
     ensures fits { IfOk result (λ p. LooksWhereSaid view.now symbols.now (chose_something id.now) p.fits) }
 {
     let same = symbols.try_clone()?;
@@ -396,7 +566,7 @@ fn chosen_of(view: &View, symbols: &Symbols, id: &ChoiceId) -> Result<Truths, Me
 
 // Always true.
 fn always_of(view: &View, symbols: &Symbols) -> Result<Truths, Memory>
-    ensures truths { IfOk result (λ p. DecidesIn view.now symbols.now (true_obs) p.if_true p.if_false) }
+    ensures truths { IfOk result (λ p. DecidesThere view.now symbols.now symbols.now (true_obs) p.if_true p.if_false) }
     ensures fits { IfOk result (λ p. LooksWhereSaid view.now symbols.now (true_obs) p.fits) }
 {
     let _view = view;
@@ -406,7 +576,7 @@ fn always_of(view: &View, symbols: &Symbols) -> Result<Truths, Memory>
 
 // Never true.
 fn never_of(view: &View, symbols: &Symbols) -> Result<Truths, Memory>
-    ensures truths { IfOk result (λ p. DecidesIn view.now symbols.now (false_obs) p.if_true p.if_false) }
+    ensures truths { IfOk result (λ p. DecidesThere view.now symbols.now symbols.now (false_obs) p.if_true p.if_false) }
     ensures fits { IfOk result (λ p. LooksWhereSaid view.now symbols.now (false_obs) p.fits) }
 {
     let _view = view;

@@ -20,7 +20,6 @@ use std::marker::Model;
 
 /// A state, the interval of its transaction, and what was paid, in expressions over symbols. The entry that was set
 /// last stands first, and of two entries of a key the first counts.
-#[derive(Drop)]
 pub(crate) struct View {
     pub(crate) accounts: Vec<(Account, Linear)>,
     pub(crate) choices: Vec<(ChoiceId, Linear)>,
@@ -29,6 +28,21 @@ pub(crate) struct View {
     pub(crate) start: Linear,
     pub(crate) end: Linear,
     pub(crate) times: Vec<usize>,
+}
+
+// Dropped once.
+impl Drop for View {
+    fn drop(self) {
+        let View {
+            accounts: _,
+            choices: _,
+            bound: _,
+            paid: _,
+            start: _,
+            end: _,
+            times: _,
+        } = self;
+    }
 }
 
 impl Model for View {

@@ -1,14 +1,15 @@
 -- A number that is one of two.
-use Rattle.std.proofs.Common.{◌≡◌, ℕ, ◌≤◌, ℤ, pos, negsuc, ◌+ℤ◌, ◌-ℤ◌, ◌*ℤ◌, ◌≤ℤ◌, ◌⊎◌, inl, inr, Option, sym, ◌∙◌, subst, arith}
+use Rattle.std.proofs.Common.{◌≡◌, ℕ, ◌<◌, ◌≤◌, ℤ, pos, negsuc, ◌+ℤ◌, ◌-ℤ◌, ◌*ℤ◌, ◌≤ℤ◌, ◌⊎◌, inl, inr, Option, sym, ap, ◌∙◌, subst, arith}
 use Rattle.std.proofs.lemmas.Int.{ints}
-use Rattle.linear.specs.Linear.{Linear, Valuation, number_at, IsBelow, IsFrom, IsUpTo}
+use Rattle.linear.specs.Linear.{Linear, Valuation, number_at, symbol, IsBelow, IsFrom, IsUpTo}
 use Rattle.linear.specs.Bounded.{IsShown, IsFromAll, IsUpToAll}
 use Rattle.linear.specs.Combined.{StandsFor, AreBelow}
 use Rattle.linear.specs.Symbols.{Symbols, Agree, Gives}
 use Rattle.linear.specs.Held.{GivesAny, Learns, Cancels}
 use Rattle.linear.specs.Joined.{IsFromEither, IsUpToEither}
 use Rattle.linear.specs.Either.{GivesEither, IsUnder, IsOver, LiesBetween, Relates, IsAtLeast, LearnsLeast}
-use Rattle.linear.proofs.LinearLaws.{same_number}
+use Rattle.linear.specs.Branches.{Comes, KeepsSides}
+use Rattle.linear.proofs.LinearLaws.{same_number, symbol_at}
 use Rattle.linear.proofs.KnownLaws.{terms_more, knows_itself, knows_then, gives_here}
 
 gap_back : (a b : ℤ) → pos 0 ≤ℤ (a -ℤ b) → b ≤ℤ a
@@ -86,6 +87,30 @@ new_number_gives k m z a x b y e count o p s t low high i fo fp us ut f u g h r 
       valued = j.valued;
       number = d.number;
     }
+
+-- the new symbol's number is kept, too
+pub kept_gives : (k z w a : Symbols) (x : Linear) (b : Symbols) (y e : Linear) (count s : ℕ) → count ≡ k.next → e ≡ symbol s → GivesEither k z a x b y e → KeepsSides z w a x b y count s → GivesEither k w a x b y e
+kept_gives k z w a x b y e count s i q h f r n c v g =
+    let d = h r n c v g in
+    let l : s < z.next = (subst (λ (o : Linear). IsBelow z.next o) q d.below).0 in
+    let at : n ≡ d.values s = d.number ∙ ap (number_at d.values) q ∙ symbol_at d.values s in
+    let j = f d.values d.closed d.valued (subst (λ p. p ≤ z.next) (sym i) d.grows) l (comes d.values d.agrees at g) in
+    record {
+      closed = j.closed;
+      below = subst (λ p. IsBelow p e) (sym j.next) d.below;
+      grows = subst (λ p. k.next ≤ p) (sym j.next) d.grows;
+      values = d.values;
+      agrees = d.agrees;
+      valued = j.valued;
+      number = d.number;
+    }
+  where
+    alike : (p q : Valuation) → Agree k.next p r → Agree k.next q r → Agree count p q
+    alike p q g h m l = let u = subst (λ t. m < t) i l in g m u ∙ sym (h m u)
+
+    comes : (q : Valuation) → Agree k.next q r → n ≡ q s → Gives k r (a, x) n ⊎ Gives k r (b, y) n → Comes a x count q (q s) ⊎ Comes b y count q (q s)
+    comes q h at (inl g) = inl (record { stands = record { values = g.values; agrees = alike g.values q g.agrees h; valued = g.valued }; number = sym at ∙ g.number })
+    comes q h at (inr g) = inr (record { stands = record { values = g.values; agrees = alike g.values q g.agrees h; valued = g.valued }; number = sym at ∙ g.number })
 
 same_back : (a b : ℤ) → a +ℤ (negsuc 0 *ℤ b) ≡ pos 0 → b ≡ a
 same_back a b h = omega (arith, ints)

@@ -1,13 +1,14 @@
 -- What the code holds of symbols, step by step.
-use Rattle.std.proofs.Common.{◌≡◌, ℕ, zero, suc, ◌+◌, ◌<◌, ◌≤◌, pos, ◌≤ℤ◌, List, [], ◌∷◌, ◌++◌, length, get_or, set, ℤ, ◌+ℤ◌, ◌*ℤ◌, ◌<ℤ◌, negsuc, Bool, true, Some, refl, sym, ap, ◌∙◌, subst, arith, length-append}
+use Rattle.std.proofs.Common.{◌≡◌, ℕ, zero, suc, ◌+◌, ◌<◌, ◌≤◌, pos, ◌≤ℤ◌, Option, List, [], ◌∷◌, ◌++◌, length, drop, get_or, set, ℤ, ◌+ℤ◌, ◌*ℤ◌, ◌<ℤ◌, negsuc, Bool, true, Some, refl, sym, ap, ◌∙◌, subst, arith, length-append}
 use Rattle.std.proofs.lemmas.Int.{ints}
 use Rattle.std.proofs.lemmas.List.{length-set}
 use Rattle.linear.specs.declared.bounds.Bounds.{Bounds}
-use Rattle.linear.specs.Linear.{Linear, Valuation, number_at, number, symbol, Range, IsBelow, IsFrom, IsUpTo, AreInRange}
+use Rattle.linear.specs.Linear.{Linear, Valuation, number_at, number, symbol, Range, IsBelow, IsFrom, IsUpTo, AreInRange, AreNatural, greater_of, lesser_of}
 use Rattle.linear.specs.Bounded.{numbered, IsUpToAll}
 use Rattle.linear.specs.Combined.{StandsFor, AreBelow, combined_at}
-use Rattle.linear.specs.Symbols.{Symbols, Operation, RangesBelow, FactsBelow, OperationsBelow, AreApart}
-use Rattle.linear.specs.Held.{symbols_of, GivesAny, Learns, Assumes, Distinguishes, IsRangeBy, AreNarrowed, Cancels, RulesOut, IsNever, IsSharpened, IsRefuted}
+use Rattle.linear.specs.Symbols.{Symbols, Operation, Branch, RangesBelow, FactsBelow, OperationsBelow, BranchesBelow, AreApart}
+use Rattle.linear.specs.Held.{symbols_of, IsNewest, AreWithin, KnowsWithin, GivesAny, Learns, Assumes, Distinguishes, IsRangeBy, AreNarrowed, Cancels, RulesOut, IsNever, IsSharpened, IsRefuted}
+use Rattle.linear.proofs.LinearLaws.{greater_is, lesser_is}
 use Rattle.linear.proofs.SymbolLaws.{fresh_closed, fresh_valued, with_value, new_gives}
 use Rattle.linear.proofs.KnownLaws.{knows_itself, natural_both, below_both}
 
@@ -29,11 +30,11 @@ one_more bs b = omega (arith, length-append bs (b ∷ []))
 
 -- ---- a new symbol
 
-pub fresh_held : (bs : List Bounds) (b : Bounds) (fs ds : List Linear) (os : List Operation)
-    → GivesAny (symbols_of bs fs ds os) (symbols_of (bs ++ b ∷ []) fs ds os) (symbol (length bs)) b.least b.greatest
-fresh_held bs b fs ds os r x c v f g =
-    let k = symbols_of bs fs ds os in
-    let m = symbols_of (bs ++ b ∷ []) fs ds os in
+pub fresh_held : (bs : List Bounds) (b : Bounds) (fs ds : List Linear) (os : List Operation) (cs : List Branch)
+    → GivesAny (symbols_of bs fs ds os cs) (symbols_of (bs ++ b ∷ []) fs ds os cs) (symbol (length bs)) b.least b.greatest
+fresh_held bs b fs ds os cs r x c v f g =
+    let k = symbols_of bs fs ds os cs in
+    let m = symbols_of (bs ++ b ∷ []) fs ds os cs in
     let e = one_more bs b in
     let d = fresh_closed k b.least b.greatest c in
     let w = fresh_valued k r b.least b.greatest x c v f g in
@@ -45,19 +46,21 @@ fresh_held bs b fs ds os r x c v f g =
       facts = subst (λ n. FactsBelow n fs) (sym e) d.facts;
       apart = subst (λ n. FactsBelow n ds) (sym e) d.apart;
       operations = subst (λ n. OperationsBelow n os) (sym e) d.operations;
+      branches = subst (λ n. BranchesBelow n cs) (sym e) d.branches;
     })
     (record {
       ranges = in_range_append q 0 bs b w.ranges.2 (subst (λ n. IsFrom b.least (q n)) i w.ranges.0) (subst (λ n. IsUpTo b.greatest (q n)) i w.ranges.1);
       facts = w.facts;
       apart = w.apart;
       operations = w.operations;
+      branches = w.branches;
     })
 
-pub put_symbol_held : (bs cs : List Bounds) (b : Bounds) (n : ℕ) (e : Linear) → cs ≡ bs ++ b ∷ [] → n ≡ length bs → e ≡ symbol n → (fs ds : List Linear) (os : List Operation)
-    → GivesAny (symbols_of bs fs ds os) (symbols_of cs fs ds os) e b.least b.greatest
-put_symbol_held bs cs b n e p q i fs ds os =
-    subst (λ xs. GivesAny (symbols_of bs fs ds os) (symbols_of xs fs ds os) e b.least b.greatest) (sym p)
-    (subst (λ x. GivesAny (symbols_of bs fs ds os) (symbols_of (bs ++ b ∷ []) fs ds os) x b.least b.greatest) (sym (i ∙ ap symbol q)) (fresh_held bs b fs ds os))
+pub put_symbol_held : (bs es : List Bounds) (b : Bounds) (n : ℕ) (e : Linear) → es ≡ bs ++ b ∷ [] → n ≡ length bs → e ≡ symbol n → (fs ds : List Linear) (os : List Operation) (cs : List Branch)
+    → GivesAny (symbols_of bs fs ds os cs) (symbols_of es fs ds os cs) e b.least b.greatest
+put_symbol_held bs es b n e p q i fs ds os cs =
+    subst (λ xs. GivesAny (symbols_of bs fs ds os cs) (symbols_of xs fs ds os cs) e b.least b.greatest) (sym p)
+    (subst (λ x. GivesAny (symbols_of bs fs ds os cs) (symbols_of (bs ++ b ∷ []) fs ds os cs) x b.least b.greatest) (sym (i ∙ ap symbol q)) (fresh_held bs b fs ds os cs))
 
 -- ---- facts
 
@@ -84,30 +87,86 @@ narrowed_at bs l x b h = record {
       in_range_set r 0 x bs b g (subst (λ m. IsFrom b.least (r m)) e k.0) (subst (λ m. IsUpTo b.greatest (r m)) e k.1);
 }
 
-pub learn_held : (bs cs : List Bounds) (fs ds : List Linear) (os : List Operation) (l : Linear) → AreNarrowed bs cs l → Learns (symbols_of bs fs ds os) (symbols_of cs (fs ++ l ∷ []) ds os) l
-learn_held bs cs fs ds os l h r c v b g =
+pub within_at : (bs : List Bounds) (x : ℕ) (b : Bounds) (old low most high : Option ℤ) → ((r : Valuation) → AreInRange r (numbered 0 bs) → IsFrom old (r x)) → ((r : Valuation) → AreInRange r (numbered 0 bs) → IsUpTo most (r x))
+    → b.least ≡ greater_of old low → b.greatest ≡ lesser_of most high → AreWithin bs (set bs x b) x low high
+within_at bs x b old low most high f g d e = record {
+  same = length-set bs x b;
+  ranges = λ r h i j.
+      let z : x ≡ 0 + x = omega arith in
+      in_range_set r 0 x bs b h
+      (subst (λ m. IsFrom b.least (r m)) z (subst (λ o. IsFrom o (r x)) (sym d) (greater_is old low (r x) (f r h) i)))
+      (subst (λ m. IsUpTo b.greatest (r m)) z (subst (λ o. IsUpTo o (r x)) (sym e) (lesser_is most high (r x) (g r h) j)));
+}
+
+pub within_none : (bs : List Bounds) (x : ℕ) (low high : Option ℤ) → AreWithin bs bs x low high
+within_none bs x low high = record { same = refl; ranges = λ r h i j. h }
+
+pub within_held : (bs es : List Bounds) (fs ds : List Linear) (os : List Operation) (cs : List Branch) (x : ℕ) (low high : Option ℤ) → AreWithin bs es x low high → KnowsWithin (symbols_of bs fs ds os cs) (symbols_of es fs ds os cs) x low high
+within_held bs es fs ds os cs x low high h r c v f g =
     let e = h.same in
     record {
       next = e;
       closed = record {
-        ranges = ranges_below (length cs) 0 cs (omega arith);
-        facts = subst (λ n. FactsBelow n (fs ++ l ∷ [])) (sym e) (below_both (length bs) fs (l ∷ []) c.facts (b, tt));
+        ranges = ranges_below (length es) 0 es (omega arith);
+        facts = subst (λ n. FactsBelow n fs) (sym e) c.facts;
         apart = subst (λ n. FactsBelow n ds) (sym e) c.apart;
         operations = subst (λ n. OperationsBelow n os) (sym e) c.operations;
+        branches = subst (λ n. BranchesBelow n cs) (sym e) c.branches;
+      };
+      valued = record { ranges = h.ranges r v.ranges f g; facts = v.facts; apart = v.apart; operations = v.operations; branches = v.branches };
+    }
+
+-- what is kept of a list holds where all of it does
+natural_drop : (r : Valuation) (n : ℕ) (fs : List Linear) → AreNatural r fs → AreNatural r (drop n fs)
+natural_drop r zero fs h = h
+natural_drop r (suc n) [] h = tt
+natural_drop r (suc n) (f ∷ fs) h = natural_drop r n fs h.1
+
+apart_drop : (r : Valuation) (n : ℕ) (ds : List Linear) → AreApart r ds → AreApart r (drop n ds)
+apart_drop r zero ds h = h
+apart_drop r (suc n) [] h = tt
+apart_drop r (suc n) (d ∷ ds) h = apart_drop r n ds h.1
+
+facts_drop : (m n : ℕ) (fs : List Linear) → FactsBelow m fs → FactsBelow m (drop n fs)
+facts_drop m zero fs h = h
+facts_drop m (suc n) [] h = tt
+facts_drop m (suc n) (f ∷ fs) h = facts_drop m n fs h.1
+
+pub natural_newest : (r : Valuation) (fs gs : List Linear) → IsNewest fs gs → AreNatural r fs → AreNatural r gs
+natural_newest r fs gs w h = subst (λ xs. AreNatural r xs) (sym w.is) (natural_drop r w.dropped fs h)
+
+pub apart_newest : (r : Valuation) (ds es : List Linear) → IsNewest ds es → AreApart r ds → AreApart r es
+apart_newest r ds es w h = subst (λ xs. AreApart r xs) (sym w.is) (apart_drop r w.dropped ds h)
+
+pub facts_newest : (m : ℕ) (fs gs : List Linear) → IsNewest fs gs → FactsBelow m fs → FactsBelow m gs
+facts_newest m fs gs w h = subst (λ xs. FactsBelow m xs) (sym w.is) (facts_drop m w.dropped fs h)
+
+pub learn_held : (bs es : List Bounds) (fs gs ds : List Linear) (os : List Operation) (cs : List Branch) (l : Linear) → AreNarrowed bs es l → IsNewest fs gs → Learns (symbols_of bs fs ds os cs) (symbols_of es (gs ++ l ∷ []) ds os cs) l
+learn_held bs es fs gs ds os cs l h w r c v b g =
+    let e = h.same in
+    record {
+      next = e;
+      closed = record {
+        ranges = ranges_below (length es) 0 es (omega arith);
+        facts = subst (λ n. FactsBelow n (gs ++ l ∷ [])) (sym e) (below_both (length bs) gs (l ∷ []) (facts_newest (length bs) fs gs w c.facts) (b, tt));
+        apart = subst (λ n. FactsBelow n ds) (sym e) c.apart;
+        operations = subst (λ n. OperationsBelow n os) (sym e) c.operations;
+        branches = subst (λ n. BranchesBelow n cs) (sym e) c.branches;
       };
       valued = record {
         ranges = h.ranges r v.ranges g;
-        facts = natural_both r fs (l ∷ []) v.facts (g, tt);
+        facts = natural_both r gs (l ∷ []) (natural_newest r fs gs w v.facts) (g, tt);
         apart = v.apart;
         operations = v.operations;
+        branches = v.branches;
       };
     }
 
-pub distinguish_held : (bs : List Bounds) (fs ds : List Linear) (os : List Operation) (l : Linear) → Distinguishes (symbols_of bs fs ds os) (symbols_of bs fs (ds ++ l ∷ []) os) l
-distinguish_held bs fs ds os l r c v b g = record {
+pub distinguish_held : (bs : List Bounds) (fs ds es : List Linear) (os : List Operation) (cs : List Branch) (l : Linear) → IsNewest ds es → Distinguishes (symbols_of bs fs ds os cs) (symbols_of bs fs (es ++ l ∷ []) os cs) l
+distinguish_held bs fs ds es os cs l w r c v b g = record {
   next = refl;
-  closed = record { ranges = c.ranges; facts = c.facts; apart = below_both (length bs) ds (l ∷ []) c.apart (b, tt); operations = c.operations };
-  valued = record { ranges = v.ranges; facts = v.facts; apart = apart_both r ds (l ∷ []) v.apart (g, tt); operations = v.operations };
+  closed = record { ranges = c.ranges; facts = c.facts; apart = below_both (length bs) es (l ∷ []) (facts_newest (length bs) ds es w c.apart) (b, tt); operations = c.operations; branches = c.branches };
+  valued = record { ranges = v.ranges; facts = v.facts; apart = apart_both r es (l ∷ []) (apart_newest r ds es w v.apart) (g, tt); operations = v.operations; branches = v.branches };
 }
   where
     apart_both : (r : Valuation) (ds es : List Linear) → AreApart r ds → AreApart r es → AreApart r (ds ++ es)
@@ -119,7 +178,7 @@ learns_nothing k l r c v b g = knows_itself k r c v
 
 -- ---- what isn't 0
 
-apart_at : (r : Valuation) (ds : List Linear) (i : ℕ) (d : Linear) → i < length ds → AreApart r ds → number_at r (get_or ds i d) ≡ pos 0 → ⊥
+pub apart_at : (r : Valuation) (ds : List Linear) (i : ℕ) (d : Linear) → i < length ds → AreApart r ds → number_at r (get_or ds i d) ≡ pos 0 → ⊥
 apart_at r [] i d l h e = absurd (omega arith)
 apart_at r (x ∷ ds) zero d l h e = h.0 e
 apart_at r (x ∷ ds) (suc i) d l h e = apart_at r ds i d (omega arith) h.1 e

@@ -3,7 +3,7 @@ use Rattle.std.proofs.Common.{◌≡◌, ℕ, zero, suc, ◌+◌, ◌<◌, ◌�
 use Rattle.linear.specs.declared.bounds.Bounds.{Bounds}
 use Rattle.linear.specs.Linear.{Linear, Valuation, number_at, TermsBelow, IsBelow, Range, IsFrom, IsUpTo, AreInRange, AreNatural}
 use Rattle.linear.specs.Bounded.{numbered, IsShown}
-use Rattle.linear.specs.Symbols.{Symbols, Operation, FactsBelow, OperationsBelow, Agree, Leads}
+use Rattle.linear.specs.Symbols.{Symbols, Operation, Branch, FactsBelow, OperationsBelow, BranchesBelow, Agree, Leads}
 use Rattle.linear.specs.Held.{symbols_of}
 use Rattle.linear.specs.Joined.{Joins, IsFromEither, IsUpToEither, IsHull, AreShared, AreJoined}
 use Rattle.linear.proofs.KnownLaws.{natural_both, below_both}
@@ -86,10 +86,10 @@ joined_facts n es fs b c own gs ks x y = record {
   right = λ q r a i h k. y.by_own q r a h (x.by_other q r a i h k);
 }
 
-pub join_held : (bs hs cb cc : List Bounds) (fs ds ks fb fc : List Linear) (os : List Operation) (b c : Symbols) (n : ℕ) → n ≡ length bs → length hs ≡ n → numbered 0 cb ≡ b.ranges
+pub join_held : (bs hs cb cc : List Bounds) (fs ds ks fb fc : List Linear) (os : List Operation) (cs : List Branch) (b c : Symbols) (n : ℕ) → n ≡ length bs → length hs ≡ n → numbered 0 cb ≡ b.ranges
     → numbered 0 cc ≡ c.ranges → fb ≡ b.facts → fc ≡ c.facts
-    → IsHull cb cc hs → AreJoined n fs (numbered 0 cb) fb (numbered 0 cc) fc ks → Joins (symbols_of bs fs ds os) b c (symbols_of hs ks ds os)
-join_held bs hs cb cc fs ds ks fb fc os b c n m a p q s t i x r d v h =
+    → IsHull cb cc hs → AreJoined n fs (numbered 0 cb) fb (numbered 0 cc) fc ks → Joins (symbols_of bs fs ds os cs) b c (symbols_of hs ks ds os cs)
+join_held bs hs cb cc fs ds ks fb fc os cs b c n m a p q s t i x r d v h =
     let e : length hs ≡ length bs = a ∙ m in
     record {
       closed = record {
@@ -97,18 +97,19 @@ join_held bs hs cb cc fs ds ks fb fc os b c n m a p q s t i x r d v h =
         facts = subst (λ k. FactsBelow k ks) (sym a) (x.below (subst (λ k. FactsBelow k fs) (sym m) d.facts));
         apart = subst (λ k. FactsBelow k ds) (sym e) d.apart;
         operations = subst (λ k. OperationsBelow k os) (sym e) d.operations;
+        branches = subst (λ k. BranchesBelow k cs) (sym e) d.branches;
       };
       grows = omega arith;
       values = r;
       agrees = λ k l. refl;
-      valued = record { ranges = of_ranges h; facts = of_facts h; apart = v.apart; operations = v.operations };
+      valued = record { ranges = of_ranges h; facts = of_facts h; apart = v.apart; operations = v.operations; branches = v.branches };
     }
   where
-    of_ranges : Leads (symbols_of bs fs ds os) r b ⊎ Leads (symbols_of bs fs ds os) r c → AreInRange r (numbered 0 hs)
+    of_ranges : Leads (symbols_of bs fs ds os cs) r b ⊎ Leads (symbols_of bs fs ds os cs) r c → AreInRange r (numbered 0 hs)
     of_ranges (inl g) = i g.values r (subst (λ k. Agree k g.values r) (sym (a ∙ m)) g.agrees) (inl (subst (AreInRange g.values) (sym p) g.valued.ranges))
     of_ranges (inr g) = i g.values r (subst (λ k. Agree k g.values r) (sym (a ∙ m)) g.agrees) (inr (subst (AreInRange g.values) (sym q) g.valued.ranges))
 
-    of_facts : Leads (symbols_of bs fs ds os) r b ⊎ Leads (symbols_of bs fs ds os) r c → AreNatural r ks
+    of_facts : Leads (symbols_of bs fs ds os cs) r b ⊎ Leads (symbols_of bs fs ds os cs) r c → AreNatural r ks
     of_facts (inl g) = x.left g.values r (subst (λ k. Agree k g.values r) (sym m) g.agrees) (subst (AreInRange g.values) (sym p) g.valued.ranges)
         (subst (AreNatural g.values) (sym s) g.valued.facts) v.facts
     of_facts (inr g) = x.right g.values r (subst (λ k. Agree k g.values r) (sym m) g.agrees) (subst (AreInRange g.values) (sym q) g.valued.ranges)

@@ -7,7 +7,7 @@ use Rattle.std.specs.Int.{int_min, int_max}
 use Rattle.std.specs.Option.{option_and_then, IsSomeAnd}
 use Rattle.std.specs.Ordering.{int_eq}
 use Rattle.linear.specs.Linear.{Linear, Valuation, sum_at, number_at, TermsBelow, IsBelow, number, symbol, minus, times, Range, IsFrom, IsUpTo, AreInRange, AreNatural, least_of, greatest_of, greatest_at, least_shown, greatest_shown, floor_div, greater_of, lesser_of, range_by, narrowed}
-use Rattle.linear.specs.Symbols.{Agree, Knows, Leads, Gives, Possible, AreApart, is_apart, sharpened, Symbols, Operation, result, AreResults, OperationsBelow, IsValued, RangesBelow, FactsBelow, IsClosed, fresh, unknown, shows, opposite, learned, with_fact, only_if, above_zero, negated, least_of_both, greatest_of_both, hull, are_below, shared, new_facts, join, joined, same_terms, same_linear, learned_if, compared, either_number, one_number, number_of_either}
+use Rattle.linear.specs.Symbols.{Agree, Knows, Leads, Gives, Possible, Branch, AreBranches, BranchesBelow, AreApart, is_apart, sharpened, Symbols, Operation, result, AreResults, OperationsBelow, IsValued, RangesBelow, FactsBelow, IsClosed, fresh, unknown, shows, opposite, learned, with_fact, only_if, above_zero, negated, least_of_both, greatest_of_both, hull, are_below, shared, new_facts, join, joined, same_terms, same_linear, learned_if, compared, either_number, one_number, number_of_either}
 use Rattle.linear.proofs.NumberLaws.{both, true_lt, false_lt}
 use Rattle.linear.proofs.LinearLaws.{one_of, same_symbol, times_at, minus_at, minus_below, same_number, symbol_at, least_is, greatest_is, least_shown_is, greatest_shown_is, narrowed_range, shown_is}
 
@@ -63,11 +63,11 @@ same_range n q r a (e ∷ es) h k =
     let f = sym (a e.symbol h.0) in
     (subst (λ z. IsFrom e.least z) f k.0, subst (λ z. IsUpTo e.greatest z) f k.1, same_range n q r a es h.1 k.2)
 
-same_facts : (n : ℕ) (q r : Valuation) → Agree n q r → (fs : List Linear) → FactsBelow n fs → AreNatural r fs → AreNatural q fs
+pub same_facts : (n : ℕ) (q r : Valuation) → Agree n q r → (fs : List Linear) → FactsBelow n fs → AreNatural r fs → AreNatural q fs
 same_facts n q r a [] h k = tt
 same_facts n q r a (f ∷ fs) h k = (subst (λ z. pos 0 ≤ℤ z) (sym (same_number n q r a f h.0)) k.0, same_facts n q r a fs h.1 k.1)
 
-same_apart : (n : ℕ) (q r : Valuation) → Agree n q r → (ds : List Linear) → FactsBelow n ds → AreApart r ds → AreApart q ds
+pub same_apart : (n : ℕ) (q r : Valuation) → Agree n q r → (ds : List Linear) → FactsBelow n ds → AreApart r ds → AreApart q ds
 same_apart n q r a [] h k = tt
 same_apart n q r a (d ∷ ds) h k = ((λ e. k.0 (sym (same_number n q r a d h.0) ∙ e)), same_apart n q r a ds h.1 k.1)
 
@@ -78,11 +78,22 @@ same_operations n q r a (o ∷ os) h k = (
   same_operations n q r a os h.3 k.1,
 )
 
+pub agree_back : (n : ℕ) (q r : Valuation) → Agree n q r → Agree n r q
+agree_back n q r a m l = sym (a m l)
+
+same_branches : (n : ℕ) (q r : Valuation) → Agree n q r → (bs : List Branch) → BranchesBelow n bs → AreBranches r bs → AreBranches q bs
+same_branches n q r a [] h k = tt
+same_branches n q r a (b ∷ bs) h k = (
+  (λ f d. a b.symbol h.0 ∙ k.0 (same_facts n r q (agree_back n q r a) b.facts h.1 f) (same_apart n r q (agree_back n q r a) b.apart h.2 d) ∙ sym (same_number n q r a b.number h.3)),
+  same_branches n q r a bs h.4 k.1,
+)
+
 -- what is known stays true where no symbol of it changes
 same_valued : (k : Symbols) (q r : Valuation) → Agree k.next q r → IsClosed k → IsValued r k → IsValued q k
 same_valued k q r a c v = record {
   apart = same_apart k.next q r a k.apart c.apart v.apart;
   operations = same_operations k.next q r a k.operations c.operations v.operations;
+  branches = same_branches k.next q r a k.branches c.branches v.branches;
   ranges = same_range k.next q r a k.ranges c.ranges v.ranges;
   facts = same_facts k.next q r a k.facts c.facts v.facts;
 }
@@ -105,10 +116,15 @@ operations_up : (n : ℕ) (os : List Operation) → OperationsBelow n os → Ope
 operations_up n [] h = tt
 operations_up n (o ∷ os) h = (below_suc o.symbol n h.0, terms_up n o.left.terms h.1, terms_up n o.right.terms h.2, operations_up n os h.3)
 
+branches_up : (n : ℕ) (bs : List Branch) → BranchesBelow n bs → BranchesBelow (suc n) bs
+branches_up n [] h = tt
+branches_up n (b ∷ bs) h = (below_suc b.symbol n h.0, facts_up n b.facts h.1, facts_up n b.apart h.2, terms_up n b.number.terms h.3, branches_up n bs h.4)
+
 pub fresh_closed : (k : Symbols) (low high : Option ℤ) → IsClosed k → IsClosed (fresh k low high)
 fresh_closed k low high c = record {
   apart = facts_up k.next k.apart c.apart;
   operations = operations_up k.next k.operations c.operations;
+  branches = branches_up k.next k.branches c.branches;
   ranges = (at_suc k.next, ranges_up k.next k.ranges c.ranges);
   facts = facts_up k.next k.facts c.facts;
 }
@@ -129,6 +145,7 @@ fresh_valued k r low high x c v f g =
     record {
       apart = w.apart;
       operations = w.operations;
+      branches = w.branches;
       ranges = (subst (λ z. IsFrom low z) e f, subst (λ z. IsUpTo high z) e g, w.ranges);
       facts = w.facts;
     }
@@ -237,8 +254,8 @@ learned_known k r l c v b h = by_test (shows k l)
     by_test true = knows_itself k r c v
     by_test false = record {
       next = refl;
-      closed = record { apart = c.apart; operations = c.operations; ranges = narrowed_below k.next k.ranges l l.terms b c.ranges; facts = (b, c.facts) };
-      valued = record { apart = v.apart; operations = v.operations; ranges = narrowed_range r k.ranges l l.terms v.ranges h; facts = (h, v.facts) };
+      closed = record { apart = c.apart; operations = c.operations; branches = c.branches; ranges = narrowed_below k.next k.ranges l l.terms b c.ranges; facts = (b, c.facts) };
+      valued = record { apart = v.apart; operations = v.operations; branches = v.branches; ranges = narrowed_range r k.ranges l l.terms v.ranges h; facts = (h, v.facts) };
     }
 
 same_terms_is : (r : Valuation) (ts us : List (ℕ × ℤ)) → same_terms ts us ≡ true → sum_at r ts ≡ sum_at r us
@@ -443,6 +460,7 @@ join_leads k r b c d v h = record {
   closed = record {
     apart = d.apart;
     operations = d.operations;
+    branches = d.branches;
     ranges = hull_below k.next k.next b.ranges c.ranges (up_itself k.next);
     facts = below_both k.next (shared k.next (new_facts k b) c) (shared k.next (new_facts k c) b ++ k.facts) (shared_below k.next (new_facts k b) c)
         (below_both k.next (shared k.next (new_facts k c) b) k.facts (shared_below k.next (new_facts k c) b) d.facts);
@@ -450,7 +468,7 @@ join_leads k r b c d v h = record {
   grows = up_itself k.next;
   values = r;
   agrees = λ x l. refl;
-  valued = record { apart = v.apart; operations = v.operations; ranges = of_ranges h; facts = of_facts h };
+  valued = record { apart = v.apart; operations = v.operations; branches = v.branches; ranges = of_ranges h; facts = of_facts h };
 }
   where
     of_ranges : Leads k r b ⊎ Leads k r c → AreInRange r (hull k.next b.ranges c.ranges)

@@ -8,6 +8,7 @@ pub mod SymbolLaws
 pub mod HeldLemmas
 pub mod JoinLemmas
 pub mod ResultLemmas
+pub mod BranchLemmas
 pub mod EitherLemmas
 pub mod QuotientLaws
 pub mod QuotientLemmas

@@ -1,5 +1,5 @@
 -- Products and quotients that have a symbol.
-use Rattle.std.proofs.Common.{◌≡◌, ℕ, zero, suc, ◌+◌, ◌<◌, ℤ, pos, negsuc, ◌+ℤ◌, ◌*ℤ◌, ◌≤ℤ◌, int_lt, cond, Bool, true, false, List, [], ◌∷◌, ◌++◌, length, get_or, Option, Some, None, refl, sym, ap, ◌∙◌, subst, arith}
+use Rattle.std.proofs.Common.{◌≡◌, ℕ, zero, suc, ◌+◌, ◌<◌, ℤ, pos, negsuc, ◌+ℤ◌, ◌*ℤ◌, ◌≤ℤ◌, int_lt, cond, Bool, true, false, List, [], ◌∷◌, ◌++◌, length, drop, get_or, Option, Some, None, refl, sym, ap, ◌∙◌, subst, arith}
 use Rattle.std.proofs.lemmas.Int.{ints}
 use Rattle.std.specs.Int.{int_min, int_max}
 use Rattle.linear.specs.declared.bounds.Bounds.{Bounds}
@@ -7,10 +7,10 @@ use Rattle.linear.specs.declared.named.Named.{Named}
 use Rattle.linear.specs.Linear.{Linear, Valuation, number_at, symbol, IsBelow, IsFrom, IsUpTo}
 use Rattle.linear.specs.Bounded.{IsFromAll, IsUpToAll}
 use Rattle.linear.specs.Combined.{StandsFor}
-use Rattle.linear.specs.Symbols.{Symbols, Operation, result, AreResults, OperationsBelow, FactsBelow, Gives}
-use Rattle.linear.specs.Held.{symbols_of, operation_of, operations_of, Cancels, GivesAny}
+use Rattle.linear.specs.Symbols.{Symbols, Operation, Branch, result, AreResults, OperationsBelow, BranchesBelow, FactsBelow, Gives}
+use Rattle.linear.specs.Held.{symbols_of, operation_of, operations_of, IsNewest, Cancels, GivesAny, KnowsWithin}
 use Rattle.linear.specs.Results.{GivesInRange, GivesResult, GivesMultiple, IsOf, IsSymbolOf, IsNamed, AreCorners, IsProductRange, IsQuotientRange}
-use Rattle.linear.proofs.KnownLaws.{with_value, gives_here}
+use Rattle.linear.proofs.KnownLaws.{with_value, gives_here, knows_leads, leads_gives}
 use Rattle.linear.proofs.LinearLaws.{symbol_at, reach}
 use Rattle.linear.proofs.SymbolLaws.{operation_closed, operation_valued, new_gives, corner_low, corner_high, no_terms, flipped}
 use Rattle.linear.proofs.HeldLemmas.{in_range_append, ranges_below, one_more}
@@ -47,6 +47,16 @@ named_gives k d l m e x h i r c v a b =
     subst (λ (y : Linear). Gives k r (k, y) (result d (number_at r l) (number_at r m))) (sym i)
     (gives_here k r (symbol x) (result d (number_at r l) (number_at r m)) c v (h.below k.next c.operations, tt) (sym (symbol_at r x ∙ h.value r v.operations)))
 
+-- .. of which a range is known now
+pub named_within : (d : Bool) (low high : Option ℤ) (k m : Symbols) (l n e : Linear) (x : ℕ) → IsNamed k.operations d l n x → KnowsWithin k m x low high → e ≡ symbol x → GivesInRange d low high k m l n e
+named_within d low high k m l n e x h w q r c v a b f g =
+    let number = result d (number_at r l) (number_at r n) in
+    let is : r x ≡ number = h.value r v.operations in
+    let j = w r c v (subst (λ z. IsFrom low z) (sym is) f) (subst (λ z. IsUpTo high z) (sym is) g) in
+    let below : x < m.next = subst (λ p. x < p) (sym j.next) (h.below k.next c.operations) in
+    subst (λ (y : Linear). Gives k r (m, y) number) (sym q)
+    (leads_gives k r m (m, symbol x) number (knows_leads k r m j) (gives_here m r (symbol x) number j.closed j.valued (below, tt) (sym (symbol_at r x ∙ is))))
+
 -- ---- a new symbol
 
 results_both : (r : Valuation) (os ps : List Operation) → AreResults r os → AreResults r ps → AreResults r (os ++ ps)
@@ -61,13 +71,31 @@ operations_append : (ns : List Named) (o : Named) → operations_of (ns ++ o ∷
 operations_append [] o = refl
 operations_append (n ∷ ns) o = ap (λ os. operation_of n ∷ os) (operations_append ns o)
 
-operation_held : (bs : List Bounds) (b : Bounds) (fs ds : List Linear) (os : List Operation) (d : Bool) (l m : Linear)
-    → GivesInRange d b.least b.greatest (symbols_of bs fs ds os) (symbols_of (bs ++ b ∷ []) fs ds (os ++ (record { divides = d; left = l; right = m; symbol = length bs }) ∷ [])) l m
+results_drop : (r : Valuation) (n : ℕ) (ns : List Named) → AreResults r (operations_of ns) → AreResults r (operations_of (drop n ns))
+results_drop r zero ns h = h
+results_drop r (suc n) [] h = tt
+results_drop r (suc n) (o ∷ ns) h = results_drop r n ns h.1
+
+operations_drop : (m n : ℕ) (ns : List Named) → OperationsBelow m (operations_of ns) → OperationsBelow m (operations_of (drop n ns))
+operations_drop m zero ns h = h
+operations_drop m (suc n) [] h = tt
+operations_drop m (suc n) (o ∷ ns) h = operations_drop m n ns h.3
+
+results_newest : (r : Valuation) (ns ps : List Named) → IsNewest ns ps → AreResults r (operations_of ns) → AreResults r (operations_of ps)
+results_newest r ns ps w h = subst (λ xs. AreResults r (operations_of xs)) (sym w.is) (results_drop r w.dropped ns h)
+
+operations_newest : (m : ℕ) (ns ps : List Named) → IsNewest ns ps → OperationsBelow m (operations_of ns) → OperationsBelow m (operations_of ps)
+operations_newest m ns ps w h = subst (λ xs. OperationsBelow m (operations_of xs)) (sym w.is) (operations_drop m w.dropped ns h)
+
+-- .. behind those that are kept
+operation_held : (bs : List Bounds) (b : Bounds) (fs ds : List Linear) (cs : List Branch) (os ks : List Operation) (d : Bool) (l m : Linear)
+    → ((r : Valuation) → AreResults r os → AreResults r ks) → ((n : ℕ) → OperationsBelow n os → OperationsBelow n ks)
+    → GivesInRange d b.least b.greatest (symbols_of bs fs ds os cs) (symbols_of (bs ++ b ∷ []) fs ds (ks ++ (record { divides = d; left = l; right = m; symbol = length bs }) ∷ []) cs) l m
     (symbol (length bs))
-operation_held bs b fs ds os d l m r c v x y f g =
-    let k = symbols_of bs fs ds os in
+operation_held bs b fs ds cs os ks d l m still within r c v x y f g =
+    let k = symbols_of bs fs ds os cs in
     let o : Operation = record { divides = d; left = l; right = m; symbol = length bs } in
-    let z = symbols_of (bs ++ b ∷ []) fs ds (os ++ o ∷ []) in
+    let z = symbols_of (bs ++ b ∷ []) fs ds (ks ++ o ∷ []) cs in
     let n = result d (number_at r l) (number_at r m) in
     let e = one_more bs b in
     let h = operation_closed k d l m b.least b.greatest c x y in
@@ -79,26 +107,28 @@ operation_held bs b fs ds os d l m r c v x y f g =
       ranges = ranges_below (length (bs ++ b ∷ [])) 0 (bs ++ b ∷ []) (omega arith);
       facts = subst (λ p. FactsBelow p fs) (sym e) h.facts;
       apart = subst (λ p. FactsBelow p ds) (sym e) h.apart;
-      operations = subst (λ p. OperationsBelow p (os ++ o ∷ [])) (sym e) (below_both_ways (suc (length bs)) os (o ∷ []) h.operations.3 (h.operations.0, h.operations.1, h.operations.2, tt));
+      operations = subst (λ p. OperationsBelow p (ks ++ o ∷ [])) (sym e) (below_both_ways (suc (length bs)) ks (o ∷ []) (within (suc (length bs)) h.operations.3) (h.operations.0, h.operations.1, h.operations.2, tt));
+      branches = subst (λ p. BranchesBelow p cs) (sym e) h.branches;
     })
     (record {
       ranges = in_range_append q 0 bs b w.ranges.2 (subst (λ p. IsFrom b.least (q p)) i w.ranges.0) (subst (λ p. IsUpTo b.greatest (q p)) i w.ranges.1);
       facts = w.facts;
       apart = w.apart;
-      operations = results_both q os (o ∷ []) w.operations.1 (w.operations.0, tt);
+      operations = results_both q ks (o ∷ []) (still q w.operations.1) (w.operations.0, tt);
+      branches = w.branches;
     })
 
-pub put_operation_held : (bs cs : List Bounds) (b : Bounds) (fs ds : List Linear) (ns ps : List Named) (d : Bool) (l m e : Linear) (n : ℕ) → cs ≡ bs ++ b ∷ [] → n ≡ length bs → e ≡ symbol n
-    → ps ≡ ns ++ (record { divides = d; left = l; right = m; symbol = n }) ∷ []
-    → GivesInRange d b.least b.greatest (symbols_of bs fs ds (operations_of ns)) (symbols_of cs fs ds (operations_of ps)) l m e
-put_operation_held bs cs b fs ds ns ps d l m e n p q i j =
+pub put_operation_held : (bs es : List Bounds) (b : Bounds) (fs ds : List Linear) (cs : List Branch) (ns ks ps : List Named) (d : Bool) (l m e : Linear) (n : ℕ) → IsNewest ns ks → es ≡ bs ++ b ∷ [] → n ≡ length bs → e ≡ symbol n
+    → ps ≡ ks ++ (record { divides = d; left = l; right = m; symbol = n }) ∷ []
+    → GivesInRange d b.least b.greatest (symbols_of bs fs ds (operations_of ns) cs) (symbols_of es fs ds (operations_of ps) cs) l m e
+put_operation_held bs es b fs ds cs ns ks ps d l m e n w p q i j =
     let o : Named = record { divides = d; left = l; right = m; symbol = length bs } in
-    let h : operations_of ps ≡ operations_of ns ++ operation_of o ∷ [] =
-    ap operations_of (j ∙ ap (λ x. ns ++ (record { divides = d; left = l; right = m; symbol = x }) ∷ []) q) ∙ operations_append ns o in
-    subst (λ xs. GivesInRange d b.least b.greatest (symbols_of bs fs ds (operations_of ns)) (symbols_of xs fs ds (operations_of ps)) l m e) (sym p)
-    (subst (λ x. GivesInRange d b.least b.greatest (symbols_of bs fs ds (operations_of ns)) (symbols_of (bs ++ b ∷ []) fs ds (operations_of ps)) l m x) (sym (i ∙ ap symbol q))
-    (subst (λ os. GivesInRange d b.least b.greatest (symbols_of bs fs ds (operations_of ns)) (symbols_of (bs ++ b ∷ []) fs ds os) l m (symbol (length bs))) (sym h)
-    (operation_held bs b fs ds (operations_of ns) d l m)))
+    let h : operations_of ps ≡ operations_of ks ++ operation_of o ∷ [] =
+    ap operations_of (j ∙ ap (λ x. ks ++ (record { divides = d; left = l; right = m; symbol = x }) ∷ []) q) ∙ operations_append ks o in
+    subst (λ xs. GivesInRange d b.least b.greatest (symbols_of bs fs ds (operations_of ns) cs) (symbols_of xs fs ds (operations_of ps) cs) l m e) (sym p)
+    (subst (λ x. GivesInRange d b.least b.greatest (symbols_of bs fs ds (operations_of ns) cs) (symbols_of (bs ++ b ∷ []) fs ds (operations_of ps) cs) l m x) (sym (i ∙ ap symbol q))
+    (subst (λ os. GivesInRange d b.least b.greatest (symbols_of bs fs ds (operations_of ns) cs) (symbols_of (bs ++ b ∷ []) fs ds os cs) l m (symbol (length bs))) (sym h)
+    (operation_held bs b fs ds cs (operations_of ns) (operations_of ks) d l m (λ r h. results_newest r ns ks w h) (λ m h. operations_newest m ns ks w h))))
 
 -- ---- ranges of products
 

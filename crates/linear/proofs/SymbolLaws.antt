@@ -58,6 +58,7 @@ operation_closed k d l m low high c x y =
     record {
       apart = f.apart;
       operations = (at_suc k.next, terms_up k.next l.terms x, terms_up k.next m.terms y, f.operations);
+      branches = f.branches;
       ranges = f.ranges;
       facts = f.facts;
     }
@@ -71,6 +72,7 @@ operation_valued k r d l m low high n c v x y e f g =
     record {
       apart = w.apart;
       operations = (at_new r k.next n ∙ e ∙ ap (λ z. result d z (number_at r m)) (sym (same_number k.next q r a l x)) ∙ ap (λ z. result d (number_at q l) z) (sym (same_number k.next q r a m y)), w.operations);
+      branches = w.branches;
       ranges = w.ranges;
       facts = w.facts;
     }
@@ -465,13 +467,14 @@ module _ (k : Symbols) (r : Valuation) (x y : ℤ) (d : Symbols × Linear) (g : 
       let c = e.closed in
       let v = e.valued in
       record {
-        closed = record { apart = (terms_more d.0.next m.next e.grows d.1.terms g.below, c.apart); operations = c.operations; ranges = c.ranges; facts = c.facts };
+        closed = record { apart = (terms_more d.0.next m.next e.grows d.1.terms g.below, c.apart); operations = c.operations; branches = c.branches; ranges = c.ranges; facts = c.facts };
         grows = e.grows;
         values = e.values;
         agrees = e.agrees;
         valued = record {
           apart = ((λ z. true_not_false (int_eq x y) ((Decides-int_eq x y).1 (no_difference x y (g.number ∙ sym (same_number d.0.next e.values g.values e.agrees d.1 g.below) ∙ z))) h), v.apart);
           operations = v.operations;
+          branches = v.branches;
           ranges = v.ranges;
           facts = v.facts;
         };

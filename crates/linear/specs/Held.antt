@@ -1,10 +1,11 @@
 -- What the code holds of symbols, and what its steps answer.
-use Rattle.std.specs.Prelude.{◌≡◌, ℕ, ℤ, pos, ◌+ℤ◌, ◌*ℤ◌, ◌≤ℤ◌, Bool, true, List, [], ◌∷◌, length, Option}
+use Rattle.std.specs.Prelude.{◌≡◌, ℕ, ℤ, pos, ◌+ℤ◌, ◌*ℤ◌, ◌≤ℤ◌, Bool, true, List, [], ◌∷◌, length, drop, Option}
 use Rattle.linear.specs.declared.bounds.Bounds.{Bounds}
 use Rattle.linear.specs.declared.named.Named.{Named}
+use Rattle.linear.specs.declared.branched.Branched.{Branched}
 use Rattle.linear.specs.Linear.{Linear, Valuation, number_at, Range, IsBelow, IsFrom, IsUpTo, AreInRange, AreNatural}
 use Rattle.linear.specs.Bounded.{numbered}
-use Rattle.linear.specs.Symbols.{Symbols, Operation, AreApart, IsValued, IsClosed, Knows, Gives}
+use Rattle.linear.specs.Symbols.{Symbols, Operation, Branch, AreApart, IsValued, IsClosed, Knows, Gives}
 
 abbrev pub operation_of : Named → Operation
 operation_of o = record { divides = o.divides; left = o.left; right = o.right; symbol = o.symbol }
@@ -13,9 +14,21 @@ abbrev pub operations_of : List Named → List Operation
 operations_of [] = []
 operations_of (o ∷ os) = operation_of o ∷ operations_of os
 
--- the ranges of symbols in their order, facts, what isn't 0, and named operations
-abbrev pub symbols_of : List Bounds → List Linear → List Linear → List Operation → Symbols
-symbols_of bs fs ds os = record { next = length bs; ranges = numbered 0 bs; facts = fs; apart = ds; operations = os }
+abbrev pub branch_of : Branched → Branch
+branch_of b = record { facts = b.facts; apart = b.apart; symbol = b.symbol; number = b.number }
+
+abbrev pub branches_of : List Branched → List Branch
+branches_of [] = []
+branches_of (b ∷ bs) = branch_of b ∷ branches_of bs
+
+-- the ranges of symbols in their order, facts, what isn't 0, named operations, and branches
+abbrev pub symbols_of : List Bounds → List Linear → List Linear → List Operation → List Branch → Symbols
+symbols_of bs fs ds os cs = record { next = length bs; ranges = numbered 0 bs; facts = fs; apart = ds; operations = os; branches = cs }
+
+-- a list, without so many of its first
+pub record IsNewest {A : Type 0} (xs ys : List A) : Type 0 where
+  pub dropped : ℕ
+  pub is : ys ≡ drop dropped xs
 
 -- whatever numbers symbols stand for: the expression stands for a number that may be any in the range
 abbrev pub GivesAny : Symbols → Symbols → Linear → Option ℤ → Option ℤ → Type 0
@@ -41,6 +54,15 @@ IsRangeBy bs l x b = (r : Valuation) → AreInRange r (numbered 0 bs) → pos 0 
 pub record AreNarrowed (bs cs : List Bounds) (l : Linear) : Type 0 where
   pub same : length cs ≡ length bs
   pub ranges : (r : Valuation) → AreInRange r (numbered 0 bs) → pos 0 ≤ℤ number_at r l → AreInRange r (numbered 0 cs)
+
+-- ranges of the same symbols, narrower where one of them lies in another range
+pub record AreWithin (bs cs : List Bounds) (x : ℕ) (low high : Option ℤ) : Type 0 where
+  pub same : length cs ≡ length bs
+  pub ranges : (r : Valuation) → AreInRange r (numbered 0 bs) → IsFrom low (r x) → IsUpTo high (r x) → AreInRange r (numbered 0 cs)
+
+-- more is known where a symbol lies in a range
+abbrev pub KnowsWithin : Symbols → Symbols → ℕ → Option ℤ → Option ℤ → Type 0
+KnowsWithin k m x low high = (r : Valuation) → IsClosed k → IsValued r k → IsFrom low (r x) → IsUpTo high (r x) → Knows k r m
 
 -- an expression and q times another are 0 together
 abbrev pub Cancels : Linear → ℤ → Linear → Type 0

@@ -7,6 +7,7 @@ pub mod Joined
 pub mod Results
 pub mod Either
 pub mod Quotients
+pub mod Branches
 pub mod Laws
 pub mod WalkSupport
 pub mod ChainSupport

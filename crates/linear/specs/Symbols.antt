@@ -1,5 +1,5 @@
--- What is known of symbols: ranges, facts, products and quotients; what follows where more is known, and in either of two
--- cases.
+-- What is known of symbols: ranges, facts, products and quotients, and branches; what follows where more is known, and in
+-- either of two cases.
 use Rattle.std.specs.Prelude.{◌≡◌, ℕ, zero, suc, ◌-◌, ◌<◌, ◌≤◌, ◌==◌, nat_lt, take, length, ◌++◌, ℤ, pos, ◌-ℤ◌, ◌*ℤ◌, neg_ℤ, int_lt, Bool, true, false, not, ◌&&◌, ◌||◌, List, [], ◌∷◌, if◌then◌else◌, Option, Some, None, option_map}
 use Rattle.std.specs.Option.{option_and_then, IsSomeAnd}
 use Rattle.std.specs.Ordering.{int_eq}
@@ -14,6 +14,13 @@ pub record Operation : Type 0 where
   pub right : Linear
   pub symbol : ℕ
 
+-- where each of its facts is at least 0, and what is apart isn't 0, the symbol has the number
+pub record Branch : Type 0 where
+  pub facts : List Linear
+  pub apart : List Linear
+  pub symbol : ℕ
+  pub number : Linear
+
 -- what is known of the symbols below a number
 pub record Symbols : Type 0 where
   pub next : ℕ
@@ -23,6 +30,7 @@ pub record Symbols : Type 0 where
   -- each isn't 0
   pub apart : List Linear
   pub operations : List Operation
+  pub branches : List Branch
 
 abbrev pub result : Bool → ℤ → ℤ → ℤ
 result true m n = quotient m n
@@ -36,12 +44,17 @@ abbrev pub AreApart : Valuation → List Linear → Type 0
 AreApart r [] = Unit {0}
 AreApart r (d ∷ ds) = (number_at r d ≡ pos 0 → ⊥) × AreApart r ds
 
+abbrev pub AreBranches : Valuation → List Branch → Type 0
+AreBranches r [] = Unit {0}
+AreBranches r (b ∷ bs) = (AreNatural r b.facts → AreApart r b.apart → r b.symbol ≡ number_at r b.number) × AreBranches r bs
+
 -- all of it holds with these numbers for symbols
 pub record IsValued (r : Valuation) (k : Symbols) : Type 0 where
   pub ranges : AreInRange r k.ranges
   pub facts : AreNatural r k.facts
   pub apart : AreApart r k.apart
   pub operations : AreResults r k.operations
+  pub branches : AreBranches r k.branches
 
 abbrev pub RangesBelow : ℕ → List Range → Type 0
 RangesBelow n [] = Unit {0}
@@ -55,12 +68,17 @@ abbrev pub OperationsBelow : ℕ → List Operation → Type 0
 OperationsBelow n [] = Unit {0}
 OperationsBelow n (o ∷ os) = (suc o.symbol ≤ n) × IsBelow n o.left × IsBelow n o.right × OperationsBelow n os
 
+abbrev pub BranchesBelow : ℕ → List Branch → Type 0
+BranchesBelow n [] = Unit {0}
+BranchesBelow n (b ∷ bs) = (suc b.symbol ≤ n) × FactsBelow n b.facts × FactsBelow n b.apart × IsBelow n b.number × BranchesBelow n bs
+
 -- it speaks of no other symbols
 pub record IsClosed (k : Symbols) : Type 0 where
   pub ranges : RangesBelow k.next k.ranges
   pub facts : FactsBelow k.next k.facts
   pub apart : FactsBelow k.next k.apart
   pub operations : OperationsBelow k.next k.operations
+  pub branches : BranchesBelow k.next k.branches
 
 -- ---- what follows from what
 

@@ -29,8 +29,8 @@ fn rules_out(known: &Linear, expression: &Linear) -> Result<bool, Memory>
     Ok(opposite)
 }
 
-// Whether an expression is among those that aren't 0, or its opposite.
-fn is_apart(apart: &[Linear], expression: &Linear) -> Result<bool, Memory>
+/// Whether an expression is among those that aren't 0, or its opposite.
+pub(crate) fn is_apart(apart: &[Linear], expression: &Linear) -> Result<bool, Memory>
     ensures { IfOk result (λ yes. yes ≡ true → IsNever apart.now expression.now) }
 {
     for d in apart {

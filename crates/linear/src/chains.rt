@@ -16,6 +16,9 @@ use crate::terms::{MOST_SYMBOLS, Term, next_symbol, number_of, step};
 // The most symbols that are taken out one after another.
 const MOST_STEPS: usize = 32;
 
+// The most facts for which it is looked what another shows behind them.
+const MOST_AHEAD: usize = 8;
+
 // Puts a symbol behind so many terms, unless its coefficient is 0, and returns how many stand there then; none where
 // there is no room.
 fn put_at(out: &mut [Term], count: usize, symbol: usize, coefficient: i128) -> Option<usize>
@@ -95,6 +98,25 @@ fn least_with(bounds: &[Bounds], constant: i128, terms: &[Term], fact: &Linear) 
     rounded_up(whole, scale)
 }
 
+// A lower bound by the ranges, where the newest symbol is taken out by a fact, and the newest of what is left by another.
+fn least_ahead(
+    bounds: &[Bounds],
+    facts: &[Linear],
+    constant: i128,
+    terms: &[Term],
+    fact: &Linear,
+) -> Option<i128> {
+    let mut out = [(0, 0); MOST_SYMBOLS];
+    let (base, count, scale) = take_out(&mut out, constant, terms, fact)?;
+    let mut best = None;
+    for at in first_looked(facts.len())..facts.len() {
+        if is_usable(&out[..count], &facts[at]) {
+            best = greater(best, least_with(bounds, base, &out[..count], &facts[at]));
+        }
+    }
+    rounded(best, scale)
+}
+
 fn is_better(bound: Option<i128>, than: Option<i128>) -> bool {
     match (bound, than) {
         (Some(m), Some(n)) => n < m,
@@ -103,7 +125,8 @@ fn is_better(bound: Option<i128>, than: Option<i128>) -> bool {
     }
 }
 
-// The fact among the newest by which taking out the newest symbol shows most, if that is more than the ranges show.
+// The fact among the newest by which taking out the newest symbol shows most, alone or with another behind it, if that is
+// more than the ranges show.
 fn best_fact(
     bounds: &[Bounds],
     facts: &[Linear],
@@ -115,9 +138,14 @@ fn best_fact(
 {
     let mut best = alone;
     let mut found = None;
+    let mut ahead = 0;
     for at in first_looked(facts.len())..facts.len() {
         if is_usable(terms, &facts[at]) {
-            let bound = least_with(bounds, constant, terms, &facts[at]);
+            let mut bound = least_with(bounds, constant, terms, &facts[at]);
+            if ahead < MOST_AHEAD && !is_better(bound, best) {
+                bound = least_ahead(bounds, facts, constant, terms, &facts[at]);
+                ahead += 1;
+            }
             if is_better(bound, best) {
                 best = bound;
                 found = Some(at);

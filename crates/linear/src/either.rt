@@ -3,10 +3,15 @@ ghost use Rattle.std.specs.Prelude.{◌≡◌, true, IfOk, OnOk};
 ghost use Rattle.linear.specs.Either.{GivesEither, IsUnder, IsOver, IsAtLeast, LearnsLeast, Relates};
 
 use crate::apart::cancels;
+use crate::branched::Branched;
+use crate::branches::{keep_sides, lone_symbol, symbol_of_either};
 use crate::join::{greatest_of_both, is_below, least_of_both};
 use crate::linear::Linear;
 use crate::symbols::Symbols;
 use collections::{Memory, TryClone};
+
+// The most branches of a case, the newest, whose numbers are looked at: 8.
+const MOST_RELATED: usize = 8;
 
 // Whether an expression is shown to be at most the one of one case and the one of the other.
 fn is_under(
@@ -135,6 +140,115 @@ fn relate(
     Ok(())
 }
 
+// Learns how an expression lies to the number of a branch, if it is one of a symbol's.
+fn relate_branch(
+    symbols: &mut Symbols,
+    one: &Symbols,
+    left: &Linear,
+    other: &Symbols,
+    right: &Linear,
+    count: usize,
+    number: &Linear,
+    branch: &Branched,
+    own: usize,
+) -> Result<(), Memory>
+    ensures { OnOk result (Relates symbols.old symbols.new one.now left.now other.now right.now count number.now) }
+{
+    if branch.symbol != own {
+        return Ok(());
+    }
+    relate_below(
+        symbols,
+        one,
+        left,
+        other,
+        right,
+        count,
+        number,
+        &branch.number,
+    )?;
+    relate_above(
+        symbols,
+        one,
+        left,
+        other,
+        right,
+        count,
+        number,
+        &branch.number,
+    )?;
+    Ok(())
+}
+
+// Learns how an expression lies to the numbers that a symbol has in the newest branches.
+fn relate_branches(
+    symbols: &mut Symbols,
+    one: &Symbols,
+    left: &Linear,
+    other: &Symbols,
+    right: &Linear,
+    count: usize,
+    number: &Linear,
+    branches: &[Branched],
+    own: usize,
+) -> Result<(), Memory>
+    ensures { OnOk result (Relates symbols.old symbols.new one.now left.now other.now right.now count number.now) }
+{
+    let from = first_related(branches.len());
+    for at in from..branches.len() {
+        relate_branch(
+            symbols,
+            one,
+            left,
+            other,
+            right,
+            count,
+            number,
+            &branches[at],
+            own,
+        )?;
+    }
+    Ok(())
+}
+
+// Where the newest branches of so many start.
+fn first_related(count: usize) -> usize {
+    if count > MOST_RELATED {
+        count - MOST_RELATED
+    } else {
+        0
+    }
+}
+
+// Learns how an expression lies to the numbers that a newer symbol of a case, which the expression is there, has in branches:
+// so the greatest of three is known to be no less than each.
+fn relate_inner(
+    symbols: &mut Symbols,
+    one: &Symbols,
+    left: &Linear,
+    other: &Symbols,
+    right: &Linear,
+    count: usize,
+    number: &Linear,
+    here: &Symbols,
+    side: &Linear,
+) -> Result<(), Memory>
+    ensures { OnOk result (Relates symbols.old symbols.new one.now left.now other.now right.now count number.now) }
+{
+    match lone_symbol(side) {
+        Some(own) => {
+            if own < count {
+                return Ok(());
+            }
+            let branches = here.held_branches();
+            relate_branches(
+                symbols, one, left, other, right, count, number, branches, own,
+            )
+        }
+        None => Ok(()),
+    }
+}
+
 // A new symbol for a number that is one of two.
 fn new_number(
     symbols: &mut Symbols,
@@ -148,13 +262,19 @@ fn new_number(
     let count = symbols.count();
     let low = least_of_both(one.least(left), other.least(right));
     let high = greatest_of_both(one.greatest(left), other.greatest(right));
+    let (facts, apart) = symbols.counts();
     let e = symbols.fresh(low, high)?;
     relate(symbols, one, left, other, right, count, &e)?;
+    relate_inner(symbols, one, left, other, right, count, &e, one, left)?;
+    relate_inner(symbols, one, left, other, right, count, &e, other, right)?;
+    keep_sides(symbols, one, left, other, right, count, facts, apart, count)?;
     Ok(e)
 }
 
 /// The number of one expression in one case or of another in the other, which both come from what is known: the first,
-/// where both are the same and over older symbols; and else a new symbol, which lies as both cases show that theirs lies.
+/// where both are the same and over older symbols; a symbol that is shown to have both numbers, by the `MOST_FACTS` newest
+/// branches; and else a new symbol, which lies as both cases show that theirs lies, and which is known again where a fact
+/// of one case, or whether an expression is 0, tells the cases apart.
 pub fn number_of_either(
     symbols: &mut Symbols,
     one: &Symbols,
@@ -172,5 +292,9 @@ pub fn number_of_either(
             return Ok(e);
         }
     }
-    new_number(symbols, one, left, other, right)
+    let known = symbol_of_either(symbols.held_branches(), one, left, other, right)?;
+    match known {
+        Some(name) => Linear::symbol(left.memory(), name),
+        None => new_number(symbols, one, left, other, right),
+    }
 }

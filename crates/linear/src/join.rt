@@ -98,13 +98,14 @@ fn put_one(
     Ok(())
 }
 
-/// Facts, and those of two cases from a place on that are over symbols below a number and shown in the other case.
+/// Facts, and those of two cases, each from a place on, that are over symbols below a number and shown in the other case.
 pub(crate) fn joined_facts(
     own: &Items<Linear>,
     count: usize,
     from: usize,
     bounds: &[Bounds],
     facts: &[Linear],
+    other_from: usize,
     other_bounds: &[Bounds],
     other_facts: &[Linear],
 ) -> Result<Items<Linear>, Memory>
@@ -112,6 +113,6 @@ pub(crate) fn joined_facts(
 {
     let mut out = own.try_clone()?;
     put_shared(&mut out, count, facts, from, other_bounds, other_facts)?;
-    put_shared(&mut out, count, other_facts, from, bounds, facts)?;
+    put_shared(&mut out, count, other_facts, other_from, bounds, facts)?;
     Ok(out)
 }

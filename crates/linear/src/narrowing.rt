@@ -2,12 +2,13 @@
 ghost use Rattle.std.specs.Prelude.{◌≡◌, ℕ, ℤ, pos, ◌≤ℤ◌, IfOk, OnOk, length, List};
 ghost use Rattle.linear.specs.Linear.{Linear as Expression, Valuation, number_at, IsFrom, IsUpTo, AreInRange};
 ghost use Rattle.linear.specs.Bounded.{numbered};
-ghost use Rattle.linear.specs.Symbols.{Operation};
-ghost use Rattle.linear.specs.Held.{symbols_of, AreNarrowed, IsRangeBy, Learns};
+ghost use Rattle.linear.specs.Symbols.{Operation, Branch};
+ghost use Rattle.linear.specs.Held.{symbols_of, AreNarrowed, AreWithin, IsRangeBy, Learns};
 
 use crate::bounds::{Bounds, above_zero, greater, greatest_of, least_of, least_without, lesser};
 use crate::checked::negation;
 use crate::linear::Linear;
+use crate::newest::make_room;
 use collections::{Items, Memory};
 
 // The range of a symbol with this coefficient in an expression that is at least 0.
@@ -84,15 +85,27 @@ fn narrow(bounds: &mut Vec<Bounds>, expression: &Linear) -> Result<(), Memory>
     Ok(())
 }
 
+/// Makes the range of a symbol narrower, where it lies in another as well.
+pub(crate) fn narrow_to(bounds: &mut Vec<Bounds>, symbol: usize, range: Bounds)
+    ensures { AreWithin bounds.old.items bounds.new.items symbol range.least range.greatest }
+{
+    let least = greater(least_of(bounds, symbol), range.least);
+    let greatest = lesser(greatest_of(bounds, symbol), range.greatest);
+    if symbol < bounds.len() {
+        bounds[symbol] = Bounds { least, greatest };
+    }
+}
+
 /// One fact more, which makes ranges narrower.
 pub(crate) fn put_fact(
     bounds: &mut Vec<Bounds>,
     facts: &mut Items<Linear>,
     fact: Linear,
 ) -> Result<(), Memory>
-    ensures { OnOk result ((ds : List Expression) (os : List Operation) → Learns (symbols_of bounds.old.items facts.old ds os) (symbols_of bounds.new.items facts.new ds os) fact) }
+    ensures { OnOk result ((ds : List Expression) (os : List Operation) (cs : List Branch) → Learns (symbols_of bounds.old.items facts.old ds os cs) (symbols_of bounds.new.items facts.new ds os cs) fact) }
 {
     narrow(bounds, &fact)?;
+    make_room(fact.memory(), facts)?;
     facts.push(fact)?;
     Ok(())
 }

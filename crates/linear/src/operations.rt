@@ -2,6 +2,7 @@
 ghost use Rattle.std.specs.Prelude.{◌≡◌, ℕ, ◌<◌, pos, neg_ℤ, ◌≤ℤ◌, ◌<ℤ◌, true, IfOk, List, length, Some, None};
 ghost use Rattle.std.specs.Option.{IfSome};
 ghost use Rattle.linear.specs.Linear.{Linear as Expression};
+ghost use Rattle.linear.specs.Symbols.{Branch};
 ghost use Rattle.linear.specs.Held.{symbols_of, operations_of};
 ghost use Rattle.linear.specs.Results.{IsOf, IsSymbolOf, IsNamed, GivesInRange, AreCorners, IsProductRange};
 ghost use Rattle.linear.specs.Results.{IsTurned, IsByGreatest, IsLeastQuotient, IsGreatestQuotient, IsQuotientRange};
@@ -12,6 +13,7 @@ use crate::checked::{negation, product, quotient};
 use crate::join::{greatest_of_both, least_of_both};
 use crate::linear::Linear;
 use crate::named::Named;
+use crate::newest::make_room;
 use collections::{Items, Memory, TryClone};
 
 fn same_kind(left: bool, right: bool) -> bool
@@ -94,13 +96,14 @@ pub(crate) fn put_operation(
     second: &Linear,
     range: Bounds,
 ) -> Result<Linear, Memory>
-    ensures { IfOk result (λ e. (fs ds : List Expression) → GivesInRange divides range.least range.greatest (symbols_of bounds.old.items fs ds (operations_of operations.old)) (symbols_of bounds.new.items fs ds (operations_of operations.new)) first.now second.now e) }
+    ensures { IfOk result (λ e. (fs ds : List Expression) (cs : List Branch) → GivesInRange divides range.least range.greatest (symbols_of bounds.old.items fs ds (operations_of operations.old) cs) (symbols_of bounds.new.items fs ds (operations_of operations.new) cs) first.now second.now e) }
 {
     let symbol = bounds.len();
     let e = Linear::symbol(first.memory(), symbol)?;
     let left = first.try_clone()?;
     let right = second.try_clone()?;
     bounds.push(range)?;
+    make_room(first.memory(), operations)?;
     operations.push(Named {
         divides,
         left,

@@ -2,20 +2,23 @@
 ghost use Rattle.std.specs.Prelude.{◌≡◌, pos, neg_ℤ, ◌≤ℤ◌, IfOk, OnOk, true, false, None, List, [], length};
 ghost use Rattle.linear.specs.Linear.{Linear as Expression, number_at, symbol};
 ghost use Rattle.linear.specs.Bounded.{numbered, IsShown, IsFromAll, IsUpToAll};
-ghost use Rattle.linear.specs.Symbols.{Operation};
+ghost use Rattle.linear.specs.Symbols.{Operation, Branch};
 ghost use Rattle.linear.specs.Joined.{Joins};
 ghost use Rattle.linear.specs.Quotients.{GivesQuotient};
 ghost use Rattle.linear.specs.Results.{IsNamed, GivesResult, GivesInRange, GivesMultiple};
 ghost use Rattle.std.specs.Option.{IfSome};
-ghost use Rattle.linear.specs.Held.{symbols_of, GivesAny, Learns, Assumes, Distinguishes, IsSharpened, IsRefuted};
+ghost use Rattle.linear.specs.Branches.{KeepsBranch};
+ghost use Rattle.linear.specs.Held.{symbols_of, branches_of, GivesAny, Learns, Assumes, Distinguishes, IsSharpened, IsRefuted, KnowsWithin};
 
 use crate::apart::sharpened;
 use crate::bounds::{Bounds, greatest_shown, least_shown, shown};
+use crate::branched::Branched;
 use crate::checked::negation;
 use crate::join::{hull, joined_facts};
 use crate::linear::Linear;
 use crate::named::Named;
-use crate::narrowing::put_fact;
+use crate::narrowing::{narrow_to, put_fact};
+use crate::newest::{first_since, make_room};
 use crate::operations::{found, product_range, put_operation, quotient_range};
 use crate::quotients::{learn_down, learn_quotient, number_quotient};
 use collections::{Items, Memory, TryClone};
@@ -23,22 +26,41 @@ use std::alloc::Global;
 use std::marker::Model;
 
 /// What is known of symbols that stand for whole numbers: their ranges, expressions that are at least 0 (facts) or
-/// aren't 0, and which symbols are products and quotients of what. Clauses see the definitions' record.
-#[derive(Drop)]
+/// aren't 0, which symbols are products and quotients of what, and which have what number in a branch. Clauses see the
+/// definitions' record.
 pub struct Symbols {
     pub(crate) bounds: Vec<Bounds>,
     pub(crate) facts: Items<Linear>,
     pub(crate) apart: Items<Linear>,
     pub(crate) operations: Items<Named>,
+    pub(crate) branches: Items<Branched>,
+    // how many facts there were in all, and how many expressions that aren't 0
+    pub(crate) learned: usize,
+    pub(crate) told_apart: usize,
+}
+
+// Dropped once.
+impl Drop for Symbols {
+    fn drop(self) {
+        let Symbols {
+            bounds: _,
+            facts: _,
+            apart: _,
+            operations: _,
+            branches: _,
+            learned: _,
+            told_apart: _,
+        } = self;
+    }
 }
 
 impl Model for Symbols {
     ghost use Rattle.linear.specs.Symbols.{Symbols as Known};
-    ghost use Rattle.linear.specs.Held.{symbols_of, operations_of};
+    ghost use Rattle.linear.specs.Held.{symbols_of, operations_of, branches_of};
 
     ghost Value = { Known };
 
-    ghost view = { λ a. symbols_of a.bounds.items a.facts a.apart (operations_of a.operations) };
+    ghost view = { λ a. symbols_of a.bounds.items a.facts a.apart (operations_of a.operations) (branches_of a.branches) };
 }
 
 impl TryClone for Symbols {
@@ -47,11 +69,15 @@ impl TryClone for Symbols {
         let facts = self.facts.try_clone()?;
         let apart = self.apart.try_clone()?;
         let operations = self.operations.try_clone()?;
+        let branches = self.branches.try_clone()?;
         Ok(Symbols {
             bounds,
             facts,
             apart,
             operations,
+            branches,
+            learned: self.learned,
+            told_apart: self.told_apart,
         })
     }
 }
@@ -59,13 +85,16 @@ impl TryClone for Symbols {
 impl Symbols {
     /// No symbols yet, in a record that will take memory from `alloc`.
     pub fn new(alloc: Global) -> Symbols
-        ensures { result ≡ symbols_of [] [] [] [] }
+        ensures { result ≡ symbols_of [] [] [] [] [] }
     {
         Symbols {
             bounds: Vec::new(alloc),
             facts: Items::new(alloc),
             apart: Items::new(alloc),
             operations: Items::new(alloc),
+            branches: Items::new(alloc),
+            learned: 0,
+            told_apart: 0,
         }
     }
 
@@ -84,10 +113,59 @@ impl Symbols {
     }
 
     // What is at least 0.
-    fn held_facts(&self) -> &[Linear]
+    pub(crate) fn held_facts(&self) -> &[Linear]
         ensures { result.now ≡ self.now.facts }
     {
         self.facts.as_slice()
+    }
+
+    // What isn't 0.
+    pub(crate) fn held_apart(&self) -> &[Linear]
+        ensures { result.now ≡ self.now.apart }
+    {
+        self.apart.as_slice()
+    }
+
+    // How many facts there were in all, those included that are no longer kept; and how many expressions that aren't 0.
+    pub(crate) fn counts(&self) -> (usize, usize) {
+        (self.learned, self.told_apart)
+    }
+
+    // Where the facts start that came after so many.
+    pub(crate) fn first_fact_since(&self, learned: usize) -> usize {
+        first_since(self.facts.len(), self.learned, learned)
+    }
+
+    // Where the expressions that aren't 0 start that came after so many.
+    pub(crate) fn first_apart_since(&self, told_apart: usize) -> usize {
+        first_since(self.apart.len(), self.told_apart, told_apart)
+    }
+
+    // What symbols have which number in a branch.
+    pub(crate) fn held_branches(&self) -> &[Branched]
+        ensures { branches_of result.now ≡ self.now.branches }
+    {
+        self.branches.as_slice()
+    }
+
+    // Keeps the number that a symbol has where facts are at least 0 and what is apart isn't 0.
+    pub(crate) fn keep(
+        &mut self,
+        facts: Items<Linear>,
+        apart: Items<Linear>,
+        symbol: usize,
+        number: Linear,
+    ) -> Result<(), Memory>
+        ensures { OnOk result (KeepsBranch self.old self.new facts apart symbol number) }
+    {
+        make_room(number.memory(), &mut self.branches)?;
+        self.branches.push(Branched {
+            facts,
+            apart,
+            symbol,
+            number,
+        })?;
+        Ok(())
     }
 
     /// Whether an expression is shown to be at least 0, by the ranges or by them and one of the `MOST_FACTS` newest
@@ -139,6 +217,7 @@ impl Symbols {
             return Ok(());
         }
         put_fact(&mut self.bounds, &mut self.facts, expression)?;
+        self.learned = self.learned.saturating_add(1);
         Ok(())
     }
 
@@ -146,7 +225,9 @@ impl Symbols {
     pub fn distinguish(&mut self, expression: Linear) -> Result<(), Memory>
         ensures { OnOk result (Distinguishes self.old self.new expression) }
     {
+        make_room(expression.memory(), &mut self.apart)?;
         self.apart.push(expression)?;
+        self.told_apart = self.told_apart.saturating_add(1);
         Ok(())
     }
 
@@ -187,20 +268,33 @@ impl Symbols {
         ensures { IfOk result (Joins self.now one.now other.now) }
     {
         let count = self.bounds.len();
-        let known = self.facts.len();
         let left = one.held_ranges();
         let right = other.held_ranges();
         let bounds = hull(*self.bounds.allocator(), count, left, right)?;
         let more = one.held_facts();
         let others = other.held_facts();
-        let facts = joined_facts(&self.facts, count, known, left, more, right, others)?;
+        let facts = joined_facts(
+            &self.facts,
+            count,
+            one.first_fact_since(self.learned),
+            left,
+            more,
+            other.first_fact_since(self.learned),
+            right,
+            others,
+        )?;
+        let shared = facts.len().saturating_sub(self.facts.len());
         let apart = self.apart.try_clone()?;
         let operations = self.operations.try_clone()?;
+        let branches = self.branches.try_clone()?;
         Ok(Symbols {
             bounds,
             facts,
             apart,
             operations,
+            branches,
+            learned: self.learned.saturating_add(shared),
+            told_apart: self.told_apart,
         })
     }
 
@@ -217,7 +311,15 @@ impl Symbols {
         Ok(symbol)
     }
 
-    // The symbol of a product or quotient, which lies in a range: a new one, unless one of the newest is known.
+    // Makes the range of a symbol narrower.
+    fn narrow(&mut self, symbol: usize, range: Bounds)
+        ensures { KnowsWithin self.old self.new symbol range.least range.greatest }
+    {
+        narrow_to(&mut self.bounds, symbol, range);
+    }
+
+    // The symbol of a product or quotient, which lies in a range: a new one, unless one of the newest is known. What one is
+    // known to lie in is then made narrower.
     fn operation(
         &mut self,
         divides: bool,
@@ -229,7 +331,10 @@ impl Symbols {
     {
         let known = self.known_symbol(divides, first, second)?;
         match known {
-            Some(name) => Linear::symbol(first.memory(), name),
+            Some(name) => {
+                self.narrow(name, range);
+                Linear::symbol(first.memory(), name)
+            }
             None => self.new_operation(divides, first, second, range),
         }
     }
@@ -402,7 +507,7 @@ fn put_symbol(
     least: Option<i128>,
     greatest: Option<i128>,
 ) -> Result<Linear, Memory>
-    ensures any { IfOk result (λ e. (fs ds : List Expression) (os : List Operation) → GivesAny (symbols_of bounds.old.items fs ds os) (symbols_of bounds.new.items fs ds os) e least greatest) }
+    ensures any { IfOk result (λ e. (fs ds : List Expression) (os : List Operation) (cs : List Branch) → GivesAny (symbols_of bounds.old.items fs ds os cs) (symbols_of bounds.new.items fs ds os cs) e least greatest) }
     ensures name { IfOk result (λ e. e ≡ symbol (length bounds.old.items)) }
 {
     let symbol = Linear::symbol(*bounds.allocator(), bounds.len())?;

@@ -1,14 +1,14 @@
 use Rattle.std.proofs.Common.{rules, refl, ap, ◌∙◌, FitsSigned}
 use Rattle.std.specs.Int.{w128}
 use Rattle.std.proofs.lemmas.Int.{to_z-of_z}
-use Rattle.contract.specs.Tree.{value_tree, neg_value, observation_tree}
+use Rattle.contract.specs.Tree.{value_tree, neg_value, cond_value, observation_tree}
 use Rattle.contract.proofs.TreeLaws.{value_tree-AvailableMoney, value_tree-Constant, value_tree-NegValue, value_tree-AddValue, value_tree-SubValue, value_tree-MulValue, value_tree-DivValue, value_tree-ChoiceValue, value_tree-TimeIntervalStart, value_tree-TimeIntervalEnd, value_tree-UseValue, value_tree-Cond}
 use Rattle.contract.proofs.TreeLaws.{observation_tree-AndObs, observation_tree-OrObs, observation_tree-NotObs, observation_tree-ChoseSomething, observation_tree-ValueGE, observation_tree-ValueGT, observation_tree-ValueLT, observation_tree-ValueLE, observation_tree-ValueEQ, observation_tree-TrueObs, observation_tree-FalseObs}
 use Rattle.linear.proofs.QueryLemmas.{ok_weaker}
 use Rattle.analysis_domain.specs.Expressions.{known}
 use Rattle.analysis_values.specs.Steps.{tree_of, result_of}
 use Rattle.analysis_values.proofs.StepLemmas.{value_as, fits_as, ok_three, two_evaluated, two_fit, tree_evaluated, tree_visited, negation_evaluated, one_fits, both_evaluated, both_fit}
-use Rattle.analysis_values.proofs.TruthLemmas.{truths_as, looks_as, test_decides, test_looks, not_decides, and_never, and_never_looks, and_decides, and_looks, or_never, or_never_looks, or_decides, or_looks}
+use Rattle.analysis_values.proofs.TruthLemmas.{leads_on_itself, leads_on_by, leads_on_then, evaluated_on, fits_on, not_evaluated, not_fits, and_evaluated, and_fits, or_evaluated, or_fits, truths_as, looks_as, test_decides, test_looks, not_decides, and_never, and_never_looks, and_decides, and_looks, or_never, or_never_looks, or_decides, or_looks}
 use Rattle.analysis_values.proofs.values.«+values».Goals as goal
 
 pub value_in-returns-in-AvailableMoney : goal.value_in-returns-in-AvailableMoney
@@ -76,57 +76,57 @@ value_in-returns-in-Constant t c =
 pub truth_in-returns-in-AndObs : goal.truth_in-returns-in-AndObs
 truth_in-returns-in-AndObs t c =
     let e = ap observation_tree c.in-AndObs.is ∙ observation_tree-AndObs _ _ in
-    record { truths = truths_as c.both_of.result _ _ _ _ e c.both_of.ensures.truths; fits = looks_as c.both_of.result _ _ _ _ e c.both_of.ensures.fits }
+    record { truths = truths_as c.both_of.result _ _ _ _ _ e c.both_of.ensures.truths; fits = looks_as c.both_of.result _ c.args.symbols.now c.args.symbols.now _ _ e c.both_of.ensures.fits }
 
 pub truth_in-returns-in-OrObs : goal.truth_in-returns-in-OrObs
 truth_in-returns-in-OrObs t c =
     let e = ap observation_tree c.in-OrObs.is ∙ observation_tree-OrObs _ _ in
-    record { truths = truths_as c.one_of.result _ _ _ _ e c.one_of.ensures.truths; fits = looks_as c.one_of.result _ _ _ _ e c.one_of.ensures.fits }
+    record { truths = truths_as c.one_of.result _ _ _ _ _ e c.one_of.ensures.truths; fits = looks_as c.one_of.result _ c.args.symbols.now c.args.symbols.now _ _ e c.one_of.ensures.fits }
 
 pub truth_in-returns-in-NotObs : goal.truth_in-returns-in-NotObs
 truth_in-returns-in-NotObs t c =
     let e = ap observation_tree c.in-NotObs.is ∙ observation_tree-NotObs _ in
-    record { truths = truths_as c.none_of.result _ _ _ _ e c.none_of.ensures.truths; fits = looks_as c.none_of.result _ _ _ _ e c.none_of.ensures.fits }
+    record { truths = truths_as c.none_of.result _ _ _ _ _ e c.none_of.ensures.truths; fits = looks_as c.none_of.result _ c.args.symbols.now c.args.symbols.now _ _ e c.none_of.ensures.fits }
 
 pub truth_in-returns-in-ChoseSomething : goal.truth_in-returns-in-ChoseSomething
 truth_in-returns-in-ChoseSomething t c =
     let e = ap observation_tree c.in-ChoseSomething.is ∙ observation_tree-ChoseSomething _ in
-    record { truths = truths_as c.chosen_of.result _ _ _ _ e c.chosen_of.ensures.truths; fits = looks_as c.chosen_of.result _ _ _ _ e c.chosen_of.ensures.fits }
+    record { truths = truths_as c.chosen_of.result _ _ _ _ _ e c.chosen_of.ensures.truths; fits = looks_as c.chosen_of.result _ c.args.symbols.now c.args.symbols.now _ _ e c.chosen_of.ensures.fits }
 
 pub truth_in-returns-in-ValueGE : goal.truth_in-returns-in-ValueGE
 truth_in-returns-in-ValueGE t c =
     let e = ap observation_tree c.in-ValueGE.is ∙ observation_tree-ValueGE _ _ in
-    record { truths = truths_as c.compare.result _ _ _ _ e c.compare.ensures.truths; fits = looks_as c.compare.result _ _ _ _ e c.compare.ensures.fits }
+    record { truths = truths_as c.compare.result _ _ _ _ _ e c.compare.ensures.truths; fits = looks_as c.compare.result _ c.args.symbols.now c.args.symbols.now _ _ e c.compare.ensures.fits }
 
 pub truth_in-returns-in-ValueGT : goal.truth_in-returns-in-ValueGT
 truth_in-returns-in-ValueGT t c =
     let e = ap observation_tree c.in-ValueGT.is ∙ observation_tree-ValueGT _ _ in
-    record { truths = truths_as c.compare-in-ValueGT.result _ _ _ _ e c.compare-in-ValueGT.ensures.truths; fits = looks_as c.compare-in-ValueGT.result _ _ _ _ e c.compare-in-ValueGT.ensures.fits }
+    record { truths = truths_as c.compare-in-ValueGT.result _ _ _ _ _ e c.compare-in-ValueGT.ensures.truths; fits = looks_as c.compare-in-ValueGT.result _ c.args.symbols.now c.args.symbols.now _ _ e c.compare-in-ValueGT.ensures.fits }
 
 pub truth_in-returns-in-ValueLT : goal.truth_in-returns-in-ValueLT
 truth_in-returns-in-ValueLT t c =
     let e = ap observation_tree c.in-ValueLT.is ∙ observation_tree-ValueLT _ _ in
-    record { truths = truths_as c.compare-in-ValueLT.result _ _ _ _ e c.compare-in-ValueLT.ensures.truths; fits = looks_as c.compare-in-ValueLT.result _ _ _ _ e c.compare-in-ValueLT.ensures.fits }
+    record { truths = truths_as c.compare-in-ValueLT.result _ _ _ _ _ e c.compare-in-ValueLT.ensures.truths; fits = looks_as c.compare-in-ValueLT.result _ c.args.symbols.now c.args.symbols.now _ _ e c.compare-in-ValueLT.ensures.fits }
 
 pub truth_in-returns-in-ValueLE : goal.truth_in-returns-in-ValueLE
 truth_in-returns-in-ValueLE t c =
     let e = ap observation_tree c.in-ValueLE.is ∙ observation_tree-ValueLE _ _ in
-    record { truths = truths_as c.compare-in-ValueLE.result _ _ _ _ e c.compare-in-ValueLE.ensures.truths; fits = looks_as c.compare-in-ValueLE.result _ _ _ _ e c.compare-in-ValueLE.ensures.fits }
+    record { truths = truths_as c.compare-in-ValueLE.result _ _ _ _ _ e c.compare-in-ValueLE.ensures.truths; fits = looks_as c.compare-in-ValueLE.result _ c.args.symbols.now c.args.symbols.now _ _ e c.compare-in-ValueLE.ensures.fits }
 
 pub truth_in-returns-in-ValueEQ : goal.truth_in-returns-in-ValueEQ
 truth_in-returns-in-ValueEQ t c =
     let e = ap observation_tree c.in-ValueEQ.is ∙ observation_tree-ValueEQ _ _ in
-    record { truths = truths_as c.compare-in-ValueEQ.result _ _ _ _ e c.compare-in-ValueEQ.ensures.truths; fits = looks_as c.compare-in-ValueEQ.result _ _ _ _ e c.compare-in-ValueEQ.ensures.fits }
+    record { truths = truths_as c.compare-in-ValueEQ.result _ _ _ _ _ e c.compare-in-ValueEQ.ensures.truths; fits = looks_as c.compare-in-ValueEQ.result _ c.args.symbols.now c.args.symbols.now _ _ e c.compare-in-ValueEQ.ensures.fits }
 
 pub truth_in-returns-in-TrueObs : goal.truth_in-returns-in-TrueObs
 truth_in-returns-in-TrueObs t c =
     let e = ap observation_tree c.in-TrueObs.is ∙ observation_tree-TrueObs in
-    record { truths = truths_as c.always_of.result _ _ _ _ e c.always_of.ensures.truths; fits = looks_as c.always_of.result _ _ _ _ e c.always_of.ensures.fits }
+    record { truths = truths_as c.always_of.result _ _ _ _ _ e c.always_of.ensures.truths; fits = looks_as c.always_of.result _ c.args.symbols.now c.args.symbols.now _ _ e c.always_of.ensures.fits }
 
 pub truth_in-returns-in-FalseObs : goal.truth_in-returns-in-FalseObs
 truth_in-returns-in-FalseObs t c =
     let e = ap observation_tree c.in-FalseObs.is ∙ observation_tree-FalseObs in
-    record { truths = truths_as c.never_of.result _ _ _ _ e c.never_of.ensures.truths; fits = looks_as c.never_of.result _ _ _ _ e c.never_of.ensures.fits }
+    record { truths = truths_as c.never_of.result _ _ _ _ _ e c.never_of.ensures.truths; fits = looks_as c.never_of.result _ c.args.symbols.now c.args.symbols.now _ _ e c.never_of.ensures.fits }
 
 pub of_two-returns-clause-number : goal.of_two-returns-clause-number
 of_two-returns-clause-number t c =
@@ -187,19 +187,131 @@ both_values-returns-clause-fits t c =
     let q = rw c.get-another.ensures at c.in_ok-second.ensures in
     rw c.both-fits.ensures (both_fit c.args.view.now c.args.symbols.now c.value_in.new.symbols c.value_in-2.new.symbols (value_tree c.args.left.now) (value_tree c.args.right.now) c.in_ok-first.first.number c.in_ok-second.second.number p.number c.in_ok-first.first.fits c.in_ok-second.second.fits p.fits q.fits)
 
+pub name_operations-returns-in_ok-value_in : goal.name_operations-returns-in_ok-value_in
+name_operations-returns-in_ok-value_in t c =
+    let p = rw c.get-inner.ensures at c.in_ok-value_in.ensures in
+    leads_on_by c.args.view.now c.args.symbols.now c.value_in.new.symbols (value_tree c.args.value.now) c.in_ok-value_in.field-0.number p.number
+
 pub one_of_two-returns-clause-number : goal.one_of_two-returns-clause-number
 one_of_two-returns-clause-number t c =
-    let p = rw c.get-inner.ensures at c.in_ok-truths.ensures in
-    let r = c.in_ok-truths.truths in
-    ok_weaker c.of_either.result _ _
-    (λ a h. (h c.args.view.now (observation_tree c.args.condition.now) (value_tree c.args.first.now) (value_tree c.args.second.now) r.if_true r.if_false p.truths c.in_ok-one.ensures c.in_ok-other.ensures).0) c.of_either.ensures
+    let v = c.args.view.now in
+    let k = c.args.symbols.now in
+    let m = c.name_operations-2.new.symbols in
+    let x = cond_value (observation_tree c.args.condition.now) (value_tree c.args.first.now) (value_tree c.args.second.now) in
+    let h = rw c.get-inner.ensures at c.taken_apart.ensures in
+    let l = leads_on_then v k c.name_operations.new.symbols c.in_ok-name_operations.ensures m c.in_ok-name_operations-2.ensures in
+    ok_weaker c.taken_apart.result _ _ (λ a e. evaluated_on v k m l x c.taken_apart.new.symbols a.number e) h.number
 
 pub one_of_two-returns-clause-fits : goal.one_of_two-returns-clause-fits
 one_of_two-returns-clause-fits t c =
+    let v = c.args.view.now in
+    let k = c.args.symbols.now in
+    let m = c.name_operations-2.new.symbols in
+    let x = cond_value (observation_tree c.args.condition.now) (value_tree c.args.first.now) (value_tree c.args.second.now) in
+    let h = rw c.get-inner.ensures at c.taken_apart.ensures in
+    let l = leads_on_then v k c.name_operations.new.symbols c.in_ok-name_operations.ensures m c.in_ok-name_operations-2.ensures in
+    ok_weaker c.taken_apart.result _ _ (λ a e. fits_on v k m l x a.fits e) h.fits
+
+pub taken_apart-returns-in-NotObs : goal.taken_apart-returns-in-NotObs
+taken_apart-returns-in-NotObs t c =
+    let e = ap (λ o. cond_value o (value_tree c.args.first.now) (value_tree c.args.second.now)) (ap observation_tree c.in-NotObs.is ∙ observation_tree-NotObs _) in
+    record { number = value_as c.by_opposite.result _ _ _ _ e c.by_opposite.ensures.number; fits = fits_as c.by_opposite.result _ (known c.args.symbols.now c.args.view.now) _ _ e c.by_opposite.ensures.fits }
+
+pub taken_apart-returns-then-is_plain : goal.taken_apart-returns-then-is_plain
+taken_apart-returns-then-is_plain t c =
+    let e = ap (λ o. cond_value o (value_tree c.args.first.now) (value_tree c.args.second.now)) (ap observation_tree c.in-AndObs.is ∙ observation_tree-AndObs _ _) in
+    record { number = value_as c.by_both.result _ _ _ _ e c.by_both.ensures.number; fits = fits_as c.by_both.result _ (known c.args.symbols.now c.args.view.now) _ _ e c.by_both.ensures.fits }
+
+pub taken_apart-returns-then-is_plain-2 : goal.taken_apart-returns-then-is_plain-2
+taken_apart-returns-then-is_plain-2 t c =
+    let e = ap (λ o. cond_value o (value_tree c.args.first.now) (value_tree c.args.second.now)) (ap observation_tree c.in-OrObs.is ∙ observation_tree-OrObs _ _) in
+    record { number = value_as c.by_one.result _ _ _ _ e c.by_one.ensures.number; fits = fits_as c.by_one.result _ (known c.args.symbols.now c.args.view.now) _ _ e c.by_one.ensures.fits }
+
+pub by_opposite-returns-clause-number : goal.by_opposite-returns-clause-number
+by_opposite-returns-clause-number t c =
+    let h = rw c.get-inner.ensures at c.taken_apart.ensures in
+    ok_weaker c.taken_apart.result _ _
+    (λ a e. not_evaluated (known c.args.symbols.now c.args.view.now) (known c.taken_apart.new.symbols c.args.view.now) (observation_tree c.args.condition.now) (value_tree c.args.first.now) (value_tree c.args.second.now) a.number e) h.number
+
+pub by_opposite-returns-clause-fits : goal.by_opposite-returns-clause-fits
+by_opposite-returns-clause-fits t c =
+    let h = rw c.get-inner.ensures at c.taken_apart.ensures in
+    ok_weaker c.taken_apart.result _ _
+    (λ a e. not_fits (known c.args.symbols.now c.args.view.now) (known c.taken_apart.new.symbols c.args.view.now) (observation_tree c.args.condition.now) (value_tree c.args.first.now) (value_tree c.args.second.now) a.fits e) h.fits
+
+pub by_both-returns-clause-number : goal.by_both-returns-clause-number
+by_both-returns-clause-number t c =
     let p = rw c.get-inner.ensures at c.in_ok-truths.ensures in
     let r = c.in_ok-truths.truths in
+    let v = c.args.view.now in
+    let k = c.args.symbols.now in
+    let o = observation_tree c.args.left.now in
+    let q = observation_tree c.args.right.now in
+    let x = value_tree c.args.first.now in
+    let y = value_tree c.args.second.now in
     ok_weaker c.of_either.result _ _
-    (λ a h. (h c.args.view.now (observation_tree c.args.condition.now) (value_tree c.args.first.now) (value_tree c.args.second.now) r.if_true r.if_false p.truths c.in_ok-one.ensures c.in_ok-other.ensures).1 p.fits) c.of_either.ensures
+    (λ a h. and_evaluated (known k v) (known c.of_either.new.symbols v) o q x y a.number (h k v o (cond_value q x y) y r.if_true r.if_false p.truths c.in_ok-one.ensures c.in_ok-other.ensures).0) c.of_either.ensures
+
+pub by_both-returns-clause-fits : goal.by_both-returns-clause-fits
+by_both-returns-clause-fits t c =
+    let p = rw c.get-inner.ensures at c.in_ok-truths.ensures in
+    let r = c.in_ok-truths.truths in
+    let v = c.args.view.now in
+    let k = c.args.symbols.now in
+    let o = observation_tree c.args.left.now in
+    let q = observation_tree c.args.right.now in
+    let x = value_tree c.args.first.now in
+    let y = value_tree c.args.second.now in
+    ok_weaker c.of_either.result _ _
+    (λ a h. and_fits (known k v) (known c.of_either.new.symbols v) o q x y a.fits ((h k v o (cond_value q x y) y r.if_true r.if_false p.truths c.in_ok-one.ensures c.in_ok-other.ensures).1 p.fits)) c.of_either.ensures
+
+pub by_one-returns-clause-number : goal.by_one-returns-clause-number
+by_one-returns-clause-number t c =
+    let p = rw c.get-inner.ensures at c.in_ok-truths.ensures in
+    let r = c.in_ok-truths.truths in
+    let v = c.args.view.now in
+    let k = c.args.symbols.now in
+    let o = observation_tree c.args.left.now in
+    let q = observation_tree c.args.right.now in
+    let x = value_tree c.args.first.now in
+    let y = value_tree c.args.second.now in
+    ok_weaker c.of_either.result _ _
+    (λ a h. or_evaluated (known k v) (known c.of_either.new.symbols v) o q x y a.number (h k v o x (cond_value q x y) r.if_true r.if_false p.truths c.in_ok-one.ensures c.in_ok-other.ensures).0) c.of_either.ensures
+
+pub by_one-returns-clause-fits : goal.by_one-returns-clause-fits
+by_one-returns-clause-fits t c =
+    let p = rw c.get-inner.ensures at c.in_ok-truths.ensures in
+    let r = c.in_ok-truths.truths in
+    let v = c.args.view.now in
+    let k = c.args.symbols.now in
+    let o = observation_tree c.args.left.now in
+    let q = observation_tree c.args.right.now in
+    let x = value_tree c.args.first.now in
+    let y = value_tree c.args.second.now in
+    ok_weaker c.of_either.result _ _
+    (λ a h. or_fits (known k v) (known c.of_either.new.symbols v) o q x y a.fits ((h k v o x (cond_value q x y) r.if_true r.if_false p.truths c.in_ok-one.ensures c.in_ok-other.ensures).1 p.fits)) c.of_either.ensures
+
+pub by_truth-returns-clause-number : goal.by_truth-returns-clause-number
+by_truth-returns-clause-number t c =
+    let p = c.in_ok-truths.ensures in
+    let r = c.in_ok-truths.truths in
+    ok_weaker c.of_either.result _ _
+    (λ a h. (h c.args.symbols.now c.args.view.now (observation_tree c.args.condition.now) (value_tree c.args.first.now) (value_tree c.args.second.now) r.if_true r.if_false p.truths c.in_ok-one.ensures c.in_ok-other.ensures).0) c.of_either.ensures
+
+pub by_truth-returns-clause-fits : goal.by_truth-returns-clause-fits
+by_truth-returns-clause-fits t c =
+    let p = c.in_ok-truths.ensures in
+    let r = c.in_ok-truths.truths in
+    ok_weaker c.of_either.result _ _
+    (λ a h. (h c.args.symbols.now c.args.view.now (observation_tree c.args.condition.now) (value_tree c.args.first.now) (value_tree c.args.second.now) r.if_true r.if_false p.truths c.in_ok-one.ensures c.in_ok-other.ensures).1 p.fits) c.of_either.ensures
+
+pub apart_where-returns-in-None : goal.apart_where-returns-in-None
+apart_where-returns-in-None t c = rw c.in-None.is refl
+
+pub apart_where-returns-in_ok-evaluated-in-Some : goal.apart_where-returns-in_ok-evaluated-in-Some
+apart_where-returns-in_ok-evaluated-in-Some t c =
+    let p = rw c.get-inner.ensures at c.in_ok-evaluated-in-Some.ensures in
+    rw c.in-Some.is (p.number, p.fits)
 
 pub value_where-returns-in-None : goal.value_where-returns-in-None
 value_where-returns-in-None t c = rw c.in-None.is refl
@@ -211,20 +323,18 @@ value_where-returns-in_ok-evaluated-in-Some t c =
 
 pub compare-returns-clause-truths : goal.compare-returns-clause-truths
 compare-returns-clause-truths t c =
-    let p = rw c.in_ok-more.ensures at c.in_ok-operands.ensures in
     test_decides c.args.view.now c.args.symbols.now c.both_values.new.symbols (value_tree c.args.left.now) (value_tree c.args.right.now) c.in_ok-operands.operands.left c.in_ok-operands.operands.right c.args.comparison
-    c.in_ok-if_true.if_true c.in_ok-if_false.if_false p.number c.in_ok-if_true.ensures c.in_ok-if_false.ensures
+    c.in_ok-if_true.if_true c.in_ok-if_false.if_false c.in_ok-operands.ensures.number c.in_ok-if_true.ensures c.in_ok-if_false.ensures
 
 pub compare-returns-clause-fits : goal.compare-returns-clause-fits
 compare-returns-clause-fits t c =
-    let p = rw c.in_ok-more.ensures at c.in_ok-operands.ensures in
     test_looks c.args.view.now c.args.symbols.now c.both_values.new.symbols (value_tree c.args.left.now) (value_tree c.args.right.now) c.in_ok-operands.operands.left c.in_ok-operands.operands.right c.args.comparison
-    c.in_ok-operands.operands.fits p.fits
+    c.in_ok-operands.operands.fits c.in_ok-operands.ensures.fits
 
 pub none_of-returns-clause-truths : goal.none_of-returns-clause-truths
 none_of-returns-clause-truths t c =
     let p = rw c.get-inner.ensures at c.in_ok-truths.ensures in
-    not_decides c.args.view.now c.args.symbols.now (observation_tree c.args.observation.now) c.in_ok-truths.truths.if_true c.in_ok-truths.truths.if_false p.truths
+    not_decides c.args.view.now c.args.symbols.now c.truth_in.new.symbols (observation_tree c.args.observation.now) c.in_ok-truths.truths.if_true c.in_ok-truths.truths.if_false p.truths
 
 pub none_of-returns-clause-fits : goal.none_of-returns-clause-fits
 none_of-returns-clause-fits t c = (rw c.get-inner.ensures at c.in_ok-truths.ensures).fits
@@ -232,27 +342,57 @@ none_of-returns-clause-fits t c = (rw c.get-inner.ensures at c.in_ok-truths.ensu
 pub both_of-returns-in-None : goal.both_of-returns-in-None
 both_of-returns-in-None t c =
     let p = rw (c.get-outer.ensures, c.in-None.is) at c.in_ok-first.ensures in
-    record { truths = and_never c.args.view.now c.args.symbols.now (observation_tree c.args.left.now) (observation_tree c.args.right.now) c.in_ok-first.first.if_false p.truths; fits = and_never_looks c.args.view.now c.args.symbols.now (observation_tree c.args.left.now) (observation_tree c.args.right.now) c.in_ok-first.first.if_false c.in_ok-first.first.fits p.truths p.fits }
+    let v = c.args.view.now in
+    let k = c.args.symbols.now in
+    let n = c.truth_in.new.symbols in
+    let x = observation_tree c.args.left.now in
+    let y = observation_tree c.args.right.now in
+    let w = c.in_ok-first.first.if_false in
+    record { truths = and_never v k n x y w p.truths; fits = and_never_looks v k n x y w c.in_ok-first.first.fits p.truths p.fits }
 
 pub both_of-returns-in_ok-either-in-Some : goal.both_of-returns-in_ok-either-in-Some
 both_of-returns-in_ok-either-in-Some t c =
     let p = rw (c.get-outer.ensures, c.in-Some.is) at c.in_ok-first.ensures in
     let q = rw c.get-inner.ensures at c.in_ok-second-in-Some.ensures in
+    let v = c.args.view.now in
+    let k = c.args.symbols.now in
+    let n = c.truth_in.new.symbols in
+    let m = c.in-Some.more in
+    let j = c.truth_in-in-Some.new.symbols in
+    let x = observation_tree c.args.left.now in
+    let y = observation_tree c.args.right.now in
+    let w = c.in_ok-first.first.if_false in
+    let o = c.in_ok-second-in-Some.second in
     record {
-      truths = and_decides c.args.view.now c.args.symbols.now c.in-Some.more (observation_tree c.args.left.now) (observation_tree c.args.right.now) c.in_ok-first.first.if_false c.in_ok-second-in-Some.second.if_true c.in_ok-second-in-Some.second.if_false p.truths q.truths c.in_ok-either-in-Some.either c.in_ok-either-in-Some.ensures;
-      fits = rw c.both-fit.ensures (and_looks c.args.view.now c.args.symbols.now c.in-Some.more (observation_tree c.args.left.now) (observation_tree c.args.right.now) c.in_ok-first.first.if_false c.in_ok-second-in-Some.second.if_true c.in_ok-second-in-Some.second.if_false c.in_ok-first.first.fits c.in_ok-second-in-Some.second.fits p.truths p.fits q.fits);
+      truths = and_decides v k n m j x y w o.if_true o.if_false p.truths q.truths c.in_ok-either-in-Some.either c.in_ok-either-in-Some.ensures;
+      fits = rw c.both-fit.ensures (and_looks v k n m x y w c.in_ok-first.first.fits o.fits p.truths p.fits q.fits);
     }
 
 pub one_of-returns-in-None : goal.one_of-returns-in-None
 one_of-returns-in-None t c =
     let p = rw (c.get-outer.ensures, c.in-None.is) at c.in_ok-first.ensures in
-    record { truths = or_never c.args.view.now c.args.symbols.now (observation_tree c.args.left.now) (observation_tree c.args.right.now) c.in_ok-first.first.if_true p.truths; fits = or_never_looks c.args.view.now c.args.symbols.now (observation_tree c.args.left.now) (observation_tree c.args.right.now) c.in_ok-first.first.if_true c.in_ok-first.first.fits p.truths p.fits }
+    let v = c.args.view.now in
+    let k = c.args.symbols.now in
+    let n = c.truth_in.new.symbols in
+    let x = observation_tree c.args.left.now in
+    let y = observation_tree c.args.right.now in
+    let w = c.in_ok-first.first.if_true in
+    record { truths = or_never v k n x y w p.truths; fits = or_never_looks v k n x y w c.in_ok-first.first.fits p.truths p.fits }
 
 pub one_of-returns-in_ok-either-in-Some : goal.one_of-returns-in_ok-either-in-Some
 one_of-returns-in_ok-either-in-Some t c =
     let p = rw (c.get-outer.ensures, c.in-Some.is) at c.in_ok-first.ensures in
     let q = rw c.get-inner.ensures at c.in_ok-second-in-Some.ensures in
+    let v = c.args.view.now in
+    let k = c.args.symbols.now in
+    let n = c.truth_in.new.symbols in
+    let m = c.in-Some.more in
+    let j = c.truth_in-in-Some.new.symbols in
+    let x = observation_tree c.args.left.now in
+    let y = observation_tree c.args.right.now in
+    let w = c.in_ok-first.first.if_true in
+    let o = c.in_ok-second-in-Some.second in
     record {
-      truths = or_decides c.args.view.now c.args.symbols.now c.in-Some.more (observation_tree c.args.left.now) (observation_tree c.args.right.now) c.in_ok-first.first.if_true c.in_ok-second-in-Some.second.if_true c.in_ok-second-in-Some.second.if_false p.truths q.truths c.in_ok-either-in-Some.either c.in_ok-either-in-Some.ensures;
-      fits = rw c.both-fit.ensures (or_looks c.args.view.now c.args.symbols.now c.in-Some.more (observation_tree c.args.left.now) (observation_tree c.args.right.now) c.in_ok-first.first.if_true c.in_ok-second-in-Some.second.if_true c.in_ok-second-in-Some.second.if_false c.in_ok-first.first.fits c.in_ok-second-in-Some.second.fits p.truths p.fits q.fits);
+      truths = or_decides v k n m j x y w o.if_true o.if_false p.truths q.truths c.in_ok-either-in-Some.either c.in_ok-either-in-Some.ensures;
+      fits = rw c.both-fit.ensures (or_looks v k n m x y w c.in_ok-first.first.fits o.fits p.truths p.fits q.fits);
     }

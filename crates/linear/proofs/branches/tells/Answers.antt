@@ -1,0 +1,5 @@
+use Rattle.linear.proofs.BranchLemmas.{told_by}
+use Rattle.linear.proofs.branches.tells.Goals as goal
+
+pub returns : goal.returns
+returns c = λ h. told_by c.args.branches.now c.args.at c.index-branches-at.result c.args.symbol c.args.here.now c.args.expression.now c.requires c.index-branches-at.is c.if-branch-symbol.false (c.in_ok-taken.ensures h)
