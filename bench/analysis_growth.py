@@ -105,6 +105,45 @@ def many_conditions(n):
     return beside(n // 35, part)
 
 
+def joined(observations):
+    """All of many observations, joined two by two, so that they nest little."""
+    while len(observations) > 1:
+        pairs = [observations[i:i + 2] for i in range(0, len(observations), 2)]
+        observations = [{"both": pair[0], "and": pair[1]} if len(pair) == 2 else pair[0] for pair in pairs]
+    return observations[0]
+
+
+def one_observation(n, value):
+    """An If of one observation, which compares many values of three choices."""
+    compared = joined([{"value": value(i), "ge_than": -1} for i in range(n // 5)])
+    contract = {"if": compared, "then": "close", "else": "close"}
+    for i in range(3):
+        contract = chooses(i, contract)
+    return contract, None, None
+
+
+def wide_quotients(n):
+    """One observation of quotients, each by another number."""
+    return one_observation(n, lambda i: {"divide": chosen(i % 3), "by": i + 2})
+
+
+def wide_conds(n):
+    """One observation of Conds, each by another comparison."""
+    return one_observation(n, lambda i: {"if": {"value": chosen(i % 3), "gt": i % 97}, "then": i, "else": chosen((i + 1) % 3)})
+
+
+def tree_of_conds(n):
+    """A Cond of Conds, each of which has Conds in both branches."""
+    def tree(count, i):
+        if count <= 1:
+            return i % 90
+        return {"if": {"value": chosen(i % 3), "gt": i % 97}, "then": tree(count // 2, 2 * i), "else": tree(count - count // 2, 2 * i + 1)}
+    contract = {"let": "x", "be": tree(n // 5, 1), "then": "close"}
+    for i in range(3):
+        contract = chooses(i, contract)
+    return contract, None, None
+
+
 def many_cases_of_a_choice(n):
     """A When of choices of one id, whose bounds follow each other: each leaves out what earlier ones take."""
     cases = [{"case": {"for_choice": choice(0), "choose_between": [{"from": i, "to": i + 1}]}, "then": "close"} for i in range(n)]
@@ -120,7 +159,7 @@ def many_accounts_paid(n):
 
 
 FAMILIES = [wide_when, many_forms, wide_pays, deep_arithmetic, many_alarms, many_choices, many_quotients, many_products, many_clamps, many_conditions,
-            many_cases_of_a_choice, many_accounts_paid]
+            wide_quotients, wide_conds, tree_of_conds, many_cases_of_a_choice, many_accounts_paid]
 WIDE = [wide_when, many_forms, wide_pays]
 
 

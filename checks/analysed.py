@@ -40,10 +40,10 @@ LARGE = [-1, -7, 2**31, 2**62, 2**63 - 1, 2**63, 2**64 - 1, -2**63]
 # ---- contracts
 
 class Maker:
-    """Makes a contract form by form. It knows which choices and names there may be, and what was deposited."""
+    """Makes a contract form by form. It knows which choices and names there may be, what was deposited, and which Conds it has made."""
 
     def __init__(self, chance):
-        self.chance, self.time, self.choices, self.names, self.amounts = chance, 0, [], [], []
+        self.chance, self.time, self.choices, self.names, self.amounts, self.conds = chance, 0, [], [], [], []
 
     def one(self, *many):
         return self.chance.choice(many)
@@ -77,8 +77,17 @@ class Maker:
         if kind == 11:
             return {"divide": self.value(depth - 1), "by": self.one(self.value(depth - 1), 2, 3, 100, -2)}
         if kind == 12:
-            return {"if": self.observation(depth - 1), "then": self.value(depth - 1), "else": self.value(depth - 1)}
+            return self.cond(depth)
         return self.number()
+
+    def cond(self, depth):
+        """A Cond: a new one, or one that was made before, as it was or with a little changed."""
+        if self.conds and self.chance.random() < 0.5:
+            made = self.chance.choice(self.conds)
+            return made if self.chance.random() < 0.6 else changed(self.chance, made)
+        made = {"if": self.observation(depth - 1), "then": self.value(depth - 1), "else": self.value(depth - 1)}
+        self.conds.append(made)
+        return made
 
     def observation(self, depth):
         kind = self.chance.randrange(4 if depth <= 0 else 10)
@@ -98,6 +107,8 @@ class Maker:
         kind = self.chance.random()
         if kind < 0.4 and self.amounts:
             return self.chance.choice(self.amounts)[2]
+        if kind > 0.9:
+            return self.cond(2)
         return self.chance.choice(SMALL[1:]) if kind < 0.75 else self.value(2)
 
     def contract(self, depth):
