@@ -38,7 +38,7 @@ use Rattle.analysis_values.specs.declared.comparisons.Comparison.{Comparison}
 use Rattle.analysis_values.specs.declared.comparisons.Comparison.TheVariants.{NoLess, Greater, Less, NoGreater, Same}
 use Rattle.analysis_values.specs.declared.values.Truths.{Truths}
 use Rattle.analysis_values.specs.Answered.{GoesTo, Evaluates, FitsWhereSaid, Decides, Unites}
-use Rattle.analysis_values.specs.Steps.{EvaluatesBoth, BothFitWhereSaid, KnowsWhere, IsNoLess, IsLess, IsSame, IsOther, test_of, HoldsOf, FailsOf, LeadsEither, DecidesIn, LeadsThere, DecidesThere, LooksWhereSaid, LeadsOn, EvaluatesEither}
+use Rattle.analysis_values.specs.Steps.{EvaluatesBoth, BothFitWhereSaid, KnowsWhere, IsNoLess, IsLess, IsSame, IsOther, test_of, HoldsOf, FailsOf, LeadsEither, LeadsThere, DecidesThere, LooksWhereSaid, LeadsOn, EvaluatesEither}
 use Rattle.analysis_values.proofs.StepLemmas.{described_leads, through, leads_itself, goes_both}
 
 -- ---- comparisons of two expressions
@@ -128,6 +128,10 @@ either_one k m r c v (inl h) = h
 either_one k m r c v (inr h) = absurd h
 
 -- ---- observations
+
+-- what is known where an observation is true, and where it is false, from the start
+abbrev pub DecidesIn : View → Symbols → ObservationTree → Option Symbols → Option Symbols → Type 0
+DecidesIn v k o if_true if_false = (scope : Scope) (i : Interval) (s : StateMaps) (ps : List Payment) → (d : IsDescribed scope (known k v) i s ps) → IsSomeAnd (cond (holds i s o) if_true if_false) (Leads k d.numbers)
 
 there : (k : Symbols) (r : Valuation) (m : Symbols) (o : Option Symbols) → LeadsThere k r m o → IsSomeAnd o (Leads k r)
 there k r m o h = some_leads k r m h.leads o h.on

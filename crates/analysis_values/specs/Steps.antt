@@ -109,15 +109,12 @@ FailsOf Same x y = IsOther x y
 abbrev pub LeadsEither : Symbols → Option Symbols → Option Symbols → Option Symbols → Type 0
 LeadsEither k a b o = (r : Valuation) → IsClosed k → IsValued r k → IsSomeAnd a (Leads k r) ⊎ IsSomeAnd b (Leads k r) → IsSomeAnd o (Leads k r)
 
--- what is known where an observation is true, and where it is false
-abbrev pub DecidesIn : View → Symbols → ObservationTree → Option Symbols → Option Symbols → Type 0
-DecidesIn v k o if_true if_false = (scope : Scope) (i : Interval) (s : StateMaps) (ps : List Payment) → (d : IsDescribed scope (known k v) i s ps) → IsSomeAnd (cond (holds i s o) if_true if_false) (Leads k d.numbers)
-
--- .. which lead on from what is known once its numbers have expressions
+-- what leads on from what is known once its numbers have expressions
 pub record LeadsThere (k : Symbols) (r : Valuation) (m : Symbols) (o : Option Symbols) : Type 0 where
   pub leads : Leads k r m
   pub on : IsSomeAnd o (Leads m leads.values)
 
+-- what is known where an observation is true, and where it is false, once the numbers that it compares have expressions
 abbrev pub DecidesThere : View → Symbols → Symbols → ObservationTree → Option Symbols → Option Symbols → Type 0
 DecidesThere v k m o if_true if_false = (scope : Scope) (i : Interval) (s : StateMaps) (ps : List Payment) → (d : IsDescribed scope (known k v) i s ps) → LeadsThere k d.numbers m (cond (holds i s o) if_true if_false)
 

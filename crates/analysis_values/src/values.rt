@@ -215,8 +215,9 @@ fn one_of_two(
     taken_apart(view, symbols, inner, first, second, MOST_JOINED)
 }
 
-// Takes an observation of so many parts apart, to a Cond of each of its comparisons, which is known again where it stands
-// another time. What stands in two of these is a plain value.
+// Takes an observation of so many parts apart at its first side, which is looked at as a whole, and goes on with the other: a
+// Cond of comparisons that are first sides, and of the last, is known again where it stands another time. What stands in two
+// Conds is a plain value.
 #[cycle(values)]
 fn taken_apart(
     view: &View,

@@ -1,19 +1,19 @@
 -- What is kept of a symbol's number in each of two cases, and a symbol that has a number in both.
-use Rattle.std.proofs.Common.{◌≡◌, ℕ, zero, suc, ◌+◌, ◌<◌, ◌≤◌, ℤ, pos, negsuc, neg_ℤ, ◌+ℤ◌, ◌*ℤ◌, ◌≤ℤ◌, ◌⊎◌, inl, inr, List, [], ◌∷◌, ◌++◌, take, drop, length, get_or, refl, sym, ap, ◌∙◌, subst, arith}
+use Rattle.std.proofs.Common.{◌≡◌, ℕ, zero, suc, ◌+◌, ◌<◌, ◌≤◌, ℤ, pos, negsuc, neg_ℤ, ◌*ℤ◌, ◌≤ℤ◌, ◌⊎◌, inl, inr, List, [], ◌∷◌, ◌++◌, take, drop, length, get_or, refl, sym, ap, ◌∙◌, subst, arith}
 use Rattle.std.proofs.lemmas.Int.{ints}
 use Rattle.std.proofs.lemmas.List.{take_all}
 use Rattle.linear.specs.declared.bounds.Bounds.{Bounds}
 use Rattle.linear.specs.declared.branched.Branched.{Branched}
-use Rattle.linear.specs.Linear.{Linear, Valuation, number_at, number, symbol, IsBelow, AreNatural}
+use Rattle.linear.specs.Linear.{Linear, Valuation, number_at, symbol, IsBelow, AreNatural}
 use Rattle.linear.specs.Bounded.{IsShown}
 use Rattle.linear.specs.Combined.{StandsFor}
-use Rattle.linear.specs.Symbols.{Symbols, Operation, Branch, AreApart, AreBranches, FactsBelow, BranchesBelow, Agree, Knows, Gives}
+use Rattle.linear.specs.Symbols.{Symbols, Operation, Branch, AreApart, AreBranches, FactsBelow, BranchesBelow, Knows, Gives}
 use Rattle.linear.specs.Held.{symbols_of, branch_of, branches_of, IsNewest, Cancels, IsNever, IsRefuted}
 use Rattle.linear.specs.Either.{GivesEither}
 use Rattle.linear.specs.Branches.{Stands, Comes, ShowsAll, RulesOutAll, IsTaken, HasNumber, IsOfEither, Excludes, IsZeroIn, KeepsBranch, KeepsSide, KeepsWhere, KeepsSides}
 use Rattle.linear.proofs.LinearLaws.{same_number, symbol_at}
-use Rattle.linear.proofs.KnownLaws.{terms_more, knows_itself, knows_then, gives_here, same_facts, same_apart, agree_back, natural_both, below_both}
-use Rattle.linear.proofs.HeldLemmas.{apart_at}
+use Rattle.linear.proofs.KnownLaws.{terms_more, knows_itself, knows_then, gives_here, same_facts, same_apart, agree_back, below_both}
+use Rattle.linear.proofs.HeldLemmas.{apart_at, same_as}
 
 -- ---- a symbol alone
 
@@ -70,9 +70,6 @@ below_take n fs i f l is h k =
     subst (λ m. FactsBelow n (take m fs)) e (below_next n fs i f l h (subst (λ (x : Linear). IsBelow n x) is k))
 
 -- ---- branches
-
-same_as : (a b : ℤ) → a +ℤ (negsuc 0 *ℤ b) ≡ pos 0 → b ≡ a
-same_as a b h = omega (arith, ints)
 
 pub taken_by : (b : Branch) (k : Symbols) (e : Linear) → Cancels b.number (negsuc 0) e → ShowsAll k b.facts → RulesOutAll k b.apart → IsTaken b k e
 taken_by b k e c f d = record { facts = f; apart = d; number = λ r. same_as (number_at r b.number) (number_at r e) (c r) }

@@ -1,5 +1,5 @@
 -- A number that is one of two.
-use Rattle.std.proofs.Common.{◌≡◌, ℕ, ◌<◌, ◌≤◌, ℤ, pos, negsuc, ◌+ℤ◌, ◌-ℤ◌, ◌*ℤ◌, ◌≤ℤ◌, ◌⊎◌, inl, inr, Option, sym, ap, ◌∙◌, subst, arith}
+use Rattle.std.proofs.Common.{◌≡◌, ℕ, ◌<◌, ◌≤◌, ℤ, pos, negsuc, ◌-ℤ◌, ◌≤ℤ◌, ◌⊎◌, inl, inr, Option, sym, ap, ◌∙◌, subst, arith}
 use Rattle.std.proofs.lemmas.Int.{ints}
 use Rattle.linear.specs.Linear.{Linear, Valuation, number_at, symbol, IsBelow, IsFrom, IsUpTo}
 use Rattle.linear.specs.Bounded.{IsShown, IsFromAll, IsUpToAll}
@@ -11,6 +11,7 @@ use Rattle.linear.specs.Either.{GivesEither, IsUnder, IsOver, LiesBetween, Relat
 use Rattle.linear.specs.Branches.{Comes, KeepsSides}
 use Rattle.linear.proofs.LinearLaws.{same_number, symbol_at}
 use Rattle.linear.proofs.KnownLaws.{terms_more, knows_itself, knows_then, gives_here}
+use Rattle.linear.proofs.HeldLemmas.{same_as}
 
 gap_back : (a b : ℤ) → pos 0 ≤ℤ (a -ℤ b) → b ≤ℤ a
 gap_back a b h = omega (arith, ints)
@@ -112,12 +113,9 @@ kept_gives k z w a x b y e count s i q h f r n c v g =
     comes q h at (inl g) = inl (record { stands = record { values = g.values; agrees = alike g.values q g.agrees h; valued = g.valued }; number = sym at ∙ g.number })
     comes q h at (inr g) = inr (record { stands = record { values = g.values; agrees = alike g.values q g.agrees h; valued = g.valued }; number = sym at ∙ g.number })
 
-same_back : (a b : ℤ) → a +ℤ (negsuc 0 *ℤ b) ≡ pos 0 → b ≡ a
-same_back a b h = omega (arith, ints)
-
 pub same_gives : (k a : Symbols) (x : Linear) (b : Symbols) (y e : Linear) (count : ℕ) → count ≡ k.next → IsBelow count x → Cancels x (negsuc 0) y → e ≡ x → GivesEither k k a x b y e
 same_gives k a x b y e count i l c q r n cl v h = subst (λ w. Gives k r (k, w) n) (sym q) (gives_here k r x n cl v (subst (λ p. IsBelow p x) i l) (number_is h))
   where
     number_is : Gives k r (a, x) n ⊎ Gives k r (b, y) n → n ≡ number_at r x
     number_is (inl g) = g.number ∙ same_number k.next g.values r g.agrees x (subst (λ p. IsBelow p x) i l)
-    number_is (inr g) = g.number ∙ same_back (number_at g.values x) (number_at g.values y) (c g.values) ∙ same_number k.next g.values r g.agrees x (subst (λ p. IsBelow p x) i l)
+    number_is (inr g) = g.number ∙ same_as (number_at g.values x) (number_at g.values y) (c g.values) ∙ same_number k.next g.values r g.agrees x (subst (λ p. IsBelow p x) i l)

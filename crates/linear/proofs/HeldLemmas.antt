@@ -1,14 +1,12 @@
 -- What the code holds of symbols, step by step.
-use Rattle.std.proofs.Common.{◌≡◌, ℕ, zero, suc, ◌+◌, ◌<◌, ◌≤◌, pos, ◌≤ℤ◌, Option, List, [], ◌∷◌, ◌++◌, length, drop, get_or, set, ℤ, ◌+ℤ◌, ◌*ℤ◌, ◌<ℤ◌, negsuc, Bool, true, Some, refl, sym, ap, ◌∙◌, subst, arith, length-append}
+use Rattle.std.proofs.Common.{◌≡◌, ℕ, zero, suc, ◌+◌, ◌<◌, ◌≤◌, pos, ◌≤ℤ◌, Option, List, [], ◌∷◌, ◌++◌, length, drop, get_or, set, ℤ, ◌+ℤ◌, ◌*ℤ◌, ◌<ℤ◌, negsuc, Bool, true, refl, sym, ap, ◌∙◌, subst, arith, length-append}
 use Rattle.std.proofs.lemmas.Int.{ints}
-use Rattle.std.proofs.lemmas.List.{length-set}
 use Rattle.linear.specs.declared.bounds.Bounds.{Bounds}
-use Rattle.linear.specs.Linear.{Linear, Valuation, number_at, number, symbol, Range, IsBelow, IsFrom, IsUpTo, AreInRange, AreNatural, greater_of, lesser_of}
-use Rattle.linear.specs.Bounded.{numbered, IsUpToAll}
+use Rattle.linear.specs.Linear.{Linear, Valuation, number_at, number, symbol, Range, IsBelow, IsFrom, IsUpTo, AreInRange, AreNatural}
+use Rattle.linear.specs.Bounded.{numbered, IsFromAll}
 use Rattle.linear.specs.Combined.{StandsFor, AreBelow, combined_at}
 use Rattle.linear.specs.Symbols.{Symbols, Operation, Branch, RangesBelow, FactsBelow, OperationsBelow, BranchesBelow, AreApart}
-use Rattle.linear.specs.Held.{symbols_of, IsNewest, AreWithin, KnowsWithin, GivesAny, Learns, Assumes, Distinguishes, IsRangeBy, AreNarrowed, Cancels, RulesOut, IsNever, IsSharpened, IsRefuted}
-use Rattle.linear.proofs.LinearLaws.{greater_is, lesser_is}
+use Rattle.linear.specs.Held.{symbols_of, IsNewest, AreWithin, KnowsWithin, GivesAny, Learns, Assumes, Distinguishes, AreNarrowed, Cancels, RulesOut, IsNever, IsSharpened, IsRefuted}
 use Rattle.linear.proofs.SymbolLaws.{fresh_closed, fresh_valued, with_value, new_gives}
 use Rattle.linear.proofs.KnownLaws.{knows_itself, natural_both, below_both}
 
@@ -70,36 +68,13 @@ narrowed_none bs l = record { same = refl; ranges = λ r h g. h }
 pub narrowed_then : (bs cs es : List Bounds) (l : Linear) → AreNarrowed bs cs l → AreNarrowed cs es l → AreNarrowed bs es l
 narrowed_then bs cs es l h k = record { same = k.same ∙ h.same; ranges = λ r g n. k.ranges r (h.ranges r g n) n }
 
-in_range_set : (r : Valuation) (n i : ℕ) (bs : List Bounds) (b : Bounds) → AreInRange r (numbered n bs) → IsFrom b.least (r (n + i)) → IsUpTo b.greatest (r (n + i))
+pub in_range_set : (r : Valuation) (n i : ℕ) (bs : List Bounds) (b : Bounds) → AreInRange r (numbered n bs) → IsFrom b.least (r (n + i)) → IsUpTo b.greatest (r (n + i))
     → AreInRange r (numbered n (set bs i b))
 in_range_set r n i [] b h f g = tt
 in_range_set r n zero (c ∷ bs) b h f g = let e : n + 0 ≡ n = omega arith in (subst (λ m. IsFrom b.least (r m)) e f, subst (λ m. IsUpTo b.greatest (r m)) e g, h.2)
 in_range_set r n (suc i) (c ∷ bs) b h f g =
     let e : n + suc i ≡ suc n + i = omega arith in
     (h.0, h.1, in_range_set r (suc n) i bs b h.2 (subst (λ m. IsFrom b.least (r m)) e f) (subst (λ m. IsUpTo b.greatest (r m)) e g))
-
-pub narrowed_at : (bs : List Bounds) (l : Linear) (x : ℕ) (b : Bounds) → IsRangeBy bs l x b → AreNarrowed bs (set bs x b) l
-narrowed_at bs l x b h = record {
-  same = length-set bs x b;
-  ranges = λ r g n.
-      let e : x ≡ 0 + x = omega arith in
-      let k = h r g n in
-      in_range_set r 0 x bs b g (subst (λ m. IsFrom b.least (r m)) e k.0) (subst (λ m. IsUpTo b.greatest (r m)) e k.1);
-}
-
-pub within_at : (bs : List Bounds) (x : ℕ) (b : Bounds) (old low most high : Option ℤ) → ((r : Valuation) → AreInRange r (numbered 0 bs) → IsFrom old (r x)) → ((r : Valuation) → AreInRange r (numbered 0 bs) → IsUpTo most (r x))
-    → b.least ≡ greater_of old low → b.greatest ≡ lesser_of most high → AreWithin bs (set bs x b) x low high
-within_at bs x b old low most high f g d e = record {
-  same = length-set bs x b;
-  ranges = λ r h i j.
-      let z : x ≡ 0 + x = omega arith in
-      in_range_set r 0 x bs b h
-      (subst (λ m. IsFrom b.least (r m)) z (subst (λ o. IsFrom o (r x)) (sym d) (greater_is old low (r x) (f r h) i)))
-      (subst (λ m. IsUpTo b.greatest (r m)) z (subst (λ o. IsUpTo o (r x)) (sym e) (lesser_is most high (r x) (g r h) j)));
-}
-
-pub within_none : (bs : List Bounds) (x : ℕ) (low high : Option ℤ) → AreWithin bs bs x low high
-within_none bs x low high = record { same = refl; ranges = λ r h i j. h }
 
 pub within_held : (bs es : List Bounds) (fs ds : List Linear) (os : List Operation) (cs : List Branch) (x : ℕ) (low high : Option ℤ) → AreWithin bs es x low high → KnowsWithin (symbols_of bs fs ds os cs) (symbols_of es fs ds os cs) x low high
 within_held bs es fs ds os cs x low high h r c v f g =
@@ -183,6 +158,10 @@ apart_at r [] i d l h e = absurd (omega arith)
 apart_at r (x ∷ ds) zero d l h e = h.0 e
 apart_at r (x ∷ ds) (suc i) d l h e = apart_at r ds i d (omega arith) h.1 e
 
+-- a number less another is 0: they are the same
+pub same_as : (a b : ℤ) → a +ℤ (negsuc 0 *ℤ b) ≡ pos 0 → b ≡ a
+same_as a b h = omega (arith, ints)
+
 no_rest : (d x : ℤ) → pos 0 +ℤ pos 0 ≡ (pos 1 *ℤ d) +ℤ x → d +ℤ x ≡ pos 0
 no_rest d x h = omega (arith, ints)
 
@@ -213,11 +192,11 @@ sharpened_less ds l e h s = record {
 pub sharpened_same : (ds : List Linear) (l e : Linear) → e ≡ l → IsSharpened ds l e
 sharpened_same ds l e q = record { below = λ n h. subst (λ x. IsBelow n x) (sym q) h; natural = λ r a n. subst (λ x. pos 0 ≤ℤ number_at r x) (sym q) n }
 
-pub refuted_by : (es : List Range) (fs : List Linear) (l : Linear) (b : ℤ) → IsUpToAll es fs (λ r. number_at r l) (Some b) → b <ℤ pos 0 → IsRefuted es fs l
-refuted_by es fs l b h k r a n g = between (number_at r l) b (h r a n) k g
+pub refuted_by : (es : List Range) (fs : List Linear) (l : Linear) (o : Option ℤ) → IsFromAll es fs (λ r. negsuc 0 *ℤ number_at r l) o → ((n : ℤ) → IsFrom o n → pos 0 <ℤ n) → IsRefuted es fs l
+refuted_by es fs l o h k r a n g = between (number_at r l) (k (negsuc 0 *ℤ number_at r l) (h r a n)) g
   where
-    between : (x b : ℤ) → x ≤ℤ b → b <ℤ pos 0 → pos 0 ≤ℤ x → ⊥
-    between x b h k g = omega (arith, ints)
+    between : (x : ℤ) → pos 0 <ℤ (negsuc 0 *ℤ x) → pos 0 ≤ℤ x → ⊥
+    between x k g = omega (arith, ints)
 
 pub assumes_none : (k : Symbols) (l e : Linear) (possible : Bool) → IsSharpened k.apart l e → IsRefuted k.ranges k.facts e → Assumes k k l possible
 assumes_none k l e possible s h r c v b n = absurd (h r v.ranges v.facts (s.natural r v.apart n))

@@ -1,43 +1,16 @@
 -- What holds in either of two cases.
-use Rattle.std.proofs.Common.{◌≡◌, ℕ, zero, suc, ◌+◌, ◌<◌, ◌≤◌, ℤ, pos, ◌≤ℤ◌, ◌⊎◌, inl, inr, List, [], ◌∷◌, ◌++◌, length, take, get_or, Option, refl, sym, ap, ◌∙◌, subst, arith, length-append}
+use Rattle.std.proofs.Common.{◌≡◌, ℕ, zero, suc, ◌+◌, ◌<◌, ◌≤◌, ℤ, pos, ◌≤ℤ◌, ◌⊎◌, inl, inr, List, [], ◌∷◌, ◌++◌, length, take, get_or, refl, sym, ap, ◌∙◌, subst, arith}
 use Rattle.linear.specs.declared.bounds.Bounds.{Bounds}
-use Rattle.linear.specs.Linear.{Linear, Valuation, number_at, TermsBelow, IsBelow, Range, IsFrom, IsUpTo, AreInRange, AreNatural}
+use Rattle.linear.specs.Linear.{Linear, number_at, TermsBelow, IsBelow, Range, AreInRange, AreNatural}
 use Rattle.linear.specs.Bounded.{numbered, IsShown}
 use Rattle.linear.specs.Symbols.{Symbols, Operation, Branch, FactsBelow, OperationsBelow, BranchesBelow, Agree, Leads}
 use Rattle.linear.specs.Held.{symbols_of}
-use Rattle.linear.specs.Joined.{Joins, IsFromEither, IsUpToEither, IsHull, AreShared, AreJoined}
+use Rattle.linear.specs.Ranged.{IsHull}
+use Rattle.linear.specs.Joined.{Joins, AreShared, AreJoined}
 use Rattle.linear.proofs.KnownLaws.{natural_both, below_both}
 use Rattle.linear.proofs.LinearLaws.{same_number}
 use Rattle.linear.proofs.QueryLemmas.{natural_at}
-use Rattle.linear.proofs.HeldLemmas.{in_range_append, ranges_below}
-
--- ---- ranges
-
-pub hull_none : (bs cs : List Bounds) → IsHull bs cs []
-hull_none bs cs q r a h = tt
-
-pub hull_on : (bs cs out new : List Bounds) (b : Bounds) (s : ℕ) (l m g h : Option ℤ) → length out ≡ s → IsHull bs cs out → new ≡ out ++ b ∷ []
-    → ((r : Valuation) → AreInRange r (numbered 0 bs) → IsFrom l (r s)) → ((r : Valuation) → AreInRange r (numbered 0 cs) → IsFrom m (r s)) → IsFromEither l m b.least
-    → ((r : Valuation) → AreInRange r (numbered 0 bs) → IsUpTo g (r s)) → ((r : Valuation) → AreInRange r (numbered 0 cs) → IsUpTo h (r s)) → IsUpToEither g h b.greatest
-    → (length new ≡ s + 1) × IsHull bs cs new
-hull_on bs cs out new b s l m g h e i n x y z u v w = (
-  ap length n ∙ length-append out (b ∷ []) ∙ ap (λ k. k + 1) e,
-  subst (IsHull bs cs) (sym n) (λ q r a j.
-      let k : length out < length (out ++ b ∷ []) = omega (arith, length-append out (b ∷ [])) in
-      let t : 0 + length out ≡ length out = omega arith in
-      let f : q s ≡ r s = subst (λ p. q p ≡ r p) e (a (length out) k) in
-      in_range_append r 0 out b (i q r (λ p c. a p (omega arith)) j)
-      (subst (λ p. IsFrom b.least (r p)) (sym e ∙ sym t) (subst (λ p. IsFrom b.least p) f (z (q s) (least_in q j))))
-      (subst (λ p. IsUpTo b.greatest (r p)) (sym e ∙ sym t) (subst (λ p. IsUpTo b.greatest p) f (w (q s) (greatest_in q j))))),
-)
-  where
-    least_in : (q : Valuation) → AreInRange q (numbered 0 bs) ⊎ AreInRange q (numbered 0 cs) → IsFrom l (q s) ⊎ IsFrom m (q s)
-    least_in q (inl j) = inl (x q j)
-    least_in q (inr j) = inr (y q j)
-
-    greatest_in : (q : Valuation) → AreInRange q (numbered 0 bs) ⊎ AreInRange q (numbered 0 cs) → IsUpTo g (q s) ⊎ IsUpTo h (q s)
-    greatest_in q (inl j) = inl (u q j)
-    greatest_in q (inr j) = inr (v q j)
+use Rattle.linear.proofs.HeldLemmas.{ranges_below}
 
 -- ---- facts
 
@@ -86,11 +59,12 @@ joined_facts n es fs b c own gs ks x y = record {
   right = λ q r a i h k. y.by_own q r a h (x.by_other q r a i h k);
 }
 
-pub join_held : (bs hs cb cc : List Bounds) (fs ds ks fb fc : List Linear) (os : List Operation) (cs : List Branch) (b c : Symbols) (n : ℕ) → n ≡ length bs → length hs ≡ n → numbered 0 cb ≡ b.ranges
+pub join_held : (bs hs cb cc : List Bounds) (fs ds ks fb fc : List Linear) (os : List Operation) (cs : List Branch) (b c : Symbols) (n : ℕ) → n ≡ length bs → numbered 0 cb ≡ b.ranges
     → numbered 0 cc ≡ c.ranges → fb ≡ b.facts → fc ≡ c.facts
-    → IsHull cb cc hs → AreJoined n fs (numbered 0 cb) fb (numbered 0 cc) fc ks → Joins (symbols_of bs fs ds os cs) b c (symbols_of hs ks ds os cs)
-join_held bs hs cb cc fs ds ks fb fc os cs b c n m a p q s t i x r d v h =
-    let e : length hs ≡ length bs = a ∙ m in
+    → IsHull cb cc bs hs → AreJoined n fs (numbered 0 cb) fb (numbered 0 cc) fc ks → Joins (symbols_of bs fs ds os cs) b c (symbols_of hs ks ds os cs)
+join_held bs hs cb cc fs ds ks fb fc os cs b c n m p q s t i x r d v h =
+    let e = i.same in
+    let a : length hs ≡ n = e ∙ sym m in
     record {
       closed = record {
         ranges = ranges_below (length hs) 0 hs (omega arith);
@@ -106,8 +80,8 @@ join_held bs hs cb cc fs ds ks fb fc os cs b c n m a p q s t i x r d v h =
     }
   where
     of_ranges : Leads (symbols_of bs fs ds os cs) r b ⊎ Leads (symbols_of bs fs ds os cs) r c → AreInRange r (numbered 0 hs)
-    of_ranges (inl g) = i g.values r (subst (λ k. Agree k g.values r) (sym (a ∙ m)) g.agrees) (inl (subst (AreInRange g.values) (sym p) g.valued.ranges))
-    of_ranges (inr g) = i g.values r (subst (λ k. Agree k g.values r) (sym (a ∙ m)) g.agrees) (inr (subst (AreInRange g.values) (sym q) g.valued.ranges))
+    of_ranges (inl g) = i.ranges g.values r g.agrees v.ranges (inl (subst (AreInRange g.values) (sym p) g.valued.ranges))
+    of_ranges (inr g) = i.ranges g.values r g.agrees v.ranges (inr (subst (AreInRange g.values) (sym q) g.valued.ranges))
 
     of_facts : Leads (symbols_of bs fs ds os cs) r b ⊎ Leads (symbols_of bs fs ds os cs) r c → AreNatural r ks
     of_facts (inl g) = x.left g.values r (subst (λ k. Agree k g.values r) (sym m) g.agrees) (subst (AreInRange g.values) (sym p) g.valued.ranges)

@@ -6,6 +6,7 @@ pub mod ChainLemmas
 pub mod KnownLaws
 pub mod SymbolLaws
 pub mod HeldLemmas
+pub mod RangeLemmas
 pub mod JoinLemmas
 pub mod ResultLemmas
 pub mod BranchLemmas

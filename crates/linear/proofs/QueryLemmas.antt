@@ -19,19 +19,13 @@ use Rattle.linear.proofs.WalkLemmas.{drop_all}
 
 -- ---- ranges by place
 
-ranged_at : (r : Valuation) (n k : ℕ) (bs : List Bounds) (d : Bounds) → k < length bs → AreInRange r (numbered n bs)
+pub ranged_at : (r : Valuation) (n k : ℕ) (bs : List Bounds) (d : Bounds) → k < length bs → AreInRange r (numbered n bs)
     → IsFrom (get_or bs k d).least (r (n + k)) × IsUpTo (get_or bs k d).greatest (r (n + k))
 ranged_at r n k [] d l h = absurd (omega arith)
 ranged_at r n zero (b ∷ bs) d l h = let e : n ≡ n + 0 = omega arith in subst (λ m. IsFrom b.least (r m) × IsUpTo b.greatest (r m)) e (h.0, h.1)
 ranged_at r n (suc k) (b ∷ bs) d l h =
     let e : suc n + k ≡ n + suc k = omega arith in
     subst (λ m. IsFrom (get_or bs k d).least (r m) × IsUpTo (get_or bs k d).greatest (r m)) e (ranged_at r (suc n) k bs d (omega arith) h.2)
-
-pub from_place : (bs : List Bounds) (k : ℕ) (d : Bounds) → k < length bs → (r : Valuation) → AreInRange r (numbered 0 bs) → IsFrom (get_or bs k d).least (r k)
-from_place bs k d l r h = let e : 0 + k ≡ k = omega arith in subst (λ m. IsFrom (get_or bs k d).least (r m)) e (ranged_at r 0 k bs d l h).0
-
-pub up_to_place : (bs : List Bounds) (k : ℕ) (d : Bounds) → k < length bs → (r : Valuation) → AreInRange r (numbered 0 bs) → IsUpTo (get_or bs k d).greatest (r k)
-up_to_place bs k d l r h = let e : 0 + k ≡ k = omega arith in subst (λ m. IsUpTo (get_or bs k d).greatest (r m)) e (ranged_at r 0 k bs d l h).1
 
 -- ---- terms
 

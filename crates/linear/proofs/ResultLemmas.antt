@@ -1,6 +1,5 @@
 -- Products and quotients that have a symbol.
-use Rattle.std.proofs.Common.{◌≡◌, ℕ, zero, suc, ◌+◌, ◌<◌, ℤ, pos, negsuc, ◌+ℤ◌, ◌*ℤ◌, ◌≤ℤ◌, int_lt, cond, Bool, true, false, List, [], ◌∷◌, ◌++◌, length, drop, get_or, Option, Some, None, refl, sym, ap, ◌∙◌, subst, arith}
-use Rattle.std.proofs.lemmas.Int.{ints}
+use Rattle.std.proofs.Common.{◌≡◌, ℕ, zero, suc, ◌+◌, ◌<◌, ℤ, negsuc, ◌*ℤ◌, ◌≤ℤ◌, int_lt, cond, Bool, true, false, List, [], ◌∷◌, ◌++◌, length, drop, get_or, Option, Some, None, refl, sym, ap, ◌∙◌, subst, arith}
 use Rattle.std.specs.Int.{int_min, int_max}
 use Rattle.linear.specs.declared.bounds.Bounds.{Bounds}
 use Rattle.linear.specs.declared.named.Named.{Named}
@@ -13,12 +12,9 @@ use Rattle.linear.specs.Results.{GivesInRange, GivesResult, GivesMultiple, IsOf,
 use Rattle.linear.proofs.KnownLaws.{with_value, gives_here, knows_leads, leads_gives}
 use Rattle.linear.proofs.LinearLaws.{symbol_at, reach}
 use Rattle.linear.proofs.SymbolLaws.{operation_closed, operation_valued, new_gives, corner_low, corner_high, no_terms, flipped}
-use Rattle.linear.proofs.HeldLemmas.{in_range_append, ranges_below, one_more}
+use Rattle.linear.proofs.HeldLemmas.{in_range_append, ranges_below, one_more, same_as}
 
 -- ---- what is known
-
-same_as : (a b : ℤ) → a +ℤ (negsuc 0 *ℤ b) ≡ pos 0 → b ≡ a
-same_as a b h = omega (arith, ints)
 
 pub is_of_by : (o : Named) (d : Bool) (l m : Linear) → o.divides ≡ d → Cancels o.left (negsuc 0) l → Cancels o.right (negsuc 0) m → IsOf o d l m
 is_of_by o d l m e x y = record { divides = e; left = λ r. same_as (number_at r o.left) (number_at r l) (x r); right = λ r. same_as (number_at r o.right) (number_at r m) (y r) }

@@ -1,8 +1,6 @@
 -- What holds in either of two cases.
-use Rattle.std.specs.Prelude.{ℕ, ℤ, ◌⊎◌, List, length, Option}
-use Rattle.linear.specs.declared.bounds.Bounds.{Bounds}
+use Rattle.std.specs.Prelude.{ℕ, ℤ, ◌⊎◌, List, Option}
 use Rattle.linear.specs.Linear.{Linear, Valuation, Range, IsFrom, IsUpTo, AreInRange, AreNatural}
-use Rattle.linear.specs.Bounded.{numbered}
 use Rattle.linear.specs.Symbols.{Symbols, IsValued, IsClosed, FactsBelow, Agree, Leads}
 
 -- whatever numbers symbols stand for: what k leads to in one of two cases at least, it leads to where they are joined
@@ -15,10 +13,6 @@ IsFromEither a b o = (n : ℤ) → IsFrom a n ⊎ IsFrom b n → IsFrom o n
 
 abbrev pub IsUpToEither : Option ℤ → Option ℤ → Option ℤ → Type 0
 IsUpToEither a b o = (n : ℤ) → IsUpTo a n ⊎ IsUpTo b n → IsUpTo o n
-
--- ranges that hold where either of two do, in numbers that agree with theirs
-abbrev pub IsHull : List Bounds → List Bounds → List Bounds → Type 0
-IsHull bs cs out = (q r : Valuation) → Agree (length out) q r → AreInRange q (numbered 0 bs) ⊎ AreInRange q (numbered 0 cs) → AreInRange r (numbered 0 out)
 
 -- facts with some of one case, which the other case shows
 pub record AreShared (n : ℕ) (own : List Linear) (es : List Range) (others old new : List Linear) : Type 0 where

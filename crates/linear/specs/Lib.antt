@@ -3,6 +3,7 @@ pub mod Combined
 pub mod Bounded
 pub mod Symbols
 pub mod Held
+pub mod Ranged
 pub mod Joined
 pub mod Results
 pub mod Either

@@ -1,14 +1,16 @@
 //! Bounds of expressions, by the ranges of symbols and by facts.
-ghost use Rattle.std.specs.Prelude.{◌≡◌, ℤ, pos, ◌+ℤ◌, ◌*ℤ◌, ◌≤ℤ◌, ◌<ℤ◌, IfOk, true};
+ghost use Rattle.std.specs.Prelude.{◌≡◌, List, ℤ, pos, ◌+ℤ◌, ◌*ℤ◌, ◌≤ℤ◌, ◌<ℤ◌, IfOk, true};
 ghost use Rattle.std.specs.Option.{IfSome};
-ghost use Rattle.linear.specs.Linear.{Valuation, sum_at, number_at, IsFrom, IsUpTo, AreInRange, greater_of, lesser_of};
+ghost use Rattle.linear.specs.Linear.{Linear as Expression, Valuation, sum_at, number_at, IsFrom, IsUpTo, AreInRange, greater_of, lesser_of};
 ghost use Rattle.linear.specs.Combined.{combined_at};
 ghost use Rattle.linear.specs.Bounded.{numbered, IsLeast, IsLeastBy, IsShown, IsRoundedUp};
 ghost use Rattle.linear.specs.Bounded.{IsFromBy, IsFromAll, IsUpToAll};
+ghost use Rattle.linear.specs.Held.{IsRefuted};
 
 use crate::chains::least_by_chain;
 use crate::checked::{negation, product, quotient, sum};
 use crate::linear::{Linear, both_times};
+use crate::ranges::Ranges;
 use crate::terms::{MOST_SYMBOLS, Term, next_symbol, step};
 
 /// The least and the greatest number of a symbol, where they are known.
@@ -23,29 +25,21 @@ pub struct Bounds {
 pub const MOST_FACTS: usize = 64;
 
 // The least number of a symbol.
-pub(crate) fn least_of(bounds: &[Bounds], symbol: usize) -> Option<i128>
+pub(crate) fn least_of(bounds: &Ranges, symbol: usize) -> Option<i128>
     ensures { (r : Valuation) → AreInRange r (numbered 0 bounds.now) → IsFrom result (r symbol) }
 {
-    if symbol < bounds.len() {
-        bounds[symbol].least
-    } else {
-        None
-    }
+    bounds.at(symbol).least
 }
 
 // The greatest number of a symbol.
-pub(crate) fn greatest_of(bounds: &[Bounds], symbol: usize) -> Option<i128>
+pub(crate) fn greatest_of(bounds: &Ranges, symbol: usize) -> Option<i128>
     ensures { (r : Valuation) → AreInRange r (numbered 0 bounds.now) → IsUpTo result (r symbol) }
 {
-    if symbol < bounds.len() {
-        bounds[symbol].greatest
-    } else {
-        None
-    }
+    bounds.at(symbol).greatest
 }
 
 // The least of a symbol times its coefficient.
-pub(crate) fn least_term(bounds: &[Bounds], symbol: usize, coefficient: i128) -> Option<i128>
+pub(crate) fn least_term(bounds: &Ranges, symbol: usize, coefficient: i128) -> Option<i128>
     ensures { IfSome result (IsLeast (numbered 0 bounds.now) (λ r. coefficient *ℤ r symbol)) }
 {
     if coefficient == 0 {
@@ -62,7 +56,7 @@ pub(crate) fn least_term(bounds: &[Bounds], symbol: usize, coefficient: i128) ->
 
 // A lower bound of multiples of two lists of terms, added.
 pub(crate) fn least_terms(
-    bounds: &[Bounds],
+    bounds: &Ranges,
     factor: i128,
     left: &[Term],
     other_factor: i128,
@@ -90,7 +84,7 @@ pub(crate) fn least_terms(
 
 // A lower bound of multiples of two expressions, added.
 pub(crate) fn least_combined(
-    bounds: &[Bounds],
+    bounds: &Ranges,
     factor: i128,
     left: &Linear,
     other_factor: i128,
@@ -155,7 +149,7 @@ pub(crate) fn have_one_sign(left: i128, right: i128) -> bool {
 // A lower bound of a multiple of an expression: that of the multiple, scaled, less a multiple of the fact, divided by the
 // scale.
 pub(crate) fn least_without(
-    bounds: &[Bounds],
+    bounds: &Ranges,
     factor: i128,
     expression: &Linear,
     scale: i128,
@@ -173,7 +167,7 @@ pub(crate) fn least_without(
 
 // A lower bound of a multiple of an expression, where a symbol is taken out by a fact; with its coefficients in both.
 fn least_by_term(
-    bounds: &[Bounds],
+    bounds: &Ranges,
     factor: i128,
     expression: &Linear,
     in_expression: i128,
@@ -182,6 +176,9 @@ fn least_by_term(
 ) -> Option<i128>
     ensures { IfSome result (IsLeastBy (numbered 0 bounds.now) fact.now (λ r. factor *ℤ number_at r expression.now)) }
 {
+    if in_fact == 0 {
+        return None;
+    }
     let j = product(factor, in_expression)?;
     if !have_one_sign(in_fact, j) {
         return None;
@@ -214,12 +211,7 @@ pub(crate) fn lesser(left: Option<i128>, right: Option<i128>) -> Option<i128>
 }
 
 // A lower bound of a multiple of an expression by the ranges and one fact.
-fn least_by_fact(
-    bounds: &[Bounds],
-    factor: i128,
-    expression: &Linear,
-    fact: &Linear,
-) -> Option<i128>
+fn least_by_fact(bounds: &Ranges, factor: i128, expression: &Linear, fact: &Linear) -> Option<i128>
     ensures { IsFromBy (numbered 0 bounds.now) fact.now (λ r. factor *ℤ number_at r expression.now) result }
 {
     let mut best = None;
@@ -235,23 +227,26 @@ fn least_by_fact(
 
 // Where the newest facts begin that a query looks at.
 pub(crate) fn first_looked(count: usize) -> usize {
-    if count > MOST_FACTS {
-        count - MOST_FACTS
-    } else {
-        0
-    }
+    count.saturating_sub(MOST_FACTS)
+}
+
+// A lower bound of a multiple of an expression by the ranges alone.
+fn least_by_ranges(bounds: &Ranges, factor: i128, expression: &Linear) -> Option<i128>
+    ensures { (fs : List Expression) → IsFromAll (numbered 0 bounds.now) fs (λ r. factor *ℤ number_at r expression.now) result }
+{
+    least_combined(bounds, factor, expression, 0, expression)
 }
 
 /// The greatest lower bound of a multiple of an expression that the ranges show, or they and one of the newest facts.
 pub(crate) fn least_by_facts(
-    bounds: &[Bounds],
+    bounds: &Ranges,
     facts: &[Linear],
     factor: i128,
     expression: &Linear,
 ) -> Option<i128>
     ensures { IsFromAll (numbered 0 bounds.now) facts.now (λ r. factor *ℤ number_at r expression.now) result }
 {
-    let mut best = least_combined(bounds, factor, expression, 0, expression);
+    let mut best = least_by_ranges(bounds, factor, expression);
     for at in first_looked(facts.len())..facts.len() {
         best = greater(best, least_by_fact(bounds, factor, expression, &facts[at]));
     }
@@ -268,20 +263,41 @@ fn is_natural(bound: Option<i128>) -> bool
     }
 }
 
-/// Whether ranges and facts show that an expression is at least 0: one fact, or several one after another.
-pub(crate) fn shown(bounds: &[Bounds], facts: &[Linear], expression: &Linear) -> bool
+// Whether a lower bound is there and shows that numbers are above 0.
+fn is_positive(bound: Option<i128>) -> bool
+    ensures { result ≡ true → (n : ℤ) → IsFrom bound n → pos 0 <ℤ n }
+{
+    match bound {
+        Some(bound) => bound > 0,
+        None => false,
+    }
+}
+
+/// Whether the ranges alone show that an expression is at least 0, or they and facts one after another.
+pub(crate) fn follows(bounds: &Ranges, facts: &[Linear], expression: &Linear) -> bool
     ensures { result ≡ true → IsShown (numbered 0 bounds.now) facts.now expression.now }
 {
-    let by_one = is_natural(least_by_facts(bounds, facts, 1, expression));
-    if by_one {
+    let by_ranges = is_natural(least_by_ranges(bounds, 1, expression));
+    if by_ranges {
         return true;
     }
     is_natural(least_by_chain(bounds, facts, 1, expression))
 }
 
+/// Whether an expression is shown to be at least 0: it follows, or one of the facts shows it.
+pub(crate) fn shown(bounds: &Ranges, facts: &[Linear], expression: &Linear) -> bool
+    ensures { result ≡ true → IsShown (numbered 0 bounds.now) facts.now expression.now }
+{
+    let chained = follows(bounds, facts, expression);
+    if chained {
+        return true;
+    }
+    is_natural(least_by_facts(bounds, facts, 1, expression))
+}
+
 // The greater of the lower bounds of a multiple of an expression that one fact and several show.
 fn least_by_all(
-    bounds: &[Bounds],
+    bounds: &Ranges,
     facts: &[Linear],
     factor: i128,
     expression: &Linear,
@@ -294,19 +310,26 @@ fn least_by_all(
     )
 }
 
+/// Whether ranges and facts show that an expression is below 0: the ranges alone, or facts.
+pub(crate) fn refuted(bounds: &Ranges, facts: &[Linear], expression: &Linear) -> bool
+    ensures { result ≡ true → IsRefuted (numbered 0 bounds.now) facts.now expression.now }
+{
+    let by_ranges = is_positive(least_by_ranges(bounds, -1, expression));
+    if by_ranges {
+        return true;
+    }
+    is_positive(least_by_all(bounds, facts, -1, expression))
+}
+
 /// A lower bound of an expression by ranges and facts.
-pub(crate) fn least_shown(bounds: &[Bounds], facts: &[Linear], expression: &Linear) -> Option<i128>
+pub(crate) fn least_shown(bounds: &Ranges, facts: &[Linear], expression: &Linear) -> Option<i128>
     ensures { IsFromAll (numbered 0 bounds.now) facts.now (λ r. number_at r expression.now) result }
 {
     least_by_all(bounds, facts, 1, expression)
 }
 
 /// An upper bound of an expression by ranges and facts.
-pub(crate) fn greatest_shown(
-    bounds: &[Bounds],
-    facts: &[Linear],
-    expression: &Linear,
-) -> Option<i128>
+pub(crate) fn greatest_shown(bounds: &Ranges, facts: &[Linear], expression: &Linear) -> Option<i128>
     ensures { IsUpToAll (numbered 0 bounds.now) facts.now (λ r. number_at r expression.now) result }
 {
     let bound = least_by_all(bounds, facts, -1, expression)?;

@@ -11,6 +11,7 @@ use crate::bounds::{
 };
 use crate::checked::{product, sum};
 use crate::linear::{Linear, both_times};
+use crate::ranges::Ranges;
 use crate::terms::{MOST_SYMBOLS, Term, next_symbol, number_of, step};
 
 // The most symbols that are taken out one after another.
@@ -67,7 +68,7 @@ fn fill(
 }
 
 // A lower bound of a number and terms by the ranges alone.
-fn least_alone(bounds: &[Bounds], constant: i128, terms: &[Term]) -> Option<i128>
+fn least_alone(bounds: &Ranges, constant: i128, terms: &[Term]) -> Option<i128>
     ensures { IfSome result (IsLeast (numbered 0 bounds.now) (λ r. constant +ℤ sum_at r terms.now)) }
 {
     let bound = least_terms(bounds, 1, terms, 0, terms)?;
@@ -85,7 +86,7 @@ fn is_usable(terms: &[Term], fact: &Linear) -> bool {
 }
 
 // A lower bound of a number and terms by the ranges, where their newest symbol is taken out by a fact.
-fn least_with(bounds: &[Bounds], constant: i128, terms: &[Term], fact: &Linear) -> Option<i128> {
+fn least_with(bounds: &Ranges, constant: i128, terms: &[Term], fact: &Linear) -> Option<i128> {
     if terms.is_empty() {
         return None;
     }
@@ -100,7 +101,7 @@ fn least_with(bounds: &[Bounds], constant: i128, terms: &[Term], fact: &Linear) 
 
 // A lower bound by the ranges, where the newest symbol is taken out by a fact, and the newest of what is left by another.
 fn least_ahead(
-    bounds: &[Bounds],
+    bounds: &Ranges,
     facts: &[Linear],
     constant: i128,
     terms: &[Term],
@@ -128,7 +129,7 @@ fn is_better(bound: Option<i128>, than: Option<i128>) -> bool {
 // The fact among the newest by which taking out the newest symbol shows most, alone or with another behind it, if that is
 // more than the ranges show.
 fn best_fact(
-    bounds: &[Bounds],
+    bounds: &Ranges,
     facts: &[Linear],
     constant: i128,
     terms: &[Term],
@@ -178,7 +179,7 @@ fn take_out(
 }
 
 // The number with the least that the first of the terms can be.
-fn lowered(bounds: &[Bounds], constant: i128, terms: &[Term]) -> Option<i128>
+fn lowered(bounds: &Ranges, constant: i128, terms: &[Term]) -> Option<i128>
     requires { 0 < length terms.now }
     ensures { IfSome result (λ n. (r : Valuation) → AreInRange r (numbered 0 bounds.now) → (n +ℤ sum_at r (drop 1 terms.now)) ≤ℤ (constant +ℤ sum_at r terms.now)) }
 {
@@ -201,7 +202,7 @@ fn rounded(bound: Option<i128>, scale: i128) -> Option<i128>
 // A lower bound of a number and terms by ranges and facts: the newest symbol is taken out by the fact that shows most,
 // or else by its range, and so on with what is left.
 fn least_in_steps(
-    bounds: &[Bounds],
+    bounds: &Ranges,
     facts: &[Linear],
     steps: usize,
     constant: i128,
@@ -236,7 +237,7 @@ fn least_in_steps(
 
 /// A lower bound of a multiple of an expression that the ranges and several of the newest facts show together.
 pub(crate) fn least_by_chain(
-    bounds: &[Bounds],
+    bounds: &Ranges,
     facts: &[Linear],
     factor: i128,
     expression: &Linear,

@@ -194,8 +194,7 @@ fn relate_branches(
 ) -> Result<(), Memory>
     ensures { OnOk result (Relates symbols.old symbols.new one.now left.now other.now right.now count number.now) }
 {
-    let from = first_related(branches.len());
-    for at in from..branches.len() {
+    for at in branches.len().saturating_sub(MOST_RELATED)..branches.len() {
         relate_branch(
             symbols,
             one,
@@ -209,15 +208,6 @@ fn relate_branches(
         )?;
     }
     Ok(())
-}
-
-// Where the newest branches of so many start.
-fn first_related(count: usize) -> usize {
-    if count > MOST_RELATED {
-        count - MOST_RELATED
-    } else {
-        0
-    }
 }
 
 // Learns how an expression lies to the numbers that a newer symbol of a case, which the expression is there, has in branches:

@@ -2,13 +2,13 @@
 ghost use Rattle.std.specs.Prelude.{◌≡◌, ℕ, IfOk, OnOk, true, length, ◌<◌};
 ghost use Rattle.linear.specs.Linear.{TermsBelow};
 ghost use Rattle.linear.specs.Bounded.{numbered};
-ghost use Rattle.linear.specs.Joined.{IsFromEither, IsUpToEither, IsHull, AreShared, AreJoined};
+ghost use Rattle.linear.specs.Joined.{IsFromEither, IsUpToEither, AreShared, AreJoined};
 
-use crate::bounds::{Bounds, greatest_of, least_of, shown};
+use crate::bounds::shown;
 use crate::linear::Linear;
+use crate::ranges::Ranges;
 use crate::terms::Term;
 use collections::{Items, Memory, TryClone};
-use std::alloc::Global;
 
 // The lesser of two lower bounds, where there are both.
 pub(crate) fn least_of_both(left: Option<i128>, right: Option<i128>) -> Option<i128>
@@ -30,25 +30,6 @@ pub(crate) fn greatest_of_both(left: Option<i128>, right: Option<i128>) -> Optio
     }
 }
 
-/// The ranges of the symbols below a number that hold in both cases.
-pub(crate) fn hull(
-    alloc: Global,
-    count: usize,
-    left: &[Bounds],
-    right: &[Bounds],
-) -> Result<Vec<Bounds>, Memory>
-    ensures all { IfOk result (λ out. length out.items ≡ count) }
-    ensures either { IfOk result (λ out. IsHull left.now right.now out.items) }
-{
-    let mut out = Vec::new(alloc);
-    for symbol in 0..count {
-        let least = least_of_both(least_of(left, symbol), least_of(right, symbol));
-        let greatest = greatest_of_both(greatest_of(left, symbol), greatest_of(right, symbol));
-        out.push(Bounds { least, greatest })?;
-    }
-    Ok(out)
-}
-
 // Whether all symbols are below a number.
 pub(crate) fn is_below(terms: &[Term], count: usize) -> bool
     ensures { result ≡ true → TermsBelow count terms.now }
@@ -68,7 +49,7 @@ pub(crate) fn put_shared(
     count: usize,
     own: &[Linear],
     from: usize,
-    bounds: &[Bounds],
+    bounds: &Ranges,
     others: &[Linear],
 ) -> Result<(), Memory>
     ensures { OnOk result (AreShared count own.now (numbered 0 bounds.now) others.now facts.old facts.new) }
@@ -84,7 +65,7 @@ fn put_one(
     count: usize,
     own: &[Linear],
     at: usize,
-    bounds: &[Bounds],
+    bounds: &Ranges,
     others: &[Linear],
 ) -> Result<(), Memory>
     requires { at < length own.now }
@@ -103,10 +84,10 @@ pub(crate) fn joined_facts(
     own: &Items<Linear>,
     count: usize,
     from: usize,
-    bounds: &[Bounds],
+    bounds: &Ranges,
     facts: &[Linear],
     other_from: usize,
-    other_bounds: &[Bounds],
+    other_bounds: &Ranges,
     other_facts: &[Linear],
 ) -> Result<Items<Linear>, Memory>
     ensures { IfOk result (AreJoined count own.now (numbered 0 bounds.now) facts.now (numbered 0 other_bounds.now) other_facts.now) }

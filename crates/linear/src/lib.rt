@@ -26,6 +26,7 @@ mod narrowing;
 mod newest;
 mod operations;
 mod quotients;
+mod ranges;
 mod symbols;
 mod terms;
 

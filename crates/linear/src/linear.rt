@@ -5,17 +5,17 @@ ghost use Rattle.linear.specs.Linear.{number_at, number, symbol, IsBelow};
 ghost use Rattle.linear.specs.Combined.{StandsFor, AreBelow, combined_at};
 
 use crate::checked::{product, sum};
-use crate::terms::{Term, combined};
+use crate::terms::{Term, Terms, combined};
 use collections::{Memory, TryClone};
 use std::alloc::Global;
 use std::marker::Model;
 
 /// A linear expression over symbols, which stand for whole numbers: a constant, and symbols with their
-/// coefficients, the newest symbol first. Clauses see the definitions' expression.
+/// coefficients, the newest symbol first. Copies share the terms. Clauses see the definitions' expression.
 #[derive(Drop)]
 pub struct Linear {
     pub(crate) constant: i128,
-    pub(crate) terms: Vec<Term>,
+    pub(crate) terms: Terms,
 }
 
 impl Model for Linear {
@@ -23,12 +23,12 @@ impl Model for Linear {
 
     ghost Value = { Expression };
 
-    ghost view = { λ a. record { constant = a.constant; terms = a.terms.items } };
+    ghost view = { λ a. record { constant = a.constant; terms = a.terms } };
 }
 
 impl TryClone for Linear {
     fn try_clone(&self) -> Result<Linear, Memory> {
-        let terms = copied(*self.terms.allocator(), &self.terms)?;
+        let terms = self.terms.try_clone()?;
         Ok(Linear {
             constant: self.constant,
             terms,
@@ -43,7 +43,7 @@ impl Linear {
     {
         Linear {
             constant: value,
-            terms: Vec::new(alloc),
+            terms: Terms::none(alloc),
         }
     }
 
@@ -53,7 +53,10 @@ impl Linear {
     {
         let mut terms = Vec::new(alloc);
         terms.push((name, 1))?;
-        Ok(Linear { constant: 0, terms })
+        Ok(Linear {
+            constant: 0,
+            terms: Terms::new(terms)?,
+        })
     }
 
     /// What stands in it without a symbol.
@@ -65,28 +68,28 @@ impl Linear {
 
     /// Where it takes memory from.
     pub fn memory(&self) -> Global {
-        *self.terms.allocator()
+        self.terms.memory()
     }
 
     /// Its symbols with their coefficients, the newest first.
     pub fn terms(&self) -> &[Term]
         ensures { result.now ≡ self.now.terms }
     {
-        &self.terms
+        self.terms.as_slice()
     }
 
     /// Whether it has no symbol.
     pub fn is_number(&self) -> bool
         ensures { result ≡ true → self.now.terms ≡ [] }
     {
-        self.terms.is_empty()
+        self.terms().is_empty()
     }
 
     /// Whether it is 0 without a symbol.
     pub fn is_zero(&self) -> bool
         ensures { result ≡ true → self.now ≡ number (pos 0) }
     {
-        self.constant == 0 && self.terms.is_empty()
+        self.constant == 0 && self.terms().is_empty()
     }
 
     /// A multiple of this expression and one of another, added; none where a number on the way leaves 128 bits, or where there
@@ -109,10 +112,13 @@ impl Linear {
             other_factor,
             other.terms(),
         )? {
-            Some(out) => Ok(Some(Linear {
-                constant: base,
-                terms: out,
-            })),
+            Some(out) => {
+                let terms = Terms::new(out)?;
+                Ok(Some(Linear {
+                    constant: base,
+                    terms,
+                }))
+            }
             None => Ok(None),
         }
     }
@@ -161,11 +167,4 @@ pub(crate) fn both_times(
     let a = product(factor, number)?;
     let b = product(other_factor, other)?;
     sum(a, b)
-}
-
-fn copied(alloc: Global, terms: &[Term]) -> Result<Vec<Term>, Memory>
-    ensures { IfOk result (λ copy. copy.items ≡ terms.now) }
-{
-    let copy = terms.to_vec(alloc)?;
-    Ok(copy)
 }

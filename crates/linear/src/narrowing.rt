@@ -9,11 +9,12 @@ use crate::bounds::{Bounds, above_zero, greater, greatest_of, least_of, least_wi
 use crate::checked::negation;
 use crate::linear::Linear;
 use crate::newest::make_room;
+use crate::ranges::Ranges;
 use collections::{Items, Memory};
 
 // The range of a symbol with this coefficient in an expression that is at least 0.
 fn range_by(
-    bounds: &[Bounds],
+    bounds: &Ranges,
     expression: &Linear,
     symbol: usize,
     coefficient: i128,
@@ -34,7 +35,7 @@ fn range_by(
 
 // A lower bound of an expression that another, which is at least 0, has so many times.
 fn lower_by(
-    bounds: &[Bounds],
+    bounds: &Ranges,
     expression: &Linear,
     wanted: &Linear,
     coefficient: i128,
@@ -47,7 +48,7 @@ fn lower_by(
 
 // An upper bound, where the coefficient is below 0.
 fn upper_by(
-    bounds: &[Bounds],
+    bounds: &Ranges,
     expression: &Linear,
     wanted: &Linear,
     coefficient: i128,
@@ -61,23 +62,21 @@ fn upper_by(
 
 // Makes the range of one symbol narrower.
 fn narrow_one(
-    bounds: &mut Vec<Bounds>,
+    bounds: &mut Ranges,
     expression: &Linear,
     symbol: usize,
     coefficient: i128,
 ) -> Result<(), Memory>
-    ensures { OnOk result (AreNarrowed bounds.old.items bounds.new.items expression.now) }
+    ensures { OnOk result (AreNarrowed bounds.old bounds.new expression.now) }
 {
     let range = range_by(bounds, expression, symbol, coefficient)?;
-    if symbol < bounds.len() {
-        bounds[symbol] = range;
-    }
+    bounds.put(symbol, range)?;
     Ok(())
 }
 
 // Makes the range of each symbol of an expression that is at least 0 narrower.
-fn narrow(bounds: &mut Vec<Bounds>, expression: &Linear) -> Result<(), Memory>
-    ensures { OnOk result (AreNarrowed bounds.old.items bounds.new.items expression.now) }
+fn narrow(bounds: &mut Ranges, expression: &Linear) -> Result<(), Memory>
+    ensures { OnOk result (AreNarrowed bounds.old bounds.new expression.now) }
 {
     for term in expression.terms() {
         narrow_one(bounds, expression, term.0, term.1)?;
@@ -86,23 +85,22 @@ fn narrow(bounds: &mut Vec<Bounds>, expression: &Linear) -> Result<(), Memory>
 }
 
 /// Makes the range of a symbol narrower, where it lies in another as well.
-pub(crate) fn narrow_to(bounds: &mut Vec<Bounds>, symbol: usize, range: Bounds)
-    ensures { AreWithin bounds.old.items bounds.new.items symbol range.least range.greatest }
+pub(crate) fn narrow_to(bounds: &mut Ranges, symbol: usize, range: Bounds) -> Result<(), Memory>
+    ensures { OnOk result (AreWithin bounds.old bounds.new symbol range.least range.greatest) }
 {
     let least = greater(least_of(bounds, symbol), range.least);
     let greatest = lesser(greatest_of(bounds, symbol), range.greatest);
-    if symbol < bounds.len() {
-        bounds[symbol] = Bounds { least, greatest };
-    }
+    bounds.put(symbol, Bounds { least, greatest })?;
+    Ok(())
 }
 
 /// One fact more, which makes ranges narrower.
 pub(crate) fn put_fact(
-    bounds: &mut Vec<Bounds>,
+    bounds: &mut Ranges,
     facts: &mut Items<Linear>,
     fact: Linear,
 ) -> Result<(), Memory>
-    ensures { OnOk result ((ds : List Expression) (os : List Operation) (cs : List Branch) → Learns (symbols_of bounds.old.items facts.old ds os cs) (symbols_of bounds.new.items facts.new ds os cs) fact) }
+    ensures { OnOk result ((ds : List Expression) (os : List Operation) (cs : List Branch) → Learns (symbols_of bounds.old facts.old ds os cs) (symbols_of bounds.new facts.new ds os cs) fact) }
 {
     narrow(bounds, &fact)?;
     make_room(fact.memory(), facts)?;

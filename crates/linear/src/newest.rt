@@ -6,8 +6,8 @@ use crate::bounds::MOST_FACTS;
 use collections::{Items, Memory, TryClone};
 use std::alloc::Global;
 
-// As many facts, or operations, or branches are kept, and then no more than `MOST_FACTS`, which is as far as queries look: so a
-// copy of what is known costs no more for all that was known before.
+// As many facts, expressions that aren't 0, operations, or branches are kept, and then no more than `MOST_FACTS`, which is as far
+// as queries look: so a copy of what is known costs no more for all that was known before.
 const MOST_KEPT: usize = 2 * MOST_FACTS;
 
 /// Makes room for one more: of many only the newest stay.

@@ -14,6 +14,7 @@ use crate::join::{greatest_of_both, least_of_both};
 use crate::linear::Linear;
 use crate::named::Named;
 use crate::newest::make_room;
+use crate::ranges::Ranges;
 use collections::{Items, Memory, TryClone};
 
 fn same_kind(left: bool, right: bool) -> bool
@@ -89,14 +90,14 @@ pub(crate) fn found(
 
 /// A new symbol in a range for an operation of two expressions.
 pub(crate) fn put_operation(
-    bounds: &mut Vec<Bounds>,
+    bounds: &mut Ranges,
     operations: &mut Items<Named>,
     divides: bool,
     first: &Linear,
     second: &Linear,
     range: Bounds,
 ) -> Result<Linear, Memory>
-    ensures { IfOk result (λ e. (fs ds : List Expression) (cs : List Branch) → GivesInRange divides range.least range.greatest (symbols_of bounds.old.items fs ds (operations_of operations.old) cs) (symbols_of bounds.new.items fs ds (operations_of operations.new) cs) first.now second.now e) }
+    ensures { IfOk result (λ e. (fs ds : List Expression) (cs : List Branch) → GivesInRange divides range.least range.greatest (symbols_of bounds.old fs ds (operations_of operations.old) cs) (symbols_of bounds.new fs ds (operations_of operations.new) cs) first.now second.now e) }
 {
     let symbol = bounds.len();
     let e = Linear::symbol(first.memory(), symbol)?;

@@ -11,16 +11,17 @@ ghost use Rattle.linear.specs.Branches.{KeepsBranch};
 ghost use Rattle.linear.specs.Held.{symbols_of, branches_of, GivesAny, Learns, Assumes, Distinguishes, IsSharpened, IsRefuted, KnowsWithin};
 
 use crate::apart::sharpened;
-use crate::bounds::{Bounds, greatest_shown, least_shown, shown};
+use crate::bounds::{Bounds, follows, greatest_shown, least_shown, refuted, shown};
 use crate::branched::Branched;
 use crate::checked::negation;
-use crate::join::{hull, joined_facts};
+use crate::join::joined_facts;
 use crate::linear::Linear;
 use crate::named::Named;
 use crate::narrowing::{narrow_to, put_fact};
 use crate::newest::{first_since, make_room};
 use crate::operations::{found, product_range, put_operation, quotient_range};
 use crate::quotients::{learn_down, learn_quotient, number_quotient};
+use crate::ranges::Ranges;
 use collections::{Items, Memory, TryClone};
 use std::alloc::Global;
 use std::marker::Model;
@@ -29,7 +30,7 @@ use std::marker::Model;
 /// aren't 0, which symbols are products and quotients of what, and which have what number in a branch. Clauses see the
 /// definitions' record.
 pub struct Symbols {
-    pub(crate) bounds: Vec<Bounds>,
+    pub(crate) bounds: Ranges,
     pub(crate) facts: Items<Linear>,
     pub(crate) apart: Items<Linear>,
     pub(crate) operations: Items<Named>,
@@ -60,12 +61,12 @@ impl Model for Symbols {
 
     ghost Value = { Known };
 
-    ghost view = { λ a. symbols_of a.bounds.items a.facts a.apart (operations_of a.operations) (branches_of a.branches) };
+    ghost view = { λ a. symbols_of a.bounds a.facts a.apart (operations_of a.operations) (branches_of a.branches) };
 }
 
 impl TryClone for Symbols {
     fn try_clone(&self) -> Result<Symbols, Memory> {
-        let bounds = copied(*self.bounds.allocator(), &self.bounds)?;
+        let bounds = self.bounds.try_clone()?;
         let facts = self.facts.try_clone()?;
         let apart = self.apart.try_clone()?;
         let operations = self.operations.try_clone()?;
@@ -88,7 +89,7 @@ impl Symbols {
         ensures { result ≡ symbols_of [] [] [] [] [] }
     {
         Symbols {
-            bounds: Vec::new(alloc),
+            bounds: Ranges::new(alloc),
             facts: Items::new(alloc),
             apart: Items::new(alloc),
             operations: Items::new(alloc),
@@ -106,7 +107,7 @@ impl Symbols {
     }
 
     // The ranges of the symbols in their order.
-    fn held_ranges(&self) -> &[Bounds]
+    fn held_ranges(&self) -> &Ranges
         ensures { numbered 0 result.now ≡ self.now.ranges }
     {
         &self.bounds
@@ -208,12 +209,12 @@ impl Symbols {
         self.fresh(None, None)
     }
 
-    /// More is known where an expression is at least 0.
+    /// More is known where an expression is at least 0. It is no fact of its own where it follows from others.
     #[tactic(auto, using(crate::proofs::HeldLemmas::learns_nothing))]
     pub fn learn(&mut self, expression: Linear) -> Result<(), Memory>
         ensures { OnOk result (Learns self.old self.new expression) }
     {
-        if self.shows(&expression) {
+        if follows(&self.bounds, self.facts.as_slice(), &expression) {
             return Ok(());
         }
         put_fact(&mut self.bounds, &mut self.facts, expression)?;
@@ -235,10 +236,7 @@ impl Symbols {
     pub fn refutes(&self, expression: &Linear) -> bool
         ensures { result ≡ true → IsRefuted self.now.ranges self.now.facts expression.now }
     {
-        match self.greatest(expression) {
-            Some(bound) => bound < 0,
-            None => false,
-        }
+        refuted(&self.bounds, self.facts.as_slice(), expression)
     }
 
     // An expression that is at least 0, or what is one less where it isn't 0.
@@ -270,7 +268,7 @@ impl Symbols {
         let count = self.bounds.len();
         let left = one.held_ranges();
         let right = other.held_ranges();
-        let bounds = hull(*self.bounds.allocator(), count, left, right)?;
+        let bounds = self.bounds.hull(left, right)?;
         let more = one.held_facts();
         let others = other.held_facts();
         let facts = joined_facts(
@@ -312,10 +310,11 @@ impl Symbols {
     }
 
     // Makes the range of a symbol narrower.
-    fn narrow(&mut self, symbol: usize, range: Bounds)
-        ensures { KnowsWithin self.old self.new symbol range.least range.greatest }
+    fn narrow(&mut self, symbol: usize, range: Bounds) -> Result<(), Memory>
+        ensures { OnOk result (KnowsWithin self.old self.new symbol range.least range.greatest) }
     {
-        narrow_to(&mut self.bounds, symbol, range);
+        narrow_to(&mut self.bounds, symbol, range)?;
+        Ok(())
     }
 
     // The symbol of a product or quotient, which lies in a range: a new one, unless one of the newest is known. What one is
@@ -332,7 +331,7 @@ impl Symbols {
         let known = self.known_symbol(divides, first, second)?;
         match known {
             Some(name) => {
-                self.narrow(name, range);
+                self.narrow(name, range)?;
                 Linear::symbol(first.memory(), name)
             }
             None => self.new_operation(divides, first, second, range),
@@ -503,21 +502,14 @@ impl Symbols {
 
 // A new symbol in a range, behind all others.
 fn put_symbol(
-    bounds: &mut Vec<Bounds>,
+    bounds: &mut Ranges,
     least: Option<i128>,
     greatest: Option<i128>,
 ) -> Result<Linear, Memory>
-    ensures any { IfOk result (λ e. (fs ds : List Expression) (os : List Operation) (cs : List Branch) → GivesAny (symbols_of bounds.old.items fs ds os cs) (symbols_of bounds.new.items fs ds os cs) e least greatest) }
-    ensures name { IfOk result (λ e. e ≡ symbol (length bounds.old.items)) }
+    ensures any { IfOk result (λ e. (fs ds : List Expression) (os : List Operation) (cs : List Branch) → GivesAny (symbols_of bounds.old fs ds os cs) (symbols_of bounds.new fs ds os cs) e least greatest) }
+    ensures name { IfOk result (λ e. e ≡ symbol (length bounds.old)) }
 {
-    let symbol = Linear::symbol(*bounds.allocator(), bounds.len())?;
+    let symbol = Linear::symbol(bounds.memory(), bounds.len())?;
     bounds.push(Bounds { least, greatest })?;
     Ok(symbol)
-}
-
-fn copied(alloc: Global, bounds: &[Bounds]) -> Result<Vec<Bounds>, Memory>
-    ensures { IfOk result (λ copy. copy.items ≡ bounds.now) }
-{
-    let copy = bounds.to_vec(alloc)?;
-    Ok(copy)
 }

@@ -1,11 +1,13 @@
 //! Terms: symbols with their coefficients, the newest symbol first.
-ghost use Rattle.std.specs.Prelude.{◌≡◌, ◌≤◌, ◌+ℤ◌, ◌*ℤ◌, length, drop, IfOk, true};
+ghost use Rattle.std.specs.Prelude.{◌≡◌, ◌≤◌, ◌+ℤ◌, ◌*ℤ◌, [], length, drop, IfOk, true};
 ghost use Rattle.std.specs.Option.{IfSome, MatchOption};
 ghost use Rattle.linear.specs.WalkSupport.{IsTaken, IsStep, IsPut, IsNext, AreCombined};
 
 use crate::checked::{product, sum};
-use collections::Memory;
+use collections::{Memory, TryClone};
 use std::alloc::Global;
+use std::marker::Model;
+use std::rc::Rc;
 
 /// A symbol and its coefficient.
 pub type Term = (usize, i128);
@@ -13,6 +15,103 @@ pub type Term = (usize, i128);
 /// The most symbols of an expression: 32. Where a sum would have more there is no sum, which bounds the time
 /// and the memory of each step; the expressions of real contracts have a few.
 pub const MOST_SYMBOLS: usize = 32;
+
+// A list of terms of its own, or one that copies share.
+#[derive(Drop)]
+enum Home {
+    Own(Vec<Term>),
+    Shared(Rc<Vec<Term>, Global>),
+}
+
+/// The terms of an expression, which copies share where there are any. Clauses see the list.
+pub(crate) struct Terms {
+    home: Home,
+}
+
+// Dropped once.
+impl Drop for Terms {
+    fn drop(self) {
+        let Terms { home: _ } = self;
+    }
+}
+
+impl Model for Terms {
+    ghost use Rattle.std.specs.Prelude.{List, ℕ, ℤ};
+    ghost use Rattle.std.specs.Rc.{rc_value};
+    ghost use Rattle.linear.specs.declared.terms.Home.TheVariants.{Own, Shared};
+
+    ghost Value = { List (ℕ × ℤ) };
+
+    ghost view = { λ t. elim t.home [ Own own ↦ own.items | Shared shared ↦ (rc_value shared).items ] };
+}
+
+impl TryClone for Terms {
+    fn try_clone(&self) -> Result<Terms, Memory> {
+        match &self.home {
+            Home::Own(own) => {
+                let copy = copied(*own.allocator(), own)?;
+                Ok(Terms {
+                    home: Home::Own(copy),
+                })
+            }
+            Home::Shared(shared) => {
+                let owner = shared.clone()?;
+                Ok(Terms {
+                    home: Home::Shared(owner),
+                })
+            }
+        }
+    }
+}
+
+impl Terms {
+    /// No terms, in a list that will take memory from `alloc`.
+    pub(crate) fn none(alloc: Global) -> Terms
+        ensures { result ≡ [] }
+    {
+        Terms {
+            home: Home::Own(Vec::new(alloc)),
+        }
+    }
+
+    /// The terms of a list.
+    pub(crate) fn new(terms: Vec<Term>) -> Result<Terms, Memory>
+        ensures { IfOk result (λ t. t ≡ terms.items) }
+    {
+        let home = if terms.is_empty() {
+            Home::Own(terms)
+        } else {
+            let alloc = *terms.allocator();
+            Home::Shared(Rc::new(alloc, terms)?)
+        };
+        Ok(Terms { home })
+    }
+
+    /// Where they take memory from.
+    pub(crate) fn memory(&self) -> Global {
+        match &self.home {
+            Home::Own(own) => *own.allocator(),
+            Home::Shared(shared) => *shared.allocator(),
+        }
+    }
+
+    /// The terms in their order.
+    pub(crate) fn as_slice(&self) -> &[Term]
+        ensures { result.now ≡ self.now }
+    {
+        match &self.home {
+            Home::Own(own) => own,
+            Home::Shared(shared) => shared,
+        }
+    }
+}
+
+fn copied(alloc: Global, terms: &[Term]) -> Result<Vec<Term>, Memory>
+    ensures { IfOk result (λ copy. copy.items ≡ terms.now) }
+{
+    let copy = terms.to_vec(alloc)?;
+    Ok(copy)
+}
 
 // The newest symbol of what is left of two lists of terms; none where nothing is left.
 pub(crate) fn next_symbol(

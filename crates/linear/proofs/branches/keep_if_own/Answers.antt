@@ -1,5 +1,4 @@
-use Rattle.linear.proofs.BranchLemmas.{taken_kept, keeps_nothing}
-use Rattle.linear.specs.Linear.{symbol}
+use Rattle.linear.proofs.BranchLemmas.{taken_kept}
 use Rattle.linear.proofs.branches.keep_if_own.Goals as goal
 
 pub returns : goal.returns

@@ -1,4 +1,4 @@
-use Rattle.linear.proofs.BranchLemmas.{own_kept, keeps_nothing}
+use Rattle.linear.proofs.BranchLemmas.{own_kept}
 use Rattle.linear.proofs.branches.keep_number.Goals as goal
 
 pub returns-then-older : goal.returns-then-older

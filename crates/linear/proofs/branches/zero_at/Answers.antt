@@ -1,6 +1,4 @@
-use Rattle.std.proofs.Common.{subst, sym, FitsSigned, rules, negsuc}
-use Rattle.std.specs.Int.{w128}
-use Rattle.std.proofs.lemmas.Int.{to_z-of_z}
+use Rattle.std.proofs.Common.{subst, sym}
 use Rattle.linear.specs.Linear.{Linear}
 use Rattle.linear.specs.Branches.{IsZeroIn}
 use Rattle.linear.proofs.BranchLemmas.{zero_by}

@@ -2,4 +2,4 @@ use Rattle.linear.specs.Held.{AreNarrowed}
 use Rattle.linear.proofs.narrowing.narrow.Given as goal
 
 abbrev pub invariant-loop-term : goal.invariant-loop-term
-invariant-loop-term l = AreNarrowed l.fn.bounds.items l.bounds.items l.expression
+invariant-loop-term l = AreNarrowed l.fn.bounds l.bounds l.expression

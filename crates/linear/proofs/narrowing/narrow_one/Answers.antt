@@ -1,5 +1,5 @@
-use Rattle.linear.proofs.HeldLemmas.{narrowed_at}
+use Rattle.linear.proofs.RangeLemmas.{narrowed_by}
 use Rattle.linear.proofs.narrowing.narrow_one.Goals as goal
 
-pub returns-then-symbol-len : goal.returns-then-symbol-len
-returns-then-symbol-len c = narrowed_at c.args.bounds.now.items c.args.expression.now c.args.symbol c.in_ok-range.range (rw c.deref.ensures.value at c.in_ok-range.ensures)
+pub returns : goal.returns
+returns c = narrowed_by c.args.bounds.now c.put.new.self c.args.expression.now c.args.symbol c.in_ok-range.range c.in_ok-range.ensures c.in_ok-put.ensures

@@ -6,5 +6,5 @@ use Rattle.linear.proofs.narrowing.put_fact.Goals as goal
 
 pub returns : goal.returns
 returns c = λ ds os cs.
-    subst (λ (fs : List Linear). Learns (symbols_of c.args.bounds.now.items c.args.facts.now ds os cs) (symbols_of c.narrow.new.bounds.items fs ds os cs) c.args.fact) (sym c.in_ok-push.ensures.added)
-    (learn_held c.args.bounds.now.items c.narrow.new.bounds.items c.args.facts.now c.make_room.new.list ds os cs c.args.fact c.in_ok-narrow.ensures c.in_ok-make_room.ensures)
+    subst (λ (fs : List Linear). Learns (symbols_of c.args.bounds.now c.args.facts.now ds os cs) (symbols_of c.narrow.new.bounds fs ds os cs) c.args.fact) (sym c.in_ok-push.ensures.added)
+    (learn_held c.args.bounds.now c.narrow.new.bounds c.args.facts.now c.make_room.new.list ds os cs c.args.fact c.in_ok-narrow.ensures c.in_ok-make_room.ensures)

@@ -5,8 +5,8 @@ use Rattle.linear.proofs.QueryLemmas.{ok_weaker}
 use Rattle.linear.proofs.ResultLemmas.{named_within}
 use Rattle.linear.proofs.symbols.Symbols.operation.Goals as goal
 
-pub returns-in-Some : goal.returns-in-Some
-returns-in-Some c =
+pub returns-in_ok-narrow-in-Some : goal.returns-in_ok-narrow-in-Some
+returns-in_ok-narrow-in-Some c =
     let k = c.args.self.now in
     let m = c.narrow.new.self in
     let d = c.args.divides in
@@ -15,4 +15,4 @@ returns-in-Some c =
     let low = c.args.range.least in
     let high = c.args.range.greatest in
     let i = rw c.in-Some.is at c.in_ok-known.ensures in
-    ok_weaker c.symbol.result (λ e. e ≡ symbol c.in-Some.name) (λ e. GivesInRange d low high k m l n e) (λ e h. named_within d low high k m l n e c.in-Some.name i c.narrow.ensures h) c.symbol.ensures
+    ok_weaker c.symbol.result (λ e. e ≡ symbol c.in-Some.name) (λ e. GivesInRange d low high k m l n e) (λ e h. named_within d low high k m l n e c.in-Some.name i c.in_ok-narrow-in-Some.ensures h) c.symbol.ensures
