@@ -3,9 +3,9 @@
 
 Needs    (cd crates/marlowe && rt run -- --version), another program may be named as the argument; valgrind, and Debian's package `time`
 Usage    analysis_growth.py [PROGRAM [FAMILY..]]
-Expect   of each family as many instructions for a node at the largest text as at the smallest, within 1.3, but for two, whose one observation has thousands of
-         quotients or Conds, and of which 3 times as many are known; of the wide Whens at most four times those of `table`; no text over ten seconds or
-         128 MiB. Else the script ends with status 1.
+Expect   of each family as many instructions for a node at the largest text as at the smallest, within 1.3, but for one, whose one observation has thousands
+         of Conds, and of which twice as many are known; of the wide Whens at most four times those of `table`; no text over ten seconds or 128 MiB. Else
+         the script ends with status 1.
 Mind     instructions are exact and the same on a busy machine; seconds and KiB are of one run at the largest text, and waver.
 """
 import json
@@ -114,18 +114,23 @@ def joined(observations):
     return observations[0]
 
 
-def one_observation(n, value):
+def one_observation(n, value, least=-1, high=100):
     """An If of one observation, which compares many values of three choices."""
-    compared = joined([{"value": value(i), "ge_than": -1} for i in range(n // 5)])
+    compared = joined([{"value": value(i), "ge_than": least} for i in range(n // 5)])
     contract = {"if": compared, "then": "close", "else": "close"}
     for i in range(3):
-        contract = chooses(i, contract)
+        contract = chooses(i, contract, 1, high)
     return contract, None, None
 
 
 def wide_quotients(n):
     """One observation of quotients, each by another number."""
     return one_observation(n, lambda i: {"divide": chosen(i % 3), "by": i + 2})
+
+
+def wide_undecided(n):
+    """One observation of quotients, each of which may be above 0 or not."""
+    return one_observation(n, lambda i: {"divide": chosen(i % 3), "by": i + 2}, 1, 1000000)
 
 
 def wide_conds(n):
@@ -160,10 +165,10 @@ def many_accounts_paid(n):
 
 
 FAMILIES = [wide_when, many_forms, wide_pays, deep_arithmetic, many_alarms, many_choices, many_quotients, many_products, many_clamps, many_conditions,
-            wide_quotients, wide_conds, tree_of_conds, many_cases_of_a_choice, many_accounts_paid]
+            wide_quotients, wide_undecided, wide_conds, tree_of_conds, many_cases_of_a_choice, many_accounts_paid]
 WIDE = [wide_when, many_forms, wide_pays]
-# For each truth of a comparison the ranges of all unknowns are copied, and here each comparison has unknowns of its own.
-STEEPER, STEEPEST_OF_THESE = [wide_quotients, wide_conds], 3
+# Each Cond leaves facts and branches behind, of which the newest are kept: the smallest text has too few Conds to come near so many.
+STEEPER, STEEPEST_OF_THESE = [wide_conds], 2
 
 
 def text_of(make, size):
