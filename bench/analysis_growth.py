@@ -3,9 +3,8 @@
 
 Needs    (cd crates/marlowe && rt run -- --version), another program may be named as the argument; valgrind, and Debian's package `time`
 Usage    analysis_growth.py [PROGRAM [FAMILY..]]
-Expect   of each family as many instructions for a node at the largest text as at the smallest, within 1.3, but for one, whose one observation has thousands
-         of Conds, and of which twice as many are known; of the wide Whens at most four times those of `table`; no text over ten seconds or 128 MiB. Else
-         the script ends with status 1.
+Expect   of each family as many instructions for a node at the largest text as at the smallest, within 1.3; of the wide Whens at most four times those of
+         `table`; no text over ten seconds or 128 MiB. Else the script ends with status 1.
 Mind     instructions are exact and the same on a busy machine; seconds and KiB are of one run at the largest text, and waver.
 """
 import json
@@ -114,10 +113,9 @@ def joined(observations):
     return observations[0]
 
 
-def one_observation(n, value, least=-1, high=100):
-    """An If of one observation, which compares many values of three choices."""
-    compared = joined([{"value": value(i), "ge_than": least} for i in range(n // 5)])
-    contract = {"if": compared, "then": "close", "else": "close"}
+def one_observation(n, compared, high=100):
+    """An If of one observation, which joins many comparisons of three choices."""
+    contract = {"if": joined([compared(i) for i in range(n // 5)]), "then": "close", "else": "close"}
     for i in range(3):
         contract = chooses(i, contract, 1, high)
     return contract, None, None
@@ -125,17 +123,27 @@ def one_observation(n, value, least=-1, high=100):
 
 def wide_quotients(n):
     """One observation of quotients, each by another number."""
-    return one_observation(n, lambda i: {"divide": chosen(i % 3), "by": i + 2})
-
-
-def wide_undecided(n):
-    """One observation of quotients, each of which may be above 0 or not."""
-    return one_observation(n, lambda i: {"divide": chosen(i % 3), "by": i + 2}, 1, 1000000)
+    return one_observation(n, lambda i: {"value": {"divide": chosen(i % 3), "by": i + 2}, "ge_than": -1})
 
 
 def wide_conds(n):
     """One observation of Conds, each by another comparison."""
-    return one_observation(n, lambda i: {"if": {"value": chosen(i % 3), "gt": i % 97}, "then": i, "else": chosen((i + 1) % 3)})
+    def compared(i):
+        return {"value": {"if": {"value": chosen(i % 3), "gt": i % 97}, "then": i, "else": chosen((i + 1) % 3)}, "ge_than": -1}
+    return one_observation(n, compared)
+
+
+def undecided_quotients(n):
+    """One observation of quotients, each of which may be above 0 or not."""
+    return one_observation(n, lambda i: {"value": {"divide": chosen(i % 3), "by": i + 2}, "ge_than": 1}, 1000000)
+
+
+def undecided_conds(n):
+    """One observation of Conds, each of which may be above a number or not, as may be what it asks."""
+    def compared(i):
+        one, other = chosen(i % 3), chosen((i + 1) % 3)
+        return {"value": {"if": {"value": one, "gt": {"add": other, "and": i}}, "then": one, "else": other}, "ge_than": i}
+    return one_observation(n, compared, 1000000)
 
 
 def tree_of_conds(n):
@@ -165,10 +173,8 @@ def many_accounts_paid(n):
 
 
 FAMILIES = [wide_when, many_forms, wide_pays, deep_arithmetic, many_alarms, many_choices, many_quotients, many_products, many_clamps, many_conditions,
-            wide_quotients, wide_undecided, wide_conds, tree_of_conds, many_cases_of_a_choice, many_accounts_paid]
+            wide_quotients, wide_conds, undecided_quotients, undecided_conds, tree_of_conds, many_cases_of_a_choice, many_accounts_paid]
 WIDE = [wide_when, many_forms, wide_pays]
-# Each Cond leaves facts and branches behind, of which the newest are kept: the smallest text has too few Conds to come near so many.
-STEEPER, STEEPEST_OF_THESE = [wide_conds], 2
 
 
 def text_of(make, size):
@@ -228,8 +234,7 @@ def main():
                 print(f"  {len(text):8} bytes, {nodes:7} nodes: {a_node:9.0f} instructions a node, {count / table:6.2f} times `table`", flush=True)
             seconds, kib = spent(program, path)
             print(f"  {seconds:.2f} s, {kib} KiB; for a node {a_node / first:.2f} times as many at the largest")
-            steepest = STEEPEST_OF_THESE if make in STEEPER else STEEPEST
-            failed |= a_node > steepest * first or make in WIDE and count > MOST_TIMES * table or seconds > MOST_SECONDS or kib > MOST_KIB
+            failed |= a_node > STEEPEST * first or make in WIDE and count > MOST_TIMES * table or seconds > MOST_SECONDS or kib > MOST_KIB
     sys.exit(1 if failed else 0)
 
 

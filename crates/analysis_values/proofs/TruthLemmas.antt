@@ -1,5 +1,5 @@
 -- Comparisons, observations, and one of two values.
-use Rattle.std.proofs.Common.{◌≡◌, ℤ, pos, ◌+ℤ◌, ◌-ℤ◌, ◌≤ℤ◌, ◌<ℤ◌, int_lt, Bool, true, false, not, cond, ◌&&◌, ◌||◌, List, [], ◌++◌, refl, sym, ap, ◌∙◌, subst, arith, Option, Some, None, Result, inl, inr}
+use Rattle.std.proofs.Common.{◌≡◌, ℤ, pos, ◌+ℤ◌, ◌-ℤ◌, ◌≤ℤ◌, ◌<ℤ◌, int_lt, Bool, true, false, not, cond, ◌&&◌, ◌||◌, ◌⊎◌, List, [], ◌++◌, refl, sym, ap, ◌∙◌, subst, arith, Option, Some, None, Result, inl, inr}
 use Rattle.std.proofs.lemmas.Int.{ints}
 use Rattle.std.proofs.lemmas.List.{append_assoc}
 use Rattle.std.specs.Prelude.{IfOk, is_some}
@@ -18,7 +18,7 @@ use Rattle.states.specs.States.{StateMaps}
 use Rattle.evaluation.specs.Evaluation.{eval, visited, holds, looked}
 use Rattle.linear.specs.Linear.{Linear, Valuation, number_at, IsBelow}
 use Rattle.linear.specs.Combined.{StandsFor, AreBelow}
-use Rattle.linear.specs.Symbols.{Symbols, Leads, Gives}
+use Rattle.linear.specs.Symbols.{Symbols, IsClosed, IsValued, Leads, Gives}
 use Rattle.linear.specs.Held.{Assumes, Distinguishes}
 use Rattle.linear.specs.Joined.{Joins}
 use Rattle.linear.specs.Either.{GivesEither}
@@ -38,7 +38,7 @@ use Rattle.analysis_values.specs.declared.comparisons.Comparison.{Comparison}
 use Rattle.analysis_values.specs.declared.comparisons.Comparison.TheVariants.{NoLess, Greater, Less, NoGreater, Same}
 use Rattle.analysis_values.specs.declared.values.Truths.{Truths}
 use Rattle.analysis_values.specs.Answered.{GoesTo, Evaluates, FitsWhereSaid, Decides, Unites}
-use Rattle.analysis_values.specs.Steps.{EvaluatesBoth, BothFitWhereSaid, KnowsWhere, IsNoLess, IsLess, IsSame, IsOther, test_of, HoldsOf, FailsOf, LeadsEither, LeadsThere, DecidesThere, LooksWhereSaid, LeadsOn, EvaluatesEither}
+use Rattle.analysis_values.specs.Steps.{EvaluatesBoth, BothFitWhereSaid, KnowsWhere, IsNoLess, IsLess, IsSame, IsOther, test_of, HoldsOf, FailsOf, LeadsEither, LeadsThere, DecidesThere, Leaves, LooksWhereSaid, LeadsOn, EvaluatesEither}
 use Rattle.analysis_values.proofs.StepLemmas.{described_leads, through, leads_itself, goes_both}
 
 -- ---- comparisons of two expressions
@@ -138,6 +138,28 @@ there k r m o h = some_leads k r m h.leads o h.on
 
 pub decides_at_once : (v : View) (k m : Symbols) (o : ObservationTree) (p q : Option Symbols) → DecidesThere v k m o p q → DecidesIn v k o p q
 decides_at_once v k m o p q h scope i s ps d = there k d.numbers m (cond (holds i s o) p q) (h scope i s ps d)
+
+pub settled_decides : (v : View) (k m n : Symbols) (o : ObservationTree) (p q s t : Option Symbols) → DecidesThere v k m o p q → Leaves k m p q n s t → DecidesThere v k n o s t
+settled_decides v k m n o p q s t h l = by_case l.settles
+  where
+    stays : (r : Valuation) → IsClosed k → IsValued r k → (u : Option Symbols) → u ≡ Some k → LeadsThere k r k u
+    stays r c w u e = record { leads = leads_itself k r c w; on = subst (λ u. IsSomeAnd u (Leads k (leads_itself k r c w).values)) (sym e) (leads_itself k (leads_itself k r c w).values (leads_itself k r c w).closed (leads_itself k r c w).valued) }
+
+    none : (r : Valuation) (u : Option Symbols) → u ≡ None → LeadsThere k r m u → ⊥
+    none r u e g = subst (λ u. IsSomeAnd u (Leads m g.leads.values)) e g.on
+
+    by_case : ((n ≡ m) × (s ≡ p) × (t ≡ q)) ⊎ (((n ≡ k) × (s ≡ Some k) × (q ≡ None)) ⊎ ((n ≡ k) × (t ≡ Some k) × (p ≡ None))) → DecidesThere v k n o s t
+    by_case (inl e) scope i st ps d = subst (λ z. DecidesThere v k z o s t) (sym e.0) (subst (λ z. DecidesThere v k m o z t) (sym e.1) (subst (λ z. DecidesThere v k m o p z) (sym e.2) h)) scope i st ps d
+    by_case (inr (inl e)) scope i st ps d = subst (λ z. LeadsThere k d.numbers z (cond (holds i st o) s t)) (sym e.0) (at (holds i st o) (h scope i st ps d))
+      where
+        at : (b : Bool) → LeadsThere k d.numbers m (cond b p q) → LeadsThere k d.numbers k (cond b s t)
+        at true g = stays d.numbers d.closed d.valued s e.1
+        at false g = absurd (none d.numbers q e.2 g)
+    by_case (inr (inr e)) scope i st ps d = subst (λ z. LeadsThere k d.numbers z (cond (holds i st o) s t)) (sym e.0) (at (holds i st o) (h scope i st ps d))
+      where
+        at : (b : Bool) → LeadsThere k d.numbers m (cond b p q) → LeadsThere k d.numbers k (cond b s t)
+        at true g = absurd (none d.numbers p e.2 g)
+        at false g = stays d.numbers d.closed d.valued t e.1
 
 module _ (v : View) (k m : Symbols) (x y : ValueTree) (a b : Linear) where
   -- what two numbers are compared by

@@ -4,7 +4,7 @@ ghost use Rattle.contract.specs.Tree.{value_tree, available_money, constant, neg
 ghost use Rattle.contract.specs.Tree.{observation_tree, and_obs, or_obs, not_obs, chose_something, true_obs, false_obs};
 ghost use Rattle.analysis_domain.specs.Expressions.{known};
 ghost use Rattle.analysis_values.specs.Answered.{Evaluates, FitsWhereSaid};
-ghost use Rattle.analysis_values.specs.Steps.{LeadsOn, tree_of, test_of, EvaluatesBoth, BothFitWhereSaid, EvaluatesIn, DecidesThere, LooksWhereSaid};
+ghost use Rattle.analysis_values.specs.Steps.{Leaves, LeadsOn, tree_of, test_of, EvaluatesBoth, BothFitWhereSaid, EvaluatesIn, DecidesThere, LooksWhereSaid};
 
 use crate::cases::{Counted, of_either};
 use crate::comparisons::{Comparison, where_false, where_true};
@@ -448,14 +448,50 @@ fn compare(
     ensures truths { IfOk result (λ p. DecidesThere view.now symbols.old symbols.new (test_of comparison (value_tree left.now) (value_tree right.now)) p.if_true p.if_false) }
     ensures fits { IfOk result (λ p. LooksWhereSaid view.now symbols.old (test_of comparison (value_tree left.now) (value_tree right.now)) p.fits) }
 {
-    let operands = both_values(view, symbols, left, right)?;
-    let if_true = where_true(symbols, comparison, &operands.left, &operands.right)?;
-    let if_false = where_false(symbols, comparison, &operands.left, &operands.right)?;
-    Ok(Truths {
-        fits: operands.fits,
-        if_true,
-        if_false,
-    })
+    let mut there = symbols.try_clone()?;
+    let operands = both_values(view, &mut there, left, right)?;
+    let if_true = where_true(&there, comparison, &operands.left, &operands.right)?;
+    let if_false = where_false(&there, comparison, &operands.left, &operands.right)?;
+    settled(symbols, there, operands.fits, if_true, if_false)
+}
+
+// What a comparison leaves behind: where its values made new unknowns and only one truth can be, what was known before.
+fn settled(
+    symbols: &mut Symbols,
+    there: Symbols,
+    fits: bool,
+    if_true: Option<Symbols>,
+    if_false: Option<Symbols>,
+) -> Result<Truths, Memory>
+    ensures fits { IfOk result (λ t. t.fits ≡ fits) }
+    ensures leaves { IfOk result (λ t. Leaves symbols.old there if_true if_false symbols.new t.if_true t.if_false) }
+{
+    match (there.count() > symbols.count(), if_true, if_false) {
+        (true, Some(_), None) => {
+            let same = symbols.try_clone()?;
+            Ok(Truths {
+                fits,
+                if_true: Some(same),
+                if_false: None,
+            })
+        }
+        (true, None, Some(_)) => {
+            let same = symbols.try_clone()?;
+            Ok(Truths {
+                fits,
+                if_true: None,
+                if_false: Some(same),
+            })
+        }
+        (_, if_true, if_false) => {
+            *symbols = there;
+            Ok(Truths {
+                fits,
+                if_true,
+                if_false,
+            })
+        }
+    }
 }
 
 // It is false.

@@ -20,6 +20,12 @@ pub struct Bounds {
     pub greatest: Option<i128>,
 }
 
+/// The range of a number of which nothing is known.
+pub(crate) const UNBOUNDED: Bounds = Bounds {
+    least: None,
+    greatest: None,
+};
+
 /// The most facts that a query looks at, the newest: 64. That an expression isn't shown to be natural is always a
 /// true answer, and so the time of a query is bounded.
 pub const MOST_FACTS: usize = 64;

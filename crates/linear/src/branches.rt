@@ -41,12 +41,12 @@ fn is_symbol(expression: &Linear, symbol: usize) -> bool
     }
 }
 
-// Whether all facts are shown in a case.
+// Whether all facts follow in a case. What a case has learned follows there, and so what a branch of it asks.
 fn shows_all(here: &Symbols, facts: &[Linear]) -> bool
     ensures { result ≡ true → ShowsAll here.now facts.now }
 {
     for fact in facts {
-        if !here.shows(fact) {
+        if !here.follows(fact) {
             return false;
         }
     }
@@ -102,7 +102,26 @@ fn tells(
     Ok(taken)
 }
 
-// Whether a symbol is shown to have the number of an expression in a case.
+// Whether a symbol is shown to have the number of an expression in a case, as it is the symbol or by the branch at a place.
+fn has_number_by(
+    branches: &[Branched],
+    at: usize,
+    symbol: usize,
+    here: &Symbols,
+    expression: &Linear,
+) -> Result<bool, Memory>
+    requires { at < length branches.now }
+    ensures { IfOk result (λ yes. yes ≡ true → HasNumber (branches_of branches.now) symbol here.now expression.now) }
+{
+    let itself = is_symbol(expression, symbol);
+    if itself {
+        return Ok(true);
+    }
+    let told = tells(branches, at, symbol, here, expression)?;
+    Ok(told)
+}
+
+// .. or by any of the newest branches.
 fn has_number(
     branches: &[Branched],
     symbol: usize,
@@ -111,12 +130,8 @@ fn has_number(
 ) -> Result<bool, Memory>
     ensures { IfOk result (λ yes. yes ≡ true → HasNumber (branches_of branches.now) symbol here.now expression.now) }
 {
-    let itself = is_symbol(expression, symbol);
-    if itself {
-        return Ok(true);
-    }
     for at in first_looked(branches.len())..branches.len() {
-        let yes = tells(branches, at, symbol, here, expression)?;
+        let yes = has_number_by(branches, at, symbol, here, expression)?;
         if yes {
             return Ok(true);
         }
@@ -138,7 +153,7 @@ fn symbol_at(
 {
     let branch = &branches[at];
     let symbol = branch.symbol;
-    let first = has_number(branches, symbol, one, left)?;
+    let first = has_number_by(branches, at, symbol, one, left)?;
     if !first {
         return Ok(None);
     }

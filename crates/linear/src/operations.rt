@@ -8,7 +8,7 @@ ghost use Rattle.linear.specs.Results.{IsOf, IsSymbolOf, IsNamed, GivesInRange, 
 ghost use Rattle.linear.specs.Results.{IsTurned, IsByGreatest, IsLeastQuotient, IsGreatestQuotient, IsQuotientRange};
 
 use crate::apart::cancels;
-use crate::bounds::{Bounds, first_looked};
+use crate::bounds::{Bounds, UNBOUNDED, first_looked};
 use crate::checked::{negation, product, quotient};
 use crate::join::{greatest_of_both, least_of_both};
 use crate::linear::Linear;
@@ -166,15 +166,9 @@ pub(crate) fn product_range(left: Bounds, right: Bounds) -> Bounds
                 least: Some(low),
                 greatest: Some(high),
             },
-            None => Bounds {
-                least: None,
-                greatest: None,
-            },
+            None => UNBOUNDED,
         },
-        _ => Bounds {
-            least: None,
-            greatest: None,
-        },
+        _ => UNBOUNDED,
     }
 }
 

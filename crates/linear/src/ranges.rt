@@ -3,7 +3,7 @@ ghost use Rattle.std.specs.Prelude.{◌≡◌, ◌+◌, ◌*◌, ◌++◌, ◌�
 ghost use Rattle.linear.specs.Ranged.{before, AreFull, IsRangeAt, IsRangeOf, ArePut, HoldInBoth, IsHull};
 ghost use Rattle.linear.specs.Held.{AreWithin};
 
-use crate::bounds::Bounds;
+use crate::bounds::{Bounds, UNBOUNDED};
 use crate::join::{greatest_of_both, least_of_both};
 use collections::{Memory, TryClone};
 use std::alloc::{AllocError, Global};
@@ -203,10 +203,7 @@ fn range_at(ranges: &[Bounds], at: usize) -> Bounds
     if at < ranges.len() {
         ranges[at]
     } else {
-        Bounds {
-            least: None,
-            greatest: None,
-        }
+        UNBOUNDED
     }
 }
 
@@ -221,10 +218,7 @@ fn range_in(parts: &[Part], newest: &[Bounds], place: usize, at: usize) -> Bound
     if place == parts.len() {
         return range_at(newest, at);
     }
-    Bounds {
-        least: None,
-        greatest: None,
-    }
+    UNBOUNDED
 }
 
 // Further owners of parts.
@@ -265,6 +259,7 @@ fn close(parts: &mut Vec<Part>, newest: &mut Vec<Bounds>) -> Result<(), Memory>
     requires long { length newest.old.items ≡ 64 }
     ensures full { AreFull parts.new.items }
     ensures same { before parts.new.items newest.new.items ≡ before parts.old.items newest.old.items }
+    ensures empty { OnOk result (newest.new.items ≡ []) }
 {
     let alloc = *newest.allocator();
     let ranges = copied(alloc, newest)?;

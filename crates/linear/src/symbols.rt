@@ -169,12 +169,19 @@ impl Symbols {
         Ok(())
     }
 
-    /// Whether an expression is shown to be at least 0, by the ranges or by them and one of the `MOST_FACTS` newest
-    /// facts. Takes no memory.
+    /// Whether an expression is shown to be at least 0, by the ranges, by them and one of the `MOST_FACTS` newest facts, or by them
+    /// and several of these, of which each takes a symbol out. Takes no memory.
     pub fn shows(&self, expression: &Linear) -> bool
         ensures { result ≡ true → IsShown self.now.ranges self.now.facts expression.now }
     {
         shown(&self.bounds, self.facts.as_slice(), expression)
+    }
+
+    // Whether that is shown without a look at each fact alone, which takes longest.
+    pub(crate) fn follows(&self, expression: &Linear) -> bool
+        ensures { result ≡ true → IsShown self.now.ranges self.now.facts expression.now }
+    {
+        follows(&self.bounds, self.facts.as_slice(), expression)
     }
 
     /// The greatest number that an expression is shown not to be below, if there is one; looks as far as `shows`.
@@ -214,7 +221,7 @@ impl Symbols {
     pub fn learn(&mut self, expression: Linear) -> Result<(), Memory>
         ensures { OnOk result (Learns self.old self.new expression) }
     {
-        if follows(&self.bounds, self.facts.as_slice(), &expression) {
+        if self.follows(&expression) {
             return Ok(());
         }
         put_fact(&mut self.bounds, &mut self.facts, expression)?;

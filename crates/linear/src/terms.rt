@@ -49,7 +49,7 @@ impl TryClone for Terms {
     fn try_clone(&self) -> Result<Terms, Memory> {
         match &self.home {
             Home::Own(own) => {
-                let copy = copied(*own.allocator(), own)?;
+                let copy = own.to_vec(*own.allocator())?;
                 Ok(Terms {
                     home: Home::Own(copy),
                 })
@@ -104,13 +104,6 @@ impl Terms {
             Home::Shared(shared) => shared,
         }
     }
-}
-
-fn copied(alloc: Global, terms: &[Term]) -> Result<Vec<Term>, Memory>
-    ensures { IfOk result (λ copy. copy.items ≡ terms.now) }
-{
-    let copy = terms.to_vec(alloc)?;
-    Ok(copy)
 }
 
 // The newest symbol of what is left of two lists of terms; none where nothing is left.

@@ -1,4 +1,4 @@
-use Rattle.std.proofs.Common.{rules, refl, ap, ◌∙◌, FitsSigned}
+use Rattle.std.proofs.Common.{rules, refl, sym, ap, ◌∙◌, subst, FitsSigned}
 use Rattle.std.specs.Int.{w128}
 use Rattle.std.proofs.lemmas.Int.{to_z-of_z}
 use Rattle.contract.specs.Tree.{value_tree, neg_value, cond_value, observation_tree}
@@ -6,9 +6,9 @@ use Rattle.contract.proofs.TreeLaws.{value_tree-AvailableMoney, value_tree-Const
 use Rattle.contract.proofs.TreeLaws.{observation_tree-AndObs, observation_tree-OrObs, observation_tree-NotObs, observation_tree-ChoseSomething, observation_tree-ValueGE, observation_tree-ValueGT, observation_tree-ValueLT, observation_tree-ValueLE, observation_tree-ValueEQ, observation_tree-TrueObs, observation_tree-FalseObs}
 use Rattle.linear.proofs.QueryLemmas.{ok_weaker}
 use Rattle.analysis_domain.specs.Expressions.{known}
-use Rattle.analysis_values.specs.Steps.{tree_of, result_of}
+use Rattle.analysis_values.specs.Steps.{tree_of, test_of, result_of, DecidesThere, LooksWhereSaid}
 use Rattle.analysis_values.proofs.StepLemmas.{value_as, fits_as, ok_three, two_evaluated, two_fit, tree_evaluated, tree_visited, negation_evaluated, one_fits, both_evaluated, both_fit}
-use Rattle.analysis_values.proofs.TruthLemmas.{leads_on_itself, leads_on_by, leads_on_then, evaluated_on, fits_on, not_evaluated, not_fits, and_evaluated, and_fits, or_evaluated, or_fits, truths_as, looks_as, test_decides, test_looks, not_decides, and_never, and_never_looks, and_decides, and_looks, or_never, or_never_looks, or_decides, or_looks}
+use Rattle.analysis_values.proofs.TruthLemmas.{leads_on_by, leads_on_then, evaluated_on, fits_on, not_evaluated, not_fits, and_evaluated, and_fits, or_evaluated, or_fits, truths_as, looks_as, settled_decides, test_decides, test_looks, not_decides, and_never, and_never_looks, and_decides, and_looks, or_never, or_never_looks, or_decides, or_looks}
 use Rattle.analysis_values.proofs.values.«+values».Goals as goal
 
 pub value_in-returns-in-AvailableMoney : goal.value_in-returns-in-AvailableMoney
@@ -323,13 +323,21 @@ value_where-returns-in_ok-evaluated-in-Some t c =
 
 pub compare-returns-clause-truths : goal.compare-returns-clause-truths
 compare-returns-clause-truths t c =
-    test_decides c.args.view.now c.args.symbols.now c.both_values.new.symbols (value_tree c.args.left.now) (value_tree c.args.right.now) c.in_ok-operands.operands.left c.in_ok-operands.operands.right c.args.comparison
-    c.in_ok-if_true.if_true c.in_ok-if_false.if_false c.in_ok-operands.ensures.number c.in_ok-if_true.ensures c.in_ok-if_false.ensures
+    let o = test_of c.args.comparison (value_tree c.args.left.now) (value_tree c.args.right.now) in
+    let k = c.args.symbols.now in
+    let e = rw c.in_ok-there.ensures at c.in_ok-operands.ensures.number in
+    let d = test_decides c.args.view.now k c.both_values.new.symbols (value_tree c.args.left.now) (value_tree c.args.right.now) c.in_ok-operands.operands.left c.in_ok-operands.operands.right c.args.comparison
+    c.in_ok-if_true.if_true c.in_ok-if_false.if_false e c.in_ok-if_true.ensures c.in_ok-if_false.ensures in
+    ok_weaker c.settled.result _ (λ p. DecidesThere c.args.view.now k c.settled.new.symbols o p.if_true p.if_false)
+    (λ p l. settled_decides c.args.view.now k c.both_values.new.symbols c.settled.new.symbols o c.in_ok-if_true.if_true c.in_ok-if_false.if_false p.if_true p.if_false d l) c.settled.ensures.leaves
 
 pub compare-returns-clause-fits : goal.compare-returns-clause-fits
 compare-returns-clause-fits t c =
-    test_looks c.args.view.now c.args.symbols.now c.both_values.new.symbols (value_tree c.args.left.now) (value_tree c.args.right.now) c.in_ok-operands.operands.left c.in_ok-operands.operands.right c.args.comparison
-    c.in_ok-operands.operands.fits c.in_ok-operands.ensures.fits
+    let o = test_of c.args.comparison (value_tree c.args.left.now) (value_tree c.args.right.now) in
+    let e = rw c.in_ok-there.ensures at c.in_ok-operands.ensures.fits in
+    let d = test_looks c.args.view.now c.args.symbols.now c.both_values.new.symbols (value_tree c.args.left.now) (value_tree c.args.right.now) c.in_ok-operands.operands.left c.in_ok-operands.operands.right c.args.comparison
+    c.in_ok-operands.operands.fits e in
+    ok_weaker c.settled.result _ (λ p. LooksWhereSaid c.args.view.now c.args.symbols.now o p.fits) (λ p h. subst (LooksWhereSaid c.args.view.now c.args.symbols.now o) (sym h) d) c.settled.ensures.fits
 
 pub none_of-returns-clause-truths : goal.none_of-returns-clause-truths
 none_of-returns-clause-truths t c =
