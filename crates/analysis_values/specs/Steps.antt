@@ -118,7 +118,7 @@ pub record LeadsThere (k : Symbols) (r : Valuation) (m : Symbols) (o : Option Sy
 abbrev pub DecidesThere : View → Symbols → Symbols → ObservationTree → Option Symbols → Option Symbols → Type 0
 DecidesThere v k m o if_true if_false = (scope : Scope) (i : Interval) (s : StateMaps) (ps : List Payment) → (d : IsDescribed scope (known k v) i s ps) → LeadsThere k d.numbers m (cond (holds i s o) if_true if_false)
 
--- where only one of two truths can be, what was known before stays, and is known there; and else both lead on from m
+-- what is known becomes m, with its two truths; or it stays k where one of these can't be, and k is then known where the other is
 pub record Leaves (k m : Symbols) (p q : Option Symbols) (n : Symbols) (if_true if_false : Option Symbols) : Type 0 where
   pub settles : ((n ≡ m) × (if_true ≡ p) × (if_false ≡ q)) ⊎ (((n ≡ k) × (if_true ≡ Some k) × (q ≡ None)) ⊎ ((n ≡ k) × (if_false ≡ Some k) × (p ≡ None)))
 
