@@ -1,6 +1,11 @@
 //! Symbols that have the number of an expression in a branch.
+ghost use Rattle.std.specs.Prelude.{◌≡◌, IfOk};
+
 use crate::linear::Linear;
 use collections::{Items, Memory, TryClone};
+use std::alloc::Global;
+use std::marker::Model;
+use std::rc::Rc;
 
 /// Where each of its facts is at least 0, and what is apart isn't 0, the symbol has the number.
 #[derive(Drop)]
@@ -11,16 +16,39 @@ pub struct Branched {
     pub(crate) number: Linear,
 }
 
-impl TryClone for Branched {
-    fn try_clone(&self) -> Result<Branched, Memory> {
-        let facts = self.facts.try_clone()?;
-        let apart = self.apart.try_clone()?;
-        let number = self.number.try_clone()?;
-        Ok(Branched {
-            facts,
-            apart,
-            symbol: self.symbol,
-            number,
-        })
+// A branch that stays as it is, with several owners.
+#[derive(Drop)]
+pub(crate) struct SharedBranch {
+    branch: Rc<Branched, Global>,
+}
+
+impl Model for SharedBranch {
+    ghost use Rattle.std.specs.Rc.{rc_value};
+    ghost use Rattle.linear.specs.declared.branched.Branched.{Branched};
+
+    ghost Value = { Branched };
+
+    ghost view = { λ a. rc_value a.branch };
+}
+
+impl SharedBranch {
+    pub(crate) fn new(branch: Branched) -> Result<SharedBranch, Memory>
+        ensures { IfOk result (λ s. s ≡ branch) }
+    {
+        let branch = Rc::new(branch.number.memory(), branch)?;
+        Ok(SharedBranch { branch })
+    }
+
+    pub(crate) fn get(&self) -> &Branched
+        ensures { result.now ≡ self.now }
+    {
+        &self.branch
+    }
+}
+
+impl TryClone for SharedBranch {
+    fn try_clone(&self) -> Result<SharedBranch, Memory> {
+        let branch = self.branch.clone()?;
+        Ok(SharedBranch { branch })
     }
 }

@@ -9,7 +9,7 @@ ghost use Rattle.linear.specs.Branches.{IsOlder, KeepsBranch, KeepsWhere, KeepsS
 
 use crate::apart::{cancels, is_apart};
 use crate::bounds::first_looked;
-use crate::branched::Branched;
+use crate::branched::{Branched, SharedBranch};
 use crate::join::is_below;
 use crate::linear::Linear;
 use crate::symbols::Symbols;
@@ -85,7 +85,7 @@ fn is_taken(branch: &Branched, here: &Symbols, expression: &Linear) -> Result<bo
 
 // Whether a branch is one of a symbol's, and taken in a case.
 fn tells(
-    branches: &[Branched],
+    branches: &[SharedBranch],
     at: usize,
     symbol: usize,
     here: &Symbols,
@@ -94,7 +94,7 @@ fn tells(
     requires { at < length branches.now }
     ensures { IfOk result (λ yes. yes ≡ true → HasNumber (branches_of branches.now) symbol here.now expression.now) }
 {
-    let branch = &branches[at];
+    let branch = branches[at].get();
     if branch.symbol != symbol {
         return Ok(false);
     }
@@ -104,7 +104,7 @@ fn tells(
 
 // Whether a symbol is shown to have the number of an expression in a case, as it is the symbol or by the branch at a place.
 fn has_number_by(
-    branches: &[Branched],
+    branches: &[SharedBranch],
     at: usize,
     symbol: usize,
     here: &Symbols,
@@ -123,7 +123,7 @@ fn has_number_by(
 
 // .. or by any of the newest branches.
 fn has_number(
-    branches: &[Branched],
+    branches: &[SharedBranch],
     symbol: usize,
     here: &Symbols,
     expression: &Linear,
@@ -141,7 +141,7 @@ fn has_number(
 
 // The symbol of a branch, if it is shown to have the numbers of two expressions in two cases.
 fn symbol_at(
-    branches: &[Branched],
+    branches: &[SharedBranch],
     at: usize,
     one: &Symbols,
     left: &Linear,
@@ -151,7 +151,7 @@ fn symbol_at(
     requires { at < length branches.now }
     ensures { IfOk result (λ o. IfSome o (IsOfEither (branches_of branches.now) one.now left.now other.now right.now)) }
 {
-    let branch = &branches[at];
+    let branch = branches[at].get();
     let symbol = branch.symbol;
     let first = has_number_by(branches, at, symbol, one, left)?;
     if !first {
@@ -164,7 +164,7 @@ fn symbol_at(
 /// A symbol that is shown to have the number of one expression in one case and of another in the other, if one of the newest
 /// branches is of one.
 pub(crate) fn symbol_of_either(
-    branches: &[Branched],
+    branches: &[SharedBranch],
     one: &Symbols,
     left: &Linear,
     other: &Symbols,
@@ -418,7 +418,7 @@ fn keep_taken(
 fn keep_if_own(
     symbols: &mut Symbols,
     condition: &Condition,
-    branches: &[Branched],
+    branches: &[SharedBranch],
     here: &Symbols,
     at: usize,
     own: usize,
@@ -430,7 +430,7 @@ fn keep_if_own(
     ensures { OnOk result (KeepsWhere symbols.old symbols.new here.now (symbol_alone own) condition.now.facts condition.now.apart count symbol) }
 {
     let _here = here;
-    let branch = &branches[at];
+    let branch = branches[at].get();
     if branch.symbol != own || !is_older(branch, count) {
         return Ok(());
     }

@@ -3,7 +3,7 @@ ghost use Rattle.std.specs.Prelude.{◌≡◌, true, IfOk, OnOk};
 ghost use Rattle.linear.specs.Either.{GivesEither, IsUnder, IsOver, IsAtLeast, LearnsLeast, Relates};
 
 use crate::apart::cancels;
-use crate::branched::Branched;
+use crate::branched::{Branched, SharedBranch};
 use crate::branches::{keep_sides, lone_symbol, symbol_of_either};
 use crate::join::{greatest_of_both, is_below, least_of_both};
 use crate::linear::Linear;
@@ -189,7 +189,7 @@ fn relate_branches(
     right: &Linear,
     count: usize,
     number: &Linear,
-    branches: &[Branched],
+    branches: &[SharedBranch],
     own: usize,
 ) -> Result<(), Memory>
     ensures { OnOk result (Relates symbols.old symbols.new one.now left.now other.now right.now count number.now) }
@@ -203,7 +203,7 @@ fn relate_branches(
             right,
             count,
             number,
-            &branches[at],
+            branches[at].get(),
             own,
         )?;
     }

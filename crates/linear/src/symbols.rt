@@ -12,7 +12,7 @@ ghost use Rattle.linear.specs.Held.{symbols_of, branches_of, GivesAny, Learns, A
 
 use crate::apart::sharpened;
 use crate::bounds::{Bounds, follows, greatest_shown, least_shown, refuted, shown};
-use crate::branched::Branched;
+use crate::branched::{Branched, SharedBranch};
 use crate::checked::negation;
 use crate::join::joined_facts;
 use crate::linear::Linear;
@@ -34,7 +34,7 @@ pub struct Symbols {
     pub(crate) facts: Items<Linear>,
     pub(crate) apart: Items<Linear>,
     pub(crate) operations: Items<Named>,
-    pub(crate) branches: Items<Branched>,
+    pub(crate) branches: Items<SharedBranch>,
     // how many facts there were in all, and how many expressions that aren't 0
     pub(crate) learned: usize,
     pub(crate) told_apart: usize,
@@ -143,7 +143,7 @@ impl Symbols {
     }
 
     // What symbols have which number in a branch.
-    pub(crate) fn held_branches(&self) -> &[Branched]
+    pub(crate) fn held_branches(&self) -> &[SharedBranch]
         ensures { branches_of result.now ≡ self.now.branches }
     {
         self.branches.as_slice()
@@ -160,12 +160,13 @@ impl Symbols {
         ensures { OnOk result (KeepsBranch self.old self.new facts apart symbol number) }
     {
         make_room(number.memory(), &mut self.branches)?;
-        self.branches.push(Branched {
+        let branch = SharedBranch::new(Branched {
             facts,
             apart,
             symbol,
             number,
         })?;
+        self.branches.push(branch)?;
         Ok(())
     }
 
