@@ -7,10 +7,28 @@ ghost use Rattle.linear.specs.Held.{IsSharpened, Cancels, RulesOut, IsNever};
 use crate::linear::Linear;
 use collections::{Memory, TryClone};
 
+// Whether they may cancel: as many terms, the same newest symbol, and constants that do.
+fn may_cancel(expression: &Linear, other: &Linear, factor: i128) -> bool {
+    let left = expression.terms();
+    let right = other.terms();
+    if left.len() != right.len() {
+        return false;
+    }
+    if left.len() > 0 && left[0].0 != right[0].0 {
+        return false;
+    }
+    let constant = other.constant().wrapping_mul(factor);
+    constant.wrapping_add(expression.constant()) == 0
+}
+
 /// Whether the terms of an expression and a multiple of another's cancel, and their constants.
 pub(crate) fn cancels(expression: &Linear, other: &Linear, factor: i128) -> Result<bool, Memory>
     ensures { IfOk result (λ yes. yes ≡ true → Cancels expression.now factor other.now) }
 {
+    let may = may_cancel(expression, other, factor);
+    if !may {
+        return Ok(false);
+    }
     match expression.combine(1, other, factor)? {
         Some(rest) => Ok(rest.is_zero()),
         None => Ok(false),

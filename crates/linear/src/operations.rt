@@ -31,12 +31,12 @@ fn is_of(operation: &Named, divides: bool, first: &Linear, second: &Linear) -> R
     if !kind {
         return Ok(false);
     }
-    let left = cancels(&operation.left, first, -1)?;
-    if !left {
+    let right = cancels(&operation.right, second, -1)?;
+    if !right {
         return Ok(false);
     }
-    let right = cancels(&operation.right, second, -1)?;
-    Ok(right)
+    let left = cancels(&operation.left, first, -1)?;
+    Ok(left)
 }
 
 // The symbol of an operation, if it is that of two expressions.
