@@ -127,7 +127,7 @@ LEFT = {
     "copy Terms": KNOWN,
     "copy Part": KNOWN,
     "copy Ranges": KNOWN,
-    "copy Branched": KNOWN,
+    "copy SharedBranch": KNOWN,
     "copy Named": KNOWN,
     "copy Symbols": KNOWN,
     "copy Known": KNOWN,
