@@ -3,8 +3,9 @@
 
 Needs    (cd crates/marlowe && rt run -- --version), another program may be named as the argument; valgrind, and Debian's package `time`
 Usage    analysis_growth.py [PROGRAM [FAMILY..]]
-Expect   of each family as many instructions for a node at the largest text as at the smallest, within 1.3; of the wide Whens at most four times those of
-         `table`; no text over ten seconds or 128 MiB. Else the script ends with status 1.
+Expect   of each family as many instructions for a node at the largest text as at the smallest, within 1.3, but for one, whose one observation has thousands
+         of Conds that may lie on either side of a number: there within 1.6; of the wide Whens at most four times those of `table`; no text over ten seconds
+         or 128 MiB. Else the script ends with status 1.
 Mind     instructions are exact and the same on a busy machine; seconds and KiB are of one run at the largest text, and waver.
 """
 import json
@@ -175,6 +176,8 @@ def many_accounts_paid(n):
 FAMILIES = [wide_when, many_forms, wide_pays, deep_arithmetic, many_alarms, many_choices, many_quotients, many_products, many_clamps, many_conditions,
             wide_quotients, wide_conds, undecided_quotients, undecided_conds, tree_of_conds, many_cases_of_a_choice, many_accounts_paid]
 WIDE = [wide_when, many_forms, wide_pays]
+# Each such Cond leaves facts and branches behind, of which the newest 64 are looked at: the smallest text has sixty Conds, and so fewer for most of them.
+STEEPER, STEEPEST_OF_THESE = [undecided_conds], 1.6
 
 
 def text_of(make, size):
@@ -234,7 +237,8 @@ def main():
                 print(f"  {len(text):8} bytes, {nodes:7} nodes: {a_node:9.0f} instructions a node, {count / table:6.2f} times `table`", flush=True)
             seconds, kib = spent(program, path)
             print(f"  {seconds:.2f} s, {kib} KiB; for a node {a_node / first:.2f} times as many at the largest")
-            failed |= a_node > STEEPEST * first or make in WIDE and count > MOST_TIMES * table or seconds > MOST_SECONDS or kib > MOST_KIB
+            steepest = STEEPEST_OF_THESE if make in STEEPER else STEEPEST
+            failed |= a_node > steepest * first or make in WIDE and count > MOST_TIMES * table or seconds > MOST_SECONDS or kib > MOST_KIB
     sys.exit(1 if failed else 0)
 
 
