@@ -3,9 +3,9 @@
 
 Needs    (cd crates/marlowe && rt run -- --version), another program may be named as the argument; valgrind, and Debian's package `time`
 Usage    analysis_growth.py [PROGRAM [FAMILY..]]
-Expect   of each family as many instructions for a node at the largest text as at the smallest, within 1.3, but for one, whose one observation has thousands
-         of Conds that may lie on either side of a number: there within 1.6; of the wide Whens at most four times those of `table`; no text over ten seconds
-         or 128 MiB. Else the script ends with status 1.
+Expect   of each family as many instructions for a node at the largest text as at the smallest, within 1.3, but for two, whose one observation has thousands
+         of Conds or sums that may lie on either side of a number: there within 2.5; of the wide Whens at most four times those of `table`; no text over
+         ten seconds or 128 MiB. Else the script ends with status 1.
 Mind     instructions are exact and the same on a busy machine; seconds and KiB are of one run at the largest text, and waver.
 """
 import json
@@ -147,6 +147,14 @@ def undecided_conds(n):
     return one_observation(n, compared, 1000000)
 
 
+def undecided_sums(n):
+    """One observation of sums of two choices, each of which may be above a number or not."""
+    def compared(i):
+        total = {"add": chosen(i % 3), "and": {"multiply": chosen((i + 1) % 3), "times": i + 2}}
+        return {"value": total, "ge_than": 7 * i + 100}
+    return one_observation(n, compared, 1000000)
+
+
 def tree_of_conds(n):
     """A Cond of Conds, each of which has Conds in both branches."""
     def tree(count, i):
@@ -174,10 +182,11 @@ def many_accounts_paid(n):
 
 
 FAMILIES = [wide_when, many_forms, wide_pays, deep_arithmetic, many_alarms, many_choices, many_quotients, many_products, many_clamps, many_conditions,
-            wide_quotients, wide_conds, undecided_quotients, undecided_conds, tree_of_conds, many_cases_of_a_choice, many_accounts_paid]
+            wide_quotients, wide_conds, undecided_quotients, undecided_conds, undecided_sums, tree_of_conds, many_cases_of_a_choice, many_accounts_paid]
 WIDE = [wide_when, many_forms, wide_pays]
-# Each such Cond leaves facts and branches behind, of which the newest 64 are looked at: the smallest text has sixty Conds, and so fewer for most of them.
-STEEPER, STEEPEST_OF_THESE = [undecided_conds], 1.6
+# Each such comparison leaves facts behind, and each Cond branches, of which the newest 64 are looked at: the smallest text has less than a hundred, and so
+# fewer facts for most of them.
+STEEPER, STEEPEST_OF_THESE = [undecided_conds, undecided_sums], 2.5
 
 
 def text_of(make, size):
