@@ -30,6 +30,9 @@ pub(crate) const UNBOUNDED: Bounds = Bounds {
 /// true answer, and so the time of a query is bounded.
 pub const MOST_FACTS: usize = 64;
 
+// The most of these of which a query takes what they show, the newest: 16. Those that show nothing of what is asked don't count.
+pub(crate) const MOST_TAKEN: usize = 16;
+
 // The least number of a symbol.
 pub(crate) fn least_of(bounds: &Ranges, symbol: usize) -> Option<i128>
     ensures { (r : Valuation) → AreInRange r (numbered 0 bounds.now) → IsFrom result (r symbol) }
@@ -253,8 +256,17 @@ pub(crate) fn least_by_facts(
     ensures { IsFromAll (numbered 0 bounds.now) facts.now (λ r. factor *ℤ number_at r expression.now) result }
 {
     let mut best = least_by_ranges(bounds, factor, expression);
-    for at in first_looked(facts.len())..facts.len() {
-        best = greater(best, least_by_fact(bounds, factor, expression, &facts[at]));
+    let mut taken = 0;
+    for newer in 0..MOST_FACTS {
+        if newer >= facts.len() || taken >= MOST_TAKEN {
+            return best;
+        }
+        let fact = &facts[facts.len() - newer - 1];
+        let bound = least_by_fact(bounds, factor, expression, fact);
+        if bound.is_some() {
+            taken += 1;
+        }
+        best = greater(best, bound);
     }
     best
 }
@@ -288,6 +300,21 @@ pub(crate) fn follows(bounds: &Ranges, facts: &[Linear], expression: &Linear) ->
         return true;
     }
     is_natural(least_by_chain(bounds, facts, 1, expression))
+}
+
+/// .. or they and the facts from a place on.
+pub(crate) fn follows_newest(
+    bounds: &Ranges,
+    facts: &[Linear],
+    from: usize,
+    expression: &Linear,
+) -> bool
+    ensures { result ≡ true → IsShown (numbered 0 bounds.now) facts.now expression.now }
+{
+    if from > facts.len() {
+        return false;
+    }
+    follows(bounds, &facts[from..], expression)
 }
 
 /// Whether an expression is shown to be at least 0: it follows, or one of the facts shows it.

@@ -41,12 +41,12 @@ fn is_symbol(expression: &Linear, symbol: usize) -> bool
     }
 }
 
-// Whether all facts follow in a case. What a case has learned follows there, and so what a branch of it asks.
-fn shows_all(here: &Symbols, facts: &[Linear]) -> bool
+// Whether all facts follow from the ranges of a case and from what it has learned after so many facts.
+fn shows_all(here: &Symbols, learned: usize, facts: &[Linear]) -> bool
     ensures { result ≡ true → ShowsAll here.now facts.now }
 {
     for fact in facts {
-        if !here.follows(fact) {
+        if !here.follows_since(learned, fact) {
             return false;
         }
     }
@@ -68,14 +68,19 @@ fn rules_out_all(here: &Symbols, apart: &[Linear]) -> Result<bool, Memory>
 }
 
 // Whether a branch's number is an expression, and what it asks holds in a case.
-fn is_taken(branch: &Branched, here: &Symbols, expression: &Linear) -> Result<bool, Memory>
+fn is_taken(
+    branch: &Branched,
+    here: &Symbols,
+    learned: usize,
+    expression: &Linear,
+) -> Result<bool, Memory>
     ensures { IfOk result (λ yes. yes ≡ true → IsTaken (branch_of branch.now) here.now expression.now) }
 {
     let same = cancels(&branch.number, expression, -1)?;
     if !same {
         return Ok(false);
     }
-    let shown = shows_all(here, branch.facts.as_slice());
+    let shown = shows_all(here, learned, branch.facts.as_slice());
     if !shown {
         return Ok(false);
     }
@@ -89,6 +94,7 @@ fn tells(
     at: usize,
     symbol: usize,
     here: &Symbols,
+    learned: usize,
     expression: &Linear,
 ) -> Result<bool, Memory>
     requires { at < length branches.now }
@@ -98,7 +104,7 @@ fn tells(
     if branch.symbol != symbol {
         return Ok(false);
     }
-    let taken = is_taken(branch, here, expression)?;
+    let taken = is_taken(branch, here, learned, expression)?;
     Ok(taken)
 }
 
@@ -108,6 +114,7 @@ fn has_number_by(
     at: usize,
     symbol: usize,
     here: &Symbols,
+    learned: usize,
     expression: &Linear,
 ) -> Result<bool, Memory>
     requires { at < length branches.now }
@@ -117,7 +124,7 @@ fn has_number_by(
     if itself {
         return Ok(true);
     }
-    let told = tells(branches, at, symbol, here, expression)?;
+    let told = tells(branches, at, symbol, here, learned, expression)?;
     Ok(told)
 }
 
@@ -126,12 +133,13 @@ fn has_number(
     branches: &[SharedBranch],
     symbol: usize,
     here: &Symbols,
+    learned: usize,
     expression: &Linear,
 ) -> Result<bool, Memory>
     ensures { IfOk result (λ yes. yes ≡ true → HasNumber (branches_of branches.now) symbol here.now expression.now) }
 {
     for at in first_looked(branches.len())..branches.len() {
-        let yes = has_number_by(branches, at, symbol, here, expression)?;
+        let yes = has_number_by(branches, at, symbol, here, learned, expression)?;
         if yes {
             return Ok(true);
         }
@@ -147,17 +155,18 @@ fn symbol_at(
     left: &Linear,
     other: &Symbols,
     right: &Linear,
+    learned: usize,
 ) -> Result<Option<usize>, Memory>
     requires { at < length branches.now }
     ensures { IfOk result (λ o. IfSome o (IsOfEither (branches_of branches.now) one.now left.now other.now right.now)) }
 {
     let branch = branches[at].get();
     let symbol = branch.symbol;
-    let first = has_number_by(branches, at, symbol, one, left)?;
+    let first = has_number_by(branches, at, symbol, one, learned, left)?;
     if !first {
         return Ok(None);
     }
-    let second = has_number(branches, symbol, other, right)?;
+    let second = has_number(branches, symbol, other, learned, right)?;
     if second { Ok(Some(symbol)) } else { Ok(None) }
 }
 
@@ -169,11 +178,12 @@ pub(crate) fn symbol_of_either(
     left: &Linear,
     other: &Symbols,
     right: &Linear,
+    learned: usize,
 ) -> Result<Option<usize>, Memory>
     ensures { IfOk result (λ o. IfSome o (IsOfEither (branches_of branches.now) one.now left.now other.now right.now)) }
 {
     for at in first_looked(branches.len())..branches.len() {
-        let symbol = symbol_at(branches, at, one, left, other, right)?;
+        let symbol = symbol_at(branches, at, one, left, other, right, learned)?;
         if symbol.is_some() {
             return Ok(symbol);
         }

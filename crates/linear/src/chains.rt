@@ -6,7 +6,7 @@ ghost use Rattle.linear.specs.Bounded.{numbered, IsLeast, IsFromAll};
 ghost use Rattle.linear.specs.ChainSupport.{IsPutIn, IsFilled, IsTakenOut, RoundsUp};
 
 use crate::bounds::{
-    Bounds, above_zero, coefficient_of, first_looked, greater, have_one_sign, least_term,
+    Bounds, MOST_FACTS, MOST_TAKEN, above_zero, coefficient_of, greater, have_one_sign, least_term,
     least_terms, not_above_zero, rounded_up,
 };
 use crate::checked::{product, sum};
@@ -110,9 +110,15 @@ fn least_ahead(
     let mut out = [(0, 0); MOST_SYMBOLS];
     let (base, count, scale) = take_out(&mut out, constant, terms, fact)?;
     let mut best = None;
-    for at in first_looked(facts.len())..facts.len() {
-        if is_usable(&out[..count], &facts[at]) {
-            best = greater(best, least_with(bounds, base, &out[..count], &facts[at]));
+    let mut taken = 0;
+    for newer in 0..MOST_FACTS {
+        if newer >= facts.len() || taken >= MOST_TAKEN {
+            return rounded(best, scale);
+        }
+        let next = &facts[facts.len() - newer - 1];
+        if is_usable(&out[..count], next) {
+            taken += 1;
+            best = greater(best, least_with(bounds, base, &out[..count], next));
         }
     }
     rounded(best, scale)
@@ -140,8 +146,14 @@ fn best_fact(
     let mut best = alone;
     let mut found = None;
     let mut ahead = 0;
-    for at in first_looked(facts.len())..facts.len() {
+    let mut taken = 0;
+    for newer in 0..MOST_FACTS {
+        if newer >= facts.len() || taken >= MOST_TAKEN {
+            return found;
+        }
+        let at = facts.len() - newer - 1;
         if is_usable(terms, &facts[at]) {
+            taken += 1;
             let mut bound = least_with(bounds, constant, terms, &facts[at]);
             if ahead < MOST_AHEAD && !is_better(bound, best) {
                 bound = least_ahead(bounds, facts, constant, terms, &facts[at]);

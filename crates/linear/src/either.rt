@@ -282,7 +282,8 @@ pub fn number_of_either(
             return Ok(e);
         }
     }
-    let known = symbol_of_either(symbols.held_branches(), one, left, other, right)?;
+    let (learned, _apart) = symbols.counts();
+    let known = symbol_of_either(symbols.held_branches(), one, left, other, right, learned)?;
     match known {
         Some(name) => Linear::symbol(left.memory(), name),
         None => new_number(symbols, one, left, other, right),

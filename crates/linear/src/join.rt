@@ -42,8 +42,17 @@ pub(crate) fn is_below(terms: &[Term], count: usize) -> bool
     true
 }
 
-/// Puts the facts of one case from a place on behind others, where they are over symbols below a number and the other
-/// case shows them.
+// The most facts of a case, the newest, of which it is asked whether another case shows them: 8.
+const MOST_SHARED: usize = 8;
+
+// Where these facts start, of those from a place on.
+fn first_shared(count: usize, from: usize) -> usize {
+    let newest = count.saturating_sub(MOST_SHARED);
+    if from < newest { newest } else { from }
+}
+
+/// Puts the newest facts of one case, of those from a place on, behind others, where they are over symbols below a number
+/// and the other case shows them.
 pub(crate) fn put_shared(
     facts: &mut Items<Linear>,
     count: usize,
@@ -54,7 +63,7 @@ pub(crate) fn put_shared(
 ) -> Result<(), Memory>
     ensures { OnOk result (AreShared count own.now (numbered 0 bounds.now) others.now facts.old facts.new) }
 {
-    for at in from..own.len() {
+    for at in first_shared(own.len(), from)..own.len() {
         put_one(facts, count, own, at, bounds, others)?;
     }
     Ok(())
@@ -79,7 +88,8 @@ fn put_one(
     Ok(())
 }
 
-/// Facts, and those of two cases, each from a place on, that are over symbols below a number and shown in the other case.
+/// Facts, and those of two cases, the newest from a place on, that are over symbols below a number and shown in the other
+/// case.
 pub(crate) fn joined_facts(
     own: &Items<Linear>,
     count: usize,

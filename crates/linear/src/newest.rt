@@ -7,8 +7,8 @@ use collections::{Items, Memory, TryClone};
 use std::alloc::Global;
 
 // As many facts, expressions that aren't 0, operations, or branches are kept, and then no more than `MOST_FACTS`, which is as far
-// as queries look: so a copy of what is known costs no more for all that was known before, and soon as much as it ever will.
-const MOST_KEPT: usize = MOST_FACTS + 16;
+// as queries look: so a copy of what is known costs no more for all that was known before.
+const MOST_KEPT: usize = MOST_FACTS + 8;
 
 /// Makes room for one more: of many only the newest stay.
 pub(crate) fn make_room<T: TryClone + Drop>(

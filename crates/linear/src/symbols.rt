@@ -11,7 +11,7 @@ ghost use Rattle.linear.specs.Branches.{KeepsBranch};
 ghost use Rattle.linear.specs.Held.{symbols_of, branches_of, GivesAny, Learns, Assumes, Distinguishes, IsSharpened, IsRefuted, KnowsWithin};
 
 use crate::apart::sharpened;
-use crate::bounds::{Bounds, follows, greatest_shown, least_shown, refuted, shown};
+use crate::bounds::{Bounds, follows, follows_newest, greatest_shown, least_shown, refuted, shown};
 use crate::branched::{Branched, SharedBranch};
 use crate::checked::negation;
 use crate::join::joined_facts;
@@ -170,19 +170,21 @@ impl Symbols {
         Ok(())
     }
 
-    /// Whether an expression is shown to be at least 0, by the ranges, by them and one of the `MOST_FACTS` newest facts, or by them
-    /// and several of these, of which each takes a symbol out. Takes no memory.
+    /// Whether an expression is shown to be at least 0, by the ranges, by them and one of the newest facts, or by them and
+    /// several of these, of which each takes a symbol out. `MOST_FACTS` of them are looked at, and what 16 show is taken. Takes no
+    /// memory.
     pub fn shows(&self, expression: &Linear) -> bool
         ensures { result ≡ true → IsShown self.now.ranges self.now.facts expression.now }
     {
         shown(&self.bounds, self.facts.as_slice(), expression)
     }
 
-    // Whether that is shown without a look at each fact alone, which takes longest.
-    pub(crate) fn follows(&self, expression: &Linear) -> bool
+    // Whether that is shown by the ranges and by what was learned after so many facts, without a look at each fact alone.
+    pub(crate) fn follows_since(&self, learned: usize, expression: &Linear) -> bool
         ensures { result ≡ true → IsShown self.now.ranges self.now.facts expression.now }
     {
-        follows(&self.bounds, self.facts.as_slice(), expression)
+        let from = self.first_fact_since(learned);
+        follows_newest(&self.bounds, self.facts.as_slice(), from, expression)
     }
 
     /// The greatest number that an expression is shown not to be below, if there is one; looks as far as `shows`.
@@ -222,7 +224,7 @@ impl Symbols {
     pub fn learn(&mut self, expression: Linear) -> Result<(), Memory>
         ensures { OnOk result (Learns self.old self.new expression) }
     {
-        if self.follows(&expression) {
+        if follows(&self.bounds, self.facts.as_slice(), &expression) {
             return Ok(());
         }
         put_fact(&mut self.bounds, &mut self.facts, expression)?;
@@ -269,7 +271,7 @@ impl Symbols {
     }
 
     /// What holds in either of two cases that both come from this: the ranges of its symbols that hold in both, its
-    /// facts, and those that one case has learned and the other shows.
+    /// facts, and those that the other shows of the 8 newest that one case has learned.
     pub fn join(&self, one: &Symbols, other: &Symbols) -> Result<Symbols, Memory>
         ensures { IfOk result (Joins self.now one.now other.now) }
     {
