@@ -3,11 +3,11 @@
 
 Needs    (cd crates/marlowe && rt run -- --version), another program may be named as the argument; valgrind, and Debian's package `time`
 Usage    analysis_growth.py [PROGRAM [FAMILY..]]
-Expect   of each family as many instructions for a node at the largest text as at the smallest, within 1.3, but for two, whose one observation has thousands
-         of Conds or sums that may lie on either side of a number: there within 2.5; of the wide Whens at most four times those of `table`; no text over
-         ten seconds or 128 MiB. Else the script ends with status 1.
+Expect   of each family as many instructions for a node at 1 MiB as at 1,000 nodes, within 1.3; of the wide Whens at most four times those of `table`; no text
+         over ten seconds or 128 MiB. Else the script ends with status 1.
 Mind     instructions are exact and the same on a busy machine; seconds and KiB are of one run at the largest text, and waver.
 """
+import bisect
 import json
 import os
 import re
@@ -17,7 +17,8 @@ import tempfile
 
 from growth import ADA, PROGRAM, TIME, deep_arithmetic, many_forms, wide_pays, wide_when
 
-SIZES = [16 << 10, 64 << 10, 256 << 10, 1 << 20]
+FEWEST_NODES = 1000
+SIZES = [64 << 10, 256 << 10, 1 << 20]
 STEEPEST, MOST_TIMES, MOST_SECONDS, MOST_KIB = 1.3, 4, 10, 128 << 10
 A, B = {"role_token": "a"}, {"role_token": "b"}
 # Texts nest at most 127 arrays and objects: so many forms one in another fit, a When with its case being three of them.
@@ -106,17 +107,18 @@ def many_conditions(n):
     return beside(n // 35, part)
 
 
-def joined(observations):
-    """All of many observations, joined two by two, so that they nest little."""
+def joined(observations, either=False):
+    """All of many observations, or any, joined two by two, so that they nest little."""
+    first, second = ("either", "or") if either else ("both", "and")
     while len(observations) > 1:
         pairs = [observations[i:i + 2] for i in range(0, len(observations), 2)]
-        observations = [{"both": pair[0], "and": pair[1]} if len(pair) == 2 else pair[0] for pair in pairs]
+        observations = [{first: pair[0], second: pair[1]} if len(pair) == 2 else pair[0] for pair in pairs]
     return observations[0]
 
 
-def one_observation(n, compared, high=100):
+def one_observation(n, compared, high=100, either=False):
     """An If of one observation, which joins many comparisons of three choices."""
-    contract = {"if": joined([compared(i) for i in range(n // 5)]), "then": "close", "else": "close"}
+    contract = {"if": joined([compared(i) for i in range(n // 5)], either), "then": "close", "else": "close"}
     for i in range(3):
         contract = chooses(i, contract, 1, high)
     return contract, None, None
@@ -155,6 +157,20 @@ def undecided_sums(n):
     return one_observation(n, compared, 1000000)
 
 
+def product(i):
+    return {"multiply": chosen(i % 3), "times": {"add": chosen((i + 1) % 3), "and": i}}
+
+
+def undecided_products(n):
+    """One observation of products of two choices, each of which may be above a number or not."""
+    return one_observation(n, lambda i: {"value": product(i), "ge_than": 7 * i}, 1000000)
+
+
+def either_product(n):
+    """One observation of products, of which any may be equal to a number."""
+    return one_observation(n, lambda i: {"value": product(i), "equal_to": 7 * i}, 1000000, True)
+
+
 def tree_of_conds(n):
     """A Cond of Conds, each of which has Conds in both branches."""
     def tree(count, i):
@@ -182,25 +198,24 @@ def many_accounts_paid(n):
 
 
 FAMILIES = [wide_when, many_forms, wide_pays, deep_arithmetic, many_alarms, many_choices, many_quotients, many_products, many_clamps, many_conditions,
-            wide_quotients, wide_conds, undecided_quotients, undecided_conds, undecided_sums, tree_of_conds, many_cases_of_a_choice, many_accounts_paid]
+            wide_quotients, wide_conds, undecided_quotients, undecided_conds, undecided_sums, undecided_products, either_product, tree_of_conds, many_cases_of_a_choice, many_accounts_paid]
 WIDE = [wide_when, many_forms, wide_pays]
-# Each such comparison leaves facts behind, and each Cond branches, of which the newest 64 are looked at: the smallest text has less than a hundred, and so
-# fewer facts for most of them.
-STEEPER, STEEPEST_OF_THESE = [undecided_conds, undecided_sums], 2.5
 
 
-def text_of(make, size):
-    """The longest text of this family that has at most so many bytes."""
-    step = 100 if make is deep_arithmetic else 1
-    low, high, found = 1, size // (10 * step), None
-    while low <= high:
-        middle = (low + high) // 2
-        text = json.dumps(make(middle * step)[0], separators=(",", ":"))
-        if len(text) <= size:
-            low, found = middle + 1, text
-        else:
-            high = middle - 1
-    return found
+def text_of(make, parts):
+    return json.dumps(make(parts * (100 if make is deep_arithmetic else 1))[0], separators=(",", ":"))
+
+
+def first_parts(make, most, holds):
+    """The least number of parts, of at most so many, with which what is asked holds of the text."""
+    return bisect.bisect_left(range(most), True, 1, key=lambda parts: holds(text_of(make, parts)))
+
+
+def texts_of(make):
+    """The shortest text of this family that has a thousand nodes, and the longest that have at most so many bytes."""
+    yield text_of(make, first_parts(make, SIZES[0] // 10, lambda text: nodes_of(text) >= FEWEST_NODES))
+    for size in SIZES:
+        yield text_of(make, first_parts(make, size // 10, lambda text: len(text) > size) - 1)
 
 
 def nodes_of(text):
@@ -234,10 +249,7 @@ def main():
                 continue
             print(f"{make.__name__}: {make.__doc__}")
             first = None
-            for size in SIZES:
-                text = text_of(make, size)
-                if text is None:
-                    continue
+            for text in texts_of(make):
                 with open(path, "w") as file:
                     file.write(text)
                 nodes, count, table = nodes_of(text), instructions(program, "analyse", path), instructions(program, "table", path)
@@ -246,8 +258,7 @@ def main():
                 print(f"  {len(text):8} bytes, {nodes:7} nodes: {a_node:9.0f} instructions a node, {count / table:6.2f} times `table`", flush=True)
             seconds, kib = spent(program, path)
             print(f"  {seconds:.2f} s, {kib} KiB; for a node {a_node / first:.2f} times as many at the largest")
-            steepest = STEEPEST_OF_THESE if make in STEEPER else STEEPEST
-            failed |= a_node > steepest * first or make in WIDE and count > MOST_TIMES * table or seconds > MOST_SECONDS or kib > MOST_KIB
+            failed |= a_node > STEEPEST * first or make in WIDE and count > MOST_TIMES * table or seconds > MOST_SECONDS or kib > MOST_KIB
     sys.exit(1 if failed else 0)
 
 
