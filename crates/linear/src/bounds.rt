@@ -26,12 +26,12 @@ pub(crate) const UNBOUNDED: Bounds = Bounds {
     greatest: None,
 };
 
-/// The most facts that a query looks at, the newest: 64. That an expression isn't shown to be natural is always a
+/// The most facts that a query looks at, the newest: 48. That an expression isn't shown to be natural is always a
 /// true answer, and so the time of a query is bounded.
-pub const MOST_FACTS: usize = 64;
+pub const MOST_FACTS: usize = 48;
 
-// The most of these of which a query takes what they show, the newest: 16. Those that show nothing of what is asked don't count.
-pub(crate) const MOST_TAKEN: usize = 16;
+// The most of these of which a query takes what they show, the newest: 8. Those that show nothing of what is asked don't count.
+pub(crate) const MOST_TAKEN: usize = 8;
 
 // The least number of a symbol.
 pub(crate) fn least_of(bounds: &Ranges, symbol: usize) -> Option<i128>

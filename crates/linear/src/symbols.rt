@@ -171,7 +171,7 @@ impl Symbols {
     }
 
     /// Whether an expression is shown to be at least 0, by the ranges, by them and one of the newest facts, or by them and
-    /// several of these, of which each takes a symbol out. `MOST_FACTS` of them are looked at, and what 16 show is taken. Takes no
+    /// several of these, of which each takes a symbol out. `MOST_FACTS` of them are looked at, and what 8 show is taken. Takes no
     /// memory.
     pub fn shows(&self, expression: &Linear) -> bool
         ensures { result ≡ true → IsShown self.now.ranges self.now.facts expression.now }
