@@ -3,11 +3,13 @@
 
 Needs    (cd crates/marlowe && rt run -- --version), another program may be named as the argument; valgrind, and Debian's package `time`
 Usage    analysis_growth.py [PROGRAM [FAMILY..]]
-Expect   of each family as many instructions for a node at 1 MiB as at 1,000 nodes, within 1.3; of the wide Whens at most four times those of `table`; no text
-         over ten seconds or 128 MiB. Else the script ends with status 1.
+Expect   of each family as many instructions for a node at 1 MiB as at 1,000 nodes, within 1.3, but for sums of 24 choices, of which that many nodes have six:
+         there as many as at 12,000; of the wide Whens at most four times those of `table`; no text over ten seconds or 128 MiB. Else the script ends
+         with status 1.
 Mind     instructions are exact and the same on a busy machine; seconds and KiB are of one run at the largest text, and waver.
 """
 import bisect
+import functools
 import json
 import os
 import re
@@ -17,7 +19,7 @@ import tempfile
 
 from growth import ADA, PROGRAM, TIME, deep_arithmetic, many_forms, wide_pays, wide_when
 
-FEWEST_NODES = 1000
+FEWEST_NODES, FEWEST_OF_WIDE_SUMS = 1000, 12000
 SIZES = [64 << 10, 256 << 10, 1 << 20]
 STEEPEST, MOST_TIMES, MOST_SECONDS, MOST_KIB = 1.3, 4, 10, 128 << 10
 A, B = {"role_token": "a"}, {"role_token": "b"}
@@ -107,19 +109,18 @@ def many_conditions(n):
     return beside(n // 35, part)
 
 
-def joined(observations, either=False):
+def joined(observations, first, second):
     """All of many observations, or any, joined two by two, so that they nest little."""
-    first, second = ("either", "or") if either else ("both", "and")
     while len(observations) > 1:
         pairs = [observations[i:i + 2] for i in range(0, len(observations), 2)]
         observations = [{first: pair[0], second: pair[1]} if len(pair) == 2 else pair[0] for pair in pairs]
     return observations[0]
 
 
-def one_observation(n, compared, high=100, either=False):
-    """An If of one observation, which joins many comparisons of three choices."""
-    contract = {"if": joined([compared(i) for i in range(n // 5)], either), "then": "close", "else": "close"}
-    for i in range(3):
+def one_observation(n, compared, high=100, words=("both", "and"), choices=3):
+    """An If of one observation, which joins many comparisons of a few choices."""
+    contract = {"if": joined([compared(i) for i in range(max(1, n // 5))], *words), "then": "close", "else": "close"}
+    for i in range(choices):
         contract = chooses(i, contract, 1, high)
     return contract, None, None
 
@@ -157,6 +158,15 @@ def undecided_sums(n):
     return one_observation(n, compared, 1000000)
 
 
+def undecided_wide_sums(n):
+    """One observation of sums of 24 choices, each of which may be above a number or not."""
+    def compared(i):
+        parts = [{"multiply": chosen(j), "times": i * (j + 3) % 17 + 1} for j in range(24)]
+        total = functools.reduce(lambda before, part: {"add": part, "and": before}, parts)
+        return {"value": total, "ge_than": 7 * i + 100}
+    return one_observation(n, compared, 1000000, choices=24)
+
+
 def product(i):
     return {"multiply": chosen(i % 3), "times": {"add": chosen((i + 1) % 3), "and": i}}
 
@@ -168,7 +178,7 @@ def undecided_products(n):
 
 def either_product(n):
     """One observation of products, of which any may be equal to a number."""
-    return one_observation(n, lambda i: {"value": product(i), "equal_to": 7 * i}, 1000000, True)
+    return one_observation(n, lambda i: {"value": product(i), "equal_to": 7 * i}, 1000000, ("either", "or"))
 
 
 def tree_of_conds(n):
@@ -198,7 +208,8 @@ def many_accounts_paid(n):
 
 
 FAMILIES = [wide_when, many_forms, wide_pays, deep_arithmetic, many_alarms, many_choices, many_quotients, many_products, many_clamps, many_conditions,
-            wide_quotients, wide_conds, undecided_quotients, undecided_conds, undecided_sums, undecided_products, either_product, tree_of_conds, many_cases_of_a_choice, many_accounts_paid]
+            wide_quotients, wide_conds, undecided_quotients, undecided_conds, undecided_sums, undecided_wide_sums, undecided_products,
+            either_product, tree_of_conds, many_cases_of_a_choice, many_accounts_paid]
 WIDE = [wide_when, many_forms, wide_pays]
 
 
@@ -212,9 +223,12 @@ def first_parts(make, most, holds):
 
 
 def texts_of(make):
-    """The shortest text of this family that has a thousand nodes, and the longest that have at most so many bytes."""
-    yield text_of(make, first_parts(make, SIZES[0] // 10, lambda text: nodes_of(text) >= FEWEST_NODES))
-    for size in SIZES:
+    """The shortest text of this family that has a thousand nodes, and the longest that have at most so many bytes. What is known of wide sums is full
+    after the first fifty, and these have thousands of nodes."""
+    wide = make is undecided_wide_sums
+    fewest, sizes = (FEWEST_OF_WIDE_SUMS, SIZES[1:]) if wide else (FEWEST_NODES, SIZES)
+    yield text_of(make, first_parts(make, sizes[0] // 10, lambda text: nodes_of(text) >= fewest))
+    for size in sizes:
         yield text_of(make, first_parts(make, size // 10, lambda text: len(text) > size) - 1)
 
 
