@@ -63,7 +63,7 @@ fn stays_above(times: &[usize], symbols: &Symbols, number: &Linear) -> Result<bo
 fn has_least(symbols: &Symbols, number: &Linear) -> bool
     ensures { result ≡ true → IsFrom128 symbols.now number.now }
 {
-    match symbols.least(number) {
+    match symbols.some_least(number) {
         Some(bound) => {
             // touch: the number has 128 bits
             let _least = bound;

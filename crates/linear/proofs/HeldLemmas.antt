@@ -1,5 +1,5 @@
 -- What the code holds of symbols, step by step.
-use Rattle.std.proofs.Common.{◌≡◌, ℕ, zero, suc, ◌+◌, ◌<◌, ◌≤◌, pos, ◌≤ℤ◌, Option, List, [], ◌∷◌, ◌++◌, length, take, drop, get_or, set, ℤ, ◌+ℤ◌, ◌*ℤ◌, ◌<ℤ◌, negsuc, Bool, true, refl, sym, ap, ◌∙◌, subst, arith, length-append}
+use Rattle.std.proofs.Common.{◌≡◌, ℕ, zero, suc, ◌+◌, ◌<◌, ◌≤◌, pos, ◌≤ℤ◌, Option, List, [], ◌∷◌, ◌++◌, length, drop, get_or, set, ℤ, ◌+ℤ◌, ◌*ℤ◌, ◌<ℤ◌, negsuc, Bool, true, refl, sym, ap, ◌∙◌, subst, arith, length-append}
 use Rattle.std.proofs.lemmas.Int.{ints}
 use Rattle.linear.specs.declared.bounds.Bounds.{Bounds}
 use Rattle.linear.specs.Linear.{Linear, Valuation, number_at, number, symbol, Range, IsBelow, IsFrom, IsUpTo, AreInRange, AreNatural}
@@ -92,11 +92,6 @@ within_held bs es fs ds os cs x low high h r c v f g =
     }
 
 -- what is kept of a list holds where all of it does
-pub natural_take : (r : Valuation) (n : ℕ) (fs : List Linear) → AreNatural r fs → AreNatural r (take n fs)
-natural_take r zero fs h = tt
-natural_take r (suc n) [] h = tt
-natural_take r (suc n) (f ∷ fs) h = (h.0, natural_take r n fs h.1)
-
 pub natural_drop : (r : Valuation) (n : ℕ) (fs : List Linear) → AreNatural r fs → AreNatural r (drop n fs)
 natural_drop r zero fs h = h
 natural_drop r (suc n) [] h = tt

@@ -450,7 +450,7 @@ pub below_both : (n : ℕ) (fs gs : List Linear) → FactsBelow n fs → FactsBe
 below_both n [] gs h k = k
 below_both n (f ∷ fs) gs h k = (h.0, below_both n fs gs h.1 k)
 
-natural_take : (r : Valuation) (n : ℕ) (fs : List Linear) → AreNatural r fs → AreNatural r (take n fs)
+pub natural_take : (r : Valuation) (n : ℕ) (fs : List Linear) → AreNatural r fs → AreNatural r (take n fs)
 natural_take r zero fs h = tt
 natural_take r (suc n) [] h = tt
 natural_take r (suc n) (f ∷ fs) h = (h.0, natural_take r n fs h.1)

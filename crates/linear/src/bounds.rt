@@ -26,12 +26,20 @@ pub(crate) const UNBOUNDED: Bounds = Bounds {
     greatest: None,
 };
 
-/// The most facts that a query looks at, the newest: 48. That an expression isn't shown to be natural is always a
-/// true answer, and so the time of a query is bounded.
+/// The most facts that a query looks at, the newest: 48, and fewer where they have more than three symbols. That an expression
+/// isn't shown to be natural is always a true answer, and so the time of a query is bounded.
 pub const MOST_FACTS: usize = 48;
 
-// The most of these of which a query takes what they show, the newest: 8. Those that show nothing of what is asked don't count.
+// The most of these of which a query takes what they show, the newest: 8, and fewer where they have more than three symbols.
+// Those that show nothing of what is asked don't count.
 pub(crate) const MOST_TAKEN: usize = 8;
+
+// So many facts, and one more: it counts once, and once more for each four of its symbols, as each of them takes time.
+pub(crate) fn counted_with(count: usize, fact: &Linear) -> usize {
+    count
+        .saturating_add(fact.terms().len() / 4)
+        .saturating_add(1)
+}
 
 // The least number of a symbol.
 pub(crate) fn least_of(bounds: &Ranges, symbol: usize) -> Option<i128>
@@ -219,12 +227,21 @@ pub(crate) fn lesser(left: Option<i128>, right: Option<i128>) -> Option<i128>
     }
 }
 
+// The most symbols of an expression, the newest, for each of which it is looked what a fact shows that takes it out: 8.
+const MOST_TRIED: usize = 8;
+
 // A lower bound of a multiple of an expression by the ranges and one fact.
 fn least_by_fact(bounds: &Ranges, factor: i128, expression: &Linear, fact: &Linear) -> Option<i128>
     ensures { IsFromBy (numbered 0 bounds.now) fact.now (λ r. factor *ℤ number_at r expression.now) result }
 {
+    let terms = expression.terms();
+    let most = if terms.len() > MOST_TRIED {
+        MOST_TRIED
+    } else {
+        terms.len()
+    };
     let mut best = None;
-    for term in expression.terms() {
+    for term in &terms[..most] {
         let c = coefficient_of(fact.terms(), term.0);
         best = greater(
             best,
@@ -256,15 +273,17 @@ pub(crate) fn least_by_facts(
     ensures { IsFromAll (numbered 0 bounds.now) facts.now (λ r. factor *ℤ number_at r expression.now) result }
 {
     let mut best = least_by_ranges(bounds, factor, expression);
+    let mut looked = 0;
     let mut taken = 0;
     for newer in 0..MOST_FACTS {
-        if newer >= facts.len() || taken >= MOST_TAKEN {
+        if newer >= facts.len() || looked >= MOST_FACTS || taken >= MOST_TAKEN {
             return best;
         }
         let fact = &facts[facts.len() - newer - 1];
         let bound = least_by_fact(bounds, factor, expression, fact);
+        looked = counted_with(looked, fact);
         if bound.is_some() {
-            taken += 1;
+            taken = counted_with(taken, fact);
         }
         best = greater(best, bound);
     }
@@ -359,6 +378,17 @@ pub(crate) fn least_shown(bounds: &Ranges, facts: &[Linear], expression: &Linear
     ensures { IsFromAll (numbered 0 bounds.now) facts.now (λ r. number_at r expression.now) result }
 {
     least_by_all(bounds, facts, 1, expression)
+}
+
+/// .. by the ranges alone, where they show one.
+pub(crate) fn some_least(bounds: &Ranges, facts: &[Linear], expression: &Linear) -> Option<i128>
+    ensures { IsFromAll (numbered 0 bounds.now) facts.now (λ r. number_at r expression.now) result }
+{
+    let alone = least_by_ranges(bounds, 1, expression);
+    if alone.is_some() {
+        return alone;
+    }
+    least_shown(bounds, facts, expression)
 }
 
 /// An upper bound of an expression by ranges and facts.

@@ -41,12 +41,14 @@ fn is_symbol(expression: &Linear, symbol: usize) -> bool
     }
 }
 
-// Whether all facts follow from the ranges of a case and from what it has learned after so many facts.
+// Whether all facts follow in a case: a lone one from the ranges and from what the case has learned after so many facts. Of several
+// some may be known to both cases, and so they are asked of all that is known.
 fn shows_all(here: &Symbols, learned: usize, facts: &[Linear]) -> bool
     ensures { result ≡ true → ShowsAll here.now facts.now }
 {
+    let since = if facts.len() > 1 { 0 } else { learned };
     for fact in facts {
-        if !here.follows_since(learned, fact) {
+        if !here.follows_since(since, fact) {
             return false;
         }
     }

@@ -6,8 +6,8 @@ ghost use Rattle.linear.specs.Bounded.{numbered, IsLeast, IsFromAll};
 ghost use Rattle.linear.specs.ChainSupport.{IsPutIn, IsFilled, IsTakenOut, RoundsUp};
 
 use crate::bounds::{
-    Bounds, MOST_FACTS, MOST_TAKEN, above_zero, coefficient_of, greater, have_one_sign, least_term,
-    least_terms, not_above_zero, rounded_up,
+    Bounds, MOST_FACTS, MOST_TAKEN, above_zero, coefficient_of, counted_with, greater,
+    have_one_sign, least_term, least_terms, not_above_zero, rounded_up,
 };
 use crate::checked::{product, sum};
 use crate::linear::{Linear, both_times};
@@ -16,9 +16,6 @@ use crate::terms::{MOST_SYMBOLS, Term, next_symbol, number_of, step};
 
 // The most symbols that are taken out one after another.
 const MOST_STEPS: usize = 32;
-
-// The most facts for which it is looked what another shows behind them.
-const MOST_AHEAD: usize = 8;
 
 // Puts a symbol behind so many terms, unless its coefficient is 0, and returns how many stand there then; none where
 // there is no room.
@@ -110,14 +107,16 @@ fn least_ahead(
     let mut out = [(0, 0); MOST_SYMBOLS];
     let (base, count, scale) = take_out(&mut out, constant, terms, fact)?;
     let mut best = None;
+    let mut looked = 0;
     let mut taken = 0;
     for newer in 0..MOST_FACTS {
-        if newer >= facts.len() || taken >= MOST_TAKEN {
+        if newer >= facts.len() || looked >= MOST_FACTS || taken >= MOST_TAKEN {
             return rounded(best, scale);
         }
         let next = &facts[facts.len() - newer - 1];
+        looked = counted_with(looked, next);
         if is_usable(&out[..count], next) {
-            taken += 1;
+            taken = counted_with(taken, next);
             best = greater(best, least_with(bounds, base, &out[..count], next));
         }
     }
@@ -145,19 +144,19 @@ fn best_fact(
 {
     let mut best = alone;
     let mut found = None;
-    let mut ahead = 0;
+    let mut looked = 0;
     let mut taken = 0;
     for newer in 0..MOST_FACTS {
-        if newer >= facts.len() || taken >= MOST_TAKEN {
+        if newer >= facts.len() || looked >= MOST_FACTS || taken >= MOST_TAKEN {
             return found;
         }
         let at = facts.len() - newer - 1;
+        looked = counted_with(looked, &facts[at]);
         if is_usable(terms, &facts[at]) {
-            taken += 1;
+            taken = counted_with(taken, &facts[at]);
             let mut bound = least_with(bounds, constant, terms, &facts[at]);
-            if ahead < MOST_AHEAD && !is_better(bound, best) {
+            if !is_better(bound, best) {
                 bound = least_ahead(bounds, facts, constant, terms, &facts[at]);
-                ahead += 1;
             }
             if is_better(bound, best) {
                 best = bound;

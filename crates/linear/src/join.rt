@@ -4,7 +4,7 @@ ghost use Rattle.linear.specs.Linear.{TermsBelow};
 ghost use Rattle.linear.specs.Bounded.{numbered};
 ghost use Rattle.linear.specs.Joined.{IsFromEither, IsUpToEither, AreShared, AreJoined};
 
-use crate::bounds::shown;
+use crate::bounds::{MOST_TAKEN, counted_with, shown};
 use crate::linear::Linear;
 use crate::ranges::Ranges;
 use crate::terms::Term;
@@ -42,13 +42,17 @@ pub(crate) fn is_below(terms: &[Term], count: usize) -> bool
     true
 }
 
-// The most facts of a case, the newest, of which it is asked whether another case shows them: 8.
-const MOST_SHARED: usize = 8;
-
-// Where these facts start, of those from a place on.
-fn first_shared(count: usize, from: usize) -> usize {
-    let newest = count.saturating_sub(MOST_SHARED);
-    if from < newest { newest } else { from }
+// Where those start, of the facts from a place on, of which it is asked whether another case shows them: the newest, as many as a
+// query takes.
+fn first_shared(own: &[Linear], from: usize) -> usize {
+    let mut taken = 0;
+    for newer in 0..MOST_TAKEN {
+        if newer >= own.len().saturating_sub(from) || taken >= MOST_TAKEN {
+            return own.len().saturating_sub(newer);
+        }
+        taken = counted_with(taken, &own[own.len() - newer - 1]);
+    }
+    own.len().saturating_sub(MOST_TAKEN)
 }
 
 /// Puts the newest facts of one case, of those from a place on, behind others, where they are over symbols below a number
@@ -63,7 +67,7 @@ pub(crate) fn put_shared(
 ) -> Result<(), Memory>
     ensures { OnOk result (AreShared count own.now (numbered 0 bounds.now) others.now facts.old facts.new) }
 {
-    for at in first_shared(own.len(), from)..own.len() {
+    for at in first_shared(own, from)..own.len() {
         put_one(facts, count, own, at, bounds, others)?;
     }
     Ok(())

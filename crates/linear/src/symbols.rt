@@ -11,7 +11,9 @@ ghost use Rattle.linear.specs.Branches.{KeepsBranch};
 ghost use Rattle.linear.specs.Held.{symbols_of, branches_of, GivesAny, Learns, Assumes, Distinguishes, IsSharpened, IsRefuted, KnowsWithin};
 
 use crate::apart::sharpened;
-use crate::bounds::{Bounds, follows, follows_newest, greatest_shown, least_shown, refuted, shown};
+use crate::bounds::{
+    Bounds, follows, follows_newest, greatest_shown, least_shown, refuted, shown, some_least,
+};
 use crate::branched::{Branched, SharedBranch};
 use crate::checked::negation;
 use crate::join::joined_facts;
@@ -171,8 +173,8 @@ impl Symbols {
     }
 
     /// Whether an expression is shown to be at least 0, by the ranges, by them and one of the newest facts, or by them and
-    /// several of these, of which each takes a symbol out. `MOST_FACTS` of them are looked at, and what 8 show is taken. Takes no
-    /// memory.
+    /// several of these, of which each takes a symbol out. It looks at as many as `MOST_FACTS` says and takes what 8 of them show,
+    /// or fewer where they have more than three symbols. Takes no memory.
     pub fn shows(&self, expression: &Linear) -> bool
         ensures { result ≡ true → IsShown self.now.ranges self.now.facts expression.now }
     {
@@ -192,6 +194,14 @@ impl Symbols {
         ensures { IsFromAll self.now.ranges self.now.facts (λ r. number_at r expression.now) result }
     {
         least_shown(&self.bounds, self.facts.as_slice(), expression)
+    }
+
+    /// A number that an expression is shown not to be below, where `least` returns one: as the ranges show it, if they do, which
+    /// takes no look at facts.
+    pub fn some_least(&self, expression: &Linear) -> Option<i128>
+        ensures { IsFromAll self.now.ranges self.now.facts (λ r. number_at r expression.now) result }
+    {
+        some_least(&self.bounds, self.facts.as_slice(), expression)
     }
 
     /// The least number that an expression is shown not to be above, if there is one; looks as far as `shows`.
@@ -271,7 +281,8 @@ impl Symbols {
     }
 
     /// What holds in either of two cases that both come from this: the ranges of its symbols that hold in both, its
-    /// facts, and those that the other shows of the 8 newest that one case has learned.
+    /// facts, and those that the other shows of the newest that one case has learned: 8, or fewer where they have more than three
+    /// symbols.
     pub fn join(&self, one: &Symbols, other: &Symbols) -> Result<Symbols, Memory>
         ensures { IfOk result (Joins self.now one.now other.now) }
     {
