@@ -26,13 +26,17 @@ pub(crate) const UNBOUNDED: Bounds = Bounds {
     greatest: None,
 };
 
-/// The most facts that a query looks at, the newest: 48, and fewer where they have more than three symbols. That an expression
+/// The most facts that a query looks at, the newest: 32, and fewer where they have more than three symbols. That an expression
 /// isn't shown to be natural is always a true answer, and so the time of a query is bounded.
-pub const MOST_FACTS: usize = 48;
+pub const MOST_FACTS: usize = 32;
 
-// The most of these of which a query takes what they show, the newest: 8, and fewer where they have more than three symbols.
-// Those that show nothing of what is asked don't count.
-pub(crate) const MOST_TAKEN: usize = 8;
+/// The most operations and branches that are looked at, the newest: 48. Of expressions that aren't 0 as many are kept, and at most
+/// 8 more.
+pub const MOST_LISTED: usize = 48;
+
+// The most facts of which a query takes what they show, the newest: 6, and fewer where they have more than three symbols. Those
+// that show nothing of what is asked don't count.
+pub(crate) const MOST_TAKEN: usize = 6;
 
 // So many facts, and one more: it counts once, and once more for each four of its symbols, as each of them takes time.
 pub(crate) fn counted_with(count: usize, fact: &Linear) -> usize {
@@ -251,9 +255,9 @@ fn least_by_fact(bounds: &Ranges, factor: i128, expression: &Linear, fact: &Line
     best
 }
 
-// Where the newest facts begin that a query looks at.
+// Where the newest operations or branches begin that are looked at.
 pub(crate) fn first_looked(count: usize) -> usize {
-    count.saturating_sub(MOST_FACTS)
+    count.saturating_sub(MOST_LISTED)
 }
 
 // A lower bound of a multiple of an expression by the ranges alone.

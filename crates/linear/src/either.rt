@@ -262,7 +262,7 @@ fn new_number(
 }
 
 /// The number of one expression in one case or of another in the other, which both come from what is known: the first,
-/// where both are the same and over older symbols; a symbol that is shown to have both numbers, by the `MOST_FACTS` newest
+/// where both are the same and over older symbols; a symbol that is shown to have both numbers, by the `MOST_LISTED` newest
 /// branches; and else a new symbol, which lies as both cases show that theirs lies, and which is known again where a fact
 /// of one case, or whether an expression is 0, tells the cases apart.
 pub fn number_of_either(

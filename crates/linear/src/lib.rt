@@ -30,7 +30,7 @@ mod ranges;
 mod symbols;
 mod terms;
 
-pub use bounds::{Bounds, MOST_FACTS};
+pub use bounds::{Bounds, MOST_FACTS, MOST_LISTED};
 pub use branched::Branched;
 pub use either::number_of_either;
 pub use laws::what_is_shown_is_so;

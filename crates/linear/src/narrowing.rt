@@ -5,7 +5,9 @@ ghost use Rattle.linear.specs.Bounded.{numbered};
 ghost use Rattle.linear.specs.Symbols.{Operation, Branch};
 ghost use Rattle.linear.specs.Held.{symbols_of, AreNarrowed, AreWithin, IsRangeBy, Learns};
 
-use crate::bounds::{Bounds, above_zero, greater, greatest_of, least_of, least_without, lesser};
+use crate::bounds::{
+    Bounds, MOST_FACTS, above_zero, greater, greatest_of, least_of, least_without, lesser,
+};
 use crate::checked::negation;
 use crate::linear::Linear;
 use crate::newest::make_room;
@@ -103,7 +105,7 @@ pub(crate) fn put_fact(
     ensures { OnOk result ((ds : List Expression) (os : List Operation) (cs : List Branch) → Learns (symbols_of bounds.old facts.old ds os cs) (symbols_of bounds.new facts.new ds os cs) fact) }
 {
     narrow(bounds, &fact)?;
-    make_room(fact.memory(), facts)?;
+    make_room(fact.memory(), facts, MOST_FACTS)?;
     facts.push(fact)?;
     Ok(())
 }

@@ -2,25 +2,25 @@
 ghost use Rattle.std.specs.Prelude.{◌≡◌, ◌≤◌, drop, length, IfOk, OnOk};
 ghost use Rattle.linear.specs.Held.{IsNewest};
 
-use crate::bounds::MOST_FACTS;
 use collections::{Items, Memory, TryClone};
 use std::alloc::Global;
 
-// As many facts, expressions that aren't 0, operations, or branches are kept, and then no more than `MOST_FACTS`, which is as far
-// as queries look: so a copy of what is known costs no more for all that was known before.
-const MOST_KEPT: usize = MOST_FACTS + 8;
+// So many more come before the newest are copied.
+const MOST_MORE: usize = 8;
 
-/// Makes room for one more: of many only the newest stay.
+/// Makes room for one more of a list of which so many are looked at: of many only these stay, the newest. So a copy of what is
+/// known costs no more for all that was known before.
 pub(crate) fn make_room<T: TryClone + Drop>(
     alloc: Global,
     list: &mut Items<T>,
+    looked: usize,
 ) -> Result<(), Memory>
     ensures { OnOk result (IsNewest list.old list.new) }
 {
-    if list.len() < MOST_KEPT {
+    if list.len() < looked.saturating_add(MOST_MORE) {
         return Ok(());
     }
-    let from = list.len() - MOST_FACTS;
+    let from = list.len().saturating_sub(looked);
     let newest = copies_from(alloc, list.as_slice(), from)?;
     *list = newest;
     Ok(())

@@ -8,7 +8,7 @@ ghost use Rattle.linear.specs.Results.{IsOf, IsSymbolOf, IsNamed, GivesInRange, 
 ghost use Rattle.linear.specs.Results.{IsTurned, IsByGreatest, IsLeastQuotient, IsGreatestQuotient, IsQuotientRange};
 
 use crate::apart::cancels;
-use crate::bounds::{Bounds, UNBOUNDED, first_looked};
+use crate::bounds::{Bounds, MOST_LISTED, UNBOUNDED, first_looked};
 use crate::checked::{negation, product, quotient};
 use crate::join::{greatest_of_both, least_of_both};
 use crate::linear::Linear;
@@ -104,7 +104,7 @@ pub(crate) fn put_operation(
     let left = first.try_clone()?;
     let right = second.try_clone()?;
     bounds.push(range)?;
-    make_room(first.memory(), operations)?;
+    make_room(first.memory(), operations, MOST_LISTED)?;
     operations.push(Named {
         divides,
         left,

@@ -12,7 +12,8 @@ ghost use Rattle.linear.specs.Held.{symbols_of, branches_of, GivesAny, Learns, A
 
 use crate::apart::sharpened;
 use crate::bounds::{
-    Bounds, follows, follows_newest, greatest_shown, least_shown, refuted, shown, some_least,
+    Bounds, MOST_LISTED, follows, follows_newest, greatest_shown, least_shown, refuted, shown,
+    some_least,
 };
 use crate::branched::{Branched, SharedBranch};
 use crate::checked::negation;
@@ -161,7 +162,7 @@ impl Symbols {
     ) -> Result<(), Memory>
         ensures { OnOk result (KeepsBranch self.old self.new facts apart symbol number) }
     {
-        make_room(number.memory(), &mut self.branches)?;
+        make_room(number.memory(), &mut self.branches, MOST_LISTED)?;
         let branch = SharedBranch::new(Branched {
             facts,
             apart,
@@ -173,7 +174,7 @@ impl Symbols {
     }
 
     /// Whether an expression is shown to be at least 0, by the ranges, by them and one of the newest facts, or by them and
-    /// several of these, of which each takes a symbol out. It looks at as many as `MOST_FACTS` says and takes what 8 of them show,
+    /// several of these, of which each takes a symbol out. It looks at as many as `MOST_FACTS` says and takes what 6 of them show,
     /// or fewer where they have more than three symbols. Takes no memory.
     pub fn shows(&self, expression: &Linear) -> bool
         ensures { result ≡ true → IsShown self.now.ranges self.now.facts expression.now }
@@ -246,7 +247,7 @@ impl Symbols {
     pub fn distinguish(&mut self, expression: Linear) -> Result<(), Memory>
         ensures { OnOk result (Distinguishes self.old self.new expression) }
     {
-        make_room(expression.memory(), &mut self.apart)?;
+        make_room(expression.memory(), &mut self.apart, MOST_LISTED)?;
         self.apart.push(expression)?;
         self.told_apart = self.told_apart.saturating_add(1);
         Ok(())
@@ -281,7 +282,7 @@ impl Symbols {
     }
 
     /// What holds in either of two cases that both come from this: the ranges of its symbols that hold in both, its
-    /// facts, and those that the other shows of the newest that one case has learned: 8, or fewer where they have more than three
+    /// facts, and those that the other shows of the newest that one case has learned: 6, or fewer where they have more than three
     /// symbols.
     pub fn join(&self, one: &Symbols, other: &Symbols) -> Result<Symbols, Memory>
         ensures { IfOk result (Joins self.now one.now other.now) }
@@ -402,7 +403,7 @@ impl Symbols {
     }
 
     /// The product of two expressions: a multiple where one is a number, and else a symbol, in the range that the
-    /// ranges of both give. The same product has the same symbol, where it is among the `MOST_FACTS` newest.
+    /// ranges of both give. The same product has the same symbol, where it is among the `MOST_LISTED` newest.
     pub fn product(&mut self, first: &Linear, second: &Linear) -> Result<Linear, Memory>
         ensures { IfOk result (λ e. GivesResult false self.old self.new first.now second.now e) }
     {
@@ -509,7 +510,7 @@ impl Symbols {
 
     /// The quotient of two expressions, truncated toward 0, and 0 where the divisor is 0: `quotient_by`, where the
     /// divisor is a number, and else a symbol, in the range that the ranges of both give. The same quotient has the
-    /// same symbol, where it is among the `MOST_FACTS` newest operations.
+    /// same symbol, where it is among the `MOST_LISTED` newest operations.
     pub fn quotient(&mut self, dividend: &Linear, divisor: &Linear) -> Result<Linear, Memory>
         ensures { IfOk result (λ e. GivesResult true self.old self.new dividend.now divisor.now e) }
     {
