@@ -3,9 +3,8 @@
 
 Needs    (cd crates/marlowe && rt run -- --version), another program may be named as the argument; valgrind, and Debian's package `time`
 Usage    analysis_growth.py [PROGRAM [FAMILY..]]
-Expect   of each family as many instructions for a node at 1 MiB as at 1,000 nodes, within 1.3, but for sums of 24 choices, of which that many nodes have six:
-         there as many as at 12,000; of the wide Whens at most four times those of `table`; no text over ten seconds or 128 MiB. Else the script ends
-         with status 1.
+Expect   of each family as many instructions for a node at 1 MiB as at 1,000 nodes, within 1.3; of the wide Whens at most four times those of `table`;
+         no text over ten seconds or 128 MiB. Else the script ends with status 1.
 Mind     instructions are exact and the same on a busy machine; seconds and KiB are of one run at the largest text, and waver.
 """
 import bisect
@@ -19,7 +18,7 @@ import tempfile
 
 from growth import ADA, PROGRAM, TIME, deep_arithmetic, many_forms, wide_pays, wide_when
 
-FEWEST_NODES, FEWEST_OF_WIDE_SUMS = 1000, 12000
+FEWEST_NODES = 1000
 SIZES = [64 << 10, 256 << 10, 1 << 20]
 STEEPEST, MOST_TIMES, MOST_SECONDS, MOST_KIB = 1.3, 4, 10, 128 << 10
 A, B = {"role_token": "a"}, {"role_token": "b"}
@@ -151,20 +150,35 @@ def undecided_conds(n):
 
 
 def undecided_sums(n):
-    """One observation of sums of two choices, each of which may be above a number or not."""
+    """One observation of sums of two of three choices, each of which may be above a number or not."""
     def compared(i):
         total = {"add": chosen(i % 3), "and": {"multiply": chosen((i + 1) % 3), "times": i + 2}}
         return {"value": total, "ge_than": 7 * i + 100}
     return one_observation(n, compared, 1000000)
 
 
-def undecided_wide_sums(n):
-    """One observation of sums of 24 choices, each of which may be above a number or not."""
+def sums_of(n, count):
+    """One observation of sums of the same choices, so many, each of which may be above a number or not, as their bounds say."""
     def compared(i):
-        parts = [{"multiply": chosen(j), "times": i * (j + 3) % 17 + 1} for j in range(24)]
+        parts = [{"multiply": chosen(j), "times": i * (j + 3) % 17 + 1} for j in range(count)]
         total = functools.reduce(lambda before, part: {"add": part, "and": before}, parts)
-        return {"value": total, "ge_than": 7 * i + 100}
-    return one_observation(n, compared, 1000000, choices=24)
+        return {"value": total, "ge_than": 7 * i + 1000}
+    return one_observation(n, compared, 1000000, choices=count)
+
+
+def undecided_sums_of_2(n):
+    """One observation of sums of the same two choices."""
+    return sums_of(n, 2)
+
+
+def undecided_sums_of_8(n):
+    """One observation of sums of the same 8 choices."""
+    return sums_of(n, 8)
+
+
+def undecided_sums_of_24(n):
+    """One observation of sums of the same 24 choices."""
+    return sums_of(n, 24)
 
 
 def product(i):
@@ -208,8 +222,8 @@ def many_accounts_paid(n):
 
 
 FAMILIES = [wide_when, many_forms, wide_pays, deep_arithmetic, many_alarms, many_choices, many_quotients, many_products, many_clamps, many_conditions,
-            wide_quotients, wide_conds, undecided_quotients, undecided_conds, undecided_sums, undecided_wide_sums, undecided_products,
-            either_product, tree_of_conds, many_cases_of_a_choice, many_accounts_paid]
+            wide_quotients, wide_conds, undecided_quotients, undecided_conds, undecided_sums, undecided_sums_of_2, undecided_sums_of_8, undecided_sums_of_24,
+            undecided_products, either_product, tree_of_conds, many_cases_of_a_choice, many_accounts_paid]
 WIDE = [wide_when, many_forms, wide_pays]
 
 
@@ -223,12 +237,9 @@ def first_parts(make, most, holds):
 
 
 def texts_of(make):
-    """The shortest text of this family that has a thousand nodes, and the longest that have at most so many bytes. What is known of wide sums is full
-    after the first fifty, and these have thousands of nodes."""
-    wide = make is undecided_wide_sums
-    fewest, sizes = (FEWEST_OF_WIDE_SUMS, SIZES[1:]) if wide else (FEWEST_NODES, SIZES)
-    yield text_of(make, first_parts(make, sizes[0] // 10, lambda text: nodes_of(text) >= fewest))
-    for size in sizes:
+    """The shortest text of this family that has a thousand nodes, and the longest that have at most so many bytes."""
+    yield text_of(make, first_parts(make, SIZES[0] // 10, lambda text: nodes_of(text) >= FEWEST_NODES))
+    for size in SIZES:
         yield text_of(make, first_parts(make, size // 10, lambda text: len(text) > size) - 1)
 
 
