@@ -11,7 +11,7 @@ use eutxo_types::{Lock, Output, Spend, Tx};
 use std::alloc::Global;
 
 /// A resolution: what is found of what a transaction names. It may lack an output or a script; rules 8 to
-/// 18 are then not judged, since on a ledger rule 4 or 7 stands. There is one resolution for the same
+/// 19 are then not judged, since on a ledger rule 4 or 7 applies. There is one resolution for the same
 /// outputs and scripts.
 pub struct Resolved<V> {
     /// For each input, in order, the output that it spends, or `None` where it is missing.

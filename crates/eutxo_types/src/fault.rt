@@ -14,7 +14,7 @@ pub enum TxFault {
     /// 1: there is no input.
     #[error("there is no input")]
     NoInputs,
-    /// 2: there are more than 256 inputs, or a redeemer has more than 256.
+    /// 2: there are more than 256 inputs, or a redeemer has more than 256. The text says inputs of both.
     #[error("there are more than 256 inputs")]
     TooMany,
     /// 3: the input at this place names an output that an earlier one names.

@@ -17,6 +17,7 @@ use std::alloc::Global;
 fn output_among<'a>(outputs: &'a [Unspent], reference: &OutputRef) -> Option<&'a Output>
     ensures { option_copied result ≡ output_among outputs.now reference.now }
 {
+    // written loop: the first with this reference
     for x in outputs {
         if x.reference.is_same(*reference) {
             return Some(&x.output);
