@@ -252,18 +252,11 @@ def holds_table():
     return table(["what", "how much", "from"], body)
 
 
-def missing_table():
-    wanted = {"runs.csv": "time and memory of a run and a table over the size of the text, beside plain Rust: `bench/measure.py runs PLAIN`",
-              "plays.csv": "what `play` costs an entry, in turn and at once: `bench/measure.py plays`"}
-    lines = [f"- {words}" for name, words in wanted.items() if rows(name) is None]
-    return "\n".join(lines) or "Nothing of what the scripts measure."
-
-
 def files_table():
     return table(["file", "what", "how and where"], [[f"[{name}](../bench/measurements/{name})", *where(name)] for name in sorted(os.listdir(FILES))])
 
 
-TABLES = {"calls": calls_table, "payments": payments_table, "holds": holds_table, "missing": missing_table, "files": files_table}
+TABLES = {"calls": calls_table, "payments": payments_table, "holds": holds_table, "files": files_table}
 
 
 # ---- all of it
