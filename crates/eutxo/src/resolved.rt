@@ -10,8 +10,8 @@ use collections::{Items, Memory, Same, TryClone};
 use eutxo_types::{Lock, Output, Spend, Tx};
 use std::alloc::Global;
 
-/// A resolution: what is found of what a transaction names. It may lack an output or a script; rules 8 to
-/// 19 are then not judged, since on a ledger rule 4 or 7 applies. There is one resolution for the same
+/// A resolution: what is found of what a transaction names. It may lack an output or a script; then rules
+/// 8 to 19 are not judged, since on a ledger rule 4 or 7 applies. There is one resolution for the same
 /// outputs and scripts.
 pub struct Resolved<V> {
     /// For each input, in order, the output that it spends, or `None` where it is missing.
