@@ -4,7 +4,7 @@
 Needs    (cd crates/marlowe && rt run -- --version)
 Usage    checks/analysed.py [--seconds N] [--seed N] [--workers N] [--runs N] [--program FILE] [--contract FILE [--state FILE]] [--show SEED.NUMBER]
          for N seconds (60) with so many workers (1), each a process; so many runs of each contract (20); a worker makes the same contracts in the
-         same order again for the same seed; --program asks another program, or checks/stand_in.py; --contract plays runs of that contract alone, from that state; --show prints one contract and its analysis
+         same order again for the same seed; --program asks another program; --contract plays runs of that contract alone, from that state; --show prints one contract and its analysis
 Expect   how many contracts, runs and transactions there were, which alarms were raised, with a run or not known, which warnings came, and
          `N contracts, N runs, no difference`
 Else     what differs, and a folder with the contract, the state and the transactions; then status 1
@@ -17,14 +17,12 @@ warn. The others are those of rows_analysis/data with a few numbers, parties or 
 - in each what a party was paid of a token is never above its `most`, 0 where it has no line, and no less than its `least` once all is closed.
 A random run takes choices at the ends of their bounds and elsewhere, intervals about timeouts, deposits as asked, and now and then others.
 """
-import argparse, collections, copy, glob, json, multiprocessing, os, random, subprocess, sys, tempfile, time
+import argparse, collections, copy, glob, json, multiprocessing, os, random, re, subprocess, sys, tempfile, time
 
 ROOT = os.path.dirname(os.path.dirname(os.path.abspath(__file__)))
 sys.path.insert(0, f"{ROOT}/checks")
 import interpreter
 from interpreter import has, party, token
-import stand_in
-from stand_in import EMPTY, rows_of
 
 PROGRAM = f"{ROOT}/crates/marlowe/out/marlowe"
 WRITTEN = -2**63, 2**64 - 1
@@ -35,6 +33,7 @@ ADA = TOKENS[0]
 COMPARISONS = ["ge_than", "gt", "lt", "le_than", "equal_to"]
 SMALL = [0, 1, 2, 3, 5, 7, 10, 50, 100]
 LARGE = [-1, -7, 2**31, 2**62, 2**63 - 1, 2**63, 2**64 - 1, -2**63]
+EMPTY = {"accounts": [], "boundValues": [], "choices": [], "minTime": 0}
 
 
 # ---- contracts
@@ -229,6 +228,38 @@ def loaded(name):
         return json.load(file)
 
 
+NAME = re.compile(r"\$(\w+)\$")
+
+
+def rows_of(file):
+    """The rows of a file: the number of the line, the contract, the state, the word, the rest and the answer."""
+    names, contract, state, row = {}, None, None, None
+    for number, line in enumerate(open(file), 1):
+        line = line.rstrip("\n")
+        if line.startswith("= "):
+            row[5].append(line[2:])
+            continue
+        if row:
+            yield row
+            row = None
+        word, _, rest = line.partition(" ")
+        if word in ("", "#"):
+            continue
+        if word == "let":
+            name, _, rest = rest.partition(" ")
+            names[name] = NAME.sub(lambda it: names[it[1]], rest)
+            continue
+        rest = NAME.sub(lambda it: names[it[1]], rest)
+        if word == "contract":
+            contract, state = rest, ""
+        elif word == "state":
+            state = rest
+        else:
+            row = (number, contract, state, word, rest, [])
+    if row:
+        yield row
+
+
 def contracts_of_rows():
     found = {}
     for file in sorted(glob.glob(f"{ROOT}/crates/rows_analysis/data/*.txt")):
@@ -253,11 +284,6 @@ class Program:
                 json.dump(it, file)
         done = subprocess.run([*self.line, word, *files, *flags], capture_output=True, text=True)
         return done.returncode, done.stdout, done.stderr.strip()
-
-
-def asked(given, room):
-    """What is asked: the program, or the stand-in beside this file without a process of its own."""
-    return stand_in if given.program.endswith("stand_in.py") else Program(given.program, room)
 
 
 def timeouts(c, found):
@@ -423,7 +449,7 @@ def work(arguments):
     count, faults, ends = collections.Counter(), [], time.monotonic() + given.seconds
     corpus = contracts_of_rows()
     with tempfile.TemporaryDirectory(prefix="analysed-", dir="/dev/shm") as room:
-        program = asked(given, room)
+        program = Program(given.program, room)
         while time.monotonic() < ends and len(faults) < MOST_FAULTS:
             name = f"{given.seed}.{number}"
             chance, contract, state = made(given, number, corpus)
@@ -464,7 +490,7 @@ def main():
         _, contract, state = made(given, int(number), contracts_of_rows())
         print(json.dumps(contract), json.dumps(state), sep="\n")
         with tempfile.TemporaryDirectory(prefix="analysed-") as room:
-            print(*asked(given, room).ask("analyse", contract, state)[1:], sep="")
+            print(*Program(given.program, room).ask("analyse", contract, state)[1:], sep="")
         return 0
     with multiprocessing.Pool(given.workers) as pool:
         told = pool.map(work, [(it, given) for it in range(given.workers)])

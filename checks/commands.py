@@ -4,8 +4,8 @@
 Needs    the built program, crates/marlowe/out/marlowe: (cd crates/marlowe && rt run -- --version); or the path of one.
 Usage    commands.py [PROGRAM]               compares all files that crates/rows_commands/args names
          commands.py --write FILE [PROGRAM]  writes into the file below each row what the program prints, in place of what stood there
-         commands.py --apart                 compares them with a Marlowe, its tables, an analysis and a ledger in Python, which share no code with
-                                             the program (interpreter.py, tables.py, stand_in.py, plays.py); it needs nothing built
+         commands.py --apart                 compares them, but for those of `analyse`, with a Marlowe, its tables and a ledger in Python, which share
+                                             no code with the program (interpreter.py, tables.py, plays.py); it needs nothing built
 Expect   `FILE ok N rows` for each file. What is printed on standard output comes with status 0, or with 3 where it begins with an alarm; a line
          `refused ..` on standard error with 1, all else there with 2; and the other stream stays empty.
 Else     the first row that differs, with what is written and what comes here, and status 1.
@@ -22,7 +22,6 @@ sys.path.insert(0, HERE)
 import interpreter
 import plays
 import readings
-import stand_in
 import tables
 
 CRATE = os.path.join(HERE, "..", "crates", "rows_commands")
@@ -133,26 +132,20 @@ def run_apart(*texts):
     return [interpreter.printed(*read_apart(zip(("contract", "state", "transaction"), texts)))]
 
 
-def analyse_apart(*texts):
-    """What `marlowe analyse` prints for a text or two."""
-    contract, *states = read_apart(zip(("contract", "state"), texts))
-    return stand_in.lines_of(stand_in.analysed(contract, *(states or [stand_in.EMPTY])))
-
-
 def play_apart(text):
     output, refusal, _ = plays.wanted(text)
     return (output + refusal).removesuffix("\n").split("\n")
 
 
-# The words of the program, each with how many files it takes.
-APART = {"run": ([3], run_apart), "table": ([1], tables.lines), "analyse": ([1, 2], analyse_apart), "play": ([1], play_apart)}
+# Words of the program, each with how many files it takes.
+APART = {"run": (3, run_apart), "table": (1, tables.lines), "play": (1, play_apart)}
 
 
 def answer_apart(folder, line):
-    """What Python says that the program prints, or None for a line of which it says nothing: one that is at fault, or asks for help or for JSON."""
+    """What Python says that the program prints, or None for a line of which it says nothing: one that is at fault, or asks for help or for an analysis."""
     command, *names = [word for word in line.split()[1:] if word != "--one"]
-    counts, answered = APART.get(command, ([], None))
-    if len(names) not in counts or any(name.startswith("-") for name in names):
+    count, answered = APART.get(command, (None, None))
+    if len(names) != count or any(name.startswith("-") for name in names):
         return None
     try:
         texts = [folder.read(name) for name in names]

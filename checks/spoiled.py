@@ -24,7 +24,8 @@ An analysis may take 20 seconds, since an alarm for which no run is found takes 
 - that it refuses the contract or the state just where `run` does, by the same line.
 """
 import argparse, collections, glob, json, multiprocessing, os, random, re, shutil, signal, sys, tempfile, time, typing
-from stand_in import EMPTY, action_of, form_of, rows_of
+from analysed import EMPTY, rows_of
+from interpreter import has
 
 ROOT = os.path.dirname(os.path.dirname(os.path.abspath(__file__)))
 PROGRAM = f"{ROOT}/crates/marlowe/out/marlowe"
@@ -74,6 +75,11 @@ RANGE = re.compile(r"at least (?P<least>0|-?[1-9]\d*)(?:, at most (?P<most>0|-?[
 ALARMS = {
     "NonPositiveDeposit": ["deposits"], "NonPositivePay": ["pay"], "PartialPay": ["pay"], "Shadowing": ["let"], "AssertionFailed": ["assert"],
     "Leaves128": ["pay", "if", "let", "assert", "deposits", "notify_if"],
+}
+# The forms of contracts with their keys, but for close.
+FORMS = {
+    "pay": ("pay", "token", "from_account", "to", "then"), "if": ("if", "then", "else"), "when": ("when", "timeout", "timeout_continuation"),
+    "let": ("let", "be", "then"), "assert": ("assert", "then"),
 }
 # The forms of contracts that each step of a place goes on from.
 STEPS = {"then": ("pay", "let", "assert", "if"), "else": ("if",), "timeout_continuation": ("when",), "when": ("when",)}
@@ -354,6 +360,16 @@ def see_told(contract, alarms, ranges):
         "no party or no token")
     # (a run without a transaction pays nothing)
     see(all(most is None or most >= 0 for _, _, _, most in ranges), "at most less than 0")
+
+
+def form_of(c):
+    return "close" if c == "close" else next(word for word, keys in FORMS.items() if has(c, *keys))
+
+
+def action_of(a):
+    if has(a, "party", "deposits", "of_token", "into_account"):
+        return "deposits"
+    return "choose_between" if has(a, "for_choice", "choose_between") else "notify_if"
 
 
 def form_at(contract, steps):
