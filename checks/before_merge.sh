@@ -1,0 +1,33 @@
+#!/bin/sh
+# Runs what a merge wants beside `rt ci`, and prints a line for each: what it is, and `ok` or what it said.
+#
+# Needs    nothing built, but for the last two, which need the program: (cd crates/marlowe && rt run -- --version).
+# Usage    checks/before_merge.sh             all of them; the last two are left out where the program isn't built
+# Expect   `ok` on each line and status 0; some seconds without the program.
+# Else     below a line what that check said, and status 1.
+cd "$(dirname "$0")/.." || exit 2
+failed=0
+
+try() {
+  if said=$("$@" 2>&1); then
+    echo "$* ok"
+  else
+    echo "$* failed"
+    echo "$said"
+    failed=1
+  fi
+}
+
+try tools/believe.py --check
+try checks/pages.py
+try checks/refusals_cover.py
+try checks/rows_cover.py
+try checks/gallery.py
+try bench/plots.py
+if [ -x crates/marlowe/out/marlowe ]; then
+  try examples/check.sh
+  try checks/commands.py
+else
+  echo "examples/check.sh, checks/commands.py: left out, since the program isn't built"
+fi
+exit $failed
