@@ -42,7 +42,7 @@ FACES = [
     ("The headline's second half: what is built is accepted", "chain::Chain::step(second) chain::Chain::history(throughout) chain::both_halves_hold_of_legal_histories builder_laws"),
     ("Many threads: what each was told, one history, and parties", "hub parties"),
     ("Contracts and outcomes written as texts", "contract_json::write_contract contract_json::write_outcome"),
-    ("The analysis of a contract: what never comes, and what is paid", "analyser::analyse"),
+    ("The analysis of a contract: what never comes, and what is paid", "analysis::analyse"),
     ("`marlowe analyse`: what it prints", "marlowe_analyse::analyse_text"),
 ]
 

@@ -1,4 +1,1 @@
-pub mod RowLemmas
-pub mod FoundLemmas
-pub mod AnalysedLemmas
-pub mod NodesLemmas
+mod ClosesLemmas

@@ -1,49 +1,25 @@
 //! Analyses.
 ghost use Rattle.std.specs.Prelude.{IfOk};
 ghost use Rattle.contract.specs.Tree.{contract_tree};
-ghost use Rattle.analysis.specs.Analysed.{NamesWhatComes, StaysUnlessTold, PaysWithinRanges, PaysOthersNothing};
+ghost use Rattle.analysis_spec.specs.Analysed.{NamesWhatComes, StaysUnlessTold, PaysWithinRanges, PaysOthersNothing};
 
-use crate::found::Found;
-use crate::knowledge::Knowledge;
-use crate::walk::walk;
-use analysis_walk::{
-    Alarm, PaidRange, alarms_name_what_comes, numbers_stay_within_128, payments_lie_in_ranges,
-};
-use collections::{Items, Memory};
+use crate::knowing::Expressions;
+use analysis_walk::{Analysis, analyse_by};
+use collections::Memory;
 use contract::Contract;
 use states::State;
 use std::alloc::Global;
 
-/// What was found of a contract: what may go wrong, with places, and what parties are paid.
-#[derive(Debug, Drop)]
-pub struct Analysis {
-    pub alarms: Items<Alarm>,
-    pub ranges: Items<PaidRange>,
-}
-
-/// What a contract can warn of and pay in whatever runs from a state, by what is known of them. A kind of warning that
-/// no alarm names never comes. With no alarm of `Leaves128`, no transaction whose times JSON can write is refused
-/// because a number leaves 128 bits. What a party is paid of a token lies in its range, and without one it is nothing.
-/// Refused only for memory.
-pub fn analyse_by<K: Knowledge>(
-    alloc: Global,
-    contract: &Contract,
-    state: &State,
-) -> Result<Analysis, Memory>
+/// What a contract can warn of, with places, and what it can pay, in whatever runs from a state. A kind of warning that
+/// no alarm names never comes, not even in a transaction that is refused. With no alarm of `Leaves128`, no transaction
+/// whose times JSON can write is refused because a number leaves 128 bits. What a party is paid of a token, in the
+/// token's smallest unit, lies in its range: in no run above the most, and in no run that closed the contract below the
+/// least; without a range it is nothing. Refused only for memory.
+pub fn analyse(alloc: Global, contract: &Contract, state: &State) -> Result<Analysis, Memory>
     ensures alarms { IfOk result (λ a. NamesWhatComes a.alarms state.now (contract_tree contract.now)) }
     ensures numbers { IfOk result (λ a. StaysUnlessTold a.alarms state.now (contract_tree contract.now)) }
     ensures ranges { IfOk result (λ a. PaysWithinRanges a.ranges state.now (contract_tree contract.now)) }
     ensures others { IfOk result (λ a. PaysOthersNothing a.ranges state.now (contract_tree contract.now)) }
 {
-    alarms_name_what_comes();
-    numbers_stay_within_128();
-    payments_lie_in_ranges();
-    let _accounts = state.accounts();
-    let known = K::start(alloc, state)?;
-    let mut found = Found::new(alloc);
-    let mut place = Vec::new(alloc);
-    walk(alloc, known, contract, &mut place, &mut found)?;
-    let Found { alarms, closings } = found;
-    let ranges = closings.ranges(alloc)?;
-    Ok(Analysis { alarms, ranges })
+    analyse_by::<Expressions>(alloc, contract, state)
 }

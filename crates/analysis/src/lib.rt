@@ -1,20 +1,12 @@
-//! What a contract can warn of and what it can pay, whatever runs it has from a state.
+//! What a contract can warn of and what it can pay: the walk of `analysis_walk`, with what is known of runs in linear
+//! expressions (`analysis_values`, `analysis_steps`).
 //!
-//! A walk goes over the contract once, from what is known at its start, and keeps the alarms and what parties are
-//! paid where it is closed. `Knowledge` is what the walk asks of what is known: a conclusion of each step that is
-//! true of every run that comes there.
+//! `analyse` is what the program calls. What its clauses promise is said in `analysis_spec`, in `specs/Analysed.antt`
+//! and `specs/Promises.antt`.
 #![tactic(auto)]
 
-mod action;
 mod analysing;
-mod closings;
-mod found;
-mod knowledge;
-mod row;
-mod span;
-mod walk;
-mod weight;
+mod closes;
+mod knowing;
 
-pub use analysing::{Analysis, analyse_by};
-pub use knowledge::{Branched, Concluded, Knowledge};
-pub use span::Span;
+pub use analysing::analyse;

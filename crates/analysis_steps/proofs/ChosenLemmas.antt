@@ -1,7 +1,7 @@
 -- Numbers of a choice that no earlier case takes.
 use Rattle.std.proofs.Common.{◌≡◌, ℕ, zero, suc, ◌+◌, ◌<◌, ◌≤◌, ℤ, pos, negsuc, neg_ℤ, FitsSigned, ◌+ℤ◌, ◌-ℤ◌, ◌^◌, ◌≤ℤ◌, ◌<ℤ◌, int_le, Bool, true, false, cond, ◌&&◌, ◌||◌, List, [], ◌∷◌, length, get_or, take, drop, All, ◌⊎◌, inl, inr, refl, sym, ap, ◌∙◌, subst, arith, Option, Some, None, IfSome}
 use Rattle.std.proofs.lemmas.Int.{ints}
-use Rattle.std.proofs.lemmas.List.Elements.{All-nil, All-weaker, All-drop, All-more, recursion_from_All}
+use Rattle.std.proofs.lemmas.List.Elements.{All-nil, All-cons, All-weaker, All-drop, All-more, recursion_from_All}
 use Rattle.std.proofs.lemmas.List.{take_all}
 use Rattle.std.specs.Int.{w128, int_min, int_max}
 use Rattle.std.specs.List.{list_any, AllByRecursion}
@@ -24,10 +24,10 @@ use Rattle.linear.specs.Held.{GivesAny}
 use Rattle.linear.proofs.NumberLaws.{both, true_le, false_le, le_true}
 use Rattle.analysis_walk.specs.Limits.{Scope, any_runs, written_runs, Allowed}
 use Rattle.analysis_walk.specs.Covered.{NoneTakes}
-use Rattle.analysis_walk.specs.Domain.{ChoosesSo}
-use Rattle.analysis_domain.specs.Known.{View, Known, IsSeen, IsDescribed}
-use Rattle.analysis_domain.specs.Expressions.{known}
-use Rattle.analysis_domain.proofs.ViewLemmas.{fits_between}
+use Rattle.analysis_walk.specs.Conclusions.{ChoosesSo}
+use Rattle.analysis_walk.specs.Knowledge.{actions_behind, actions_before}
+use Rattle.analysis_values.specs.Known.{View, Known, IsSeen, IsDescribed, known}
+use Rattle.analysis_values.proofs.KnownLaws.{fits_between}
 use Rattle.analysis_steps.specs.Chosen.{IsIn, HasActions, IsFromTo, IsWithin, IsHull, IsPassed, IsEndOf, IsChosen}
 use Rattle.analysis_steps.proofs.AmountLemmas.{min_left, min_right, max_left, max_right}
 use Rattle.analysis_steps.proofs.ConcludedLemmas.{entry_at, entry_allowed}
@@ -185,6 +185,23 @@ chosen_seen scope r v i s ps id l n e f h = record {
   from = e.from;
   to = e.to;
 }
+
+-- ---- the actions of earlier cases
+
+still_in : (es : List ActionTree) (ks : List Case) (a : ActionTree) → IsIn es a → IsIn (actions_behind es ks) a
+still_in es [] a h = h
+still_in es (k ∷ ks) a h = still_in (action_tree k.action ∷ es) ks a (inr h)
+
+all_in : (es : List ActionTree) (ks : List Case) → HasActions (actions_behind es ks) ks
+all_in es [] = All-nil (λ (k : Case). IsIn es (action_tree k.action))
+all_in es (k ∷ ks) =
+    let all = actions_behind es (k ∷ ks) in
+    All-cons (λ (c : Case). IsIn all (action_tree c.action)) k ks (still_in (action_tree k.action ∷ es) ks (action_tree k.action) (inl refl)) (all_in (action_tree k.action ∷ es) ks)
+
+pub has_actions : (ks : List Case) → HasActions (actions_before ks) ks
+has_actions ks = all_in [] ks
+
+-- ---- what is left
 
 -- the numbers that are left
 abbrev pub IsLeft : List Case → ChoiceId → List Bound → Option Bound → Type 0

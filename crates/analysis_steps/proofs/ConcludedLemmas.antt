@@ -34,14 +34,13 @@ use Rattle.analysis_spec.specs.declared.kind.AlarmKind.{AlarmKind}
 use Rattle.analysis_spec.specs.declared.kind.AlarmKind.TheVariants.{NonPositiveDeposit, NonPositivePay, PartialPay, Shadowing, AssertionFailed, Leaves128}
 use Rattle.analysis_spec.specs.Promises.{kind_of}
 use Rattle.analysis_walk.specs.Limits.{Scope, any_runs, written_runs, Allowed, GoesOn}
-use Rattle.analysis_walk.specs.Domain.{IsAmong, Concludes, PaysSo, BindsSo, AssertsSo, ObservesSo, DepositsSo}
-use Rattle.analysis_walk.proofs.ListLemmas.{all_append, all_right}
-use Rattle.analysis_domain.specs.Known.{View, Known, held, IsSeen, SeesBelow, IsDescribed}
-use Rattle.analysis_domain.specs.Expressions.{known, unless}
-use Rattle.analysis_domain.proofs.ViewLemmas.{sees_more, same_seen}
-use Rattle.analysis_domain.proofs.AccountLemmas.{same_money_seen, account_decides, pays_one, pays_none}
-use Rattle.analysis_domain.proofs.StepLemmas.{among_unless, among_right, goes_right}
-use Rattle.analysis_values.specs.Answered.{GoesTo, Evaluates, FitsWhereSaid, Decides, Unites}
+use Rattle.analysis_walk.specs.Conclusions.{IsAmong, Concludes, PaysSo, BindsSo, AssertsSo, ObservesSo, DepositsSo}
+use Rattle.analysis_walk.proofs.ListLaws.{all_append, all_right}
+use Rattle.analysis_values.specs.Known.{View, Known, held, IsSeen, SeesBelow, IsDescribed, known}
+use Rattle.analysis_values.specs.Answered.{unless, GoesTo, Evaluates, FitsWhereSaid, Decides, Unites}
+use Rattle.analysis_values.proofs.KnownLaws.{sees_more, same_seen}
+use Rattle.analysis_values.proofs.AccountLaws.{same_money_seen, account_decides, pays_one, pays_none}
+use Rattle.analysis_values.proofs.AnsweredLaws.{among_unless, among_right, goes_right}
 use Rattle.analysis_steps.specs.Amounts.{IsAbove, GivesAdded}
 use Rattle.analysis_steps.specs.Moved.{IsSaidToFit, IsGrown, Grows, IsCredited, Transfers}
 use Rattle.analysis_steps.proofs.AmountLemmas.{min_is, max_left, max_above, max_none}

@@ -3,5 +3,5 @@ pub mod MovedLemmas
 pub mod ConcludedLemmas
 pub mod TimeLemmas
 pub mod ChosenLemmas
-pub mod CloseLemmas
+pub mod CloseLaws
 pub mod StartLemmas

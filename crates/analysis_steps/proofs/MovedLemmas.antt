@@ -21,11 +21,10 @@ use Rattle.linear.proofs.LinearLaws.{same_number}
 use Rattle.linear.proofs.KnownLaws.{terms_more, below_more, up_more}
 use Rattle.analysis_spec.specs.Runs.{paid_to}
 use Rattle.analysis_walk.specs.Limits.{Scope, any_runs, written_runs, Allowed}
-use Rattle.analysis_domain.specs.Known.{View, Known, held, AreTimes, IsSeen, SeesBelow, IsDescribed}
-use Rattle.analysis_domain.specs.Expressions.{known, with_amount}
-use Rattle.analysis_domain.proofs.ViewLemmas.{found_below, sees_more, same_seen}
-use Rattle.analysis_domain.proofs.AccountLemmas.{amount_seen, same_money_seen, allowed_below, sum_natural, account_decides, share_is}
-use Rattle.analysis_domain.proofs.StepLemmas.{goes_fitting}
+use Rattle.analysis_values.specs.Known.{View, Known, held, AreTimes, IsSeen, SeesBelow, IsDescribed, known, with_amount}
+use Rattle.analysis_values.proofs.KnownLaws.{found_below, sees_more, same_seen}
+use Rattle.analysis_values.proofs.AccountLaws.{amount_seen, same_money_seen, allowed_below, sum_natural, account_decides, share_is}
+use Rattle.analysis_values.proofs.AnsweredLaws.{goes_fitting}
 use Rattle.analysis_values.specs.Answered.{StaysWhereSaid}
 use Rattle.analysis_steps.specs.Amounts.{amount_paid, GivesPaid, GivesSum, GivesRest}
 use Rattle.analysis_steps.specs.Moved.{Reaches, IsSaidToFit, Debits, Grows, PaysMore, PaysOut, Moves, Transfers}

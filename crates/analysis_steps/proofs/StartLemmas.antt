@@ -17,10 +17,16 @@ use Rattle.evaluation.specs.Numbers.{fits}
 use Rattle.linear.specs.Linear.{Valuation, number_at, number}
 use Rattle.linear.specs.Held.{symbols_of}
 use Rattle.analysis_walk.specs.Limits.{Scope, any_runs, written_runs, Allowed}
-use Rattle.analysis_walk.specs.Domain.{IsLater, DescribesStart}
-use Rattle.analysis_domain.specs.Known.{Known, AreTimes, EntriesBelow, IsDescribed}
-use Rattle.analysis_domain.specs.Start.{in_numbers, NumbersFit}
-use Rattle.analysis_domain.proofs.ViewLemmas.{unwrapped_allowed}
+use Rattle.analysis_walk.specs.Conclusions.{IsLater, DescribesStart}
+use Rattle.analysis_values.specs.Known.{Known, AreTimes, EntriesBelow, IsDescribed}
+use Rattle.analysis_values.specs.Entries.{in_numbers, EntriesFit}
+use Rattle.analysis_values.proofs.KnownLaws.{unwrapped_allowed}
+
+-- the numbers of a state fit 128 bits
+pub record NumbersFit (s : StateMaps) : Type 0 where
+  pub accounts : EntriesFit (entries s.accounts)
+  pub choices : EntriesFit (entries s.choices)
+  pub bound : EntriesFit (entries s.bound_values)
 
 numbers_below : {K : Type 0} (n : ℕ) (es : List (K × ℤ)) → EntriesBelow n (in_numbers es)
 numbers_below n [] = tt

@@ -12,9 +12,9 @@ use Rattle.linear.specs.Held.{Assumes}
 use Rattle.linear.proofs.LinearLaws.{same_number}
 use Rattle.linear.proofs.KnownLaws.{terms_more, knows_itself}
 use Rattle.analysis_walk.specs.Limits.{Scope, any_runs, written_runs, Admitted}
-use Rattle.analysis_walk.specs.Domain.{IsLater, WaitsSo, TimesOutSo}
-use Rattle.analysis_domain.specs.Known.{Known, IsSeen, SeesBelow, IsDescribed}
-use Rattle.analysis_domain.proofs.DomainLaws.{from_allowed, to_allowed, time_is}
+use Rattle.analysis_walk.specs.Conclusions.{IsLater, WaitsSo, TimesOutSo}
+use Rattle.analysis_values.specs.Known.{Known, IsSeen, SeesBelow, IsDescribed}
+use Rattle.analysis_values.proofs.KnownLaws.{from_allowed, to_allowed, time_is}
 use Rattle.analysis_values.specs.Answered.{IsTime, AddsTime}
 use Rattle.analysis_steps.specs.Amounts.{LearnsIf}
 use Rattle.analysis_steps.specs.Times.{FindsTime, AssumesMost}

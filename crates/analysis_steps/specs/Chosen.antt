@@ -12,7 +12,7 @@ use Rattle.std.specs.FinMap.{insert}
 use Rattle.contract.specs.declared.payment.Payment.{Payment}
 use Rattle.states.specs.States.{StateMaps}
 use Rattle.analysis_walk.specs.Limits.{Scope}
-use Rattle.analysis_domain.specs.Known.{Known, IsDescribed}
+use Rattle.analysis_values.specs.Known.{Known, IsDescribed}
 use Rattle.semantics.specs.Applying.{in_bound, matches}
 
 abbrev pub IsIn : List ActionTree → ActionTree → Type 0

@@ -1,4 +1,3 @@
-pub mod Concluded
 pub mod Amounts
 pub mod Moved
 pub mod Chosen

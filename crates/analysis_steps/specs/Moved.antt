@@ -15,8 +15,8 @@ use Rattle.linear.specs.Symbols.{Agree}
 use Rattle.analysis_spec.specs.declared.kind.AlarmKind.TheVariants.{Leaves128}
 use Rattle.analysis_spec.specs.Runs.{reaches_party, paid_to}
 use Rattle.analysis_walk.specs.Limits.{Scope, Allowed, GoesOn}
-use Rattle.analysis_domain.specs.Known.{Known, IsDescribed}
-use Rattle.analysis_domain.specs.Expressions.{unless}
+use Rattle.analysis_values.specs.Known.{Known, IsDescribed}
+use Rattle.analysis_values.specs.Answered.{unless}
 use Rattle.analysis_steps.specs.Amounts.{amount_paid}
 
 -- what is known leads on to what is true of a run, in numbers that agree for the symbols so far

@@ -6,7 +6,7 @@ use Rattle.states.specs.States.{StateMaps}
 use Rattle.linear.specs.Linear.{Linear, Valuation, number_at, IsBelow}
 use Rattle.linear.specs.Symbols.{Symbols, IsValued, IsClosed, Agree, Knows}
 use Rattle.analysis_walk.specs.Limits.{Scope}
-use Rattle.analysis_domain.specs.Known.{Known, IsDescribed}
+use Rattle.analysis_values.specs.Known.{Known, IsDescribed}
 use Rattle.analysis_values.specs.Answered.{IsTime}
 
 -- what is known leads on to what is true of the same run, where an expression stands for a number

@@ -1,17 +1,16 @@
 //! Choices.
-ghost use Rattle.std.specs.Prelude.{◌≡◌, ℤ, ◌≤ℤ◌, true, false, ◌&&◌, List, All, ◌⊎◌, IfOk};
+ghost use Rattle.std.specs.Prelude.{◌≡◌, ℤ, ◌≤ℤ◌, true, false, ◌&&◌, All, ◌⊎◌, IfOk};
 ghost use Rattle.std.specs.Int.{int_min, int_max};
 ghost use Rattle.std.specs.List.{list_any};
 ghost use Rattle.names.specs.Equal.{same_choice_id};
-ghost use Rattle.contract.specs.Tree.{ActionTree};
 ghost use Rattle.semantics.specs.Applying.{in_bound};
-ghost use Rattle.analysis_walk.specs.Domain.{ChoosesSo};
-ghost use Rattle.analysis_domain.specs.Known.{IsDescribed};
-ghost use Rattle.analysis_steps.specs.Concluded.{concluded};
-ghost use Rattle.analysis_steps.specs.Chosen.{HasActions, IsFromTo, IsWithin, IsHull, IsPassed, IsEndOf, IsChosen};
+ghost use Rattle.analysis_walk.specs.Conclusions.{ChoosesSo};
+ghost use Rattle.analysis_walk.specs.Knowledge.{actions_before};
+ghost use Rattle.analysis_values.specs.Known.{IsDescribed};
+ghost use Rattle.analysis_steps.specs.Chosen.{IsFromTo, IsWithin, IsHull, IsPassed, IsEndOf, IsChosen};
 
-use crate::conclusion::Conclusion;
 use analysis_values::Known;
+use analysis_walk::Conclusion;
 use collections::{Items, Memory, Same};
 use contract::{Action, Case};
 use names::{Bound, ChoiceId};
@@ -180,12 +179,12 @@ pub fn choose(
     known: Known,
     earlier: &[Case],
     id: &ChoiceId,
-    bounds: &[Bound],
-) -> Result<Conclusion, Memory>
-    ensures { IfOk result (λ x. (es : List ActionTree) → HasActions es earlier.now → ChoosesSo IsDescribed known es id.now bounds.now (concluded x)) }
+    bounds: &Items<Bound>,
+) -> Result<Conclusion<Known>, Memory>
+    ensures { IfOk result (ChoosesSo IsDescribed known (actions_before earlier.now) id.now bounds.now) }
 {
     let kinds = Items::new(alloc);
-    match range_left(earlier, id, bounds) {
+    match range_left(earlier, id, bounds.as_slice()) {
         None => Ok(Conclusion { kinds, known: None }),
         Some(range) => {
             let chosen = chosen_from(known, id, range)?;

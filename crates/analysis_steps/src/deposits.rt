@@ -1,15 +1,15 @@
 //! Deposits.
 ghost use Rattle.std.specs.Prelude.{IfOk};
 ghost use Rattle.contract.specs.Tree.{value_tree};
-ghost use Rattle.analysis_walk.specs.Domain.{DepositsSo};
-ghost use Rattle.analysis_domain.specs.Known.{IsDescribed};
-ghost use Rattle.analysis_steps.specs.Concluded.{concluded};
+ghost use Rattle.analysis_walk.specs.Conclusions.{DepositsSo};
+ghost use Rattle.analysis_values.specs.Known.{IsDescribed};
 
+use crate::alarms::{both, put_unless};
 use crate::amounts::{added, is_above};
-use crate::conclusion::{Conclusion, both, put_unless};
 use crate::moved::grow;
 use analysis_spec::AlarmKind;
 use analysis_values::{Known, evaluate};
+use analysis_walk::Conclusion;
 use collections::{Items, Memory};
 use contract::Value;
 use names::{Party, Token};
@@ -25,8 +25,8 @@ pub fn deposit(
     owner: &Party,
     token: &Token,
     value: &Value,
-) -> Result<Conclusion, Memory>
-    ensures { IfOk result (λ x. DepositsSo IsDescribed known owner.now token.now (value_tree value.now) (concluded x)) }
+) -> Result<Conclusion<Known>, Memory>
+    ensures { IfOk result (DepositsSo IsDescribed known owner.now token.now (value_tree value.now)) }
 {
     let mut known = known;
     let due = evaluate(&mut known, value)?;

@@ -1,16 +1,17 @@
 //! What parties are paid in the end.
-ghost use Rattle.std.specs.Prelude.{◌≡◌, ◌+ℤ◌, [], ◌∷◌, IfOk};
+ghost use Rattle.std.specs.Prelude.{◌+ℤ◌, [], ◌∷◌, IfOk};
 ghost use Rattle.linear.specs.Linear.{number_at};
 ghost use Rattle.linear.specs.Bounded.{IsFromAll, IsUpToAll};
-ghost use Rattle.analysis_walk.specs.Domain.{ClosesIn};
-ghost use Rattle.analysis_domain.specs.Known.{IsDescribed};
+ghost use Rattle.analysis_walk.specs.Conclusions.{ClosesIn};
+ghost use Rattle.analysis_walk.specs.Rows.{range_of};
+ghost use Rattle.analysis_values.specs.Known.{IsDescribed};
 
 use crate::amounts::sum_of_bounds;
 use analysis_values::Known;
-use analysis_walk::PaidRange;
-use collections::{Memory, TryClone};
+use analysis_walk::Span;
+use collections::Memory;
 use linear::{Bounds, Linear};
-use names::{Party, Token};
+use names::Account;
 
 // Bounds of the sum of two expressions.
 fn bounds_of_sum(known: &Known, l: &Linear, m: &Linear) -> Result<Bounds, Memory>
@@ -30,21 +31,15 @@ fn bounds_of_sum(known: &Known, l: &Linear, m: &Linear) -> Result<Bounds, Memory
     }
 }
 
-/// What a party has been paid of a token in all, where the contract is closed here: the least and the most that are
-/// shown. A Close pays out the party's account (Marlowe specification version 3, "Reduce contract step").
-pub fn close(known: &Known, party: &Party, token: &Token) -> Result<PaidRange, Memory>
-    ensures range { IfOk result (λ range. ClosesIn IsDescribed known.now (range ∷ [])) }
-    ensures party { IfOk result (λ range. range.party ≡ party.now) }
-    ensures token { IfOk result (λ range. range.token ≡ token.now) }
+/// What the owner of an account has been paid of its token in all, where the contract is closed here: the least and
+/// the most that are shown. A Close pays out the account (Marlowe specification version 3, "Reduce contract step").
+pub fn close(known: &Known, account: &Account) -> Result<Span, Memory>
+    ensures { IfOk result (λ x. ClosesIn IsDescribed known.now (range_of account.now x ∷ [])) }
 {
-    let paid = known.paid(party, token)?;
-    let left = known.held(party, token)?;
+    let paid = known.paid(&account.owner, &account.token)?;
+    let left = known.held(&account.owner, &account.token)?;
     let bounds = bounds_of_sum(known, &paid, &left)?;
-    let party = party.try_clone()?;
-    let token = token.try_clone()?;
-    Ok(PaidRange {
-        party,
-        token,
+    Ok(Span {
         least: bounds.least,
         most: bounds.greatest,
     })

@@ -4,7 +4,7 @@ ghost use Rattle.names.specs.declared.payee.Payee.TheVariants.{Account as ToAcco
 ghost use Rattle.semantics.specs.Reduction.{account_of};
 ghost use Rattle.linear.specs.Bounded.{IsShown};
 ghost use Rattle.linear.specs.Either.{IsAtLeast};
-ghost use Rattle.analysis_domain.specs.Known.{held};
+ghost use Rattle.analysis_values.specs.Known.{held};
 ghost use Rattle.analysis_steps.specs.Moved.{Debits, Grows, PaysOut, Moves, Transfers};
 
 use crate::amounts::{paid, rest, sum};

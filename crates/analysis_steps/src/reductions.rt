@@ -2,15 +2,15 @@
 ghost use Rattle.std.specs.Prelude.{◌≡◌, IfOk};
 ghost use Rattle.std.specs.Option.{is_none};
 ghost use Rattle.contract.specs.Tree.{value_tree, observation_tree};
-ghost use Rattle.analysis_walk.specs.Domain.{PaysSo, BindsSo, AssertsSo};
-ghost use Rattle.analysis_domain.specs.Known.{IsDescribed};
-ghost use Rattle.analysis_steps.specs.Concluded.{concluded};
+ghost use Rattle.analysis_walk.specs.Conclusions.{PaysSo, BindsSo, AssertsSo};
+ghost use Rattle.analysis_values.specs.Known.{IsDescribed};
 
+use crate::alarms::{both, put_unless};
 use crate::amounts::{is_above, is_at_least};
-use crate::conclusion::{Conclusion, both, put_unless};
 use crate::moved::transfer;
 use analysis_spec::AlarmKind;
 use analysis_values::{Known, Observed, either, evaluate, observe};
+use analysis_walk::Conclusion;
 use collections::{Items, Memory, Text};
 use contract::{Observation, Value};
 use names::{Party, Payee, Token};
@@ -27,8 +27,8 @@ pub fn pay(
     to: &Payee,
     token: &Token,
     value: &Value,
-) -> Result<Conclusion, Memory>
-    ensures { IfOk result (λ x. PaysSo IsDescribed known from.now to.now token.now (value_tree value.now) (concluded x)) }
+) -> Result<Conclusion<Known>, Memory>
+    ensures { IfOk result (PaysSo IsDescribed known from.now to.now token.now (value_tree value.now)) }
 {
     let mut known = known;
     let due = evaluate(&mut known, value)?;
@@ -51,8 +51,13 @@ pub fn pay(
 
 /// A Let of a value (Marlowe specification version 3, "Let"): an alarm where the name is bound, and one that a number
 /// leaves 128 bits, unless the value's numbers are shown to fit.
-pub fn bind(alloc: Global, known: Known, name: &Text, value: &Value) -> Result<Conclusion, Memory>
-    ensures { IfOk result (λ x. BindsSo IsDescribed known name.now (value_tree value.now) (concluded x)) }
+pub fn bind(
+    alloc: Global,
+    known: Known,
+    name: &Text,
+    value: &Value,
+) -> Result<Conclusion<Known>, Memory>
+    ensures { IfOk result (BindsSo IsDescribed known name.now (value_tree value.now)) }
 {
     let mut known = known;
     let bound = evaluate(&mut known, value)?;
@@ -80,8 +85,12 @@ fn is_impossible(known: &Option<Known>) -> bool
 /// An Assert of an observation (Marlowe specification version 3, "Assert"): an alarm that it fails, unless it is shown
 /// never to be false, and one that a number leaves 128 bits, unless its numbers are shown to fit. What is known then
 /// is what both truths have.
-pub fn assert(alloc: Global, known: Known, observation: &Observation) -> Result<Conclusion, Memory>
-    ensures { IfOk result (λ x. AssertsSo IsDescribed known (observation_tree observation.now) (concluded x)) }
+pub fn assert(
+    alloc: Global,
+    known: Known,
+    observation: &Observation,
+) -> Result<Conclusion<Known>, Memory>
+    ensures { IfOk result (AssertsSo IsDescribed known (observation_tree observation.now)) }
 {
     let observed = observe(&known, observation)?;
     let Observed {

@@ -2,10 +2,10 @@
 ghost use Rattle.std.specs.Prelude.{◌≡◌, true, IfOk};
 ghost use Rattle.evaluation.specs.Numbers.{fits};
 ghost use Rattle.linear.specs.Linear.{number};
-ghost use Rattle.analysis_domain.specs.Start.{EntriesFit};
+ghost use Rattle.analysis_values.specs.Entries.{EntriesFit};
 ghost use Rattle.analysis_walk.specs.Limits.{Scope};
-ghost use Rattle.analysis_walk.specs.Domain.{DescribesStart};
-ghost use Rattle.analysis_domain.specs.Known.{IsDescribed};
+ghost use Rattle.analysis_walk.specs.Conclusions.{DescribesStart};
+ghost use Rattle.analysis_values.specs.Known.{IsDescribed};
 
 use crate::times::later;
 use analysis_values::Known;

@@ -1,8 +1,8 @@
 //! Times.
 ghost use Rattle.std.specs.Prelude.{◌≡◌, pos, ◌-ℤ◌, IfOk};
 ghost use Rattle.linear.specs.Linear.{number};
-ghost use Rattle.analysis_walk.specs.Domain.{IsLater, WaitsSo, TimesOutSo};
-ghost use Rattle.analysis_domain.specs.Known.{IsDescribed};
+ghost use Rattle.analysis_walk.specs.Conclusions.{IsLater, WaitsSo, TimesOutSo};
+ghost use Rattle.analysis_values.specs.Known.{IsDescribed};
 ghost use Rattle.analysis_steps.specs.Times.{FindsTime, AssumesMost};
 
 use crate::amounts::learn_if;

@@ -1,3 +1,6 @@
+pub mod KnownLaws
+pub mod AccountLaws
+pub mod AnsweredLaws
 mod StepLemmas
 mod TruthLemmas
 mod TimeLemmas

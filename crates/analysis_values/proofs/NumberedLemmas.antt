@@ -2,7 +2,7 @@
 use Rattle.std.proofs.Common.{◌≡◌, ℕ, ◌+◌, ◌<◌, ℤ, List, [], ◌∷◌, ◌++◌, take, length, get_or, refl, sym, ap, ◌∙◌}
 use Rattle.std.proofs.lemmas.List.{take_more}
 use Rattle.linear.specs.Linear.{Linear, number}
-use Rattle.analysis_domain.specs.Start.{in_numbers}
+use Rattle.analysis_values.specs.Entries.{in_numbers}
 
 module _ {K : Type 0} where
   numbers_last : (es : List (K × ℤ)) (x : K × ℤ) → in_numbers (es ++ x ∷ []) ≡ in_numbers es ++ (x.0, number x.1) ∷ []

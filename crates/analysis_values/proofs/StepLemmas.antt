@@ -23,17 +23,15 @@ use Rattle.linear.specs.Combined.{StandsFor, AreBelow}
 use Rattle.linear.specs.Symbols.{Symbols, IsValued, IsClosed, Leads, Gives}
 use Rattle.linear.specs.Held.{GivesAny}
 use Rattle.linear.specs.Results.{GivesMultiple}
-use Rattle.linear.proofs.LinearLaws.{same_number}
-use Rattle.linear.proofs.SymbolLaws.{gives_here, terms_more, knows_itself, knows_leads, plus_none}
-use Rattle.linear.proofs.KnownLaws.{leads_gives, gives_leads, up_more, below_more}
+use Rattle.linear.proofs.LinearLaws.{same_number, plus_none}
+use Rattle.linear.proofs.KnownLaws.{gives_here, terms_more, knows_itself, knows_leads, leads_gives, gives_leads, up_more, below_more}
 use Rattle.analysis_spec.specs.declared.kind.AlarmKind.TheVariants.{Leaves128}
 use Rattle.analysis_walk.specs.Limits.{Scope, any_runs, written_runs, Allowed, GoesOn}
-use Rattle.analysis_walk.proofs.ListLemmas.{all_append}
-use Rattle.analysis_domain.specs.Known.{View, Known, held, IsDescribed}
-use Rattle.analysis_domain.specs.Expressions.{known, unless}
-use Rattle.analysis_domain.proofs.ViewLemmas.{found_below, fits_between, unwrapped, sees_more, same_seen, unwrapped_allowed}
+use Rattle.analysis_walk.proofs.ListLaws.{all_append}
+use Rattle.analysis_values.specs.Known.{View, Known, held, IsDescribed, known}
+use Rattle.analysis_values.specs.Answered.{unless, Evaluates, FitsWhereSaid, StaysWhereSaid}
+use Rattle.analysis_values.proofs.KnownLaws.{found_below, fits_between, unwrapped, sees_more, same_seen, unwrapped_allowed}
 use Rattle.analysis_values.specs.declared.values.Evaluated.{Evaluated}
-use Rattle.analysis_values.specs.Answered.{Evaluates, FitsWhereSaid, StaysWhereSaid}
 use Rattle.analysis_values.specs.declared.operations.Arithmetic.{Arithmetic}
 use Rattle.analysis_values.specs.declared.operations.Arithmetic.TheVariants.{Sum, Difference, Product, Quotient}
 use Rattle.analysis_values.specs.Steps.{EvaluatesBoth, BothFitWhereSaid, GivesOf, GivesOpposite, tree_of, result_of}

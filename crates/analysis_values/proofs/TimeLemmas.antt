@@ -7,14 +7,12 @@ use Rattle.linear.specs.Bounded.{IsFromAll}
 use Rattle.linear.specs.Combined.{StandsFor, AreBelow, combined_at}
 use Rattle.linear.specs.Symbols.{Symbols}
 use Rattle.linear.specs.Held.{GivesAny}
-use Rattle.linear.proofs.LinearLaws.{symbol_at, grows, shrinks, reach}
-use Rattle.linear.proofs.SymbolLaws.{no_terms}
+use Rattle.linear.proofs.LinearLaws.{symbol_at, grows, shrinks, reach, no_terms}
 use Rattle.evaluation.specs.Numbers.{fits}
 use Rattle.analysis_spec.specs.Promises.{IsWritten}
 use Rattle.analysis_walk.specs.Limits.{Scope, any_runs, written_runs}
-use Rattle.analysis_domain.specs.Known.{View, AreTimes, IsSeen, SeesBelow}
-use Rattle.analysis_domain.specs.Expressions.{known}
-use Rattle.analysis_domain.proofs.ViewLemmas.{fits_between, sees_more, same_seen}
+use Rattle.analysis_values.specs.Known.{View, AreTimes, IsSeen, SeesBelow, known}
+use Rattle.analysis_values.proofs.KnownLaws.{fits_between, sees_more, same_seen}
 use Rattle.analysis_values.specs.Answered.{StaysWhereSaid, IsTime, AddsTime}
 use Rattle.analysis_values.specs.Steps.{IsTimeIn, IsLowered, IsFrom128, StaysAbove}
 

@@ -24,22 +24,24 @@ use Rattle.linear.specs.Joined.{Joins}
 use Rattle.linear.specs.Either.{GivesEither}
 use Rattle.linear.proofs.NumberLaws.{true_lt, false_lt, true_le, false_le}
 use Rattle.linear.proofs.LinearLaws.{same_number}
-use Rattle.linear.proofs.SymbolLaws.{terms_more, knows_leads, is_some_map}
-use Rattle.linear.proofs.KnownLaws.{leads_gives, gives_leads}
+use Rattle.linear.proofs.KnownLaws.{terms_more, knows_leads, leads_gives, gives_leads}
 use Rattle.analysis_spec.specs.declared.kind.AlarmKind.TheVariants.{Leaves128}
 use Rattle.analysis_walk.specs.Limits.{Scope, Allowed, GoesOn}
-use Rattle.analysis_walk.specs.Domain.{ObservesSo}
-use Rattle.analysis_walk.proofs.ListLemmas.{all_append}
-use Rattle.analysis_domain.specs.Known.{View, Known, IsSeen, SeesBelow, IsDescribed}
-use Rattle.analysis_domain.specs.Expressions.{known, known_with, unless}
-use Rattle.analysis_domain.proofs.ViewLemmas.{sees_more, same_seen}
+use Rattle.analysis_walk.specs.Conclusions.{ObservesSo}
+use Rattle.analysis_walk.proofs.ListLaws.{all_append}
+use Rattle.analysis_values.specs.Known.{View, Known, IsSeen, SeesBelow, IsDescribed, known, known_with}
+use Rattle.analysis_values.specs.Answered.{unless, GoesTo, Evaluates, FitsWhereSaid, Decides, Unites}
+use Rattle.analysis_values.proofs.KnownLaws.{sees_more, same_seen}
 use Rattle.analysis_values.specs.declared.cases.Counted.{Counted}
 use Rattle.analysis_values.specs.declared.comparisons.Comparison.{Comparison}
 use Rattle.analysis_values.specs.declared.comparisons.Comparison.TheVariants.{NoLess, Greater, Less, NoGreater, Same}
 use Rattle.analysis_values.specs.declared.values.Truths.{Truths}
-use Rattle.analysis_values.specs.Answered.{GoesTo, Evaluates, FitsWhereSaid, Decides, Unites}
 use Rattle.analysis_values.specs.Steps.{EvaluatesBoth, BothFitWhereSaid, KnowsWhere, IsNoLess, IsLess, IsSame, IsOther, test_of, HoldsOf, FailsOf, LeadsEither, LeadsThere, DecidesThere, Leaves, LooksWhereSaid, LeadsOn, EvaluatesEither}
 use Rattle.analysis_values.proofs.StepLemmas.{described_leads, through, leads_itself, goes_both}
+
+is_some_map : {A B : Type 0} (f : A → B) (o : Option A) → is_some (option_map f o) ≡ is_some o
+is_some_map f None = refl
+is_some_map f (Some x) = refl
 
 -- ---- comparisons of two expressions
 

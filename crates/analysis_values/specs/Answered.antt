@@ -1,5 +1,5 @@
--- What is answered of values and observations, whatever run it is of which all that is known is true.
-use Rattle.std.specs.Prelude.{◌≡◌, ℤ, Bool, true, cond, List, Option, ◌⊎◌}
+-- What is answered of values and observations, for every run that satisfies what is known.
+use Rattle.std.specs.Prelude.{◌≡◌, ℤ, Bool, true, cond, if◌then◌else◌, List, [], ◌∷◌, Option, ◌⊎◌}
 use Rattle.std.specs.List.{AllByRecursion}
 use Rattle.std.specs.Option.{IsSomeAnd}
 use Rattle.contract.specs.declared.interval.Interval.{Interval}
@@ -10,11 +10,15 @@ use Rattle.evaluation.specs.Evaluation.{eval, visited, holds}
 use Rattle.evaluation.specs.Numbers.{fits}
 use Rattle.linear.specs.Linear.{Linear, Valuation, number_at}
 use Rattle.linear.specs.Symbols.{IsValued, IsClosed, Leads, Gives}
+use Rattle.analysis_spec.specs.declared.kind.AlarmKind.{AlarmKind}
 use Rattle.analysis_spec.specs.declared.kind.AlarmKind.TheVariants.{Leaves128}
 use Rattle.analysis_spec.specs.Promises.{IsWritten}
 use Rattle.analysis_walk.specs.Limits.{Scope, any_runs, written_runs, Allowed, GoesOn}
-use Rattle.analysis_domain.specs.Known.{Known, AreTimes, IsSeen, SeesBelow, IsDescribed}
-use Rattle.analysis_domain.specs.Expressions.{unless}
+use Rattle.analysis_values.specs.Known.{Known, AreTimes, IsSeen, SeesBelow, IsDescribed}
+
+-- an alarm unless it is shown not to come
+abbrev pub unless : Bool → AlarmKind → List AlarmKind
+unless shown kind = if shown then [] else kind ∷ []
 
 -- what is known leads on to what is known of the same view
 pub record GoesTo (k : Known) (r : Valuation) (m : Known) : Type 0 where

@@ -1,6 +1,17 @@
--- Entries by their keys.
-use Rattle.std.specs.Prelude.{List, map}
-use Rattle.linear.specs.Linear.{Linear}
+-- Entries: their keys, and their numbers.
+use Rattle.std.specs.Prelude.{◌≡◌, ℤ, true, List, [], ◌∷◌, map}
+use Rattle.std.specs.List.{AllByRecursion}
+use Rattle.evaluation.specs.Numbers.{fits}
+use Rattle.linear.specs.Linear.{Linear, number}
 
 abbrev pub keys_of : {K : Type 0} → List (K × Linear) → List K
 keys_of {K} es = let key : K × Linear → K = λ e. e.0 in map key es
+
+-- each number as an expression
+abbrev pub in_numbers : {K : Type 0} → List (K × ℤ) → List (K × Linear)
+in_numbers [] = []
+in_numbers (e ∷ es) = (e.0, number e.1) ∷ in_numbers es
+
+-- each number fits 128 bits
+abbrev pub EntriesFit : {K : Type 0} → List (K × ℤ) → Type 0
+EntriesFit = AllByRecursion (λ e. fits e.1 ≡ true)

@@ -1,3 +1,4 @@
+pub mod Known
+pub mod Entries
 pub mod Answered
 pub mod Steps
-pub mod Entries

@@ -13,14 +13,13 @@ use Rattle.linear.specs.Symbols.{Symbols, IsValued, IsClosed, Leads, Gives}
 use Rattle.analysis_spec.specs.declared.kind.AlarmKind.TheVariants.{Leaves128}
 use Rattle.analysis_spec.specs.Promises.{IsWritten}
 use Rattle.analysis_walk.specs.Limits.{Scope, written_runs, Allowed, GoesOn}
-use Rattle.analysis_domain.specs.Known.{View, AreTimes, IsDescribed}
-use Rattle.analysis_domain.specs.Expressions.{known, unless}
+use Rattle.analysis_values.specs.Known.{View, AreTimes, IsDescribed, known}
+use Rattle.analysis_values.specs.Answered.{unless, Evaluates, FitsWhereSaid}
 use Rattle.analysis_values.specs.declared.cases.Counted.{Counted}
 use Rattle.analysis_values.specs.declared.comparisons.Comparison.{Comparison}
 use Rattle.analysis_values.specs.declared.comparisons.Comparison.TheVariants.{NoLess, Greater, Less, NoGreater, Same}
 use Rattle.analysis_values.specs.declared.operations.Arithmetic.{Arithmetic}
 use Rattle.analysis_values.specs.declared.operations.Arithmetic.TheVariants.{Sum, Difference, Product, Quotient}
-use Rattle.analysis_values.specs.Answered.{Evaluates, FitsWhereSaid}
 
 -- ---- two operands
 

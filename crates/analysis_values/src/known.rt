@@ -8,11 +8,9 @@ ghost use Rattle.linear.specs.Linear.{number_at};
 ghost use Rattle.linear.specs.Bounded.{IsShown, IsFromAll, IsUpToAll};
 ghost use Rattle.linear.specs.Held.{GivesAny, Learns, Assumes, IsRefuted};
 ghost use Rattle.linear.specs.Joined.{Joins};
-ghost use Rattle.analysis_domain.specs.Known.{held};
-ghost use Rattle.analysis_domain.specs.Start.{in_numbers};
-ghost use Rattle.analysis_domain.specs.Expressions.{with_amount};
+ghost use Rattle.analysis_values.specs.Known.{held, with_amount};
+ghost use Rattle.analysis_values.specs.Entries.{in_numbers, keys_of};
 ghost use Rattle.analysis_values.specs.Answered.{StaysWhereSaid, AddsTime};
-ghost use Rattle.analysis_values.specs.Entries.{keys_of};
 
 use crate::lookup::in_expressions;
 use crate::stays::stays;
@@ -43,7 +41,7 @@ impl Drop for Known {
 }
 
 impl Model for Known {
-    ghost use Rattle.analysis_domain.specs.Known.{Known as AllKnown};
+    ghost use Rattle.analysis_values.specs.Known.{Known as AllKnown};
 
     ghost Value = { AllKnown };
 

@@ -1,11 +1,12 @@
-//! Values and observations over what is known of a run, in linear expressions.
+//! What is known of a run in linear expressions, and what values and observations are there.
 //!
-//! A `Known` is what is known at a place of a contract: symbols that stand for whole numbers, and a view of the state,
-//! the interval and what was paid in expressions over them. `evaluate` answers an expression for the number of a value
-//! and whether the numbers on the way are shown to fit 128 bits; `observe` what is known where an observation is true
-//! and where it is false. Their clauses (`specs/Answered.antt`) hold of whatever run all that is known is true of:
-//! where less is shown, a number is a new symbol, or both truths are possible. A `Cond` that stands twice has one symbol,
-//! where its comparisons and the numbers of its branches are known to be the same.
+//! A `Known` is what is known at a node of a contract: symbols that stand for whole numbers, and the state, the
+//! transaction's interval and what was paid, in expressions over them. `specs/Known.antt` defines of which runs it is
+//! true. `evaluate` returns an expression for the number of a value, and says whether the numbers on the way are shown
+//! to fit 128 bits; `observe` returns what is known where an observation is true, and where it is false. Their clauses
+//! (`specs/Answered.antt`) hold for every run that satisfies what is known. Where nothing sharper is shown, the number
+//! becomes a new symbol, or both truths stay possible. A `Cond` that occurs twice has one symbol, if its comparisons and
+//! the numbers of its branches are known to be the same.
 #![tactic(auto)]
 
 mod cases;

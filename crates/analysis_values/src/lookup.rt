@@ -4,8 +4,7 @@ ghost use Rattle.std.specs.Option.{unwrap_or};
 ghost use Rattle.std.specs.Ordering.{eq_by_cmp};
 ghost use Rattle.std.specs.FinMap.Entries.{find};
 ghost use Rattle.linear.specs.Linear.{number};
-ghost use Rattle.analysis_domain.specs.Start.{in_numbers};
-ghost use Rattle.analysis_values.specs.Entries.{keys_of};
+ghost use Rattle.analysis_values.specs.Entries.{in_numbers, keys_of};
 
 use collections::{Items, Memory, Probe, TryClone};
 use linear::Linear;

@@ -2,10 +2,9 @@
 ghost use Rattle.std.specs.Prelude.{◌≡◌, Some, IfOk};
 ghost use Rattle.contract.specs.Tree.{observation_tree};
 ghost use Rattle.analysis_spec.specs.declared.kind.AlarmKind.TheVariants.{Leaves128};
-ghost use Rattle.analysis_walk.specs.Domain.{ObservesSo};
-ghost use Rattle.analysis_domain.specs.Known.{IsDescribed};
-ghost use Rattle.analysis_domain.specs.Expressions.{unless, known_with};
-ghost use Rattle.analysis_values.specs.Answered.{Decides, Unites};
+ghost use Rattle.analysis_walk.specs.Conclusions.{ObservesSo};
+ghost use Rattle.analysis_values.specs.Known.{IsDescribed, known_with};
+ghost use Rattle.analysis_values.specs.Answered.{unless, Decides, Unites};
 
 use crate::known::Known;
 use crate::truths::joined;

@@ -1,6 +1,6 @@
 //! Operations on two numbers.
 ghost use Rattle.std.specs.Prelude.{◌≡◌, IfOk, true};
-ghost use Rattle.analysis_domain.specs.Expressions.{known};
+ghost use Rattle.analysis_values.specs.Known.{known};
 ghost use Rattle.analysis_values.specs.Answered.{StaysWhereSaid};
 ghost use Rattle.analysis_values.specs.Steps.{GivesOf, GivesOpposite, result_of};
 

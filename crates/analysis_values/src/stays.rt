@@ -1,7 +1,7 @@
 //! Which numbers are shown to fit 128 bits.
 ghost use Rattle.std.specs.Prelude.{◌≡◌, pos, ◌≤ℤ◌, IfOk, true};
 ghost use Rattle.std.specs.Option.{IfSome};
-ghost use Rattle.analysis_domain.specs.Expressions.{known};
+ghost use Rattle.analysis_values.specs.Known.{known};
 ghost use Rattle.analysis_values.specs.Answered.{StaysWhereSaid};
 ghost use Rattle.analysis_values.specs.Steps.{IsTimeIn, IsLowered, IsFrom128, StaysAbove};
 

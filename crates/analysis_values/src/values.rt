@@ -2,7 +2,7 @@
 ghost use Rattle.std.specs.Prelude.{◌≡◌, ◌&&◌, IfOk, OnOk, Some, true, cond};
 ghost use Rattle.contract.specs.Tree.{value_tree, available_money, constant, neg_value, choice_value, time_interval_start, time_interval_end, use_value, cond_value};
 ghost use Rattle.contract.specs.Tree.{observation_tree, and_obs, or_obs, not_obs, chose_something, true_obs, false_obs};
-ghost use Rattle.analysis_domain.specs.Expressions.{known};
+ghost use Rattle.analysis_values.specs.Known.{known};
 ghost use Rattle.analysis_values.specs.Answered.{Evaluates, FitsWhereSaid};
 ghost use Rattle.analysis_values.specs.Steps.{Leaves, LeadsOn, tree_of, test_of, EvaluatesBoth, BothFitWhereSaid, EvaluatesIn, DecidesThere, LooksWhereSaid};
 

@@ -5,8 +5,7 @@ ghost use Rattle.std.specs.FinMap.Entries.{find};
 ghost use Rattle.names.specs.Orders.{choice_id_cmp, bytes_cmp};
 ghost use Rattle.semantics.specs.Reduction.{account_of};
 ghost use Rattle.linear.specs.Linear.{number};
-ghost use Rattle.analysis_domain.specs.Known.{held};
-ghost use Rattle.analysis_domain.specs.Expressions.{with_amount};
+ghost use Rattle.analysis_values.specs.Known.{held, with_amount};
 ghost use Rattle.analysis_values.specs.Entries.{keys_of};
 
 use crate::lookup::{
@@ -46,7 +45,7 @@ impl Drop for View {
 }
 
 impl Model for View {
-    ghost use Rattle.analysis_domain.specs.Known.{View as Seen};
+    ghost use Rattle.analysis_values.specs.Known.{View as Seen};
 
     ghost Value = { Seen };
 

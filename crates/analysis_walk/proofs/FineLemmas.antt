@@ -11,9 +11,9 @@ use Rattle.semantics.specs.Walk.{Standing, Walk, then_from, then_walk}
 use Rattle.semantics.specs.Reduction.{Reduction}
 use Rattle.semantics.specs.Settling.{reduction_then}
 use Rattle.semantics.specs.Transaction.{finished}
-use Rattle.analysis_walk.specs.declared.path.PathStep.{PathStep}
+use Rattle.analysis_spec.specs.declared.path.PathStep.{PathStep}
 use Rattle.analysis_walk.specs.Limits.{Limits}
-use Rattle.analysis_walk.proofs.ListLemmas.{all_append}
+use Rattle.analysis_walk.proofs.ListLaws.{all_append}
 
 -- a warning that may come somewhere
 abbrev pub MayCome : Limits → Warning → Type 0

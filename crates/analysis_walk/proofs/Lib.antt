@@ -1,8 +1,12 @@
-pub mod ListLemmas
-pub mod NumberLemmas
-pub mod FineLemmas
-pub mod SoundLemmas
-pub mod PromiseLemmas
+pub mod ListLaws
+mod NumberLemmas
+mod FineLemmas
+mod SoundLemmas
+mod PromiseLemmas
 pub mod WalkLaws
-pub mod FindingsLaws
-pub mod PaidLemmas
+pub mod PaidLaws
+mod PlacesLemmas
+mod RowLemmas
+mod FoundLemmas
+mod AnalysedLemmas
+mod NodesLemmas

@@ -41,6 +41,3 @@ max_from a b = by_test (int_lt b a) refl
     by_test : (t : Bool) → int_lt b a ≡ t → a ≤ℤ cond t a b
     by_test true h = le_itself a
     by_test false h = false_lt b a h
-
-pub below_of : (a b c : ℤ) → a <ℤ b → b ≤ℤ c → a ≤ℤ c
-below_of a b c h k = omega (arith, ints)

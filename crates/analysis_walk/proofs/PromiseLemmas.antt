@@ -11,11 +11,11 @@ use Rattle.semantics.specs.Laws.{TimeGoesOn}
 use Rattle.analysis_spec.specs.declared.kind.AlarmKind.{AlarmKind}
 use Rattle.analysis_spec.specs.Runs.{walk_from, stands_after}
 use Rattle.analysis_spec.specs.Promises.{kind_of, IsWritten}
-use Rattle.analysis_walk.specs.declared.alarm.Alarm.{Alarm}
-use Rattle.analysis_walk.specs.declared.path.PathStep.{PathStep}
+use Rattle.analysis_spec.specs.declared.alarm.Alarm.{Alarm}
+use Rattle.analysis_spec.specs.declared.path.PathStep.{PathStep}
 use Rattle.analysis_walk.specs.Limits.{Scope, any_runs, written_runs, Admitted, HasAlarm, limits}
 use Rattle.analysis_walk.specs.Laws.{AlarmsNameWhatComes, NumbersStayWithin128}
-use Rattle.analysis_walk.proofs.ListLemmas.{all_weaker}
+use Rattle.analysis_walk.proofs.ListLaws.{all_weaker}
 use Rattle.analysis_walk.proofs.FineLemmas.{MayCome}
 use Rattle.analysis_walk.proofs.SoundLemmas.{runs}
 

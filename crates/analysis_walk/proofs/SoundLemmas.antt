@@ -27,11 +27,11 @@ use Rattle.semantics.specs.Transaction.{trimmed}
 use Rattle.semantics.specs.Computed.{pay_step, refunds, settled, first_match, first_match_index, tried_to_match, take_match, applied, one_input, all_inputs, from_start, computed}
 use Rattle.semantics.specs.Laws.{TimeGoesOn}
 use Rattle.analysis_spec.specs.Runs.{walk_from, standing_after, stands_after, paid_with, payments_of}
-use Rattle.analysis_walk.specs.declared.path.PathStep.{PathStep}
-use Rattle.analysis_walk.specs.declared.path.PathStep.TheVariants.{Then, Else, TimeoutContinuation, Case, Action}
+use Rattle.analysis_spec.specs.declared.path.PathStep.{PathStep}
+use Rattle.analysis_spec.specs.declared.path.PathStep.TheVariants.{Then, Else, TimeoutContinuation, Case, Action}
 use Rattle.analysis_walk.specs.Limits.{Limits}
 use Rattle.analysis_walk.specs.Covered.{NoneTakes, Keeps, Covers, CoversCases, CoversFrom}
-use Rattle.analysis_walk.proofs.ListLemmas.{all_append, all_weaker}
+use Rattle.analysis_walk.proofs.ListLaws.{all_append, all_weaker}
 use Rattle.analysis_walk.proofs.NumberLemmas.{true_lt, false_lt, true_le, reaches, le_itself, max_within, max_after, max_from}
 use Rattle.analysis_walk.proofs.FineLemmas.{MayCome, Fine, fine_ok, fine_fault, fine_after, fine_then, fine_finished}
 

@@ -26,15 +26,17 @@ use Rattle.semantics.specs.Computed.{pay_step}
 use Rattle.analysis_spec.specs.declared.kind.AlarmKind.{AlarmKind}
 use Rattle.analysis_spec.specs.declared.kind.AlarmKind.TheVariants.{Leaves128}
 use Rattle.analysis_spec.specs.Promises.{kind_of}
-use Rattle.analysis_walk.specs.declared.alarm.Alarm.{Alarm}
-use Rattle.analysis_walk.specs.declared.paid.PaidRange.{PaidRange}
-use Rattle.analysis_walk.specs.declared.path.PathStep.{PathStep}
-use Rattle.analysis_walk.specs.declared.path.PathStep.TheVariants.{Then, Else, TimeoutContinuation, Case, Action}
+use Rattle.analysis_spec.specs.declared.alarm.Alarm.{Alarm}
+use Rattle.analysis_spec.specs.declared.paid.PaidRange.{PaidRange}
+use Rattle.analysis_spec.specs.declared.path.PathStep.{PathStep}
+use Rattle.analysis_spec.specs.declared.path.PathStep.TheVariants.{Then, Else, TimeoutContinuation, Case, Action}
 use Rattle.analysis_walk.specs.Limits.{Scope, any_runs, written_runs, Allowed, GoesOn, HasAlarm, AreClear, limits}
 use Rattle.analysis_walk.specs.Covered.{NoneTakes, Keeps, CoversAction, Covers, CoversFrom}
-use Rattle.analysis_walk.specs.Domain.{IsAmong, Conclusion, Branches, Description, Concludes, PaysSo, BindsSo, AssertsSo, ObservesSo, DepositsSo, ChoosesSo, IsLater, WaitsSo, TimesOutSo, ClosesIn, DescribesStart}
+use Rattle.analysis_walk.specs.declared.conclusion.Conclusion.{Conclusion}
+use Rattle.analysis_walk.specs.declared.conclusion.Branches.{Branches}
+use Rattle.analysis_walk.specs.Conclusions.{IsAmong, Description, Concludes, PaysSo, BindsSo, AssertsSo, ObservesSo, DepositsSo, ChoosesSo, IsLater, WaitsSo, TimesOutSo, ClosesIn, DescribesStart}
 use Rattle.analysis_walk.specs.Walked.{alarms_at, AreAmong, IsCovered, AreCovered}
-use Rattle.analysis_walk.proofs.ListLemmas.{both, all_left, all_right, all_weaker}
+use Rattle.analysis_walk.proofs.ListLaws.{both, all_left, all_right, all_weaker}
 use Rattle.analysis_walk.proofs.PromiseLemmas.{not_named}
 
 -- an input that matches a deposit is of its account, its party, its token and its amount

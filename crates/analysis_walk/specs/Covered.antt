@@ -13,8 +13,8 @@ use Rattle.semantics.specs.Reduction.{binding, asserting}
 use Rattle.semantics.specs.Applying.{matches, tried, taken, taken_numbers, taken_warnings}
 use Rattle.semantics.specs.Computed.{pay_step, refunds}
 use Rattle.analysis_walk.specs.Limits.{Limits}
-use Rattle.analysis_walk.specs.declared.path.PathStep.{PathStep}
-use Rattle.analysis_walk.specs.declared.path.PathStep.TheVariants.{Then, Else, TimeoutContinuation, Case, Action}
+use Rattle.analysis_spec.specs.declared.path.PathStep.{PathStep}
+use Rattle.analysis_spec.specs.declared.path.PathStep.TheVariants.{Then, Else, TimeoutContinuation, Case, Action}
 
 -- no action takes the input
 abbrev pub NoneTakes : Interval → StateMaps → Input → List ActionTree → Type 0

@@ -6,8 +6,8 @@ use Rattle.contract.specs.Tree.{ContractTree}
 use Rattle.states.specs.States.{StateMaps, AllPositive}
 use Rattle.analysis_spec.specs.declared.kind.AlarmKind.{AlarmKind}
 use Rattle.analysis_spec.specs.Promises.{NeverWarns, StaysWithin128, PaysBetween}
-use Rattle.analysis_walk.specs.declared.alarm.Alarm.{Alarm}
-use Rattle.analysis_walk.specs.declared.paid.PaidRange.{PaidRange}
+use Rattle.analysis_spec.specs.declared.alarm.Alarm.{Alarm}
+use Rattle.analysis_spec.specs.declared.paid.PaidRange.{PaidRange}
 use Rattle.analysis_walk.specs.Limits.{any_runs, written_runs, limits}
 use Rattle.analysis_walk.specs.Covered.{CoversFrom}
 

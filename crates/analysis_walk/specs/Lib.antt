@@ -1,6 +1,10 @@
 pub mod Limits
 pub mod Covered
-pub mod Domain
+pub mod Conclusions
 pub mod Walked
-pub mod Findings
 pub mod Laws
+pub mod Spans
+pub mod Knowledge
+pub mod Rows
+pub mod Found
+pub mod NodesSupport

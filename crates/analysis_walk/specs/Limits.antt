@@ -9,9 +9,9 @@ use Rattle.analysis_spec.specs.declared.kind.AlarmKind.{AlarmKind}
 use Rattle.analysis_spec.specs.declared.kind.AlarmKind.TheVariants.{Leaves128}
 use Rattle.analysis_spec.specs.Runs.{paid_to}
 use Rattle.analysis_spec.specs.Promises.{kind_of, IsWritten}
-use Rattle.analysis_walk.specs.declared.path.PathStep.{PathStep}
-use Rattle.analysis_walk.specs.declared.alarm.Alarm.{Alarm}
-use Rattle.analysis_walk.specs.declared.paid.PaidRange.{PaidRange}
+use Rattle.analysis_spec.specs.declared.path.PathStep.{PathStep}
+use Rattle.analysis_spec.specs.declared.alarm.Alarm.{Alarm}
+use Rattle.analysis_spec.specs.declared.paid.PaidRange.{PaidRange}
 
 -- which intervals transactions have, which numbers they may visit, which warnings may come at which place, and what may
 -- have been paid in all where the contract is closed

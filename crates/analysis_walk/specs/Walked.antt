@@ -6,12 +6,12 @@ use Rattle.contract.specs.declared.payment.Payment.{Payment}
 use Rattle.contract.specs.Tree.{ActionTree, ContractTree, CaseTrees}
 use Rattle.states.specs.States.{StateMaps}
 use Rattle.analysis_spec.specs.declared.kind.AlarmKind.{AlarmKind}
-use Rattle.analysis_walk.specs.declared.alarm.Alarm.{Alarm}
-use Rattle.analysis_walk.specs.declared.paid.PaidRange.{PaidRange}
-use Rattle.analysis_walk.specs.declared.path.PathStep.{PathStep}
+use Rattle.analysis_spec.specs.declared.alarm.Alarm.{Alarm}
+use Rattle.analysis_spec.specs.declared.paid.PaidRange.{PaidRange}
+use Rattle.analysis_spec.specs.declared.path.PathStep.{PathStep}
 use Rattle.analysis_walk.specs.Limits.{Scope, HasAlarm, AreClear, limits}
 use Rattle.analysis_walk.specs.Covered.{Covers, CoversCases}
-use Rattle.analysis_walk.specs.Domain.{Description}
+use Rattle.analysis_walk.specs.Conclusions.{Description}
 
 abbrev pub alarm_at : List PathStep → AlarmKind → Alarm
 alarm_at here kind = record { kind = kind; place = here }

@@ -1,18 +1,29 @@
-//! A walk over a contract, and what follows from it.
+//! The walk over a contract, from what is known of its runs, and what follows from it.
+//!
+//! A walk goes over the contract once, from what is known at its start, and keeps the alarms and what parties are
+//! paid where it is closed: `analyse_by`. `Knowledge` is what it asks for: a conclusion of each step that is true of
+//! every run that comes there (`specs/Conclusions.antt`).
 //!
 //! What a contract may do is told along its tree: `Covers` of `specs/Covered.antt` says that limits are kept from a
 //! place on, in whatever transactions, and the laws here lead from there to the promises of `analysis_spec`.
-//! `specs/Domain.antt` says what an abstract domain is and when it is lawful, and `specs/Findings.antt` what a walk
-//! finds over one: alarms with their places, and what parties are paid. Over a lawful domain the limits that are
-//! found are kept (`proofs/FindingsLaws.antt`).
 #![tactic(auto)]
 
-mod alarm;
+mod action;
+mod analysing;
+mod closings;
+mod conclusion;
+mod found;
+mod knowledge;
 mod laws;
-mod paid;
-mod path;
+mod parts;
+mod row;
+mod span;
+mod walk;
+mod weight;
 
-pub use alarm::Alarm;
+pub use analysing::{Analysis, analyse_by};
+pub use conclusion::{Branches, Conclusion};
+pub use knowledge::Knowledge;
 pub use laws::{alarms_name_what_comes, numbers_stay_within_128, payments_lie_in_ranges};
-pub use paid::PaidRange;
-pub use path::PathStep;
+pub use parts::part_behind;
+pub use span::Span;

@@ -8,27 +8,12 @@ use Rattle.linear.specs.Linear.{Linear, Valuation, number_at, symbol, IsBelow, A
 use Rattle.linear.specs.Bounded.{IsShown}
 use Rattle.linear.specs.Combined.{StandsFor}
 use Rattle.linear.specs.Symbols.{Symbols, Operation, Branch, AreApart, AreBranches, FactsBelow, BranchesBelow, Knows, Gives}
-use Rattle.linear.specs.Held.{symbols_of, branch_of, branches_of, IsNewest, Cancels, IsNever, IsRefuted}
+use Rattle.linear.specs.Held.{symbols_of, branch_of, branches_of, IsNewest, Cancels, IsNever}
 use Rattle.linear.specs.Either.{GivesEither}
 use Rattle.linear.specs.Branches.{Stands, Comes, ShowsAll, RulesOutAll, IsTaken, HasNumber, IsOfEither, Excludes, IsZeroIn, KeepsBranch, KeepsSide, KeepsWhere, KeepsSides}
 use Rattle.linear.proofs.LinearLaws.{same_number, symbol_at}
-use Rattle.linear.proofs.KnownLaws.{terms_more, knows_itself, knows_then, gives_here, same_facts, same_apart, agree_back, below_both}
+use Rattle.linear.proofs.KnownLaws.{terms_more, knows_then, gives_here, same_facts, same_apart, agree_back, below_both}
 use Rattle.linear.proofs.HeldLemmas.{apart_at, same_as}
-
--- ---- a symbol alone
-
-abbrev of_parts : ℤ → List (ℕ × ℤ) → Linear
-of_parts n ts = record { constant = n; terms = ts }
-
-one_item : (ts : List (ℕ × ℤ)) (d : ℕ × ℤ) → length ts ≡ 1 → ts ≡ get_or ts 0 d ∷ []
-one_item [] d h = absurd (omega (arith, h))
-one_item (t ∷ []) d h = refl
-one_item (t ∷ (u ∷ us)) d h = absurd (omega (arith, h))
-
-pub lone_by : (e : Linear) (t d : ℕ × ℤ) → e.constant ≡ pos 0 → length e.terms ≡ 1 → t ≡ get_or e.terms 0 d → t.1 ≡ pos 1 → e ≡ symbol t.0
-lone_by e t d c h is o =
-    let k : e.terms ≡ t ∷ [] = one_item e.terms d h ∙ ap (λ u. u ∷ []) (sym is) in
-    ap (λ n. of_parts n e.terms) c ∙ ap (λ ts. of_parts (pos 0) ts) k ∙ ap (λ n. of_parts (pos 0) ((t.0, n) ∷ [])) o
 
 -- ---- what a case shows of lists
 
@@ -98,9 +83,6 @@ told_by bs i b s m e l is q t n r c v u h =
     let facts = same_facts n r h.values a b.facts w.1 (t.facts h.values h.valued) in
     let apart = same_apart n r h.values a b.apart w.2 (t.apart h.values h.valued) in
     t.number h.values ∙ same_number n h.values r h.agrees b.number w.3 ∙ sym (g.0 facts apart) ∙ ap r q
-
-pub told_itself : (bs : List Branch) (s : ℕ) (m : Symbols) (e : Linear) → e ≡ symbol s → HasNumber bs s m e
-told_itself bs s m e q n r c v u h = ap (number_at h.values) q ∙ symbol_at h.values s ∙ h.agrees s u
 
 pub symbol_below : (bs : List Branched) (i : ℕ) (b : Branched) (n : ℕ) → i < length bs → b ≡ get_or bs i b → BranchesBelow n (branches_of bs) → b.symbol < n
 symbol_below bs i b n l is h = (branch_at_below bs i b n l is h).0
@@ -208,12 +190,6 @@ taken_kept k m a bs i t fs ds own n s q l is o x y z h b e r c v u w g =
         g.number ∙ symbol_at p own ∙ sym (ap p o) ∙ held.0 facts apart ∙ same_number n p r j t.number z
     by_case (inr g) f d = absurd (excluded n b fs ds e r g (natural_left r fs t.facts f) (apart_left r ds t.apart d))
 
-pub keeps_nothing : (k a : Symbols) (x : Linear) (fs ds : List Linear) (n s : ℕ) → KeepsWhere k k a x fs ds n s
-keeps_nothing k a x fs ds n s b e r c v u w g = knows_itself k r c v
-
-pub side_nothing : (k a : Symbols) (x : Linear) (b : Symbols) (n s : ℕ) → KeepsSide k k a x b n s
-side_nothing k a x b n s r c v u w g = knows_itself k r c v
-
 pub side_then : (k m z a : Symbols) (x : Linear) (b : Symbols) (n s : ℕ) → KeepsSide k m a x b n s → KeepsSide m z a x b n s → KeepsSide k z a x b n s
 side_then k m z a x b n s h i r c v u w g =
     let j = h r c v u w g in
@@ -236,26 +212,6 @@ both_sides k m z a x b y n s h i r c v u w g =
     right (inr g) = inl g
 
 -- ---- conditions
-
-pub excludes_refuted : (n : ℕ) (m : Symbols) (f : Linear) → IsBelow n f → IsRefuted m.ranges m.facts f → Excludes n m (f ∷ []) []
-excludes_refuted n m f l h = record { facts = (l, tt); apart = tt; never = λ r v g d. h r v.ranges v.facts g.0 }
-
-no_more : (a b : ℤ) → b ≡ neg_ℤ a → pos 0 ≤ℤ a → pos 0 ≤ℤ b → a ≡ pos 0
-no_more a b e h k = omega (arith, ints, e)
-
-pub excludes_zero : (n : ℕ) (m k : Symbols) (ds : List Linear) (e o : Linear) → ds ≡ m.apart → IsZeroIn n ds k e o → Excludes n m (e ∷ o ∷ []) []
-excludes_zero n m k ds e o q z = record {
-  facts = (z.below, (z.opposite_below, tt));
-  apart = tt;
-  never = λ r v g d. z.never r (subst (λ xs. AreApart r xs) (sym q) v.apart) (no_more (number_at r e) (number_at r o) (z.turned r) g.0 g.1.0);
-}
-
-pub excludes_apart : (n : ℕ) (m : Symbols) (ds : List Linear) (e o : Linear) → IsZeroIn n ds m e o → Excludes n m [] (e ∷ [])
-excludes_apart n m ds e o z = record {
-  facts = tt;
-  apart = (z.below, tt);
-  never = λ r v g d. let s = z.zero r v in d.0 (no_more (number_at r e) (number_at r o) (z.turned r) s.0 s.1.0);
-}
 
 pub zero_by : (n : ℕ) (ds : List Linear) (i : ℕ) (m : Symbols) (e o : Linear) → i < length ds → e ≡ get_or ds i e → IsBelow n e → StandsFor (λ r. negsuc 0 *ℤ number_at r e) (λ p. IsBelow p e) o → ShowsAll m (e ∷ o ∷ []) → IsZeroIn n ds m e o
 zero_by n ds i m e o l is b s z = record {

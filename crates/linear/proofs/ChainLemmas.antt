@@ -5,19 +5,14 @@ use Rattle.std.proofs.Math.Seq.{take-length}
 use Rattle.std.proofs.lemmas.List.{take_more_set, length-take-le}
 use Rattle.std.specs.Option.{IfSome}
 use Rattle.linear.specs.Linear.{Linear, Valuation, sum_at, number_at, Range, IsFrom, AreInRange, greater_of}
-use Rattle.linear.specs.Bounded.{IsLeast, IsRoundedUp, IsFromAll}
+use Rattle.linear.specs.Bounded.{IsLeast, IsFromAll}
 use Rattle.linear.specs.WalkSupport.{IsStep, IsNext}
 use Rattle.linear.specs.ChainSupport.{IsPutIn, IsFilled, IsTakenOut, RoundsUp}
 use Rattle.linear.proofs.LinearLaws.{spread_right, greater_is}
-use Rattle.linear.proofs.WalkLemmas.{IsWalk, walk_start, walk_on, walked, put_is, put_none}
-use Rattle.linear.proofs.QueryLemmas.{combined_split, natural_times, natural_at}
+use Rattle.linear.proofs.WalkLemmas.{IsWalk, walk_on, walked, put_is}
+use Rattle.linear.proofs.QueryLaws.{combined_split, natural_times, natural_at}
 
 -- ---- terms that are put into a list
-
-pub put_in_none : (old : List (ℕ × ℤ)) (count symbol : ℕ) (coefficient : ℤ) → count ≤ length old → length old ≤ 32 → coefficient ≡ pos 0 → IsPutIn old old count symbol coefficient count
-put_in_none old count symbol coefficient l f e =
-    let n : length (take count old) ≤ 32 = omega (arith, length-take-le count old l) in
-    record { within = l; put = put_none (take count old) symbol coefficient n e }
 
 pub put_in_more : (old : List (ℕ × ℤ)) (count symbol : ℕ) (coefficient : ℤ) → count < length old → length old ≤ 32 → length (set old count (symbol, coefficient)) ≡ length old
     → IsPutIn old (set old count (symbol, coefficient)) count symbol coefficient (count + 1)
@@ -30,10 +25,6 @@ pub record IsWalkIn (p : ℤ) (ts : List (ℕ × ℤ)) (i : ℕ) (q : ℤ) (us :
   pub few : length out ≤ 32
   pub within : count ≤ length out
   pub walk : IsWalk p ts i q us j (take count out)
-
-pub walk_in_start : (p : ℤ) (ts : List (ℕ × ℤ)) (q : ℤ) (us out : List (ℕ × ℤ)) → length out ≤ 32 → IsWalkIn p ts 0 q us 0 out 0
-walk_in_start p ts q us [] f = record { few = f; within = omega arith; walk = walk_start p ts q us }
-walk_in_start p ts q us (t ∷ out) f = record { few = f; within = omega arith; walk = walk_start p ts q us }
 
 pub walk_in_on : (p : ℤ) (ts : List (ℕ × ℤ)) (i : ℕ) (q : ℤ) (us : List (ℕ × ℤ)) (j : ℕ) (old new : List (ℕ × ℤ)) (count more symbol : ℕ) (found : ℤ × ℕ × ℕ)
     → IsWalkIn p ts i q us j old count → IsNext ts i us j symbol → IsStep p ts i q us j symbol found → length new ≤ 32 → IsPutIn old new count symbol found.0 more → IsWalkIn p ts found.1 q us found.2 new more
@@ -48,12 +39,6 @@ pub filled : (p : ℤ) (ts : List (ℕ × ℤ)) (i : ℕ) (q : ℤ) (us : List (
 filled p ts i q us j out count w h k = let d = walked p ts i q us j (take count out) w.walk h k in record { within = w.within; sum = d.sum }
 
 -- ---- bounds
-
-alone_sum : (c b n s : ℤ) → b ≤ℤ ((pos 1 *ℤ s) +ℤ (pos 0 *ℤ s)) → n ≡ c +ℤ b → n ≤ℤ (c +ℤ s)
-alone_sum c b n s h e = omega (arith, ints)
-
-pub alone_is : (es : List Range) (c : ℤ) (ts : List (ℕ × ℤ)) (b n : ℤ) → IsLeast es (λ r. (pos 1 *ℤ sum_at r ts) +ℤ (pos 0 *ℤ sum_at r ts)) b → n ≡ c +ℤ b → IsLeast es (λ r. c +ℤ sum_at r ts) n
-alone_is es c ts b n h e r a = alone_sum c b n (sum_at r ts) (h r a) e
 
 pub from_alone : (es : List Range) (fs : List Linear) (f : Valuation → ℤ) (o : Option ℤ) → IfSome o (IsLeast es f) → IsFromAll es fs f o
 from_alone es fs f None h r a n = tt
@@ -81,13 +66,6 @@ taken_out_by c ts fact out m j base count p h e f = record {
 }
 
 -- ---- steps
-
-pub rounds_none : (m : ℤ) → RoundsUp m None None
-rounds_none m x h = tt
-
-pub rounds_some : (m n : ℤ) (z : Option ℤ) → IfSome z (IsRoundedUp n m) → RoundsUp m (Some n) z
-rounds_some m n None h x k = tt
-rounds_some m n (Some z) h x k = h x k
 
 from_more : (o : Option ℤ) (a b : ℤ) → a ≤ℤ b → IsFrom o a → IsFrom o b
 from_more None a b h k = tt

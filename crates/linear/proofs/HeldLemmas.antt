@@ -1,14 +1,13 @@
 -- What the code holds of symbols, step by step.
-use Rattle.std.proofs.Common.{◌≡◌, ℕ, zero, suc, ◌+◌, ◌<◌, ◌≤◌, pos, ◌≤ℤ◌, Option, List, [], ◌∷◌, ◌++◌, length, drop, get_or, set, ℤ, ◌+ℤ◌, ◌*ℤ◌, ◌<ℤ◌, negsuc, Bool, true, refl, sym, ap, ◌∙◌, subst, arith, length-append}
+use Rattle.std.proofs.Common.{◌≡◌, ℕ, zero, suc, ◌+◌, ◌<◌, ◌≤◌, pos, Option, List, [], ◌∷◌, ◌++◌, length, drop, get_or, set, ℤ, ◌+ℤ◌, ◌*ℤ◌, negsuc, true, refl, sym, ap, ◌∙◌, subst, arith, length-append}
 use Rattle.std.proofs.lemmas.Int.{ints}
 use Rattle.linear.specs.declared.bounds.Bounds.{Bounds}
-use Rattle.linear.specs.Linear.{Linear, Valuation, number_at, number, symbol, Range, IsBelow, IsFrom, IsUpTo, AreInRange, AreNatural}
-use Rattle.linear.specs.Bounded.{numbered, IsFromAll}
+use Rattle.linear.specs.Linear.{Linear, Valuation, number_at, number, symbol, IsFrom, IsUpTo, AreInRange, AreNatural}
+use Rattle.linear.specs.Bounded.{numbered}
 use Rattle.linear.specs.Combined.{StandsFor, AreBelow, combined_at}
 use Rattle.linear.specs.Symbols.{Symbols, Operation, Branch, RangesBelow, FactsBelow, OperationsBelow, BranchesBelow, AreApart}
-use Rattle.linear.specs.Held.{symbols_of, IsNewest, AreWithin, KnowsWithin, GivesAny, Learns, Assumes, Distinguishes, AreNarrowed, Cancels, RulesOut, IsNever, IsSharpened, IsRefuted}
-use Rattle.linear.proofs.SymbolLaws.{fresh_closed, fresh_valued, with_value, new_gives}
-use Rattle.linear.proofs.KnownLaws.{knows_itself, natural_both, below_both}
+use Rattle.linear.specs.Held.{symbols_of, IsNewest, AreWithin, KnowsWithin, GivesAny, Learns, Assumes, Distinguishes, AreNarrowed, Cancels, RulesOut, IsNever, IsSharpened}
+use Rattle.linear.proofs.KnownLaws.{fresh_closed, fresh_valued, with_value, new_gives, knows_itself, natural_both, below_both}
 
 -- ---- ranges
 
@@ -61,12 +60,6 @@ put_symbol_held bs es b n e p q i fs ds os cs =
     (subst (λ x. GivesAny (symbols_of bs fs ds os cs) (symbols_of (bs ++ b ∷ []) fs ds os cs) x b.least b.greatest) (sym (i ∙ ap symbol q)) (fresh_held bs b fs ds os cs))
 
 -- ---- facts
-
-pub narrowed_none : (bs : List Bounds) (l : Linear) → AreNarrowed bs bs l
-narrowed_none bs l = record { same = refl; ranges = λ r h g. h }
-
-pub narrowed_then : (bs cs es : List Bounds) (l : Linear) → AreNarrowed bs cs l → AreNarrowed cs es l → AreNarrowed bs es l
-narrowed_then bs cs es l h k = record { same = k.same ∙ h.same; ranges = λ r g n. k.ranges r (h.ranges r g n) n }
 
 pub in_range_set : (r : Valuation) (n i : ℕ) (bs : List Bounds) (b : Bounds) → AreInRange r (numbered n bs) → IsFrom b.least (r (n + i)) → IsUpTo b.greatest (r (n + i))
     → AreInRange r (numbered n (set bs i b))
@@ -179,27 +172,6 @@ rules_out_by d q l c r h e = h (zero_then (number_at r d) q (number_at r l) (c r
 
 pub never_by : (ds : List Linear) (i : ℕ) (d l : Linear) → i < length ds → d ≡ get_or ds i d → RulesOut d l → IsNever ds l
 never_by ds i d l h is c r a e = c r (λ z. apart_at r ds i d h a (subst (λ (x : Linear). number_at r x ≡ pos 0) is z)) e
-
-pub sharpened_less : (ds : List Linear) (l e : Linear) → IsNever ds l → StandsFor (λ r. number_at r l +ℤ negsuc 0) (λ n. IsBelow n l) e → IsSharpened ds l e
-sharpened_less ds l e h s = record {
-  below = s.below;
-  natural = λ r a n. subst (λ z. pos 0 ≤ℤ z) (sym (s.number r)) (above (number_at r l) n (h r a));
-}
-  where
-    above : (a : ℤ) → pos 0 ≤ℤ a → (a ≡ pos 0 → ⊥) → pos 0 ≤ℤ (a +ℤ negsuc 0)
-    above a h k = omega (arith, ints, k)
-
-pub sharpened_same : (ds : List Linear) (l e : Linear) → e ≡ l → IsSharpened ds l e
-sharpened_same ds l e q = record { below = λ n h. subst (λ x. IsBelow n x) (sym q) h; natural = λ r a n. subst (λ x. pos 0 ≤ℤ number_at r x) (sym q) n }
-
-pub refuted_by : (es : List Range) (fs : List Linear) (l : Linear) (o : Option ℤ) → IsFromAll es fs (λ r. negsuc 0 *ℤ number_at r l) o → ((n : ℤ) → IsFrom o n → pos 0 <ℤ n) → IsRefuted es fs l
-refuted_by es fs l o h k r a n g = between (number_at r l) (k (negsuc 0 *ℤ number_at r l) (h r a n)) g
-  where
-    between : (x : ℤ) → pos 0 <ℤ (negsuc 0 *ℤ x) → pos 0 ≤ℤ x → ⊥
-    between x k g = omega (arith, ints)
-
-pub assumes_none : (k : Symbols) (l e : Linear) (possible : Bool) → IsSharpened k.apart l e → IsRefuted k.ranges k.facts e → Assumes k k l possible
-assumes_none k l e possible s h r c v b n = absurd (h r v.ranges v.facts (s.natural r v.apart n))
 
 pub assumes_some : (k m : Symbols) (l e : Linear) → IsSharpened k.apart l e → Learns k m e → Assumes k m l true
 assumes_some k m l e s h r c v b n = (refl, h r c v (s.below k.next b) (s.natural r v.apart n))

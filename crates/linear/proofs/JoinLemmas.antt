@@ -1,5 +1,5 @@
 -- What holds in either of two cases.
-use Rattle.std.proofs.Common.{◌≡◌, ℕ, zero, suc, ◌+◌, ◌<◌, ◌≤◌, ℤ, pos, ◌≤ℤ◌, ◌⊎◌, inl, inr, List, [], ◌∷◌, ◌++◌, length, take, get_or, refl, sym, ap, ◌∙◌, subst, arith}
+use Rattle.std.proofs.Common.{◌≡◌, ℕ, zero, suc, ◌+◌, ◌<◌, ℤ, pos, ◌≤ℤ◌, ◌⊎◌, inl, inr, List, [], ◌∷◌, ◌++◌, length, take, get_or, refl, sym, ap, ◌∙◌, subst, arith}
 use Rattle.linear.specs.declared.bounds.Bounds.{Bounds}
 use Rattle.linear.specs.Linear.{Linear, number_at, TermsBelow, IsBelow, Range, AreInRange, AreNatural}
 use Rattle.linear.specs.Bounded.{numbered, IsShown}
@@ -9,20 +9,10 @@ use Rattle.linear.specs.Ranged.{IsHull}
 use Rattle.linear.specs.Joined.{Joins, AreShared, AreJoined}
 use Rattle.linear.proofs.KnownLaws.{natural_both, below_both}
 use Rattle.linear.proofs.LinearLaws.{same_number}
-use Rattle.linear.proofs.QueryLemmas.{natural_at}
+use Rattle.linear.proofs.QueryLaws.{natural_at}
 use Rattle.linear.proofs.HeldLemmas.{ranges_below}
 
 -- ---- facts
-
-pub shared_none : (n : ℕ) (own : List Linear) (es : List Range) (others old : List Linear) → AreShared n own es others old old
-shared_none n own es others old = record { below = λ h. h; by_own = λ q r a h k. k; by_other = λ q r a h i k. k }
-
-pub shared_then : (n : ℕ) (own : List Linear) (es : List Range) (others a b c : List Linear) → AreShared n own es others a b → AreShared n own es others b c → AreShared n own es others a c
-shared_then n own es others a b c x y = record {
-  below = λ h. y.below (x.below h);
-  by_own = λ q r g h k. y.by_own q r g h (x.by_own q r g h k);
-  by_other = λ q r g h i k. y.by_other q r g h i (x.by_other q r g h i k);
-}
 
 pub shared_one : (n : ℕ) (own : List Linear) (es : List Range) (others old new : List Linear) (i : ℕ) (f e : Linear) → i < length own → f ≡ get_or own i f → IsBelow n f → IsShown es others f
     → e ≡ f → new ≡ old ++ e ∷ []
@@ -44,11 +34,6 @@ below_next n (t ∷ ts) (suc i) d l h k = (h.0, below_next n ts i d (omega arith
 
 pub below_take : (n : ℕ) (ts : List (ℕ × ℤ)) (i : ℕ) (d : ℕ × ℤ) → i < length ts → TermsBelow n (take i ts) → (get_or ts i d).0 < n → TermsBelow n (take (i + 1) ts)
 below_take n ts i d l h k = let e : suc i ≡ i + 1 = omega arith in subst (λ m. TermsBelow n (take m ts)) e (below_next n ts i d l h k)
-
-pub below_all : (n : ℕ) (ts : List (ℕ × ℤ)) (i : ℕ) → length ts ≤ i → TermsBelow n (take i ts) → TermsBelow n ts
-below_all n [] i l h = tt
-below_all n (t ∷ ts) zero l h = absurd (omega arith)
-below_all n (t ∷ ts) (suc i) l h = (h.0, below_all n ts i (omega arith) h.1)
 
 -- ---- both
 

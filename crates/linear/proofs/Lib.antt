@@ -1,15 +1,14 @@
 pub mod NumberLaws
 pub mod LinearLaws
 pub mod WalkLemmas
-pub mod QueryLemmas
+pub mod QueryLaws
 pub mod ChainLemmas
 pub mod KnownLaws
-pub mod SymbolLaws
 pub mod HeldLemmas
 pub mod RangeLemmas
 pub mod JoinLemmas
 pub mod ResultLemmas
 pub mod BranchLemmas
 pub mod EitherLemmas
-pub mod QuotientLaws
+pub mod DivisionLemmas
 pub mod QuotientLemmas

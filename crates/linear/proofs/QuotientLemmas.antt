@@ -9,9 +9,9 @@ use Rattle.linear.specs.Symbols.{Symbols, Gives}
 use Rattle.linear.specs.Held.{Learns}
 use Rattle.linear.specs.Results.{GivesResult, GivesMultiple}
 use Rattle.linear.specs.Quotients.{GivesQuotient, left_over, LearnsRest, LearnsQuotient, LearnsDown, IsRoom, IsRoomAbove}
-use Rattle.linear.proofs.LinearLaws.{product_neg, same_number}
-use Rattle.linear.proofs.KnownLaws.{knows_itself, knows_then, gives_here, gives_then, plus_none, neg_is, terms_more}
-use Rattle.linear.proofs.SymbolLaws.{leaves_over, above_is_suc, quotient_none, quotient_one, quotient_down, twice_opposite, sign_moves_out, no_terms}
+use Rattle.linear.proofs.LinearLaws.{plus_none, product_neg, same_number, no_terms}
+use Rattle.linear.proofs.KnownLaws.{knows_itself, knows_then, gives_here, gives_then, terms_more}
+use Rattle.linear.proofs.DivisionLemmas.{leaves_over, above_is_suc, quotient_none, quotient_one, quotient_down, twice_opposite, sign_moves_out}
 
 drop_none : (x y : ℤ) → pos 0 ≤ℤ (x +ℤ (y +ℤ pos 0)) → pos 0 ≤ℤ (x +ℤ y)
 drop_none x y h = omega (arith, ints)
@@ -115,6 +115,9 @@ pub by_numbers : (l e : Linear) (a c q : ℤ) → l.terms ≡ [] → a ≡ l.con
 by_numbers l e a c q t f g h k r cl v b =
     subst (λ z. Gives k r (k, z) (quotient (number_at r l) c)) (sym h)
     (gives_here k r (number q) (quotient (number_at r l) c) cl v tt (ap (λ z. quotient z c) (no_terms r l t ∙ sym f) ∙ sym g ∙ sym (plus_none q)))
+
+neg_is : (a : ℤ) → neg_ℤ a ≡ neg_ℤ (pos 1) *ℤ a
+neg_is a = omega (arith, ints)
 
 pub by_turned : (k m n : Symbols) (l e f : Linear) (c : ℤ) → GivesQuotient c k m l e → GivesMultiple (negsuc 0) m n e f → GivesQuotient (neg_ℤ c) k n l f
 by_turned k m n l e f c h i r cl v b =

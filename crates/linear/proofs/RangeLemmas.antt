@@ -5,7 +5,6 @@ use Rattle.std.proofs.lemmas.List.{length-set, append-nil, append_assoc}
 use Rattle.linear.specs.declared.bounds.Bounds.{Bounds}
 use Rattle.linear.specs.Linear.{Linear, Valuation, number_at, symbol, IsFrom, IsUpTo, AreInRange, greater_of, lesser_of}
 use Rattle.linear.specs.Bounded.{numbered}
-use Rattle.linear.specs.Symbols.{Agree}
 use Rattle.linear.specs.Held.{AreWithin, AreNarrowed, IsRangeBy}
 use Rattle.linear.specs.Joined.{IsFromEither, IsUpToEither}
 use Rattle.linear.specs.Ranged.{before, AreFull, IsRangeAt, IsRangeOf, ArePut, HoldInBoth, IsHull}
@@ -122,9 +121,6 @@ place_of x = div-add-mod x 64
 pub of_symbol : (bs : List Bounds) (x : ℕ) (b : Bounds) → IsRangeOf bs (64 * (x / 64) + x % 64) b → IsRangeOf bs x b
 of_symbol bs x b h = subst (λ m. IsRangeOf bs m b) (place_of x) h
 
-pub within_symbol : (bs cs : List Bounds) (x : ℕ) (low high : Option ℤ) → AreWithin bs cs (64 * (x / 64) + x % 64) low high → AreWithin bs cs x low high
-within_symbol bs cs x low high h = subst (λ m. AreWithin bs cs m low high) (place_of x) h
-
 -- ---- another range
 
 pub put_set : (bs : List Bounds) (i : ℕ) (b : Bounds) → ArePut bs (set bs i b) i b
@@ -159,9 +155,6 @@ within_newest ps bs cs i at b f e h = record {
     z : 0 + 64 * length ps ≡ 64 * i
     z = omega (arith, e)
 
-pub within_nothing : (bs : List Bounds) (x : ℕ) (low high : Option ℤ) → AreWithin bs bs x low high
-within_nothing bs x low high = record { same = refl; ranges = λ r h i j. h }
-
 pub narrowed_by : (bs cs : List Bounds) (l : Linear) (x : ℕ) (b : Bounds) → IsRangeBy bs l x b → AreWithin bs cs x b.least b.greatest → AreNarrowed bs cs l
 narrowed_by bs cs l x b h k = record { same = k.same; ranges = λ r g n. let i = h r g n in k.ranges r g i.0 i.1 }
 
@@ -174,9 +167,6 @@ within_by bs cs x b old low most high f g d e k = record {
 }
 
 -- ---- what holds in both
-
-pub both_none : (n : ℕ) (bs cs : List Bounds) → HoldInBoth n bs cs []
-both_none n bs cs q r a h = tt
 
 pub both_on : (n : ℕ) (bs cs out new : List Bounds) (i : ℕ) (l m : Bounds) (b : Bounds) → length out ≡ i → HoldInBoth n bs cs out → new ≡ out ++ b ∷ [] → IsRangeOf bs (n + i) l → IsRangeOf cs (n + i) m
     → IsFromEither l.least m.least b.least → IsUpToEither l.greatest m.greatest b.greatest
@@ -199,15 +189,6 @@ both_on n bs cs out new i l m b e h p x y f g = (
     greatest_in : (q : Valuation) → AreInRange q (numbered 0 bs) ⊎ AreInRange q (numbered 0 cs) → IsUpTo l.greatest (q (n + i)) ⊎ IsUpTo m.greatest (q (n + i))
     greatest_in q (inl j) = inl (x q j).1
     greatest_in q (inr j) = inr (y q j).1
-
-pub hull_none : (bs cs old : List Bounds) → IsHull bs cs old old
-hull_none bs cs old = record { same = refl; ranges = λ q r a h j. h }
-
-pub hull_then : (bs cs old mid new : List Bounds) → IsHull bs cs old mid → IsHull bs cs mid new → IsHull bs cs old new
-hull_then bs cs old mid new x y = record {
-  same = y.same ∙ x.same;
-  ranges = λ q r a h j. y.ranges q r (subst (λ n. Agree n q r) (sym x.same) a) (x.ranges q r a h j) j;
-}
 
 pub hull_part : (bs cs : List Bounds) (ps : List (List Bounds)) (newest p : List Bounds) (i : ℕ) → AreFull ps → i < length ps → length p ≡ 64 → HoldInBoth (64 * i) bs cs p
     → IsHull bs cs (before ps newest) (before (set ps i p) newest)

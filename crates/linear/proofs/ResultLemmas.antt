@@ -1,17 +1,17 @@
 -- Products and quotients that have a symbol.
-use Rattle.std.proofs.Common.{◌≡◌, ℕ, zero, suc, ◌+◌, ◌<◌, ℤ, negsuc, ◌*ℤ◌, ◌≤ℤ◌, int_lt, cond, Bool, true, false, List, [], ◌∷◌, ◌++◌, length, drop, get_or, Option, Some, None, refl, sym, ap, ◌∙◌, subst, arith}
-use Rattle.std.specs.Int.{int_min, int_max}
+use Rattle.std.proofs.Common.{◌≡◌, ℕ, zero, suc, ◌+◌, ◌<◌, ℤ, pos, negsuc, ◌*ℤ◌, ◌≤ℤ◌, int_lt, Bool, true, false, List, [], ◌∷◌, ◌++◌, length, drop, get_or, Option, Some, None, refl, sym, ap, ◌∙◌, subst, arith}
+use Rattle.std.proofs.lemmas.Int.{ints}
 use Rattle.linear.specs.declared.bounds.Bounds.{Bounds}
 use Rattle.linear.specs.declared.named.Named.{Named}
 use Rattle.linear.specs.Linear.{Linear, Valuation, number_at, symbol, IsBelow, IsFrom, IsUpTo}
 use Rattle.linear.specs.Bounded.{IsFromAll, IsUpToAll}
 use Rattle.linear.specs.Combined.{StandsFor}
-use Rattle.linear.specs.Symbols.{Symbols, Operation, Branch, result, AreResults, OperationsBelow, BranchesBelow, FactsBelow, Gives}
+use Rattle.linear.specs.Symbols.{Symbols, Operation, Branch, result, AreResults, OperationsBelow, BranchesBelow, FactsBelow, IsValued, IsClosed, Gives}
 use Rattle.linear.specs.Held.{symbols_of, operation_of, operations_of, IsNewest, Cancels, GivesAny, KnowsWithin}
 use Rattle.linear.specs.Results.{GivesInRange, GivesResult, GivesMultiple, IsOf, IsSymbolOf, IsNamed, AreCorners, IsProductRange, IsQuotientRange}
-use Rattle.linear.proofs.KnownLaws.{with_value, gives_here, knows_leads, leads_gives}
-use Rattle.linear.proofs.LinearLaws.{symbol_at, reach}
-use Rattle.linear.proofs.SymbolLaws.{operation_closed, operation_valued, new_gives, corner_low, corner_high, no_terms, flipped}
+use Rattle.linear.proofs.NumberLaws.{true_lt, false_lt}
+use Rattle.linear.proofs.KnownLaws.{at_suc, terms_up, fresh, fresh_closed, fresh_valued, with_value, agree_below, at_new, new_gives, gives_here, knows_leads, leads_gives}
+use Rattle.linear.proofs.LinearLaws.{grows, shrinks, lt_le, reach, same_number, symbol_at, no_terms}
 use Rattle.linear.proofs.HeldLemmas.{in_range_append, ranges_below, one_more, same_as}
 
 -- ---- what is known
@@ -37,11 +37,6 @@ named_at ns i o d l m h is y = record {
       subst (λ (x : Named). r x.symbol ≡ result x.divides (number_at r x.left) (number_at r x.right)) (sym is) (named_value ns i o r h a)
       ∙ ap (λ b. result b (number_at r o.left) (number_at r o.right)) y.divides ∙ ap (λ z. result d z (number_at r o.right)) (sym (y.left r)) ∙ ap (λ z. result d (number_at r l) z) (sym (y.right r));
 }
-
-pub named_gives : (k : Symbols) (d : Bool) (l m e : Linear) (x : ℕ) → IsNamed k.operations d l m x → e ≡ symbol x → GivesResult d k k l m e
-named_gives k d l m e x h i r c v a b =
-    subst (λ (y : Linear). Gives k r (k, y) (result d (number_at r l) (number_at r m))) (sym i)
-    (gives_here k r (symbol x) (result d (number_at r l) (number_at r m)) c v (h.below k.next c.operations, tt) (sym (symbol_at r x ∙ h.value r v.operations)))
 
 -- .. of which a range is known now
 pub named_within : (d : Bool) (low high : Option ℤ) (k m : Symbols) (l n e : Linear) (x : ℕ) → IsNamed k.operations d l n x → KnowsWithin k m x low high → e ≡ symbol x → GivesInRange d low high k m l n e
@@ -82,6 +77,35 @@ results_newest r ns ps w h = subst (λ xs. AreResults r (operations_of xs)) (sym
 
 operations_newest : (m : ℕ) (ns ps : List Named) → IsNewest ns ps → OperationsBelow m (operations_of ns) → OperationsBelow m (operations_of ps)
 operations_newest m ns ps w h = subst (λ xs. OperationsBelow m (operations_of xs)) (sym w.is) (operations_drop m w.dropped ns h)
+
+-- with a new symbol for a product or quotient, in a range
+abbrev with_operation : Symbols → Bool → Linear → Linear → Option ℤ → Option ℤ → Symbols
+with_operation k d l m low high = record (fresh k low high) { operations = record { divides = d; left = l; right = m; symbol = k.next } ∷ k.operations }
+
+operation_closed : (k : Symbols) (d : Bool) (l m : Linear) (low high : Option ℤ) → IsClosed k → IsBelow k.next l → IsBelow k.next m → IsClosed (with_operation k d l m low high)
+operation_closed k d l m low high c x y =
+    let f = fresh_closed k low high c in
+    record {
+      apart = f.apart;
+      operations = (at_suc k.next, terms_up k.next l.terms x, terms_up k.next m.terms y, f.operations);
+      branches = f.branches;
+      ranges = f.ranges;
+      facts = f.facts;
+    }
+
+operation_valued : (k : Symbols) (r : Valuation) (d : Bool) (l m : Linear) (low high : Option ℤ) (n : ℤ) → IsClosed k → IsValued r k → IsBelow k.next l → IsBelow k.next m
+    → n ≡ result d (number_at r l) (number_at r m) → IsFrom low n → IsUpTo high n → IsValued (with_value r k.next n) (with_operation k d l m low high)
+operation_valued k r d l m low high n c v x y e f g =
+    let w = fresh_valued k r low high n c v f g in
+    let q = with_value r k.next n in
+    let a = agree_below r k.next n in
+    record {
+      apart = w.apart;
+      operations = (at_new r k.next n ∙ e ∙ ap (λ z. result d z (number_at r m)) (sym (same_number k.next q r a l x)) ∙ ap (λ z. result d (number_at q l) z) (sym (same_number k.next q r a m y)), w.operations);
+      branches = w.branches;
+      ranges = w.ranges;
+      facts = w.facts;
+    }
 
 -- .. behind those that are kept
 operation_held : (bs : List Bounds) (b : Bounds) (fs ds : List Linear) (cs : List Branch) (os ks : List Operation) (d : Bool) (l m : Linear)
@@ -128,19 +152,23 @@ put_operation_held bs es b fs ds cs ns ks ps d l m e n w p q i j =
 
 -- ---- ranges of products
 
-under_min : (n a b : ℤ) → n ≤ℤ a → n ≤ℤ b → n ≤ℤ int_min a b
-under_min n a b h k = by_test (int_lt b a)
-  where
-    by_test : (t : Bool) → n ≤ℤ cond t b a
-    by_test true = k
-    by_test false = h
+pub flipped : (a b : ℤ) → a *ℤ b ≡ b *ℤ a
+flipped a b = omega (arith, ints)
 
-over_max : (n a b : ℤ) → a ≤ℤ n → b ≤ℤ n → int_max a b ≤ℤ n
-over_max n a b h k = by_test (int_lt b a)
+-- a product lies between bounds of the products of the ends
+no_less : (low a b x y : ℤ) → a ≤ℤ x → x ≤ℤ b → low ≤ℤ (a *ℤ y) → low ≤ℤ (b *ℤ y) → low ≤ℤ (x *ℤ y)
+no_less low a b x y h k l m = subst (λ z. low ≤ℤ z) (flipped y x) (by_sign (int_lt y (pos 0)) refl)
   where
-    by_test : (t : Bool) → cond t a b ≤ℤ n
-    by_test true = h
-    by_test false = k
+    by_sign : (t : Bool) → int_lt y (pos 0) ≡ t → low ≤ℤ (y *ℤ x)
+    by_sign true e = reach low (y *ℤ b) (y *ℤ x) (subst (λ z. low ≤ℤ z) (flipped b y) m) (shrinks y b x (lt_le y (pos 0) (true_lt y (pos 0) e)) k)
+    by_sign false e = reach low (y *ℤ a) (y *ℤ x) (subst (λ z. low ≤ℤ z) (flipped a y) l) (grows y a x (false_lt y (pos 0) e) h)
+
+no_more : (high a b x y : ℤ) → a ≤ℤ x → x ≤ℤ b → (a *ℤ y) ≤ℤ high → (b *ℤ y) ≤ℤ high → (x *ℤ y) ≤ℤ high
+no_more high a b x y h k l m = subst (λ z. z ≤ℤ high) (flipped y x) (by_sign (int_lt y (pos 0)) refl)
+  where
+    by_sign : (t : Bool) → int_lt y (pos 0) ≡ t → (y *ℤ x) ≤ℤ high
+    by_sign true e = reach (y *ℤ x) (y *ℤ a) high (shrinks y x a (lt_le y (pos 0) (true_lt y (pos 0) e)) h) (subst (λ z. z ≤ℤ high) (flipped a y) l)
+    by_sign false e = reach (y *ℤ x) (y *ℤ b) high (grows y x b (false_lt y (pos 0) e) k) (subst (λ z. z ≤ℤ high) (flipped b y) m)
 
 -- bounds of four numbers
 pub record AreAround (low high p q s t : ℤ) : Type 0 where
@@ -156,20 +184,14 @@ pub record AreAround (low high p q s t : ℤ) : Type 0 where
 pub corners_are : (a b c d ca da cb db low high : ℤ) → ca ≡ c *ℤ a → da ≡ d *ℤ a → cb ≡ c *ℤ b → db ≡ d *ℤ b → AreAround low high ca da cb db → AreCorners a b c d (low, high)
 corners_are a b c d ca da cb db low high p q s t o = record {
   low = λ x y h k l m.
-      reach low (int_min (int_min (c *ℤ a) (d *ℤ a)) (int_min (c *ℤ b) (d *ℤ b))) (x *ℤ y)
-      (under_min low (int_min (c *ℤ a) (d *ℤ a)) (int_min (c *ℤ b) (d *ℤ b))
-      (under_min low (c *ℤ a) (d *ℤ a) (subst (λ z. low ≤ℤ z) p o.low_p) (subst (λ z. low ≤ℤ z) q o.low_q))
-      (under_min low (c *ℤ b) (d *ℤ b) (subst (λ z. low ≤ℤ z) s o.low_s) (subst (λ z. low ≤ℤ z) t o.low_t)))
-      (corner_low a b c d x y h k l m);
+      no_less low a b x y h k
+      (subst (λ z. low ≤ℤ z) (flipped y a) (no_less low c d y a l m (subst (λ z. low ≤ℤ z) p o.low_p) (subst (λ z. low ≤ℤ z) q o.low_q)))
+      (subst (λ z. low ≤ℤ z) (flipped y b) (no_less low c d y b l m (subst (λ z. low ≤ℤ z) s o.low_s) (subst (λ z. low ≤ℤ z) t o.low_t)));
   high = λ x y h k l m.
-      reach (x *ℤ y) (int_max (int_max (c *ℤ a) (d *ℤ a)) (int_max (c *ℤ b) (d *ℤ b))) high (corner_high a b c d x y h k l m)
-      (over_max high (int_max (c *ℤ a) (d *ℤ a)) (int_max (c *ℤ b) (d *ℤ b))
-      (over_max high (c *ℤ a) (d *ℤ a) (subst (λ z. z ≤ℤ high) p o.high_p) (subst (λ z. z ≤ℤ high) q o.high_q))
-      (over_max high (c *ℤ b) (d *ℤ b) (subst (λ z. z ≤ℤ high) s o.high_s) (subst (λ z. z ≤ℤ high) t o.high_t)));
+      no_more high a b x y h k
+      (subst (λ z. z ≤ℤ high) (flipped y a) (no_more high c d y a l m (subst (λ z. z ≤ℤ high) p o.high_p) (subst (λ z. z ≤ℤ high) q o.high_q)))
+      (subst (λ z. z ≤ℤ high) (flipped y b) (no_more high c d y b l m (subst (λ z. z ≤ℤ high) s o.high_s) (subst (λ z. z ≤ℤ high) t o.high_t)));
 }
-
-pub no_range : (a b c d : Option ℤ) → IsProductRange a b c d None None
-no_range a b c d = record { low = λ x y h k l m. tt; high = λ x y h k l m. tt }
 
 pub corners_range : (a b c d low high : ℤ) → AreCorners a b c d (low, high) → IsProductRange (Some a) (Some b) (Some c) (Some d) (Some low) (Some high)
 corners_range a b c d low high h = record { low = h.low; high = h.high }
@@ -204,9 +226,6 @@ quotient_ranged k z l m e a b c d low high f g h i p o r cl v x y =
     o r cl v x y
     (p.low (number_at r l) (number_at r m) (f r v.ranges v.facts) (g r v.ranges v.facts) (h r v.ranges v.facts) (i r v.ranges v.facts))
     (p.high (number_at r l) (number_at r m) (f r v.ranges v.facts) (g r v.ranges v.facts) (h r v.ranges v.facts) (i r v.ranges v.facts))
-
-pub in_any_range : (d : Bool) (low high : Option ℤ) (k m : Symbols) (l n e : Linear) → GivesResult d k m l n e → GivesInRange d low high k m l n e
-in_any_range d low high k m l n e h r c v x y f g = h r c v x y
 
 pub symbol_named : (ns : List Named) (i : ℕ) (o : Named) (d : Bool) (l m : Linear) (x : ℕ) → i < length ns → o ≡ get_or ns i o → IsSymbolOf o d l m x → IsNamed (operations_of ns) d l m x
 symbol_named ns i o d l m x h is s = subst (λ y. IsNamed (operations_of ns) d l m y) (sym s.1) (named_at ns i o d l m h is s.0)

@@ -16,24 +16,6 @@ pub record IsWalk (p : ℤ) (ts : List (ℕ × ℤ)) (i : ℕ) (q : ℤ) (us : L
   pub below : (n : ℕ) → TermsBelow n ts → TermsBelow n us → TermsBelow n out
   pub sum : (r : Valuation) → sum_at r out +ℤ rest_at p ts i q us j r ≡ (p *ℤ sum_at r ts) +ℤ (q *ℤ sum_at r us)
 
--- the term at a place is the first of those that are left
-pub here : (ts : List (ℕ × ℤ)) (i : ℕ) (t : ℕ × ℤ) → i < length ts → t ≡ get_or ts i t → drop i ts ≡ t ∷ drop (i + 1) ts
-here ts i t l is = drop_more ts i t l ∙ ap (λ x. x ∷ drop (i + 1) ts) (sym is)
-
-walk_start_sum : (x y : ℤ) → pos 0 +ℤ (x +ℤ y) ≡ x +ℤ y
-walk_start_sum x y = omega (arith, ints)
-
-pub walk_start : (p : ℤ) (ts : List (ℕ × ℤ)) (q : ℤ) (us : List (ℕ × ℤ)) → IsWalk p ts 0 q us 0 []
-walk_start p ts q us = record {
-  few = omega arith;
-  left_within = omega arith;
-  right_within = omega arith;
-  left_below = λ n h. h;
-  right_below = λ n h. h;
-  below = λ n h k. tt;
-  sum = λ r. walk_start_sum (p *ℤ sum_at r ts) (q *ℤ sum_at r us);
-}
-
 carried : (o c x s w : ℤ) → o +ℤ x ≡ w → x ≡ c +ℤ s → (o +ℤ c) +ℤ s ≡ w
 carried o c x s w h k = omega (arith, ints)
 
@@ -83,12 +65,6 @@ taken_first factor c ts at symbol d l is e =
           ∙ ap (λ z. z +ℤ (factor *ℤ sum_at r (drop (at + 1) ts))) (sym (times_assoc factor t.1 (r t.0)) ∙ ap (λ z. z *ℤ r t.0) (sym e) ∙ ap (λ z. c *ℤ r z) is);
     }
 
-none_taken : (x s : ℤ) → s ≡ (pos 0 *ℤ x) +ℤ s
-none_taken x s = omega (arith, ints)
-
-pub taken_none : (factor : ℤ) (ts : List (ℕ × ℤ)) (at symbol : ℕ) → at ≤ length ts → IsTaken factor ts at symbol (pos 0, at)
-taken_none factor ts at symbol l = record { within = l; below = λ n h. h; sum = λ r. none_taken (r symbol) (factor *ℤ sum_at r (drop at ts)) }
-
 both_taken : (x y a b u v s t : ℤ) → x ≡ u +ℤ s → y ≡ v +ℤ t → x +ℤ y ≡ (u +ℤ v) +ℤ (s +ℤ t)
 both_taken x y a b u v s t h k = omega (arith, ints)
 
@@ -122,20 +98,3 @@ put_is old new symbol coefficient l e = record {
   below = λ n h k. subst (TermsBelow n) (sym e) (below_append n old ((symbol, coefficient) ∷ []) k (h, tt));
   sum = λ r. ap (sum_at r) e ∙ sum_append r old ((symbol, coefficient) ∷ []) ∙ end_sum (sum_at r old) (coefficient *ℤ r symbol);
 }
-
-no_more : (a x : ℤ) → a ≡ a +ℤ (pos 0 *ℤ x)
-no_more a x = omega (arith, ints)
-
-pub put_none : (old : List (ℕ × ℤ)) (symbol : ℕ) (coefficient : ℤ) → length old ≤ 32 → coefficient ≡ pos 0 → IsPut old old symbol coefficient
-put_none old symbol coefficient l e = record {
-  few = l;
-  below = λ n h k. k;
-  sum = λ r. no_more (sum_at r old) (r symbol) ∙ ap (λ c. sum_at r old +ℤ (c *ℤ r symbol)) (sym e);
-}
-
--- the next symbol is that of the first term of either
-pub next_left : (ts : List (ℕ × ℤ)) (i : ℕ) (us : List (ℕ × ℤ)) (j : ℕ) (t : ℕ × ℤ) → i < length ts → t ≡ get_or ts i t → IsNext ts i us j t.0
-next_left ts i us j t l is n h k = (subst (TermsBelow n) (here ts i t l is) h).0
-
-pub next_right : (ts : List (ℕ × ℤ)) (i : ℕ) (us : List (ℕ × ℤ)) (j : ℕ) (u : ℕ × ℤ) → j < length us → u ≡ get_or us j u → IsNext ts i us j u.0
-next_right ts i us j u l is n h k = (subst (TermsBelow n) (here us j u l is) k).0

@@ -1,4 +1,4 @@
--- What stands for a number, whatever its symbols stand for; and a walk along the terms of two expressions.
+-- What stands for a number, whatever its symbols stand for.
 use Rattle.std.specs.Prelude.{◌≡◌, ℕ, ◌≤◌, ℤ, ◌+ℤ◌, ◌*ℤ◌, length}
 use Rattle.linear.specs.Linear.{Linear, Valuation, number_at, IsBelow}
 

@@ -9,6 +9,5 @@ pub mod Results
 pub mod Either
 pub mod Quotients
 pub mod Branches
-pub mod Laws
 pub mod WalkSupport
 pub mod ChainSupport

@@ -7,8 +7,9 @@
 //! as far as what is known allows: so each clause is over all numbers for symbols. Where a number would leave 128 bits
 //! there is no sum, and a product is a symbol of which less is known; where something isn't shown, nothing is said.
 //!
-//! `specs/Linear.antt` has expressions, ranges and facts, and `specs/Symbols.antt` what is known and how it grows. The
-//! functions there are one way to meet the clauses, of which `what_is_shown_is_so` is a law; the code is another.
+//! `specs/Linear.antt` has expressions, ranges and facts. `specs/Symbols.antt` has what is known of symbols, and what it means
+//! that more is known. `specs/Bounded.antt` has what ranges and facts show; the files from `specs/Held.antt` on have what each
+//! step returns. None of them says how far the code looks.
 #![tactic(auto)]
 
 mod apart;
@@ -19,7 +20,6 @@ mod chains;
 mod checked;
 mod either;
 mod join;
-mod laws;
 mod linear;
 mod named;
 mod narrowing;
@@ -33,7 +33,6 @@ mod terms;
 pub use bounds::{Bounds, MOST_FACTS, MOST_LISTED};
 pub use branched::Branched;
 pub use either::number_of_either;
-pub use laws::what_is_shown_is_so;
 pub use linear::Linear;
 pub use named::Named;
 pub use symbols::Symbols;

@@ -7,9 +7,9 @@ use Rattle.contract.specs.Tree.{ContractTree}
 use Rattle.states.specs.States.{StateMaps}
 use Rattle.analysis_spec.specs.declared.kind.AlarmKind.{AlarmKind}
 use Rattle.analysis_spec.specs.declared.kind.AlarmKind.TheVariants.{Leaves128}
-use Rattle.analysis_walk.specs.declared.alarm.Alarm.{Alarm}
-use Rattle.analysis_walk.specs.declared.paid.PaidRange.{PaidRange}
-use Rattle.analysis.specs.Analysed.{IsSilent, NamesWhatComes, StaysUnlessTold, PaysWithinRanges, PaysOthersNothing}
+use Rattle.analysis_spec.specs.declared.alarm.Alarm.{Alarm}
+use Rattle.analysis_spec.specs.declared.paid.PaidRange.{PaidRange}
+use Rattle.analysis_spec.specs.Analysed.{IsSilent, NamesWhatComes, StaysUnlessTold, PaysWithinRanges, PaysOthersNothing}
 use Rattle.marlowe_analyse.specs.declared.analysed.Reader.{Reader}
 use Rattle.marlowe_analyse.specs.declared.told.ToldAlarm.{ToldAlarm}
 use Rattle.marlowe_analyse.specs.Told.{Alarms, without_runs, IsSo, NeverAlarms}

@@ -4,7 +4,7 @@ use Rattle.std.specs.Prelude.{flat_map, codes, ◌==◌}
 use Rattle.std.proofs.Math.ListN.{get_or}
 use Rattle.std.proofs.lemmas.List.{take_more, flat_map_more, get_or_default}
 use Rattle.contract.specs.declared.transaction.Transaction.{Transaction}
-use Rattle.analysis_walk.specs.declared.paid.PaidRange.{PaidRange}
+use Rattle.analysis_spec.specs.declared.paid.PaidRange.{PaidRange}
 use Rattle.json.specs.Print.{print}
 use Rattle.json.specs.Written.{Written}
 use Rattle.serde_json.specs.Data.{Data, array, string}

@@ -5,8 +5,8 @@ use Rattle.std.proofs.lemmas.List.{drop_more, drop_all, get_or_default}
 use Rattle.contract.specs.declared.tree.Case.{Case}
 use Rattle.contract.specs.Tree.{ActionTree, ContractTree, action_tree, case_tree, case_trees}
 use Rattle.contract.proofs.TreeLaws.{case_tree-parts}
-use Rattle.analysis_walk.specs.declared.path.PathStep.{PathStep}
-use Rattle.analysis_runs.specs.Places.{part_behind}
+use Rattle.analysis_spec.specs.declared.path.PathStep.{PathStep}
+use Rattle.analysis_spec.specs.Places.{part_behind}
 use Rattle.marlowe_analyse.specs.declared.told.Key.{Key}
 use Rattle.marlowe_analyse.specs.Places.{step_keys, form_key, action_key, case_key, last_key, keys_behind, keys_of}
 

@@ -10,9 +10,9 @@ use Rattle.contract.specs.Tree.{ContractTree}
 use Rattle.contract.specs.declared.transaction.Transaction.{Transaction}
 use Rattle.states.specs.States.{StateMaps}
 use Rattle.semantics.specs.Walk.{standing}
-use Rattle.analysis_walk.specs.declared.alarm.Alarm.{Alarm}
-use Rattle.analysis_walk.proofs.ListLemmas.{all_append}
-use Rattle.analysis_runs.specs.CounterRuns.{EndsIn}
+use Rattle.analysis_spec.specs.declared.alarm.Alarm.{Alarm}
+use Rattle.analysis_walk.proofs.ListLaws.{all_append}
+use Rattle.analysis_spec.specs.CounterRuns.{EndsIn}
 use Rattle.marlowe_analyse.specs.declared.order.Standing.{Standing}
 use Rattle.marlowe_analyse.specs.declared.told.ToldAlarm.{ToldAlarm}
 use Rattle.marlowe_analyse.specs.Told.{Alarms, without_runs, EndSo}

@@ -7,7 +7,7 @@ use Rattle.json_write_contracts.specs.WrittenNames.{party_json, token_json}
 use Rattle.contract_json.specs.WrittenInput.{transaction_json}
 use Rattle.analysis_spec.specs.declared.kind.AlarmKind.{AlarmKind}
 use Rattle.analysis_spec.specs.declared.kind.AlarmKind.TheVariants.{NonPositiveDeposit, NonPositivePay, PartialPay, Shadowing, AssertionFailed, Leaves128}
-use Rattle.analysis_walk.specs.declared.paid.PaidRange.{PaidRange}
+use Rattle.analysis_spec.specs.declared.paid.PaidRange.{PaidRange}
 use Rattle.marlowe_analyse.specs.declared.told.Key.{Key}
 use Rattle.marlowe_analyse.specs.declared.told.Key.TheVariants as keys
 use Rattle.marlowe_analyse.specs.Places.{key_word}

@@ -1,9 +1,9 @@
 -- The way to a place in the text of a contract.
 use Rattle.std.specs.Prelude.{ℕ, zero, suc, List, [], ◌∷◌, ◌++◌, Option, Some, None, codes}
 use Rattle.contract.specs.Tree.{ActionTree, deposit, choice, notify, ContractTree, CaseTrees, close, pay, if_obs, when, let_be, assert, no_cases, case_then}
-use Rattle.analysis_walk.specs.declared.path.PathStep.{PathStep}
-use Rattle.analysis_walk.specs.declared.path.PathStep.TheVariants as steps
-use Rattle.analysis_runs.specs.Places.{part_behind}
+use Rattle.analysis_spec.specs.declared.path.PathStep.{PathStep}
+use Rattle.analysis_spec.specs.declared.path.PathStep.TheVariants as steps
+use Rattle.analysis_spec.specs.Places.{part_behind}
 use Rattle.marlowe_analyse.specs.declared.told.Key.{Key}
 use Rattle.marlowe_analyse.specs.declared.told.Key.TheVariants as keys
 

@@ -3,7 +3,7 @@ use Rattle.std.specs.Prelude.{◌≡◌, ◌<◌, ℕ, Bool, List, map, All, Con
 use Rattle.collections.specs.Answers.{◌>>=◌}
 use Rattle.contract.specs.Tree.{ContractTree}
 use Rattle.states.specs.States.{StateMaps}
-use Rattle.analysis_walk.specs.declared.alarm.Alarm.{Alarm}
+use Rattle.analysis_spec.specs.declared.alarm.Alarm.{Alarm}
 use Rattle.json_read_names.specs.declared.fault.JsonFault.{JsonFault}
 use Rattle.marlowe_run.specs.declared.fault.RunFault.{RunFault}
 use Rattle.marlowe_run.specs.Faults.{read_as, state_fault}

@@ -12,10 +12,10 @@ use Rattle.json_read_inputs.specs.ReadsState.{state}
 use Rattle.semantics.specs.Walk.{standing}
 use Rattle.analysis_spec.specs.declared.kind.AlarmKind.{AlarmKind}
 use Rattle.analysis_spec.specs.Promises.{NeverWarns, StaysWithin128}
-use Rattle.analysis_walk.specs.declared.alarm.Alarm.{Alarm}
-use Rattle.analysis_walk.specs.declared.paid.PaidRange.{PaidRange}
-use Rattle.analysis.specs.Analysed.{NamesWhatComes, StaysUnlessTold, PaysWithinRanges, PaysOthersNothing}
-use Rattle.analysis_runs.specs.CounterRuns.{EndsIn}
+use Rattle.analysis_spec.specs.declared.alarm.Alarm.{Alarm}
+use Rattle.analysis_spec.specs.declared.paid.PaidRange.{PaidRange}
+use Rattle.analysis_spec.specs.Analysed.{NamesWhatComes, StaysUnlessTold, PaysWithinRanges, PaysOthersNothing}
+use Rattle.analysis_spec.specs.CounterRuns.{EndsIn}
 
 -- alarms, and of each a run that ends in it where one is known
 abbrev pub Alarms : Type 0

@@ -4,7 +4,7 @@ use Rattle.contract.specs.Tree.{ContractTree}
 use Rattle.contract.specs.declared.transaction.Transaction.{Transaction}
 use Rattle.contract_json.specs.WrittenInput.{transaction_fits}
 use Rattle.analysis_spec.specs.declared.kind.AlarmKind.{AlarmKind}
-use Rattle.analysis_walk.specs.declared.alarm.Alarm.{Alarm}
+use Rattle.analysis_spec.specs.declared.alarm.Alarm.{Alarm}
 use Rattle.marlowe_analyse.specs.declared.told.Key.{Key}
 use Rattle.marlowe_analyse.specs.declared.told.ToldAlarm.{ToldAlarm}
 use Rattle.marlowe_analyse.specs.Places.{keys_of}

@@ -5,7 +5,7 @@ use Rattle.serde_json.specs.View.{items_of}
 use Rattle.contract.specs.declared.transaction.Transaction.{Transaction}
 use Rattle.json_write_contracts.specs.WrittenNames.{two, three, four, number_json, wide_json, party_json, token_json}
 use Rattle.contract_json.specs.WrittenInput.{transaction_json}
-use Rattle.analysis_walk.specs.declared.paid.PaidRange.{PaidRange}
+use Rattle.analysis_spec.specs.declared.paid.PaidRange.{PaidRange}
 use Rattle.marlowe_analyse.specs.declared.told.Key.{Key}
 use Rattle.marlowe_analyse.specs.declared.told.Key.TheVariants as keys
 use Rattle.marlowe_analyse.specs.Places.{key_word}

@@ -6,7 +6,7 @@ ghost use Rattle.marlowe_analyse.specs.ToldLines.{line_of, LineFits, RunFits};
 ghost use Rattle.marlowe_analyse.specs.Lines.{key_text, transaction_line, run_lines, alarm_lines, alarms_lines, bounds_text, range_line};
 
 use crate::told::{Key, ToldAlarm, key_word, kind_name};
-use analysis_walk::PaidRange;
+use analysis_spec::PaidRange;
 use collections::{Items, Memory};
 use contract::Transaction;
 use contract_json::{PutJson, WriteFault};

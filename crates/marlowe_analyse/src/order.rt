@@ -2,7 +2,7 @@
 ghost use Rattle.std.specs.Prelude.{◌≡◌, map, length, IfOk};
 ghost use Rattle.marlowe_analyse.specs.RunsSupport.{HasAllPlaces, StandForAll};
 
-use analysis_walk::{Alarm, PathStep};
+use analysis_spec::{Alarm, PathStep};
 use collections::Memory;
 use std::alloc::Global;
 

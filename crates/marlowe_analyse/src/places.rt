@@ -4,8 +4,8 @@ ghost use Rattle.contract.specs.Tree.{contract_tree, action_tree, case_tree, cas
 ghost use Rattle.marlowe_analyse.specs.Places.{step_keys, form_key, action_key, case_key, last_key, keys_of};
 
 use crate::told::Key;
-use analysis_runs::part_behind;
-use analysis_walk::PathStep;
+use analysis_spec::PathStep;
+use analysis_walk::part_behind;
 use collections::Memory;
 use contract::{Action, Case, Contract};
 use std::alloc::Global;

@@ -5,17 +5,17 @@ ghost use Rattle.contract.specs.Tree.{contract_tree};
 ghost use Rattle.json_write_contracts.specs.WrittenNames.{number_fits};
 ghost use Rattle.contract_json.specs.WrittenInput.{input_fits, transaction_fits};
 ghost use Rattle.semantics.specs.Walk.{standing};
-ghost use Rattle.analysis_runs.specs.CounterRuns.{EndsIn};
+ghost use Rattle.analysis_spec.specs.CounterRuns.{EndsIn};
 ghost use Rattle.marlowe_analyse.specs.ToldLines.{line_at, line_of, LineFits, RunFits};
 ghost use Rattle.marlowe_analyse.specs.RunsSupport.{TellsAll, TellsOf};
 
 use crate::order::told_order;
 use crate::places::keys_of;
 use crate::told::ToldAlarm;
-use analysis_runs::run_to;
-use analysis_walk::Alarm;
+use analysis_spec::Alarm;
 use collections::{Items, Memory};
 use contract::{Contract, Input, State, Transaction};
+use counter_runs::run_to;
 use std::alloc::Global;
 
 // The tries for an alarm: no more than the first, and no fewer than the second while there are any.

@@ -3,8 +3,7 @@ ghost use Rattle.std.specs.Prelude.{◌≡◌};
 ghost use Rattle.marlowe_analyse.specs.Places.{key_word};
 ghost use Rattle.marlowe_analyse.specs.Lines.{kind_name};
 
-use analysis_spec::AlarmKind;
-use analysis_walk::PaidRange;
+use analysis_spec::{AlarmKind, PaidRange};
 use collections::Items;
 use contract::Transaction;
 

@@ -9,7 +9,7 @@ ghost use Rattle.marlowe_analyse.specs.ToldLines.{line_of, LineFits, RunFits};
 ghost use Rattle.marlowe_analyse.specs.Tools.{key_json, run_json, alarm_json, bound_json, range_json, told_json};
 
 use crate::told::{Key, Told, ToldAlarm, key_word, kind_name};
-use analysis_walk::PaidRange;
+use analysis_spec::PaidRange;
 use collections::{Items, Memory};
 use contract::Transaction;
 use contract_json::{PutJson, WriteFault};

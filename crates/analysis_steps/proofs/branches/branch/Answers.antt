@@ -1,9 +1,9 @@
 use Rattle.std.proofs.Common.{sym, subst}
 use Rattle.contract.specs.Tree.{observation_tree}
 use Rattle.analysis_spec.specs.declared.kind.AlarmKind.TheVariants.{Leaves128}
-use Rattle.analysis_walk.specs.Domain.{ObservesSo}
-use Rattle.analysis_domain.specs.Known.{IsDescribed}
-use Rattle.analysis_domain.specs.Expressions.{unless}
+use Rattle.analysis_walk.specs.Conclusions.{ObservesSo}
+use Rattle.analysis_values.specs.Known.{IsDescribed}
+use Rattle.analysis_values.specs.Answered.{unless}
 use Rattle.analysis_steps.proofs.ConcludedLemmas.{one_put}
 use Rattle.analysis_steps.proofs.branches.branch.Goals as goal
 

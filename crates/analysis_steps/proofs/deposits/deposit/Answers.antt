@@ -1,7 +1,7 @@
 use Rattle.std.proofs.Common.{◌++◌, ap, ◌∙◌}
 use Rattle.contract.specs.Tree.{value_tree}
 use Rattle.analysis_spec.specs.declared.kind.AlarmKind.TheVariants.{NonPositiveDeposit, Leaves128}
-use Rattle.analysis_domain.specs.Expressions.{unless}
+use Rattle.analysis_values.specs.Answered.{unless}
 use Rattle.analysis_steps.proofs.ConcludedLemmas.{deposit_so, two_put}
 use Rattle.analysis_steps.proofs.deposits.deposit.Goals as goal
 

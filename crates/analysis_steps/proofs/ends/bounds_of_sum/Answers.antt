@@ -1,4 +1,4 @@
-use Rattle.analysis_steps.proofs.CloseLemmas.{least_here, greatest_here}
+use Rattle.analysis_steps.proofs.CloseLaws.{least_here, greatest_here}
 use Rattle.analysis_steps.proofs.ends.bounds_of_sum.Goals as goal
 
 pub returns-in-Some-clause-least : goal.returns-in-Some-clause-least

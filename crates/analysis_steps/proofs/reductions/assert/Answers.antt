@@ -1,7 +1,7 @@
 use Rattle.std.proofs.Common.{◌++◌, ap, ◌∙◌}
 use Rattle.contract.specs.Tree.{observation_tree}
 use Rattle.analysis_spec.specs.declared.kind.AlarmKind.TheVariants.{AssertionFailed, Leaves128}
-use Rattle.analysis_domain.specs.Expressions.{unless}
+use Rattle.analysis_values.specs.Answered.{unless}
 use Rattle.analysis_steps.proofs.ConcludedLemmas.{assert_so, two_put}
 use Rattle.analysis_steps.proofs.reductions.assert.Goals as goal
 

@@ -1,7 +1,7 @@
 use Rattle.std.proofs.Common.{not}
 use Rattle.contract.specs.Tree.{value_tree}
 use Rattle.analysis_spec.specs.declared.kind.AlarmKind.TheVariants.{Shadowing, Leaves128}
-use Rattle.analysis_domain.specs.Expressions.{unless}
+use Rattle.analysis_values.specs.Answered.{unless}
 use Rattle.analysis_steps.proofs.ConcludedLemmas.{bind_so, two_put}
 use Rattle.analysis_steps.proofs.reductions.bind.Goals as goal
 

@@ -1,10 +1,10 @@
 use Rattle.std.proofs.Common.{subst}
 use Rattle.std.proofs.lemmas.Result.{IfOk-weaker}
 use Rattle.analysis_walk.specs.Limits.{Scope}
-use Rattle.analysis_walk.specs.Domain.{IsLater, DescribesStart}
-use Rattle.analysis_domain.specs.Known.{IsDescribed}
-use Rattle.analysis_domain.specs.Start.{EntriesFit, NumbersFit}
-use Rattle.analysis_steps.proofs.StartLemmas.{starts_by}
+use Rattle.analysis_walk.specs.Conclusions.{IsLater, DescribesStart}
+use Rattle.analysis_values.specs.Known.{IsDescribed}
+use Rattle.analysis_values.specs.Entries.{EntriesFit}
+use Rattle.analysis_steps.proofs.StartLemmas.{NumbersFit, starts_by}
 use Rattle.analysis_steps.proofs.starts.start.Goals as goal
 
 pub returns : goal.returns

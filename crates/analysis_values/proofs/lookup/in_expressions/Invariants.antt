@@ -1,5 +1,5 @@
 use Rattle.std.proofs.Common.{◌≡◌, take}
-use Rattle.analysis_domain.specs.Start.{in_numbers}
+use Rattle.analysis_values.specs.Entries.{in_numbers}
 use Rattle.analysis_values.proofs.lookup.in_expressions.Given as goal
 
 abbrev pub invariant-loop-key : goal.invariant-loop-key

@@ -1,7 +1,6 @@
 use Rattle.std.proofs.Common.{refl, ap, Some}
-use Rattle.analysis_domain.specs.Known.{View, Known}
+use Rattle.analysis_values.specs.Known.{View, Known, known}
 use Rattle.std.proofs.Common.{Option}
-use Rattle.analysis_domain.specs.Expressions.{known}
 use Rattle.analysis_values.proofs.observed.in_view.Goals as goal
 
 pub returns-in-None : goal.returns-in-None

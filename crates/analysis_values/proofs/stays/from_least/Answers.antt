@@ -1,7 +1,7 @@
 use Rattle.std.proofs.Common.{refl}
 use Rattle.std.specs.Int.{w128}
 use Rattle.std.proofs.lemmas.Int.{to_z-of_z}
-use Rattle.linear.proofs.QueryLemmas.{both_weaker}
+use Rattle.linear.proofs.LinearLaws.{both_weaker}
 use Rattle.analysis_values.proofs.TimeLemmas.{from_least}
 use Rattle.analysis_values.proofs.stays.from_least.Goals as goal
 

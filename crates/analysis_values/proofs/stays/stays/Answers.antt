@@ -1,6 +1,6 @@
 use Rattle.std.proofs.Common.{rules, FitsSigned}
 use Rattle.std.specs.Int.{w128}
-use Rattle.linear.proofs.QueryLemmas.{ok_weaker}
+use Rattle.std.proofs.lemmas.Result.{IfOk-weaker}
 use Rattle.analysis_values.proofs.TimeLemmas.{stays_by, number_stays}
 use Rattle.analysis_values.proofs.stays.stays.Goals as goal
 
@@ -13,7 +13,7 @@ pub returns-in-Some : goal.returns-in-Some
 returns-in-Some c =
     let s = rw c.in-Some.is at c.in_ok-opposite.ensures in
     let h = rw c.times.ensures at c.both_stay.ensures in
-    ok_weaker c.both_stay.result _ _ (λ said f. stays_by c.args.view.now c.args.symbols.now c.args.number.now c.number-least.result c.in-Some.other said c.number-least.ensures s f) h
+    IfOk-weaker c.both_stay.result _ _ (λ said f. stays_by c.args.view.now c.args.symbols.now c.args.number.now c.number-least.result c.in-Some.other said c.number-least.ensures s f) h
 
 pub returns : goal.returns
 returns c = λ h. absurd (cc)

@@ -4,8 +4,8 @@ use Rattle.std.proofs.lemmas.Int.{to_z-of_z}
 use Rattle.contract.specs.Tree.{value_tree, neg_value, cond_value, observation_tree}
 use Rattle.contract.proofs.TreeLaws.{value_tree-AvailableMoney, value_tree-Constant, value_tree-NegValue, value_tree-AddValue, value_tree-SubValue, value_tree-MulValue, value_tree-DivValue, value_tree-ChoiceValue, value_tree-TimeIntervalStart, value_tree-TimeIntervalEnd, value_tree-UseValue, value_tree-Cond}
 use Rattle.contract.proofs.TreeLaws.{observation_tree-AndObs, observation_tree-OrObs, observation_tree-NotObs, observation_tree-ChoseSomething, observation_tree-ValueGE, observation_tree-ValueGT, observation_tree-ValueLT, observation_tree-ValueLE, observation_tree-ValueEQ, observation_tree-TrueObs, observation_tree-FalseObs}
-use Rattle.linear.proofs.QueryLemmas.{ok_weaker}
-use Rattle.analysis_domain.specs.Expressions.{known}
+use Rattle.std.proofs.lemmas.Result.{IfOk-weaker}
+use Rattle.analysis_values.specs.Known.{known}
 use Rattle.analysis_values.specs.Steps.{tree_of, test_of, result_of, DecidesThere, LooksWhereSaid}
 use Rattle.analysis_values.proofs.StepLemmas.{value_as, fits_as, ok_three, two_evaluated, two_fit, tree_evaluated, tree_visited, negation_evaluated, one_fits, both_evaluated, both_fit}
 use Rattle.analysis_values.proofs.TruthLemmas.{leads_on_by, leads_on_then, evaluated_on, fits_on, not_evaluated, not_fits, and_evaluated, and_fits, or_evaluated, or_fits, truths_as, looks_as, settled_decides, test_decides, test_looks, not_decides, and_never, and_never_looks, and_decides, and_looks, or_never, or_never_looks, or_decides, or_looks}
@@ -133,7 +133,7 @@ of_two-returns-clause-number t c =
     let x = value_tree c.args.left.now in
     let y = value_tree c.args.right.now in
     let f = c.args.operation in
-    ok_weaker c.operated.result _ _
+    IfOk-weaker c.operated.result _ _
     (λ a h. two_evaluated c.args.view.now c.args.symbols.now c.both_values.new.symbols c.operated.new.symbols x y (tree_of f x y) c.in_ok-operands.operands.left c.in_ok-operands.operands.right a.number (result_of f)
     (tree_evaluated f x y) c.in_ok-operands.ensures.number h) c.operated.ensures.number
 
@@ -157,7 +157,7 @@ pub opposite_of-returns-clause-number : goal.opposite_of-returns-clause-number
 opposite_of-returns-clause-number t c =
     let x = value_tree c.args.value.now in
     let p = rw c.get-inner.ensures at c.in_ok-operand.ensures in
-    ok_weaker c.turned.result _ _
+    IfOk-weaker c.turned.result _ _
     (λ a h. negation_evaluated c.args.view.now c.args.symbols.now c.value_in.new.symbols c.turned.new.symbols x (neg_value x) c.in_ok-operand.operand.number a.number (λ i s. refl) p.number h) c.turned.ensures.number
 
 pub opposite_of-returns-clause-fits : goal.opposite_of-returns-clause-fits
@@ -200,7 +200,7 @@ one_of_two-returns-clause-number t c =
     let x = cond_value (observation_tree c.args.condition.now) (value_tree c.args.first.now) (value_tree c.args.second.now) in
     let h = rw c.get-inner.ensures at c.taken_apart.ensures in
     let l = leads_on_then v k c.name_operations.new.symbols c.in_ok-name_operations.ensures m c.in_ok-name_operations-2.ensures in
-    ok_weaker c.taken_apart.result _ _ (λ a e. evaluated_on v k m l x c.taken_apart.new.symbols a.number e) h.number
+    IfOk-weaker c.taken_apart.result _ _ (λ a e. evaluated_on v k m l x c.taken_apart.new.symbols a.number e) h.number
 
 pub one_of_two-returns-clause-fits : goal.one_of_two-returns-clause-fits
 one_of_two-returns-clause-fits t c =
@@ -210,7 +210,7 @@ one_of_two-returns-clause-fits t c =
     let x = cond_value (observation_tree c.args.condition.now) (value_tree c.args.first.now) (value_tree c.args.second.now) in
     let h = rw c.get-inner.ensures at c.taken_apart.ensures in
     let l = leads_on_then v k c.name_operations.new.symbols c.in_ok-name_operations.ensures m c.in_ok-name_operations-2.ensures in
-    ok_weaker c.taken_apart.result _ _ (λ a e. fits_on v k m l x a.fits e) h.fits
+    IfOk-weaker c.taken_apart.result _ _ (λ a e. fits_on v k m l x a.fits e) h.fits
 
 pub taken_apart-returns-in-NotObs : goal.taken_apart-returns-in-NotObs
 taken_apart-returns-in-NotObs t c =
@@ -230,13 +230,13 @@ taken_apart-returns-then-is_plain-2 t c =
 pub by_opposite-returns-clause-number : goal.by_opposite-returns-clause-number
 by_opposite-returns-clause-number t c =
     let h = rw c.get-inner.ensures at c.taken_apart.ensures in
-    ok_weaker c.taken_apart.result _ _
+    IfOk-weaker c.taken_apart.result _ _
     (λ a e. not_evaluated (known c.args.symbols.now c.args.view.now) (known c.taken_apart.new.symbols c.args.view.now) (observation_tree c.args.condition.now) (value_tree c.args.first.now) (value_tree c.args.second.now) a.number e) h.number
 
 pub by_opposite-returns-clause-fits : goal.by_opposite-returns-clause-fits
 by_opposite-returns-clause-fits t c =
     let h = rw c.get-inner.ensures at c.taken_apart.ensures in
-    ok_weaker c.taken_apart.result _ _
+    IfOk-weaker c.taken_apart.result _ _
     (λ a e. not_fits (known c.args.symbols.now c.args.view.now) (known c.taken_apart.new.symbols c.args.view.now) (observation_tree c.args.condition.now) (value_tree c.args.first.now) (value_tree c.args.second.now) a.fits e) h.fits
 
 pub by_both-returns-clause-number : goal.by_both-returns-clause-number
@@ -249,7 +249,7 @@ by_both-returns-clause-number t c =
     let q = observation_tree c.args.right.now in
     let x = value_tree c.args.first.now in
     let y = value_tree c.args.second.now in
-    ok_weaker c.of_either.result _ _
+    IfOk-weaker c.of_either.result _ _
     (λ a h. and_evaluated (known k v) (known c.of_either.new.symbols v) o q x y a.number (h k v o (cond_value q x y) y r.if_true r.if_false p.truths c.in_ok-one.ensures c.in_ok-other.ensures).0) c.of_either.ensures
 
 pub by_both-returns-clause-fits : goal.by_both-returns-clause-fits
@@ -262,7 +262,7 @@ by_both-returns-clause-fits t c =
     let q = observation_tree c.args.right.now in
     let x = value_tree c.args.first.now in
     let y = value_tree c.args.second.now in
-    ok_weaker c.of_either.result _ _
+    IfOk-weaker c.of_either.result _ _
     (λ a h. and_fits (known k v) (known c.of_either.new.symbols v) o q x y a.fits ((h k v o (cond_value q x y) y r.if_true r.if_false p.truths c.in_ok-one.ensures c.in_ok-other.ensures).1 p.fits)) c.of_either.ensures
 
 pub by_one-returns-clause-number : goal.by_one-returns-clause-number
@@ -275,7 +275,7 @@ by_one-returns-clause-number t c =
     let q = observation_tree c.args.right.now in
     let x = value_tree c.args.first.now in
     let y = value_tree c.args.second.now in
-    ok_weaker c.of_either.result _ _
+    IfOk-weaker c.of_either.result _ _
     (λ a h. or_evaluated (known k v) (known c.of_either.new.symbols v) o q x y a.number (h k v o x (cond_value q x y) r.if_true r.if_false p.truths c.in_ok-one.ensures c.in_ok-other.ensures).0) c.of_either.ensures
 
 pub by_one-returns-clause-fits : goal.by_one-returns-clause-fits
@@ -288,21 +288,21 @@ by_one-returns-clause-fits t c =
     let q = observation_tree c.args.right.now in
     let x = value_tree c.args.first.now in
     let y = value_tree c.args.second.now in
-    ok_weaker c.of_either.result _ _
+    IfOk-weaker c.of_either.result _ _
     (λ a h. or_fits (known k v) (known c.of_either.new.symbols v) o q x y a.fits ((h k v o x (cond_value q x y) r.if_true r.if_false p.truths c.in_ok-one.ensures c.in_ok-other.ensures).1 p.fits)) c.of_either.ensures
 
 pub by_truth-returns-clause-number : goal.by_truth-returns-clause-number
 by_truth-returns-clause-number t c =
     let p = c.in_ok-truths.ensures in
     let r = c.in_ok-truths.truths in
-    ok_weaker c.of_either.result _ _
+    IfOk-weaker c.of_either.result _ _
     (λ a h. (h c.args.symbols.now c.args.view.now (observation_tree c.args.condition.now) (value_tree c.args.first.now) (value_tree c.args.second.now) r.if_true r.if_false p.truths c.in_ok-one.ensures c.in_ok-other.ensures).0) c.of_either.ensures
 
 pub by_truth-returns-clause-fits : goal.by_truth-returns-clause-fits
 by_truth-returns-clause-fits t c =
     let p = c.in_ok-truths.ensures in
     let r = c.in_ok-truths.truths in
-    ok_weaker c.of_either.result _ _
+    IfOk-weaker c.of_either.result _ _
     (λ a h. (h c.args.symbols.now c.args.view.now (observation_tree c.args.condition.now) (value_tree c.args.first.now) (value_tree c.args.second.now) r.if_true r.if_false p.truths c.in_ok-one.ensures c.in_ok-other.ensures).1 p.fits) c.of_either.ensures
 
 pub apart_where-returns-in-None : goal.apart_where-returns-in-None
@@ -328,7 +328,7 @@ compare-returns-clause-truths t c =
     let e = rw c.in_ok-there.ensures at c.in_ok-operands.ensures.number in
     let d = test_decides c.args.view.now k c.both_values.new.symbols (value_tree c.args.left.now) (value_tree c.args.right.now) c.in_ok-operands.operands.left c.in_ok-operands.operands.right c.args.comparison
     c.in_ok-if_true.if_true c.in_ok-if_false.if_false e c.in_ok-if_true.ensures c.in_ok-if_false.ensures in
-    ok_weaker c.settled.result _ (λ p. DecidesThere c.args.view.now k c.settled.new.symbols o p.if_true p.if_false)
+    IfOk-weaker c.settled.result _ (λ p. DecidesThere c.args.view.now k c.settled.new.symbols o p.if_true p.if_false)
     (λ p l. settled_decides c.args.view.now k c.both_values.new.symbols c.settled.new.symbols o c.in_ok-if_true.if_true c.in_ok-if_false.if_false p.if_true p.if_false d l) c.settled.ensures.leaves
 
 pub compare-returns-clause-fits : goal.compare-returns-clause-fits
@@ -337,7 +337,7 @@ compare-returns-clause-fits t c =
     let e = rw c.in_ok-there.ensures at c.in_ok-operands.ensures.fits in
     let d = test_looks c.args.view.now c.args.symbols.now c.both_values.new.symbols (value_tree c.args.left.now) (value_tree c.args.right.now) c.in_ok-operands.operands.left c.in_ok-operands.operands.right c.args.comparison
     c.in_ok-operands.operands.fits e in
-    ok_weaker c.settled.result _ (λ p. LooksWhereSaid c.args.view.now c.args.symbols.now o p.fits) (λ p h. subst (LooksWhereSaid c.args.view.now c.args.symbols.now o) (sym h) d) c.settled.ensures.fits
+    IfOk-weaker c.settled.result _ (λ p. LooksWhereSaid c.args.view.now c.args.symbols.now o p.fits) (λ p h. subst (LooksWhereSaid c.args.view.now c.args.symbols.now o) (sym h) d) c.settled.ensures.fits
 
 pub none_of-returns-clause-truths : goal.none_of-returns-clause-truths
 none_of-returns-clause-truths t c =

@@ -1,4 +1,4 @@
-use Rattle.analysis_walk.proofs.PaidLemmas.{payments_lie_in_ranges}
+use Rattle.analysis_walk.proofs.PaidLaws.{payments_lie_in_ranges}
 use Rattle.analysis_walk.proofs.laws.payments_lie_in_ranges.Goals as goal
 
 pub returns : goal.returns

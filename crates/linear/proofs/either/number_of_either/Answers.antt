@@ -1,7 +1,7 @@
 use Rattle.std.proofs.Common.{◌≡◌}
 use Rattle.linear.specs.Linear.{symbol}
 use Rattle.linear.specs.Either.{GivesEither}
-use Rattle.linear.proofs.QueryLemmas.{ok_weaker}
+use Rattle.std.proofs.lemmas.Result.{IfOk-weaker}
 use Rattle.linear.proofs.BranchLemmas.{either_told}
 use Rattle.linear.proofs.EitherLemmas.{same_gives}
 use Rattle.linear.specs.Held.{branches_of}
@@ -20,5 +20,5 @@ returns-in-Some c =
     let b = c.args.other.now in
     let y = c.args.right.now in
     let o = rw c.in-Some.is at c.in_ok-known.ensures in
-    ok_weaker c.symbol.result (λ e. e ≡ symbol c.in-Some.name) (λ e. GivesEither k k a x b y e)
+    IfOk-weaker c.symbol.result (λ e. e ≡ symbol c.in-Some.name) (λ e. GivesEither k k a x b y e)
     (λ e q. either_told k a x b y e (branches_of c.held_branches.result.now) c.in-Some.name c.held_branches.ensures o q) c.symbol.ensures

@@ -1,6 +1,6 @@
 use Rattle.std.specs.Int.{w128}
 use Rattle.std.proofs.lemmas.Int.{to_z-of_z}
-use Rattle.linear.proofs.QuotientLaws.{above_quotients}
+use Rattle.linear.proofs.DivisionLemmas.{above_quotients}
 use Rattle.linear.proofs.operations.above_range.Goals as goal
 
 pub returns : goal.returns

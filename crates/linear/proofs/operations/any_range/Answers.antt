@@ -1,4 +1,4 @@
-use Rattle.linear.proofs.QuotientLaws.{any_quotients}
+use Rattle.linear.proofs.DivisionLemmas.{any_quotients}
 use Rattle.linear.proofs.operations.any_range.Goals as goal
 
 pub returns : goal.returns

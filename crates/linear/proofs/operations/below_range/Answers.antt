@@ -1,7 +1,7 @@
 use Rattle.std.proofs.Common.{rules, FitsSigned, arith, Some}
 use Rattle.std.specs.Int.{w128}
 use Rattle.std.proofs.lemmas.Int.{ints, to_z-of_z}
-use Rattle.linear.proofs.QuotientLaws.{below_quotients, of_any}
+use Rattle.linear.proofs.DivisionLemmas.{below_quotients, of_any}
 use Rattle.linear.proofs.operations.below_range.Goals as goal
 
 pub above_range-range-requires : goal.above_range-range-requires

@@ -1,7 +1,7 @@
 use Rattle.std.proofs.Common.{rules, FitsSigned, arith}
 use Rattle.std.specs.Int.{w128}
 use Rattle.std.proofs.lemmas.Int.{ints, to_z-of_z}
-use Rattle.linear.proofs.QuotientLaws.{greatest_of_opposite, greatest_of_natural}
+use Rattle.linear.proofs.DivisionLemmas.{greatest_of_opposite, greatest_of_natural}
 use Rattle.linear.proofs.operations.greatest_quotient.Goals as goal
 
 pub returns-then-up_to-lt0 : goal.returns-then-up_to-lt0

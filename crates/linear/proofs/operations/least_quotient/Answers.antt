@@ -1,7 +1,7 @@
 use Rattle.std.proofs.Common.{rules, FitsSigned, arith}
 use Rattle.std.specs.Int.{w128}
 use Rattle.std.proofs.lemmas.Int.{ints, to_z-of_z}
-use Rattle.linear.proofs.QuotientLaws.{least_of_opposite, least_of_natural}
+use Rattle.linear.proofs.DivisionLemmas.{least_of_opposite, least_of_natural}
 use Rattle.linear.proofs.operations.least_quotient.Goals as goal
 
 pub returns-then-from-lt0 : goal.returns-then-from-lt0

@@ -1,7 +1,7 @@
 use Rattle.std.proofs.Common.{rules, FitsSigned}
 use Rattle.std.specs.Int.{w128}
 use Rattle.std.proofs.lemmas.Int.{to_z-of_z}
-use Rattle.linear.proofs.QuotientLaws.{of_any}
+use Rattle.linear.proofs.DivisionLemmas.{of_any}
 use Rattle.linear.proofs.operations.low_range.Goals as goal
 
 pub returns-then-greatest-lt0 : goal.returns-then-greatest-lt0

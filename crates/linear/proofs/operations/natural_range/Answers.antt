@@ -1,4 +1,4 @@
-use Rattle.linear.proofs.QuotientLaws.{natural_quotients}
+use Rattle.linear.proofs.DivisionLemmas.{natural_quotients}
 use Rattle.linear.proofs.operations.natural_range.Goals as goal
 
 pub returns : goal.returns

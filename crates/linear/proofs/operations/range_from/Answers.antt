@@ -2,7 +2,7 @@ use Rattle.std.proofs.Common.{◌≡◌, pos, Some, sym, subst, arith}
 use Rattle.std.specs.Int.{w128}
 use Rattle.std.proofs.lemmas.Int.{ints, to_z-of_z}
 use Rattle.linear.specs.Results.{IsQuotientRange}
-use Rattle.linear.proofs.QuotientLaws.{fewer_divisors}
+use Rattle.linear.proofs.DivisionLemmas.{fewer_divisors}
 use Rattle.linear.proofs.operations.range_from.Goals as goal
 
 pub returns-then-least-gt0 : goal.returns-then-least-gt0

@@ -1,7 +1,7 @@
 use Rattle.std.proofs.Common.{rules, FitsSigned}
 use Rattle.std.specs.Int.{w128}
 use Rattle.std.proofs.lemmas.Int.{to_z-of_z}
-use Rattle.linear.proofs.QuotientLaws.{turned_some}
+use Rattle.linear.proofs.DivisionLemmas.{turned_some}
 use Rattle.linear.proofs.operations.turned.Goals as goal
 
 pub returns : goal.returns

@@ -1,7 +1,7 @@
 use Rattle.std.proofs.Common.{◌≡◌, ℕ, List, length, ap, ◌∙◌, subst, arith}
 use Rattle.std.specs.Prelude.{◌==◌}
 use Rattle.contract.specs.Tree.{contract_tree}
-use Rattle.analysis_walk.specs.declared.alarm.Alarm.{Alarm}
+use Rattle.analysis_spec.specs.declared.alarm.Alarm.{Alarm}
 use Rattle.marlowe_analyse.specs.RunsSupport.{TellsAll}
 use Rattle.marlowe_analyse.proofs.AnalysedLemmas.{tells_of_tree, empty_is}
 use Rattle.marlowe_analyse.proofs.analysed.analysis_text.Goals as goal

@@ -1,6 +1,6 @@
 use Rattle.std.proofs.Common.{List, ap, ◌∙◌}
 use Rattle.contract.specs.Tree.{contract_tree}
-use Rattle.analysis_walk.specs.declared.path.PathStep.{PathStep}
+use Rattle.analysis_spec.specs.declared.path.PathStep.{PathStep}
 use Rattle.marlowe_analyse.specs.declared.told.Key.{Key}
 use Rattle.marlowe_analyse.specs.Places.{keys_of}
 use Rattle.marlowe_analyse.specs.ToldLines.{Line}

@@ -3,7 +3,7 @@ use Rattle.std.specs.Int.{w128}
 use Rattle.std.proofs.lemmas.Int.{to_z-of_z}
 use Rattle.linear.specs.Held.{GivesAny}
 use Rattle.linear.specs.Results.{GivesMultiple}
-use Rattle.linear.proofs.QueryLemmas.{ok_weaker}
+use Rattle.std.proofs.lemmas.Result.{IfOk-weaker}
 use Rattle.linear.proofs.ResultLemmas.{multiple_times, multiple_unknown}
 use Rattle.linear.proofs.symbols.Symbols.multiple.Goals as goal
 
@@ -14,5 +14,5 @@ returns-in-Some c =
 
 pub returns-in-None : goal.returns-in-None
 returns-in-None c =
-    ok_weaker c.unknown.result (λ e. GivesAny c.args.self.now c.unknown.new.self e None None) (λ e. GivesMultiple c.args.factor c.args.self.now c.unknown.new.self c.args.expression.now e)
+    IfOk-weaker c.unknown.result (λ e. GivesAny c.args.self.now c.unknown.new.self e None None) (λ e. GivesMultiple c.args.factor c.args.self.now c.unknown.new.self c.args.expression.now e)
     (λ e h. multiple_unknown c.args.self.now c.unknown.new.self c.args.expression.now e c.args.factor h) c.unknown.ensures.any

@@ -1,6 +1,6 @@
 use Rattle.std.proofs.Common.{true}
 use Rattle.linear.specs.Results.{GivesResult, GivesInRange}
-use Rattle.linear.proofs.QueryLemmas.{ok_weaker}
+use Rattle.std.proofs.lemmas.Result.{IfOk-weaker}
 use Rattle.linear.proofs.ResultLemmas.{quotient_ranged}
 use Rattle.linear.proofs.symbols.Symbols.numbered_quotient.Goals as goal
 
@@ -13,7 +13,7 @@ returns c =
     let x = c.range_of-x.result in
     let y = c.range_of-y.result in
     let g = c.quotient_range-range.result in
-    ok_weaker c.operation.result (λ e. GivesInRange true g.least g.greatest k z l m e) (λ e. GivesResult true k z l m e)
+    IfOk-weaker c.operation.result (λ e. GivesInRange true g.least g.greatest k z l m e) (λ e. GivesResult true k z l m e)
     (λ e s. quotient_ranged k z l m e x.least x.greatest y.least y.greatest g.least g.greatest c.range_of-x.ensures.least c.range_of-x.ensures.greatest c.range_of-y.ensures.least
     c.range_of-y.ensures.greatest c.quotient_range-range.ensures s)
     c.operation.ensures

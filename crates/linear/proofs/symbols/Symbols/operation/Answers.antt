@@ -1,7 +1,7 @@
 use Rattle.std.proofs.Common.{◌≡◌}
 use Rattle.linear.specs.Linear.{symbol}
 use Rattle.linear.specs.Results.{GivesInRange}
-use Rattle.linear.proofs.QueryLemmas.{ok_weaker}
+use Rattle.std.proofs.lemmas.Result.{IfOk-weaker}
 use Rattle.linear.proofs.ResultLemmas.{named_within}
 use Rattle.linear.proofs.symbols.Symbols.operation.Goals as goal
 
@@ -15,4 +15,4 @@ returns-in_ok-narrow-in-Some c =
     let low = c.args.range.least in
     let high = c.args.range.greatest in
     let i = rw c.in-Some.is at c.in_ok-known.ensures in
-    ok_weaker c.symbol.result (λ e. e ≡ symbol c.in-Some.name) (λ e. GivesInRange d low high k m l n e) (λ e h. named_within d low high k m l n e c.in-Some.name i c.in_ok-narrow-in-Some.ensures h) c.symbol.ensures
+    IfOk-weaker c.symbol.result (λ e. e ≡ symbol c.in-Some.name) (λ e. GivesInRange d low high k m l n e) (λ e h. named_within d low high k m l n e c.in-Some.name i c.in_ok-narrow-in-Some.ensures h) c.symbol.ensures

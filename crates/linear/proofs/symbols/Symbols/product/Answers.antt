@@ -2,7 +2,7 @@ use Rattle.std.proofs.Common.{rules, false, FitsSigned}
 use Rattle.std.specs.Int.{w128}
 use Rattle.std.proofs.lemmas.Int.{to_z-of_z}
 use Rattle.linear.specs.Results.{GivesResult, GivesInRange, GivesMultiple}
-use Rattle.linear.proofs.QueryLemmas.{ok_weaker}
+use Rattle.std.proofs.lemmas.Result.{IfOk-weaker}
 use Rattle.linear.proofs.ResultLemmas.{product_left, product_right, product_ranged}
 use Rattle.linear.proofs.symbols.Symbols.product.Goals as goal
 
@@ -14,7 +14,7 @@ returns-then-left c =
     let m = c.args.second.now in
     let f : FitsSigned w128 c.constant.result = search rules in
     let h = rw (to_z-of_z w128 c.constant.result f) at c.multiple.ensures in
-    ok_weaker c.multiple.result (λ e. GivesMultiple c.constant.result k z m e) (λ e. GivesResult false k z l m e)
+    IfOk-weaker c.multiple.result (λ e. GivesMultiple c.constant.result k z m e) (λ e. GivesResult false k z l m e)
     (λ e s. product_left k z l m e c.constant.result c.constant.ensures (c.is_number-left.ensures c.if-left.true) s) h
 
 pub returns-then-right : goal.returns-then-right
@@ -25,7 +25,7 @@ returns-then-right c =
     let m = c.args.second.now in
     let f : FitsSigned w128 c.constant-then-right.result = search rules in
     let h = rw (to_z-of_z w128 c.constant-then-right.result f) at c.multiple-then-right.ensures in
-    ok_weaker c.multiple-then-right.result (λ e. GivesMultiple c.constant-then-right.result k z l e) (λ e. GivesResult false k z l m e)
+    IfOk-weaker c.multiple-then-right.result (λ e. GivesMultiple c.constant-then-right.result k z l e) (λ e. GivesResult false k z l m e)
     (λ e s. product_right k z l m e c.constant-then-right.result c.constant-then-right.ensures (c.is_number-right.ensures c.if-right.true) s) h
 
 pub returns : goal.returns
@@ -37,7 +37,7 @@ returns c =
     let x = c.range_of-x.result in
     let y = c.range_of-y.result in
     let g = c.product_range-range.result in
-    ok_weaker c.operation.result (λ e. GivesInRange false g.least g.greatest k z l m e) (λ e. GivesResult false k z l m e)
+    IfOk-weaker c.operation.result (λ e. GivesInRange false g.least g.greatest k z l m e) (λ e. GivesResult false k z l m e)
     (λ e s. product_ranged k z l m e x.least x.greatest y.least y.greatest g.least g.greatest c.range_of-x.ensures.least c.range_of-x.ensures.greatest c.range_of-y.ensures.least
     c.range_of-y.ensures.greatest c.product_range-range.ensures s)
     c.operation.ensures

@@ -3,7 +3,7 @@ use Rattle.std.specs.Int.{w128}
 use Rattle.std.proofs.lemmas.Int.{to_z-of_z}
 use Rattle.linear.specs.Quotients.{GivesQuotient}
 use Rattle.linear.specs.Results.{GivesResult}
-use Rattle.linear.proofs.QueryLemmas.{ok_weaker}
+use Rattle.std.proofs.lemmas.Result.{IfOk-weaker}
 use Rattle.linear.proofs.QuotientLemmas.{by_number}
 use Rattle.linear.proofs.symbols.Symbols.quotient.Goals as goal
 
@@ -15,5 +15,5 @@ returns-then-number c =
     let m = c.args.divisor.now in
     let f : FitsSigned w128 c.constant.result = search rules in
     let h = rw (to_z-of_z w128 c.constant.result f) at c.quotient_by.ensures in
-    ok_weaker c.quotient_by.result (λ e. GivesQuotient c.constant.result k z l e) (λ e. GivesResult true k z l m e)
+    IfOk-weaker c.quotient_by.result (λ e. GivesQuotient c.constant.result k z l e) (λ e. GivesResult true k z l m e)
     (λ e s. by_number k z l m e c.constant.result c.constant.ensures (c.is_number-number.ensures c.if-number.true) s) h

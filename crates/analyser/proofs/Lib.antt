@@ -1,2 +1,0 @@
-mod ClosesLemmas
-mod KnowingLemmas

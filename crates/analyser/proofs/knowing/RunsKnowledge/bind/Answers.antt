@@ -1,9 +1,0 @@
-use Rattle.analysis_walk.specs.Domain.{BindsSo, Conclusion}
-use Rattle.analysis_domain.specs.Known.{Known, IsDescribed}
-use Rattle.contract.specs.Tree.{value_tree}
-use Rattle.analyser.proofs.KnowingLemmas.{carried}
-use Rattle.analyser.proofs.knowing.RunsKnowledge.bind.Goals as goal
-
-pub returns : goal.returns
-returns c =
-    carried (λ (k : Known) (x : Conclusion Known). BindsSo IsDescribed k c.args.name.now (value_tree c.args.value.now) x) _ _ _ _ c.into_known.ensures c.concluded.ensures c.in_ok-x.ensures

@@ -1,6 +1,0 @@
-use Rattle.std.proofs.Common.{take}
-use Rattle.analysis.proofs.RowLemmas.{AreMade}
-use Rattle.analysis.proofs.closings.add_rows.Given as goal
-
-abbrev pub invariant-loop-account : goal.invariant-loop-account
-invariant-loop-account l = AreMade l.before (take l.account-index l.spans) l.fn.rows l.rows

@@ -1,5 +1,0 @@
-pub mod Known
-pub mod Evaluated
-pub mod Expressions
-pub mod Start
-pub mod Laws

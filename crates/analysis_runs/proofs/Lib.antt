@@ -1,2 +1,0 @@
-mod CounterRunLemmas
-mod PlacesLemmas

@@ -1,2 +1,0 @@
-pub mod CounterRuns
-pub mod Places

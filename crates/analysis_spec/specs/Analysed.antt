@@ -1,0 +1,36 @@
+-- What an analysis says of a contract and the state in which it starts, in the promises' words.
+use Rattle.std.specs.Prelude.{◌≡◌, ◌≢◌, pos, List, Some}
+use Rattle.std.specs.List.{AllByRecursion}
+use Rattle.names.specs.declared.party.Party.{Party}
+use Rattle.names.specs.declared.token.Token.{Token}
+use Rattle.contract.specs.Tree.{ContractTree}
+use Rattle.states.specs.States.{StateMaps}
+use Rattle.analysis_spec.specs.declared.kind.AlarmKind.{AlarmKind}
+use Rattle.analysis_spec.specs.declared.kind.AlarmKind.TheVariants.{Leaves128}
+use Rattle.analysis_spec.specs.Promises.{NeverWarns, StaysWithin128, PaysBetween}
+use Rattle.analysis_spec.specs.declared.alarm.Alarm.{Alarm}
+use Rattle.analysis_spec.specs.declared.paid.PaidRange.{PaidRange}
+
+-- no alarm is of this kind
+abbrev pub IsSilent : List Alarm → AlarmKind → Type 0
+IsSilent alarms kind = AllByRecursion (λ (a : Alarm). a.kind ≢ kind) alarms
+
+-- a kind that no alarm names never comes
+abbrev pub NamesWhatComes : List Alarm → StateMaps → ContractTree → Type 0
+NamesWhatComes alarms s c = (kind : AlarmKind) → IsSilent alarms kind → NeverWarns kind s c
+
+-- with no alarm of Leaves128 the contract stays within 128 bits
+abbrev pub StaysUnlessTold : List Alarm → StateMaps → ContractTree → Type 0
+StaysUnlessTold alarms s c = IsSilent alarms Leaves128 → StaysWithin128 s c
+
+-- what is paid lies in its range
+abbrev pub PaysWithinRanges : List PaidRange → StateMaps → ContractTree → Type 0
+PaysWithinRanges ranges s c = AllByRecursion (λ (r : PaidRange). PaysBetween r.party r.token r.least r.most s c) ranges
+
+-- no range is of this party and this token
+abbrev pub IsUnnamed : List PaidRange → Party → Token → Type 0
+IsUnnamed ranges p t = AllByRecursion (λ (r : PaidRange). r.party ≡ p → r.token ≢ t) ranges
+
+-- and nothing is paid where there is no range
+abbrev pub PaysOthersNothing : List PaidRange → StateMaps → ContractTree → Type 0
+PaysOthersNothing ranges s c = (p : Party) (t : Token) → IsUnnamed ranges p t → PaysBetween p t (Some (pos 0)) (Some (pos 0)) s c

@@ -1,0 +1,30 @@
+//! The kinds of warnings.
+ghost use Rattle.std.specs.Prelude.{◌≡◌, true};
+ghost use Rattle.analysis_spec.specs.Promises.{kind_of};
+ghost use Rattle.analysis_spec.specs.CounterRuns.{HasKind};
+
+use analysis_spec::AlarmKind;
+use contract::Warning;
+
+/// The kind of a warning.
+pub fn kind_of(warning: &Warning) -> AlarmKind
+    ensures { result ≡ kind_of warning.now }
+{
+    match warning {
+        Warning::NonPositiveDeposit(_, _, _, _) => AlarmKind::NonPositiveDeposit,
+        Warning::NonPositivePay(_, _, _, _) => AlarmKind::NonPositivePay,
+        Warning::PartialPay(_, _, _, _, _) => AlarmKind::PartialPay,
+        Warning::Shadowing(_, _, _) => AlarmKind::Shadowing,
+        Warning::AssertionFailed => AlarmKind::AssertionFailed,
+    }
+}
+
+/// Whether a warning of the kind is among these.
+pub(crate) fn has_kind(warnings: &[Warning], kind: AlarmKind) -> bool
+    ensures { result ≡ true → HasKind kind warnings.now }
+{
+    match warnings {
+        [] => false,
+        [first, rest @ ..] => kind_of(first) == kind || has_kind(rest, kind),
+    }
+}
