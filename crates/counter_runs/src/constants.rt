@@ -89,3 +89,14 @@ pub(crate) fn with_sums(alloc: Global, constants: &[i128]) -> Result<Vec<i128>, 
     }
     Ok(numbers)
 }
+
+/// These numbers, each with one less and one more, each once.
+pub(crate) fn with_neighbours(alloc: Global, numbers: &[i128]) -> Result<Vec<i128>, Memory> {
+    let mut found = Vec::new(alloc);
+    for number in numbers {
+        add_once(&mut found, *number)?;
+        add_once(&mut found, number.saturating_sub(1))?;
+        add_once(&mut found, number.saturating_add(1))?;
+    }
+    Ok(found)
+}

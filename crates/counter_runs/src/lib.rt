@@ -6,7 +6,8 @@
 //!
 //! The search follows the place, from the contract down, and has a choice of intervals, of numbers and of nothing
 //! else: what is deposited is what is asked. Where it has a choice, it takes the first candidate; then runs with one
-//! other candidate, with two, and so on, in a fixed order, until the tries are used up.
+//! other candidate, with two, and so on, in a fixed order. It ends when the work that it was given is done: what a step
+//! costs is weighed before it is taken, so a search takes no longer than its work allows.
 #![tactic(auto)]
 
 mod candidates;
@@ -17,7 +18,11 @@ mod search;
 mod turns;
 mod walk;
 mod way;
+mod weights;
+mod work;
+mod written;
 
 pub use kinds::kind_of;
 pub use replay::ends_in;
 pub use search::run_to;
+pub use written::is_written;

@@ -5,9 +5,10 @@ ghost use Rattle.semantics.specs.Walk.{standing};
 ghost use Rattle.analysis_spec.specs.CounterRuns.{EndsIn};
 
 use crate::replay::ends_in;
-use crate::turns::next_turns;
+use crate::turns::{Turns, next_turns};
 use crate::walk::{Try, try_run};
 use crate::way::Way;
+use crate::work::spend;
 use analysis_spec::Alarm;
 use collections::{Items, Memory};
 use contract::{Contract, State, Transaction};
@@ -16,21 +17,27 @@ use std::alloc::Global;
 // The most points of a run at which it takes another candidate than the first.
 const MOST_OTHERS: usize = 3;
 
-/// A run from a state that ends in an alarm, if one is found in no more than so many tries, of which those that were
-/// used are taken off. Each try takes time for the way to the place, and for what the contract does behind it.
+/// A run from a state that ends in an alarm, if one is found by no more than so much work, of which what was done is
+/// taken off. A unit of work is what at most a hundred instructions do.
 pub fn run_to(
     alloc: Global,
     contract: &Contract,
     state: &State,
     alarm: &Alarm,
-    tries: &mut u64,
+    work: &mut u64,
 ) -> Result<Option<Items<Transaction>>, Memory>
     ensures { IfOk result (λ found. IfSome found (EndsIn alarm.now.kind (standing state.now (contract_tree contract.now)))) }
 {
-    let way = Way::new(alloc, contract, alarm.place.as_slice())?;
+    if *work == 0 {
+        return Ok(None);
+    }
+    let mut way = Way::new(alloc, contract, state, alarm.place.as_slice(), work)?;
     for others in 0..=MOST_OTHERS {
-        for first in 0..2 {
-            let found = run_with(alloc, contract, state, alarm, &way, others, first, tries)?;
+        if others == 1 {
+            way.add_numbers(alloc, work)?;
+        }
+        for second in [false, true] {
+            let found = run_with(alloc, contract, state, alarm, &way, others, second, work)?;
             if found.is_some() {
                 return Ok(found);
             }
@@ -47,26 +54,29 @@ fn run_with(
     alarm: &Alarm,
     way: &Way,
     others: usize,
-    first: usize,
-    tries: &mut u64,
+    prefers_second: bool,
+    work: &mut u64,
 ) -> Result<Option<Items<Transaction>>, Memory>
     ensures { IfOk result (λ found. IfSome found (EndsIn alarm.now.kind (standing state.now (contract_tree contract.now)))) }
 {
     let place = alarm.place.as_slice();
     let mut decided = Vec::new(alloc);
-    let most = *tries;
+    let most = *work;
     for _ in 0..most {
-        *tries = tries.saturating_sub(1);
-        let turns = decided.as_slice();
-        let Try { run, counts } = try_run(
-            alloc, contract, place, way, alarm.kind, state, turns, first,
+        let before = *work;
+        let turns = Turns::new(alloc, decided.as_slice(), prefers_second);
+        let Try { run, points } = try_run(
+            alloc, contract, place, way, alarm.kind, state, turns, work,
         )?;
         if let Some(run) = run {
-            if ends_in(alloc, contract, state, run.as_slice(), alarm.kind)? {
-                return Ok(Some(run));
+            let found = before.saturating_sub(*work);
+            if spend(work, way.replay(run.len(), found)) {
+                if ends_in(alloc, contract, state, run.as_slice(), alarm.kind)? {
+                    return Ok(Some(run));
+                }
             }
         }
-        if !next_turns(&mut decided, counts.as_slice(), others)? {
+        if *work == 0 || !next_turns(&mut decided, points.as_slice(), others)? {
             return Ok(None);
         }
     }

@@ -1,55 +1,131 @@
 //! Which candidates a run takes, one after another.
+use crate::candidates::Candidates;
+use crate::work::spend;
 use collections::Memory;
 use std::alloc::Global;
 
-/// Of each point where a run had a choice, how many candidates there were; and which it took of those that were decided
-/// before. Beyond these it takes the first.
+/// A point where a run had a choice.
+#[derive(Clone, Copy)]
+pub(crate) struct Point {
+    // 0 for the candidate that counts as the first, and else one more than the index of the one that was taken.
+    taken: usize,
+    // How many indices there were.
+    count: usize,
+}
+
+/// The points where a run had a choice so far, and what it takes at those that were decided before. Beyond these it
+/// takes the first.
 #[derive(Drop)]
 pub(crate) struct Turns<'a> {
     decided: &'a [usize],
-    counts: Vec<usize>,
-    // The candidate of a choice that counts as the first.
-    first: usize,
+    points: Vec<Point>,
+    // Whether the second number of a choice counts as its first.
+    prefers_second: bool,
 }
 
 impl<'a> Turns<'a> {
-    pub(crate) fn new(alloc: Global, decided: &'a [usize], first: usize) -> Turns<'a> {
+    pub(crate) fn new(alloc: Global, decided: &'a [usize], prefers_second: bool) -> Turns<'a> {
         Turns {
             decided,
-            counts: Vec::new(alloc),
-            first,
+            points: Vec::new(alloc),
+            prefers_second,
         }
     }
 
-    /// The place of the candidate that is taken of so many intervals.
-    pub(crate) fn interval(&mut self, count: usize) -> Result<usize, Memory> {
-        let place = self.counts.len();
-        self.counts.push(count)?;
-        Ok(self.decided.get(place).copied().unwrap_or(0))
+    /// The interval that is taken, if one is left.
+    pub(crate) fn interval<C: Candidates>(
+        &mut self,
+        candidates: &C,
+        left: &mut u64,
+    ) -> Result<Option<C::Candidate>, Memory> {
+        let first = from(candidates, 0, left);
+        self.take(candidates, first, left)
     }
 
-    /// The place of the candidate that is taken of so many inputs: the one that counts as the first goes before the
-    /// others.
-    pub(crate) fn input(&mut self, count: usize) -> Result<usize, Memory> {
-        let taken = self.interval(count)?;
-        let first = self.first;
-        if first >= count || taken > first {
-            Ok(taken)
-        } else if taken == 0 {
-            Ok(first)
-        } else {
-            Ok(taken - 1)
+    /// The number that is taken, if one is left: the one that counts as the first goes before the others.
+    pub(crate) fn number<C: Candidates>(
+        &mut self,
+        candidates: &C,
+        left: &mut u64,
+    ) -> Result<Option<C::Candidate>, Memory> {
+        let mut first = from(candidates, 0, left);
+        if self.prefers_second {
+            if let Some(index) = first {
+                first = from(candidates, index.saturating_add(1), left).or(first);
+            }
+        }
+        self.take(candidates, first, left)
+    }
+
+    // The candidate that is taken, where one counts as the first. Others are looked for from an index on.
+    fn take<C: Candidates>(
+        &mut self,
+        candidates: &C,
+        first: Option<usize>,
+        left: &mut u64,
+    ) -> Result<Option<C::Candidate>, Memory> {
+        let Some(first) = first else {
+            self.points.push(Point { taken: 0, count: 0 })?;
+            return Ok(None);
+        };
+        let count = candidates.count();
+        let decided = self.decided.get(self.points.len()).copied().unwrap_or(0);
+        if decided == 0 {
+            self.points.push(Point { taken: 0, count })?;
+            return Ok(candidates.at(first));
+        }
+        match other_from(candidates, decided - 1, first, left) {
+            Some(index) => {
+                let taken = index.saturating_add(1);
+                self.points.push(Point { taken, count })?;
+                Ok(candidates.at(index))
+            }
+            None => {
+                self.points.push(Point {
+                    taken: count,
+                    count,
+                })?;
+                Ok(None)
+            }
         }
     }
 
-    /// How many candidates there were.
-    pub(crate) fn into_counts(self) -> Vec<usize> {
+    /// The points that there were.
+    pub(crate) fn into_points(self) -> Vec<Point> {
         let Turns {
             decided: _,
-            counts,
-            first: _,
+            points,
+            prefers_second: _,
         } = self;
-        counts
+        points
+    }
+}
+
+// The first index from one on that has a candidate.
+fn from<C: Candidates>(candidates: &C, index: usize, left: &mut u64) -> Option<usize> {
+    for index in index..candidates.count() {
+        if !spend(left, candidates.cost(index)) {
+            return None;
+        }
+        if candidates.at(index).is_some() {
+            return Some(index);
+        }
+    }
+    None
+}
+
+// The same of another than the first.
+fn other_from<C: Candidates>(
+    candidates: &C,
+    index: usize,
+    first: usize,
+    left: &mut u64,
+) -> Option<usize> {
+    let found = from(candidates, index, left)?;
+    if found == first {
+        from(candidates, found.saturating_add(1), left)
+    } else {
+        Some(found)
     }
 }
 
@@ -57,25 +133,21 @@ impl<'a> Turns<'a> {
 /// changes first. Tells whether there are any.
 pub(crate) fn next_turns(
     decided: &mut Vec<usize>,
-    counts: &[usize],
+    points: &[Point],
     most: usize,
 ) -> Result<bool, Memory> {
-    decided.truncate(counts.len());
-    let missing = counts.len().saturating_sub(decided.len());
-    for _ in 0..missing {
-        decided.push(0)?;
-    }
-    let mut others = decided.iter().filter(|taken| **taken > 0).count();
-    for place in (0..counts.len()).rev() {
-        let taken = decided.get(place).copied().unwrap_or(0);
+    let mut others = points.iter().filter(|point| point.taken > 0).count();
+    for place in (0..points.len()).rev() {
+        let Point { taken, count } = points[place];
         if taken > 0 {
             others = others.saturating_sub(1);
         }
-        let next = taken.saturating_add(1);
-        let count = counts.get(place).copied().unwrap_or(0);
-        if next < count && others < most {
-            decided.truncate(place);
-            decided.push(next)?;
+        if taken < count && others < most {
+            decided.clear();
+            for point in &points[..place] {
+                decided.push(point.taken)?;
+            }
+            decided.push(taken.saturating_add(1))?;
             return Ok(true);
         }
     }

@@ -1,28 +1,42 @@
-//! One try: a run along the way to a place.
+//! One try: a guess at a run along the way to a place.
+//!
+//! It goes through the contract by rules of its own, of which nothing is proved. Where they are wrong, it loses a run
+//! that there is, and the alarm is told as one that isn't known; or it brings one that doesn't end in the alarm, which
+//! `ends_in` then throws away. A run that is false is never told.
 ghost use Rattle.std.specs.Prelude.{pos, ◌≤ℤ◌};
 
-use crate::candidates::{choosable, intervals, is_written};
-use crate::turns::Turns;
-use crate::way::Way;
+use crate::candidates::{Numbers, Times};
+use crate::turns::{Point, Turns};
+use crate::way::{Way, entries_of};
+use crate::work::spend;
+use crate::written::is_written;
 use analysis_spec::{AlarmKind, PathStep};
 use analysis_walk::part_behind;
 use collections::{Items, Memory, Text, TryClone};
 use contract::{
-    Action, Case, ChoiceId, Contract, Input, Interval, Observation, Party, Payee, State, Token,
-    Transaction, Value,
+    Action, Bound, Case, ChoiceId, Contract, Input, Interval, Observation, Party, Payee, State,
+    Token, Transaction, Value,
 };
 use evaluation::{holds, value};
 use semantics::{Plain, matching_case};
 use std::alloc::Global;
 
-/// What came of a try: the run, if it came to the alarm, and how many candidates it had at each point of choice.
+// What a try takes, and what the beginning of a transaction takes, beside what the contract asks for.
+const TRY: u64 = 10;
+
+const TRANSACTION: u64 = 4;
+
+// The entries of a state that are looked at by a unit of work.
+const ENTRIES: u64 = 4;
+
+/// What came of a try: the run, if it came to the alarm, and the points where it had a choice.
 #[derive(Drop)]
 pub(crate) struct Try {
     pub(crate) run: Option<Items<Transaction>>,
-    pub(crate) counts: Vec<usize>,
+    pub(crate) points: Vec<Point>,
 }
 
-/// Tries a run from a state: it takes those candidates that are decided, and else the first.
+/// Tries a run from a state, by these turns: as far as it goes, and as there is work left.
 pub(crate) fn try_run(
     alloc: Global,
     contract: &Contract,
@@ -30,16 +44,21 @@ pub(crate) fn try_run(
     way: &Way,
     kind: AlarmKind,
     state: &State,
-    decided: &[usize],
-    first: usize,
+    turns: Turns<'_>,
+    work: &mut u64,
 ) -> Result<Try, Memory> {
+    if !spend(work, way.copy().saturating_add(TRY)) {
+        let points = Vec::new(alloc);
+        return Ok(Try { run: None, points });
+    }
     let mut walk = Walk {
         alloc,
         state: state.try_clone()?,
         open: None,
         inputs: Vec::new(alloc),
         done: Vec::new(alloc),
-        turns: Turns::new(alloc, decided, first),
+        turns,
+        left: *work,
     };
     let reached = walk.reaches(contract, place, way, kind)?;
     let Walk {
@@ -49,17 +68,19 @@ pub(crate) fn try_run(
         inputs,
         mut done,
         turns,
+        left,
     } = walk;
-    let counts = turns.into_counts();
+    *work = left;
+    let points = turns.into_points();
     if !reached {
-        return Ok(Try { run: None, counts });
+        return Ok(Try { run: None, points });
     }
     if let Some(interval) = open {
         let inputs = Items::from_vec(inputs);
         done.push(Transaction { interval, inputs })?;
     }
     let run = Some(Items::from_vec(done));
-    Ok(Try { run, counts })
+    Ok(Try { run, points })
 }
 
 // A run on its way: the state, the interval and the inputs of the transaction that is open, and those before it.
@@ -71,6 +92,7 @@ struct Walk<'a> {
     inputs: Vec<Input>,
     done: Vec<Transaction>,
     turns: Turns<'a>,
+    left: u64,
 }
 
 // Where a step leads.
@@ -95,11 +117,13 @@ enum Taken {
     Lost,
 }
 
-// What may be brought to a case.
+// What is brought to a case.
 #[derive(Drop)]
 enum Offer {
-    // One of these inputs.
-    Inputs(Vec<Input>),
+    // Nothing.
+    None,
+    // This input.
+    Input(Input),
     // This one, at which a number leaves 128 bits.
     Leaving(Input),
 }
@@ -120,13 +144,16 @@ impl Walk<'_> {
             return Ok(false);
         }
         for index in 0..place.len() {
+            if !spend(&mut self.left, way.weight(index)) {
+                return Ok(false);
+            }
             match self.step(way, index, at, place[index], kind)? {
                 Next::On(next) => at = next,
                 Next::Reached => return Ok(true),
                 Next::Lost => return Ok(false),
             }
         }
-        Ok(self.alarms(at, kind))
+        Ok(spend(&mut self.left, way.weight(place.len())) && self.alarms(at, kind))
     }
 
     // Takes a step of the way, by its place.
@@ -228,9 +255,13 @@ impl Walk<'_> {
     // Begins a transaction, in an interval between these times, and tells whether there is one, and JSON can write
     // the state.
     fn begin(&mut self, way: &Way, low: i64, high: i64) -> Result<bool, Memory> {
-        let found = intervals(self.alloc, low, high, way.numbers.as_slice())?;
-        let taken = self.turns.interval(found.len())?;
-        let Some(interval) = found.as_slice().get(taken).copied() else {
+        let entries = entries_of(&self.state) as u64 / ENTRIES;
+        if !spend(&mut self.left, entries.saturating_add(TRANSACTION)) {
+            return Ok(false);
+        }
+        let numbers = way.numbers.as_slice();
+        let times = Times { low, high, numbers };
+        let Some(interval) = self.turns.interval(&times, &mut self.left)? else {
             return Ok(false);
         };
         if !self.is_written() {
@@ -343,14 +374,12 @@ impl Walk<'_> {
         kind: AlarmKind,
     ) -> Result<Taken, Memory> {
         let input = match self.offer(way, &case.action)? {
-            Offer::Inputs(inputs) => self.taken(inputs)?,
+            Offer::None => return Ok(Taken::Lost),
+            Offer::Input(input) => input,
             Offer::Leaving(input) => {
                 self.inputs.push(input)?;
                 return Ok(reached_if(ends && kind == AlarmKind::Leaves128));
             }
-        };
-        let Some(input) = input else {
-            return Ok(Taken::Lost);
         };
         if has_earlier && !self.is_taken_by(at, &input, &case.then) {
             return Ok(Taken::Lost);
@@ -372,28 +401,32 @@ impl Walk<'_> {
         }
     }
 
-    // The inputs that an action waits for: what is asked to be deposited, numbers that may be chosen, or a
+    // An input that an action waits for: what is asked to be deposited, a number that may be chosen, or a
     // notification.
-    fn offer(&self, way: &Way, action: &Action) -> Result<Offer, Memory> {
+    fn offer(&mut self, way: &Way, action: &Action) -> Result<Offer, Memory> {
         match action {
             Action::Deposit(account, party, token, amount) => {
                 self.deposits(account, party, token, amount)
             }
-            Action::Choice(id, bounds) => {
-                let accounts = self.state.accounts();
-                let numbers = choosable(
-                    self.alloc,
-                    bounds.as_slice(),
-                    way.numbers.as_slice(),
-                    accounts,
-                )?;
-                choices(self.alloc, id, numbers.as_slice())
-            }
+            Action::Choice(id, bounds) => self.chooses(way, id, bounds.as_slice()),
             Action::Notify(observation) => match self.truth(observation) {
-                Some(true) => one_input(self.alloc, Input::Notify),
-                Some(false) => Ok(Offer::Inputs(Vec::new(self.alloc))),
+                Some(true) => Ok(Offer::Input(Input::Notify)),
+                Some(false) => Ok(Offer::None),
                 None => Ok(Offer::Leaving(Input::Notify)),
             },
+        }
+    }
+
+    // The choice of a number, if one is left.
+    fn chooses(&mut self, way: &Way, id: &ChoiceId, bounds: &[Bound]) -> Result<Offer, Memory> {
+        let numbers = Numbers {
+            bounds,
+            numbers: way.numbers.as_slice(),
+            accounts: self.state.accounts(),
+        };
+        match self.turns.number(&numbers, &mut self.left)? {
+            Some(number) => Ok(Offer::Input(Input::Choice(id.try_clone()?, number))),
+            None => Ok(Offer::None),
         }
     }
 
@@ -410,21 +443,9 @@ impl Walk<'_> {
         let party = party.try_clone()?;
         let token = token.try_clone()?;
         match asked {
-            Some(n) if is_written(n) => {
-                one_input(self.alloc, Input::Deposit(account, party, token, n))
-            }
-            Some(_) => Ok(Offer::Inputs(Vec::new(self.alloc))),
+            Some(n) if is_written(n) => Ok(Offer::Input(Input::Deposit(account, party, token, n))),
+            Some(_) => Ok(Offer::None),
             None => Ok(Offer::Leaving(Input::Deposit(account, party, token, 1))),
-        }
-    }
-
-    // The one of these inputs that is taken.
-    fn taken(&mut self, mut inputs: Vec<Input>) -> Result<Option<Input>, Memory> {
-        let place = self.turns.input(inputs.len())?;
-        if place < inputs.len() {
-            Ok(Some(inputs.swap_remove(place)))
-        } else {
-            Ok(None)
         }
     }
 
@@ -510,19 +531,4 @@ fn is_deposit_of_nothing(input: &Input) -> bool {
         Input::Deposit(_, _, _, amount) => *amount <= 0,
         _ => false,
     }
-}
-
-fn one_input(alloc: Global, input: Input) -> Result<Offer, Memory> {
-    let mut inputs = Vec::new(alloc);
-    inputs.push(input)?;
-    Ok(Offer::Inputs(inputs))
-}
-
-// Choices of these numbers.
-fn choices(alloc: Global, id: &ChoiceId, numbers: &[i128]) -> Result<Offer, Memory> {
-    let mut inputs = Vec::new(alloc);
-    for number in numbers {
-        inputs.push(Input::Choice(id.try_clone()?, *number))?;
-    }
-    Ok(Offer::Inputs(inputs))
 }

@@ -1,45 +1,115 @@
 //! The way to a place.
-use crate::constants::{gather_observation, gather_value, with_sums};
+use crate::constants::{gather_observation, gather_value, with_neighbours, with_sums};
+use crate::weights::{of_bounds, weigh_settling, weigh_state, weigh_step};
+use crate::work::spend;
 use analysis_spec::PathStep;
 use analysis_walk::part_behind;
 use collections::Memory;
-use contract::{Action, Case, Contract};
+use contract::{Action, Case, Contract, State};
 use std::alloc::Global;
+
+// What the sums and differences of constants take, for the square of their number.
+const NUMBERS: u64 = 48;
+
+// How much more playing a run again takes than finding it: what it makes are payments and warnings.
+const REPLAY: u64 = 4;
 
 /// What is read off the way from a contract to a place in it before a run is tried.
 #[derive(Drop)]
 pub(crate) struct Way {
-    /// The constants that stand along it, their sums and differences: numbers to try.
+    /// The first constants that stand along it.
+    constants: Vec<i128>,
+    /// Numbers to try: the constants, their sums and differences, and what is about these. None until they are made.
     pub(crate) numbers: Vec<i128>,
     /// For each step the last moment at which every When still waits that is left by a case from there on; none where
     /// there is no such When.
-    pub(crate) untils: Vec<Option<i64>>,
+    untils: Vec<Option<i64>>,
+    // The work that a copy of the start state takes, that each step takes, and the end of the way; and what playing
+    // a run again takes beside.
+    copy: u64,
+    weights: Vec<u64>,
+    behind: u64,
 }
 
 impl Way {
-    /// The way by these steps.
+    /// The way by these steps, for runs from a state. To read it takes work.
     pub(crate) fn new(
         alloc: Global,
         contract: &Contract,
+        state: &State,
         steps: &[PathStep],
+        left: &mut u64,
     ) -> Result<Way, Memory> {
-        let mut constants = Vec::new(alloc);
+        let mut way = Way {
+            constants: Vec::new(alloc),
+            numbers: Vec::new(alloc),
+            untils: Vec::new(alloc),
+            copy: weigh_state(state, left),
+            weights: Vec::new(alloc),
+            behind: 0,
+        };
+        let looks = looks_of(entries_of(state).saturating_add(steps.len()));
         let mut waits = Vec::new(alloc);
         let mut at = Some(contract);
         for step in steps {
             let Some(here) = at else {
                 break;
             };
-            gather_at(here, Some(*step), &mut constants)?;
+            way.add_step(alloc, here, Some(*step), looks, left)?;
             waits.push(wait_of(here, *step))?;
             at = part_behind(here, *step);
         }
         if let Some(here) = at {
-            gather_at(here, None, &mut constants)?;
+            way.add_step(alloc, here, None, looks, left)?;
+            way.behind = way.behind.saturating_add(weigh_settling(here, looks, left));
         }
-        let numbers = with_sums(alloc, constants.as_slice())?;
-        let untils = earliest_behind(alloc, waits.as_slice())?;
-        Ok(Way { numbers, untils })
+        way.untils = earliest_behind(alloc, waits.as_slice())?;
+        Ok(way)
+    }
+
+    // Adds what a run looks at where it goes on from a contract by a step.
+    fn add_step(
+        &mut self,
+        alloc: Global,
+        here: &Contract,
+        step: Option<PathStep>,
+        looks: u64,
+        left: &mut u64,
+    ) -> Result<(), Memory> {
+        let before = *left;
+        if weigh_step(alloc, here, step, looks, left)? {
+            gather_at(here, step, &mut self.constants)?;
+        }
+        self.weights.push(before.saturating_sub(*left))?;
+        self.behind = self.behind.saturating_add(bounds_of(here, step));
+        Ok(())
+    }
+
+    /// Makes the numbers to try.
+    pub(crate) fn add_numbers(&mut self, alloc: Global, left: &mut u64) -> Result<(), Memory> {
+        let count = self.constants.len() as u64;
+        if spend(left, count.saturating_mul(count).saturating_mul(NUMBERS)) {
+            let sums = with_sums(alloc, self.constants.as_slice())?;
+            self.numbers = with_neighbours(alloc, sums.as_slice())?;
+        }
+        Ok(())
+    }
+
+    /// The work that a copy of the start state takes.
+    pub(crate) fn copy(&self) -> u64 {
+        self.copy
+    }
+
+    /// The work that a step takes, or the end of the way.
+    pub(crate) fn weight(&self, step: usize) -> u64 {
+        self.weights.get(step).copied().unwrap_or(0)
+    }
+
+    /// The work that it takes to play a run of so many transactions again, where to find it took so much.
+    pub(crate) fn replay(&self, transactions: usize, found: u64) -> u64 {
+        let copies = self.copy.saturating_mul(transactions as u64);
+        let played = found.saturating_mul(REPLAY);
+        played.saturating_add(copies).saturating_add(self.behind)
     }
 
     /// The last moment at which every When still waits that is left by a case from a step on.
@@ -111,4 +181,31 @@ fn earliest_behind(alloc: Global, waits: &[Option<i64>]) -> Result<Vec<Option<i6
     }
     untils.reverse();
     Ok(untils)
+}
+
+// The bounds that playing a step again looks through.
+fn bounds_of(contract: &Contract, step: Option<PathStep>) -> u64 {
+    match (contract, step) {
+        (Contract::When(cases, _, _), Some(PathStep::Case(index))) => {
+            match cases.as_slice().get(index) {
+                Some(case) => match &case.action {
+                    Action::Choice(_, bounds) => of_bounds(bounds.as_slice()),
+                    _ => 0,
+                },
+                None => 0,
+            }
+        }
+        _ => 0,
+    }
+}
+
+/// The entries of a state.
+pub(crate) fn entries_of(state: &State) -> usize {
+    let kept = state.accounts().len().saturating_add(state.choices().len());
+    kept.saturating_add(state.bound_values().len())
+}
+
+// The names that a look-up among so many compares at most.
+fn looks_of(entries: usize) -> u64 {
+    u64::from(usize::BITS - entries.leading_zeros()).max(1)
 }

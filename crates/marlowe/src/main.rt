@@ -47,8 +47,9 @@ fn main(rt: HostRuntime) -> ExitCode {
                 contract,
                 state,
                 json,
+                no_runs,
             },
-        ) => tell_analysis(&rt, analyse_files(&rt, contract, state, json)),
+        ) => tell_analysis(&rt, analyse_files(&rt, contract, state, reader_of(json, no_runs))),
         Ok(Task::Play { scenario, one }) => {
             let shown = rt.stderr().is_terminal();
             tell_answer(&rt, play_file(&rt, scenario, one, shown))
@@ -101,7 +102,7 @@ fn analyse_files<'a, R: Files + AllocGlobal>(
     rt: &R,
     contract: &'a str,
     state: Option<&'a str>,
-    json: bool,
+    reader: Reader,
 ) -> Result<Analysed, Stop<'a>> {
     let contract = text_of(rt, contract)?;
     let state = match state {
@@ -109,10 +110,19 @@ fn analyse_files<'a, R: Files + AllocGlobal>(
         None => None,
     };
     let state = state.as_ref().map(|text| text.as_slice());
-    let reader = if json { Reader::Tools } else { Reader::People };
     analyse_text(rt.alloc(), contract.as_slice(), state, reader).map_err(|fault| Stop::Refused(
         Fault::Run(fault),
     ))
+}
+
+// Who reads an analysis, by its flags.
+fn reader_of(json: bool, no_runs: bool) -> Reader {
+    match (json, no_runs) {
+        (false, false) => Reader::People,
+        (true, false) => Reader::Tools,
+        (false, true) => Reader::PeopleWithoutRuns,
+        (true, true) => Reader::ToolsWithoutRuns,
+    }
 }
 
 // Reads the file, and then plays its scenario. If wanted, it shows meanwhile how far it is.

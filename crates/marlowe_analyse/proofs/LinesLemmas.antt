@@ -57,23 +57,23 @@ word_text keys.ChooseBetween h = refl
 word_text keys.NotifyIf h = refl
 
 -- lines of told alarms
-pub lines_each : (ts : List ToldAlarm) → flat_map alarm_lines (map line_of ts) ≡ flat_map (λ t. alarm_lines (line_of t)) ts
-lines_each [] = refl
-lines_each (t ∷ ts) = ap (λ ls. alarm_lines (line_of t) ++ ls) (lines_each ts)
+pub lines_each : (runs : Bool) (ts : List ToldAlarm) → flat_map (alarm_lines runs) (map line_of ts) ≡ flat_map (λ t. alarm_lines runs (line_of t)) ts
+lines_each runs [] = refl
+lines_each runs (t ∷ ts) = ap (λ ls. alarm_lines runs (line_of t) ++ ls) (lines_each runs ts)
 
-pub lines_some : (ts : List ToldAlarm) (b : Bool) → b ≡ (length ts == 0) → b ≡ false → flat_map (λ t. alarm_lines (line_of t)) ts ≡ alarms_lines (map line_of ts)
-lines_some [] b e h = absurd (cc)
-lines_some (t ∷ ts) b e h = sym (lines_each (t ∷ ts))
+pub lines_some : (runs : Bool) (ts : List ToldAlarm) (b : Bool) → b ≡ (length ts == 0) → b ≡ false → flat_map (λ t. alarm_lines runs (line_of t)) ts ≡ alarms_lines runs (map line_of ts)
+lines_some runs [] b e h = absurd (cc)
+lines_some runs (t ∷ ts) b e h = sym (lines_each runs (t ∷ ts))
 
-pub lines_none : (ts : List ToldAlarm) (b : Bool) → b ≡ (length ts == 0) → b ≡ true → codes "never warns, stays within 128 bits" ++ 10 ∷ [] ≡ alarms_lines (map line_of ts)
-lines_none [] b e h = refl
-lines_none (t ∷ ts) b e h = absurd (not_zero (length ts) b e h)
+pub lines_none : (runs : Bool) (ts : List ToldAlarm) (b : Bool) → b ≡ (length ts == 0) → b ≡ true → codes "never warns, stays within 128 bits" ++ 10 ∷ [] ≡ alarms_lines runs (map line_of ts)
+lines_none runs [] b e h = refl
+lines_none runs (t ∷ ts) b e h = absurd (not_zero (length ts) b e h)
 
 -- a run that is known
-pub run_pieces : (a b d : List ℕ) (o : Option (List Transaction)) (ts us : List Transaction) → o ≡ Some ts → us ≡ ts → b ≡ a ++ (codes ", by this run:" ++ 10 ∷ []) → d ≡ b ++ flat_map transaction_line us → d ≡ a ++ run_lines o
+pub run_pieces : (a b d : List ℕ) (o : Option (List Transaction)) (ts us : List Transaction) → o ≡ Some ts → us ≡ ts → b ≡ a ++ (codes ", by this run:" ++ 10 ∷ []) → d ≡ b ++ flat_map transaction_line us → d ≡ a ++ run_lines true o
 run_pieces a b d o ts us e f g h =
     two_pieces a b d (codes ", by this run:" ++ 10 ∷ []) (flat_map transaction_line us) g h ∙ ap (λ (xs : List Transaction). a ++ ((codes ", by this run:" ++ 10 ∷ []) ++ flat_map transaction_line xs)) f
-    ∙ ap (λ (z : Option (List Transaction)). a ++ run_lines z) (sym e)
+    ∙ ap (λ (z : Option (List Transaction)). a ++ run_lines true z) (sym e)
 
 -- what a party is paid
 pub range_pieces : (p q t u b d line : List ℕ) → line ≡ p ++ (codes " " ++ (t ++ (codes " " ++ (b ++ codes "\n")))) → p ≡ q → t ≡ u → b ≡ d → line ≡ q ++ (codes " " ++ (u ++ (codes " " ++ (d ++ 10 ∷ []))))
@@ -86,8 +86,8 @@ map_after : {X Y Z : Type 0} (f : Y → Z) (g : X → Y) (xs : List X) → map (
 map_after f g [] = refl
 map_after f g (x ∷ xs) = ap (λ zs. f (g x) ∷ zs) (map_after f g xs)
 
-pub alarms_put : (a b : Written) (ts : List ToldAlarm) → Puts a b (array (items_of (map (λ t. alarm_json (line_of t)) ts))) → Puts a b (array (items_of (map alarm_json (map line_of ts))))
-alarms_put a b ts h = subst (λ (ds : List Data). Puts a b (array (items_of ds))) (map_after alarm_json line_of ts) h
+pub alarms_put : (runs : Bool) (a b : Written) (ts : List ToldAlarm) → Puts a b (array (items_of (map (λ t. alarm_json runs (line_of t)) ts))) → Puts a b (array (items_of (map (alarm_json runs) (map line_of ts))))
+alarms_put runs a b ts h = subst (λ (ds : List Data). Puts a b (array (items_of ds))) (map_after (alarm_json runs) line_of ts) h
 
 pub word_put : (a b : Written) (w v : List ℕ) → w ≡ v → Puts a b (string w) → Puts a b (string v)
 word_put a b w v e h = subst (λ (x : List ℕ). Puts a b (string x)) e h
@@ -95,8 +95,8 @@ word_put a b w v e h = subst (λ (x : List ℕ). Puts a b (string x)) e h
 pub place_put : (a b : Written) (ks ls : List Key) → ks ≡ ls → Puts a b (array (items_of (map key_json ks))) → Puts a b (array (items_of (map key_json ls)))
 place_put a b ks ls e h = subst (λ (x : List Key). Puts a b (array (items_of (map key_json x)))) e h
 
-pub told_put : (a b : Written) (ts us : List ToldAlarm) (rs qs : List PaidRange) → ts ≡ us → rs ≡ qs → Puts a b (told_json (map line_of ts) rs) → Puts a b (told_json (map line_of us) qs)
-told_put a b ts us rs qs e f h = subst (λ (x : List PaidRange). Puts a b (told_json (map line_of us) x)) f (subst (λ (x : List ToldAlarm). Puts a b (told_json (map line_of x) rs)) e h)
+pub told_put : (runs : Bool) (a b : Written) (ts us : List ToldAlarm) (rs qs : List PaidRange) → ts ≡ us → rs ≡ qs → Puts a b (told_json runs (map line_of ts) rs) → Puts a b (told_json runs (map line_of us) qs)
+told_put runs a b ts us rs qs e f h = subst (λ (x : List PaidRange). Puts a b (told_json runs (map line_of us) x)) f (subst (λ (x : List ToldAlarm). Puts a b (told_json runs (map line_of x) rs)) e h)
 
 -- the text of a whole value, from a new writer
 module _ (a b : Written) (start bytes : List ℕ) (d : Data) (empty : start ≡ []) (before : a.before ≡ start) (none : a.tokens ≡ []) (put : Puts a b d) (is : bytes ≡ b.before ++ print b.tokens) where

@@ -1,5 +1,5 @@
 -- The lines for people.
-use Rattle.std.specs.Prelude.{ℕ, ℤ, List, [], ◌∷◌, ◌++◌, flat_map, Option, Some, None, codes, decimal}
+use Rattle.std.specs.Prelude.{ℕ, ℤ, Bool, true, false, List, [], ◌∷◌, ◌++◌, flat_map, Option, Some, None, codes, decimal}
 use Rattle.std.specs.Fmt.{signed_decimal}
 use Rattle.serde_json.specs.Written.{compact_text}
 use Rattle.contract.specs.declared.transaction.Transaction.{Transaction}
@@ -30,18 +30,20 @@ key_text key = codes "." ++ key_word key
 abbrev pub transaction_line : Transaction → List ℕ
 transaction_line t = compact_text (transaction_json t) ++ 10 ∷ []
 
-abbrev pub run_lines : Option (List Transaction) → List ℕ
-run_lines None = codes ", not known" ++ 10 ∷ []
-run_lines (Some ts) = codes ", by this run:" ++ (10 ∷ flat_map transaction_line ts)
+-- a run, or that none is known; and nothing where runs are left out
+abbrev pub run_lines : Bool → Option (List Transaction) → List ℕ
+run_lines true None = codes ", not known" ++ 10 ∷ []
+run_lines true (Some ts) = codes ", by this run:" ++ (10 ∷ flat_map transaction_line ts)
+run_lines false run = 10 ∷ []
 
 -- the kind of an alarm, its place and its run
-abbrev pub alarm_lines : Line → List ℕ
-alarm_lines l = kind_name l.kind ++ (codes " at " ++ (flat_map key_text l.place ++ run_lines l.run))
+abbrev pub alarm_lines : Bool → Line → List ℕ
+alarm_lines runs l = kind_name l.kind ++ (codes " at " ++ (flat_map key_text l.place ++ run_lines runs l.run))
 
 -- all alarms, or that there is none
-abbrev pub alarms_lines : List Line → List ℕ
-alarms_lines [] = codes "never warns, stays within 128 bits" ++ 10 ∷ []
-alarms_lines (l ∷ ls) = flat_map alarm_lines (l ∷ ls)
+abbrev pub alarms_lines : Bool → List Line → List ℕ
+alarms_lines runs [] = codes "never warns, stays within 128 bits" ++ 10 ∷ []
+alarms_lines runs (l ∷ ls) = flat_map (alarm_lines runs) (l ∷ ls)
 
 -- what a party is paid of a token
 abbrev pub bounds_text : Option ℤ → Option ℤ → List ℕ
@@ -53,5 +55,5 @@ bounds_text None None = codes "not known"
 abbrev pub range_line : PaidRange → List ℕ
 range_line r = compact_text (party_json r.party) ++ (codes " " ++ (compact_text (token_json r.token) ++ (codes " " ++ (bounds_text r.least r.most ++ 10 ∷ []))))
 
-abbrev pub lines_of : List Line → List PaidRange → List ℕ
-lines_of lines ranges = alarms_lines lines ++ flat_map range_line ranges
+abbrev pub lines_of : Bool → List Line → List PaidRange → List ℕ
+lines_of runs lines ranges = alarms_lines runs lines ++ flat_map range_line ranges

@@ -1,5 +1,5 @@
 -- What is printed of a contract's text and a state's.
-use Rattle.std.specs.Prelude.{◌≡◌, ◌↔◌, ℕ, Bool, true, List, [], ◌∷◌, ◌++◌, map, Option, Result, Ok}
+use Rattle.std.specs.Prelude.{◌≡◌, ◌↔◌, ℕ, Bool, true, false, List, [], ◌∷◌, ◌++◌, map, Option, Result, Ok}
 use Rattle.collections.specs.Answers.{◌>>=◌}
 use Rattle.serde_json.specs.Written.{compact_text}
 use Rattle.contract.specs.Tree.{ContractTree, contract_tree}
@@ -11,16 +11,18 @@ use Rattle.analysis_spec.specs.declared.paid.PaidRange.{PaidRange}
 use Rattle.marlowe_run.specs.declared.fault.RunFault.{RunFault}
 use Rattle.marlowe_run.specs.Faults.{read_as, contract_fault, state_fault}
 use Rattle.marlowe_analyse.specs.declared.analysed.Reader.{Reader}
-use Rattle.marlowe_analyse.specs.declared.analysed.Reader.TheVariants.{People, OfAlarms, Tools}
+use Rattle.marlowe_analyse.specs.declared.analysed.Reader.TheVariants.{People, OfAlarms, Tools, PeopleWithoutRuns, ToolsWithoutRuns}
 use Rattle.marlowe_analyse.specs.Told.{Alarms, IsSo, NeverAlarms, start_of}
 use Rattle.marlowe_analyse.specs.ToldLines.{Line, line_at}
 use Rattle.marlowe_analyse.specs.Lines.{alarms_lines, lines_of}
 use Rattle.marlowe_analyse.specs.Tools.{told_json}
 
 abbrev pub printed : Reader → List Line → List PaidRange → List ℕ
-printed People lines ranges = lines_of lines ranges
-printed OfAlarms lines ranges = alarms_lines lines
-printed Tools lines ranges = compact_text (told_json lines ranges) ++ 10 ∷ []
+printed People lines ranges = lines_of true lines ranges
+printed OfAlarms lines ranges = alarms_lines true lines
+printed Tools lines ranges = compact_text (told_json true lines ranges) ++ 10 ∷ []
+printed PeopleWithoutRuns lines ranges = lines_of false lines ranges
+printed ToolsWithoutRuns lines ranges = compact_text (told_json false lines ranges) ++ 10 ∷ []
 
 -- the contract is read first, and then the state
 abbrev pub what_is_read : List ℕ → Option (List ℕ) → Result (StateMaps × ContractTree) RunFault

@@ -1,5 +1,5 @@
 -- The JSON for tools.
-use Rattle.std.specs.Prelude.{ℕ, ℤ, pos, List, map, Option, Some, None, codes}
+use Rattle.std.specs.Prelude.{ℕ, ℤ, pos, Bool, true, false, List, map, Option, Some, None, codes}
 use Rattle.serde_json.specs.Data.{Data, string, array, null}
 use Rattle.serde_json.specs.View.{items_of}
 use Rattle.contract.specs.declared.transaction.Transaction.{Transaction}
@@ -20,8 +20,10 @@ abbrev pub run_json : Option (List Transaction) → Data
 run_json None = null
 run_json (Some ts) = array (items_of (map transaction_json ts))
 
-abbrev pub alarm_json : Line → Data
-alarm_json l = three (codes "kind") (string (kind_name l.kind)) (codes "place") (array (items_of (map key_json l.place))) (codes "run") (run_json l.run)
+-- an alarm with its run, or where runs are left out without the key `run`
+abbrev pub alarm_json : Bool → Line → Data
+alarm_json false l = two (codes "kind") (string (kind_name l.kind)) (codes "place") (array (items_of (map key_json l.place)))
+alarm_json true l = three (codes "kind") (string (kind_name l.kind)) (codes "place") (array (items_of (map key_json l.place))) (codes "run") (run_json l.run)
 
 abbrev pub bound_json : Option ℤ → Data
 bound_json None = null
@@ -30,5 +32,5 @@ bound_json (Some n) = wide_json n
 abbrev pub range_json : PaidRange → Data
 range_json r = four (codes "least") (bound_json r.least) (codes "most") (bound_json r.most) (codes "party") (party_json r.party) (codes "token") (token_json r.token)
 
-abbrev pub told_json : List Line → List PaidRange → Data
-told_json lines ranges = two (codes "alarms") (array (items_of (map alarm_json lines))) (codes "ranges") (array (items_of (map range_json ranges)))
+abbrev pub told_json : Bool → List Line → List PaidRange → Data
+told_json runs lines ranges = two (codes "alarms") (array (items_of (map (alarm_json runs) lines))) (codes "ranges") (array (items_of (map range_json ranges)))

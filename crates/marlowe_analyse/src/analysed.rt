@@ -9,7 +9,7 @@ ghost use Rattle.marlowe_analyse.specs.Printed.{printed, IsClear, TellsOfTree, T
 ghost use Rattle.marlowe_analyse.specs.RunsSupport.{TellsFrom, is_started};
 
 use crate::lines::{put_alarms, put_ranges};
-use crate::runs::told_alarms;
+use crate::runs::{told_alarms, work_of};
 use crate::told::Told;
 use crate::tools::put_told;
 use analysis::analyse;
@@ -29,6 +29,10 @@ pub enum Reader {
     OfAlarms,
     /// JSON for tools.
     Tools,
+    /// Lines for people, of which those of alarms have no run: none is looked for.
+    PeopleWithoutRuns,
+    /// JSON for tools, in which alarms have no key `run`: none is looked for.
+    ToolsWithoutRuns,
 }
 
 /// What is printed of a contract, with a line feed at the end, and whether it never warns and stays within 128 bits.
@@ -40,7 +44,7 @@ pub struct Analysed {
 
 /// Analyses a contract from a state, both as JSON texts of at most 1,048,576 bytes; without a state its runs start
 /// without entries, at time 0. Refused is a text that is no contract or no state. For each alarm it looks for a run
-/// that ends in it, within a number of tries that grows less with the length of the texts.
+/// that ends in it, unless the reader wants none. All searches together do no more work than the length of the texts allows.
 pub fn analyse_text(
     alloc: Global,
     contract: &[u8],
@@ -89,11 +93,20 @@ fn analysis_text(
     ensures { IfOk result (λ told. TellsOfTree reader state.now (contract_tree contract.now) told.is_clear told.text.items) }
 {
     let Analysis { alarms, ranges } = analyse(alloc, contract, state)?;
-    let alarms = told_alarms(alloc, contract, state, alarms.as_slice(), length)?;
+    let work = if has_runs(reader) { work_of(length) } else { 0 };
+    let alarms = told_alarms(alloc, contract, state, alarms.as_slice(), work)?;
     let is_clear = alarms.is_empty();
     let told = Told { alarms, ranges };
     let text = printed(alloc, &told, reader)?;
     Ok(Analysed { text, is_clear })
+}
+
+// Whether runs are looked for.
+fn has_runs(reader: Reader) -> bool {
+    match reader {
+        Reader::People | Reader::OfAlarms | Reader::Tools => true,
+        Reader::PeopleWithoutRuns | Reader::ToolsWithoutRuns => false,
+    }
 }
 
 fn length_of(state: Option<&[u8]>) -> usize {
@@ -118,27 +131,29 @@ fn printed(alloc: Global, told: &Told, reader: Reader) -> Result<Vec<u8>, Memory
     ensures { IfOk result (λ text. text.items ≡ printed reader (map line_of told.now.alarms.items) told.now.ranges) }
 {
     match reader {
-        Reader::People => for_people(alloc, told),
+        Reader::People => for_people(alloc, told, true),
         Reader::OfAlarms => of_alarms(alloc, told),
-        Reader::Tools => put_told(alloc, told),
+        Reader::Tools => put_told(alloc, told, true),
+        Reader::PeopleWithoutRuns => for_people(alloc, told, false),
+        Reader::ToolsWithoutRuns => put_told(alloc, told, false),
     }
 }
 
-fn for_people(alloc: Global, told: &Told) -> Result<Vec<u8>, Memory>
+fn for_people(alloc: Global, told: &Told, runs: bool) -> Result<Vec<u8>, Memory>
     requires { All LineFits told.now.alarms.items }
-    ensures { IfOk result (λ text. text.items ≡ lines_of (map line_of told.now.alarms.items) told.now.ranges) }
+    ensures { IfOk result (λ text. text.items ≡ lines_of runs (map line_of told.now.alarms.items) told.now.ranges) }
 {
     let mut out = Vec::new(alloc);
-    put_alarms(alloc, &mut out, &told.alarms)?;
+    put_alarms(alloc, &mut out, &told.alarms, runs)?;
     put_ranges(alloc, &mut out, told.ranges.as_slice())?;
     Ok(out)
 }
 
 fn of_alarms(alloc: Global, told: &Told) -> Result<Vec<u8>, Memory>
     requires { All LineFits told.now.alarms.items }
-    ensures { IfOk result (λ text. text.items ≡ alarms_lines (map line_of told.now.alarms.items)) }
+    ensures { IfOk result (λ text. text.items ≡ alarms_lines true (map line_of told.now.alarms.items)) }
 {
     let mut out = Vec::new(alloc);
-    put_alarms(alloc, &mut out, &told.alarms)?;
+    put_alarms(alloc, &mut out, &told.alarms, true)?;
     Ok(out)
 }

@@ -14,28 +14,34 @@ use json::Writer;
 use json_terms::term_text;
 use std::alloc::{AllocError, Global};
 
-/// A line that there is no alarm, or the lines of each.
+/// A line that there is no alarm, or the lines of each, with runs or without.
 pub(crate) fn put_alarms(
     alloc: Global,
     out: &mut Vec<u8>,
     alarms: &[ToldAlarm],
+    runs: bool,
 ) -> Result<(), Memory>
     requires { All LineFits alarms.now }
-    ensures { OnOk result (out.new.items ≡ out.old.items ++ alarms_lines (map line_of alarms.now)) }
+    ensures { OnOk result (out.new.items ≡ out.old.items ++ alarms_lines runs (map line_of alarms.now)) }
 {
     let none = alarms.is_empty();
     if none {
         return put_bytes(out, b"never warns, stays within 128 bits\n");
     }
-    put_each(alloc, out, alarms)
+    put_each(alloc, out, alarms, runs)
 }
 
-fn put_each(alloc: Global, out: &mut Vec<u8>, alarms: &[ToldAlarm]) -> Result<(), Memory>
+fn put_each(
+    alloc: Global,
+    out: &mut Vec<u8>,
+    alarms: &[ToldAlarm],
+    runs: bool,
+) -> Result<(), Memory>
     requires { All LineFits alarms.now }
-    ensures { OnOk result (out.new.items ≡ out.old.items ++ flat_map (λ t. alarm_lines (line_of t)) alarms.now) }
+    ensures { OnOk result (out.new.items ≡ out.old.items ++ flat_map (λ t. alarm_lines runs (line_of t)) alarms.now) }
 {
     for alarm in alarms {
-        put_alarm(alloc, out, alarm)?;
+        put_alarm(alloc, out, alarm, runs)?;
     }
     Ok(())
 }
@@ -48,14 +54,14 @@ fn put_bytes(out: &mut Vec<u8>, bytes: &[u8]) -> Result<(), Memory>
 }
 
 // The kind of an alarm and its place, and then a line for each transaction of its run.
-fn put_alarm(alloc: Global, out: &mut Vec<u8>, alarm: &ToldAlarm) -> Result<(), Memory>
+fn put_alarm(alloc: Global, out: &mut Vec<u8>, alarm: &ToldAlarm, runs: bool) -> Result<(), Memory>
     requires { LineFits alarm.now }
-    ensures { OnOk result (out.new.items ≡ out.old.items ++ alarm_lines (line_of alarm.now)) }
+    ensures { OnOk result (out.new.items ≡ out.old.items ++ alarm_lines runs (line_of alarm.now)) }
 {
     put_bytes(out, kind_name(alarm.kind).as_bytes())?;
     put_bytes(out, b" at ")?;
     put_place(alloc, out, &alarm.place)?;
-    put_run(alloc, out, &alarm.run)
+    put_end(alloc, out, &alarm.run, runs)
 }
 
 fn put_place(alloc: Global, out: &mut Vec<u8>, place: &[Key]) -> Result<(), Memory>
@@ -91,10 +97,27 @@ fn put_word(out: &mut Vec<u8>, word: &str) -> Result<(), Memory>
     put_bytes(out, word.as_bytes())
 }
 
+// The end of an alarm's line, and its run; or without that.
+fn put_end(
+    alloc: Global,
+    out: &mut Vec<u8>,
+    run: &Option<Items<Transaction>>,
+    runs: bool,
+) -> Result<(), Memory>
+    requires { IfSome run.now RunFits }
+    ensures { OnOk result (out.new.items ≡ out.old.items ++ run_lines runs run.now) }
+{
+    if runs {
+        put_run(alloc, out, run)
+    } else {
+        put_bytes(out, b"\n")
+    }
+}
+
 // The transactions of a run, each on a line, if it is known.
 fn put_run(alloc: Global, out: &mut Vec<u8>, run: &Option<Items<Transaction>>) -> Result<(), Memory>
     requires { IfSome run.now RunFits }
-    ensures { OnOk result (out.new.items ≡ out.old.items ++ run_lines run.now) }
+    ensures { OnOk result (out.new.items ≡ out.old.items ++ run_lines true run.now) }
 {
     match run {
         Some(run) => {

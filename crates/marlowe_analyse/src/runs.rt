@@ -2,7 +2,6 @@
 ghost use Rattle.std.specs.Prelude.{◌≡◌, ℕ, List, [], ◌∷◌, ◌++◌, true, IfOk, IfSome, OnOk};
 ghost use Rattle.std.specs.List.{list_all};
 ghost use Rattle.contract.specs.Tree.{contract_tree};
-ghost use Rattle.json_write_contracts.specs.WrittenNames.{number_fits};
 ghost use Rattle.contract_json.specs.WrittenInput.{input_fits, transaction_fits};
 ghost use Rattle.semantics.specs.Walk.{standing};
 ghost use Rattle.analysis_spec.specs.CounterRuns.{EndsIn};
@@ -15,29 +14,32 @@ use crate::told::ToldAlarm;
 use analysis_spec::Alarm;
 use collections::{Items, Memory};
 use contract::{Contract, Input, State, Transaction};
-use counter_runs::run_to;
+use counter_runs::{is_written, run_to};
 use std::alloc::Global;
 
-// The tries for an alarm: no more than the first, and no fewer than the second while there are any.
-const MOST_TRIES: u64 = 4096;
+// The work of all searches together: so much for any texts, and so much more for each of their bytes. A unit of work is
+// what at most a hundred instructions do.
+const WORK: u64 = 1 << 22;
 
-const LEAST_TRIES: u64 = 16;
+const WORK_OF_A_BYTE: u64 = 64;
 
-// All tries, times the bytes of the texts: a try takes no longer than it takes to go through a contract.
-const MOST_WORK: u64 = 1 << 26;
+/// The work that is spent on looking for runs, for texts of so many bytes.
+pub(crate) fn work_of(length: usize) -> u64 {
+    WORK.saturating_add((length as u64).saturating_mul(WORK_OF_A_BYTE))
+}
 
-/// The alarms in the order of their places, each with a run that ends in it if one was found, for texts of so many
-/// bytes.
+/// The alarms in the order of their places, each with a run that ends in it if one was found, by no more than so much
+/// work for all of them.
 pub(crate) fn told_alarms(
     alloc: Global,
     contract: &Contract,
     state: &State,
     alarms: &[Alarm],
-    length: usize,
+    work: u64,
 ) -> Result<Vec<ToldAlarm>, Memory>
     ensures { IfOk result (λ told. TellsAll state.now (contract_tree contract.now) alarms.now told.items) }
 {
-    let mut left = MOST_WORK / (length as u64).max(1);
+    let mut left = work;
     let order = told_order(alloc, alarms)?;
     let mut told = Vec::new(alloc);
     for place in &order {
@@ -90,7 +92,7 @@ fn told_alarm(
     })
 }
 
-// A run that ends in an alarm and that JSON can write, if one is found in the share of the tries that are left.
+// A run that ends in an alarm and that JSON can write, if one is found by an even share of the work that is left.
 fn written_run(
     alloc: Global,
     contract: &Contract,
@@ -102,11 +104,10 @@ fn written_run(
     ensures ends { IfOk result (λ o. IfSome o (EndsIn alarm.now.kind (standing state.now (contract_tree contract.now)))) }
     ensures fits { IfOk result (λ o. IfSome o RunFits) }
 {
-    let share = (*left / others.max(1)).max(LEAST_TRIES);
-    let given = share.min(MOST_TRIES).min(*left);
-    let mut tries = given;
-    let found = run_to(alloc, contract, state, alarm, &mut tries)?;
-    *left = left.saturating_sub(given.saturating_sub(tries));
+    let given = *left / others.max(1);
+    let mut work = given;
+    let found = run_to(alloc, contract, state, alarm, &mut work)?;
+    *left = left.saturating_sub(given.saturating_sub(work));
     Ok(if_written(found))
 }
 
@@ -117,7 +118,7 @@ fn if_written(found: Option<Items<Transaction>>) -> Option<Items<Transaction>>
 {
     match found {
         Some(run) => {
-            if is_written(run.as_slice()) {
+            if has_all_numbers(run.as_slice()) {
                 Some(run)
             } else {
                 None
@@ -128,7 +129,7 @@ fn if_written(found: Option<Items<Transaction>>) -> Option<Items<Transaction>>
 }
 
 // Whether JSON has all numbers of a run.
-fn is_written(run: &[Transaction]) -> bool
+fn has_all_numbers(run: &[Transaction]) -> bool
     ensures { result ≡ true → RunFits run.now }
 {
     for transaction in run {
@@ -156,18 +157,8 @@ fn has_number(input: &Input) -> bool
     ensures { result ≡ input_fits input.now }
 {
     match input {
-        Input::Deposit(_, _, _, number) => is_number(*number),
-        Input::Choice(_, number) => is_number(*number),
+        Input::Deposit(_, _, _, number) => is_written(*number),
+        Input::Choice(_, number) => is_written(*number),
         Input::Notify => true,
     }
-}
-
-// Whether JSON has a number.
-fn is_number(number: i128) -> bool
-    ensures { result ≡ number_fits number }
-{
-    if u64::try_from(number).is_ok() {
-        return true;
-    }
-    i64::try_from(number).is_ok()
 }

@@ -1,5 +1,5 @@
 //! JSON for tools.
-ghost use Rattle.std.specs.Prelude.{◌≡◌, [], ◌∷◌, ◌++◌, true, map, All, IfOk, IfSome, OnOk, Some, None};
+ghost use Rattle.std.specs.Prelude.{◌≡◌, [], ◌∷◌, ◌++◌, true, false, map, All, IfOk, IfSome, OnOk, Some, None};
 ghost use Rattle.serde_json.specs.Data.{array};
 ghost use Rattle.serde_json.specs.View.{items_of};
 ghost use Rattle.serde_json.specs.Written.{compact_text};
@@ -17,13 +17,13 @@ use json::Writer;
 use json_write_contracts::{put_amount, put_party, put_token, word};
 use std::alloc::{AllocError, Global};
 
-/// All that is told, as one JSON text, and a line feed.
-pub(crate) fn put_told(alloc: Global, told: &Told) -> Result<Vec<u8>, Memory>
+/// All that is told, as one JSON text, with runs or without, and a line feed.
+pub(crate) fn put_told(alloc: Global, told: &Told, runs: bool) -> Result<Vec<u8>, Memory>
     requires { All LineFits told.now.alarms.items }
-    ensures { IfOk result (λ text. text.items ≡ compact_text (told_json (map line_of told.now.alarms.items) told.now.ranges) ++ 10 ∷ []) }
+    ensures { IfOk result (λ text. text.items ≡ compact_text (told_json runs (map line_of told.now.alarms.items) told.now.ranges) ++ 10 ∷ []) }
 {
     let mut out = Writer::new(Vec::new(alloc));
-    put_all(alloc, &mut out, &told.alarms, told.ranges.as_slice())?;
+    put_all(alloc, &mut out, &told.alarms, told.ranges.as_slice(), runs)?;
     let mut text = out.into_inner();
     text.push(b'\n')?;
     Ok(text)
@@ -34,34 +34,64 @@ fn put_all(
     out: &mut Writer,
     alarms: &[ToldAlarm],
     ranges: &[PaidRange],
+    runs: bool,
 ) -> Result<(), Memory>
     requires { All LineFits alarms.now }
-    ensures { OnOk result (Puts out.old out.new (told_json (map line_of alarms.now) ranges.now)) }
+    ensures { OnOk result (Puts out.old out.new (told_json runs (map line_of alarms.now) ranges.now)) }
 {
     out.begin_object()?;
     out.key("alarms")?;
-    put_alarms(alloc, out, alarms)?;
+    put_alarms(alloc, out, alarms, runs)?;
     out.key("ranges")?;
     put_ranges(alloc, out, ranges)?;
     out.end_object()?;
     Ok(())
 }
 
-fn put_alarms(alloc: Global, out: &mut Writer, alarms: &[ToldAlarm]) -> Result<(), Memory>
+fn put_alarms(
+    alloc: Global,
+    out: &mut Writer,
+    alarms: &[ToldAlarm],
+    runs: bool,
+) -> Result<(), Memory>
     requires { All LineFits alarms.now }
-    ensures { OnOk result (Puts out.old out.new (array (items_of (map (λ t. alarm_json (line_of t)) alarms.now)))) }
+    ensures { OnOk result (Puts out.old out.new (array (items_of (map (λ t. alarm_json runs (line_of t)) alarms.now)))) }
 {
     out.begin_array()?;
     for alarm in alarms {
-        put_alarm(alloc, out, alarm)?;
+        put_alarm(alloc, out, alarm, runs)?;
     }
     out.end_array()?;
     Ok(())
 }
 
-fn put_alarm(alloc: Global, out: &mut Writer, alarm: &ToldAlarm) -> Result<(), Memory>
+fn put_alarm(alloc: Global, out: &mut Writer, alarm: &ToldAlarm, runs: bool) -> Result<(), Memory>
     requires { LineFits alarm.now }
-    ensures { OnOk result (Puts out.old out.new (alarm_json (line_of alarm.now))) }
+    ensures { OnOk result (Puts out.old out.new (alarm_json runs (line_of alarm.now))) }
+{
+    if runs {
+        put_with_run(alloc, out, alarm)
+    } else {
+        put_without_run(out, alarm)
+    }
+}
+
+// The kind of an alarm and its place alone.
+fn put_without_run(out: &mut Writer, alarm: &ToldAlarm) -> Result<(), Memory>
+    ensures { OnOk result (Puts out.old out.new (alarm_json false (line_of alarm.now))) }
+{
+    out.begin_object()?;
+    out.key("kind")?;
+    word(out, kind_name(alarm.kind))?;
+    out.key("place")?;
+    put_place(out, &alarm.place)?;
+    out.end_object()?;
+    Ok(())
+}
+
+fn put_with_run(alloc: Global, out: &mut Writer, alarm: &ToldAlarm) -> Result<(), Memory>
+    requires { LineFits alarm.now }
+    ensures { OnOk result (Puts out.old out.new (alarm_json true (line_of alarm.now))) }
 {
     out.begin_object()?;
     out.key("kind")?;

@@ -21,9 +21,13 @@ table_command = with_rule (new_app (codes "table")) (given (codes "CONTRACT"))
 abbrev pub json_flag : Rule
 json_flag = record (new_rule (codes "json")) { long = Some (codes "json"); action = Some SetTrue }
 
--- `analyse CONTRACT [STATE] [--json]`
+-- `--no-runs`, which may be left out
+abbrev pub no_runs_flag : Rule
+no_runs_flag = record (new_rule (codes "no-runs")) { long = Some (codes "no-runs"); action = Some SetTrue }
+
+-- `analyse CONTRACT [STATE] [--json] [--no-runs]`
 abbrev pub analyse_command : App
-analyse_command = with_rule (with_rule (with_rule (new_app (codes "analyse")) (given (codes "CONTRACT"))) (new_rule (codes "STATE"))) json_flag
+analyse_command = with_rule (with_rule (with_rule (with_rule (new_app (codes "analyse")) (given (codes "CONTRACT"))) (new_rule (codes "STATE"))) json_flag) no_runs_flag
 
 -- `--one`, which may be left out
 abbrev pub one_flag : Rule
@@ -49,7 +53,7 @@ IsFlag text flag = (text ≡ Some (codes "true") → flag ≡ true)
     × (text ≡ Some (codes "false") → flag ≡ false)
     × (text ≡ None → flag ≡ false)
 
--- a task is what is asked: the command's name, the word that was given for each argument, if one was, and the flag
+-- a task is what is asked: the command's name, the word that was given for each argument, if one was, and the flags
 abbrev pub IsAsked : Option (Text × List Row) → Task → Type 0
 IsAsked None task = ⊥
 IsAsked (Some (name, words)) (Run contract state transaction) = (name ≡ codes "run")
@@ -57,9 +61,10 @@ IsAsked (Some (name, words)) (Run contract state transaction) = (name ≡ codes 
     × (first_of (codes "STATE") words ≡ Some state.now)
     × (first_of (codes "TX") words ≡ Some transaction.now)
 IsAsked (Some (name, words)) (Table contract) = (name ≡ codes "table") × (first_of (codes "CONTRACT") words ≡ Some contract.now)
-IsAsked (Some (name, words)) (Analyse contract state json) = (name ≡ codes "analyse")
+IsAsked (Some (name, words)) (Analyse contract state json no_runs) = (name ≡ codes "analyse")
     × (first_of (codes "CONTRACT") words ≡ Some contract.now)
     × (first_of (codes "STATE") words ≡ option_map (λ path. path.now) state)
     × IsFlag (one_of (codes "json") words) json
+    × IsFlag (one_of (codes "no-runs") words) no_runs
 IsAsked (Some (name, words)) (Play scenario one) = (name ≡ codes "play") × (first_of (codes "SCENARIO") words ≡ Some scenario.now)
     × IsFlag (one_of (codes "one") words) one

@@ -36,8 +36,9 @@ pub fn printed<R: Files + AllocGlobal + Threads + Wait + Sync>(
                 contract,
                 state,
                 json,
+                no_runs,
             },
-        ) => told(alloc, analyse_files(rt, kept, contract, state, json)),
+        ) => told(alloc, analyse_files(rt, kept, contract, state, reader_of(json, no_runs))),
         Ok(Task::Play { scenario, one }) => told(alloc, play_file(rt, kept, scenario, one)),
         Err(error) => {
             let text = format!(in alloc; "{error}")?;
@@ -87,7 +88,7 @@ fn analyse_files<'a, R: Files + AllocGlobal>(
     kept: &Kept,
     contract: &'a str,
     state: Option<&'a str>,
-    json: bool,
+    reader: Reader,
 ) -> Result<Vec<u8>, Stop<'a>> {
     let contract = text_of(rt, kept, contract)?;
     let state = match state {
@@ -95,10 +96,18 @@ fn analyse_files<'a, R: Files + AllocGlobal>(
         None => None,
     };
     let state = state.as_ref().map(|text| text.as_slice());
-    let reader = if json { Reader::Tools } else { Reader::People };
     match analyse_text(rt.alloc(), contract.as_slice(), state, reader) {
         Ok(analysed) => Ok(analysed.text),
         Err(fault) => Err(Stop::Refused(Fault::Run(fault))),
+    }
+}
+
+fn reader_of(json: bool, no_runs: bool) -> Reader {
+    match (json, no_runs) {
+        (false, false) => Reader::People,
+        (true, false) => Reader::Tools,
+        (false, true) => Reader::PeopleWithoutRuns,
+        (true, true) => Reader::ToolsWithoutRuns,
     }
 }
 

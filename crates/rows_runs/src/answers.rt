@@ -84,11 +84,13 @@ fn line_row(alloc: Global, text: &str) -> Result<Vec<u8>, AllocError> {
                 contract,
                 state,
                 json,
+                no_runs,
             },
         ) => {
             let state = state.unwrap_or("without a state");
             let how = if json { "as JSON" } else { "in lines" };
-            let told = format!(in alloc; "analyse {contract} {state} {how}")?;
+            let runs = if no_runs { " without runs" } else { "" };
+            let told = format!(in alloc; "analyse {contract} {state} {how}{runs}")?;
             Ok(told.into_bytes())
         }
         Ok(Task::Play { scenario, one }) => {

@@ -120,6 +120,7 @@ fn after_task(task: Task<'static>) -> Option<Task<'static>> {
             contract: "a",
             state: Some("b"),
             json: true,
+            no_runs: false,
         }),
         Task::Analyse { .. } => None,
     }

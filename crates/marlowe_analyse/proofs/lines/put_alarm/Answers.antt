@@ -14,6 +14,6 @@ returns c =
     let d = c.put_bytes-2.new.out.items in
     let kind = c.in_ok-put_bytes.ensures ∙ ap (λ (x : List ℕ). a ++ x) (c.as_bytes.ensures.value ∙ c.kind_name.ensures) in
     let place = c.in_ok-put_place.ensures ∙ ap (λ (ks : List Key). d ++ flat_map key_text ks) c.deref.ensures.value in
-    on_ok_weaker c.put_run.result
-    (λ h. four_pieces a c.put_bytes.new.out.items d c.put_place.new.out.items c.put_run.new.out.items (kind_name l.kind) (codes " at ") (flat_map key_text l.place) (run_lines l.run) kind c.in_ok-put_bytes-2.ensures place h)
-    c.put_run.ensures
+    on_ok_weaker c.put_end.result
+    (λ h. four_pieces a c.put_bytes.new.out.items d c.put_place.new.out.items c.put_end.new.out.items (kind_name l.kind) (codes " at ") (flat_map key_text l.place) (run_lines c.args.runs l.run) kind c.in_ok-put_bytes-2.ensures place h)
+    c.put_end.ensures

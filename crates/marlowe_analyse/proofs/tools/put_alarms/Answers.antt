@@ -9,11 +9,11 @@ use Rattle.marlowe_analyse.proofs.tools.put_alarms.Goals as goal
 
 pub loop-alarm-preserved : goal.loop-alarm-preserved
 loop-alarm-preserved c =
-    listed (λ t. alarm_json (line_of t)) c.args.alarms.now c.loop-alarm.alarm-index c.alarm-item.result c.begin_array.new.self c.loop-alarm.out c.put_alarm.new.out c.loop-alarm-test.true c.alarm-item.is c.loop-alarm.invariant c.in_ok-put_alarm.ensures
+    listed (λ t. alarm_json c.args.runs (line_of t)) c.args.alarms.now c.loop-alarm.alarm-index c.alarm-item.result c.begin_array.new.self c.loop-alarm.out c.put_alarm.new.out c.loop-alarm-test.true c.alarm-item.is c.loop-alarm.invariant c.in_ok-put_alarm.ensures
 
 pub returns : goal.returns
 returns c =
-    closed (λ t. alarm_json (line_of t)) c.args.alarms.now c.args.alarms.now c.loop-alarm.alarm-index c.args.out.now c.begin_array.new.self c.loop-alarm.out c.end_array.new.self refl c.loop-alarm-test.false (wrote c.in_ok-begin_array.ensures)
+    closed (λ t. alarm_json c.args.runs (line_of t)) c.args.alarms.now c.args.alarms.now c.loop-alarm.alarm-index c.args.out.now c.begin_array.new.self c.loop-alarm.out c.end_array.new.self refl c.loop-alarm-test.false (wrote c.in_ok-begin_array.ensures)
     c.loop-alarm.invariant (wrote c.in_ok-end_array.ensures)
 
 pub put_alarm-requires : goal.put_alarm-requires

@@ -7,4 +7,4 @@ use Rattle.marlowe_analyse.proofs.tools.put_alarms.Given as goal
 
 -- the items so far are written
 abbrev pub invariant-loop-alarm : goal.invariant-loop-alarm
-invariant-loop-alarm l = Adds l.initial.out l.out (front (map (λ t. alarm_json (line_of t)) (take l.alarm-index l.alarms)))
+invariant-loop-alarm l = Adds l.initial.out l.out (front (map (λ t. alarm_json l.runs (line_of t)) (take l.alarm-index l.alarms)))

@@ -8,5 +8,5 @@ pub returns : goal.returns
 returns c =
     c.in_ok-push.ensures.items
     ∙ ap (λ text. text ++ 10 ∷ [])
-    (whole_text c.new-out.result c.put_all.new.out c.new.result.items c.into_inner-text.result.items (told_json (map line_of c.args.told.now.alarms.items) c.args.told.now.ranges) c.new.ensures.items c.new-out.ensures.before
-    c.new-out.ensures.tokens (told_put _ _ _ _ _ _ c.deref.ensures.value c.as_slice.ensures c.in_ok-put_all.ensures) c.into_inner-text.ensures.items)
+    (whole_text c.new-out.result c.put_all.new.out c.new.result.items c.into_inner-text.result.items (told_json c.args.runs (map line_of c.args.told.now.alarms.items) c.args.told.now.ranges) c.new.ensures.items c.new-out.ensures.before
+    c.new-out.ensures.tokens (told_put c.args.runs _ _ _ _ _ _ c.deref.ensures.value c.as_slice.ensures c.in_ok-put_all.ensures) c.into_inner-text.ensures.items)

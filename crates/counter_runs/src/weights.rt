@@ -1,0 +1,285 @@
+//! The work that parts of a contract take. To weigh a part takes as much work as its weight.
+use crate::way::entries_of;
+use crate::work::spend;
+use analysis_spec::PathStep;
+use collections::Memory;
+use contract::{
+    Action, Bound, Case, ChoiceId, Contract, Observation, Party, Payee, State, Token, Value,
+};
+use std::alloc::Global;
+
+// What a Pay, a Let, a deposit and a choice take beside their values and names.
+const PAY: u64 = 5;
+
+const LET: u64 = 4;
+
+const INPUT: u64 = 10;
+
+// What a copy of an entry of a state takes.
+const ENTRY: u64 = 10;
+
+// Bytes of names and bounds of choices that are compared by a unit of work.
+const BYTES: u64 = 32;
+
+const BOUNDS: u64 = 4;
+
+/// Weighs what a run looks at where it goes on from a contract by a step, or where it ends there. A look-up compares
+/// no more than `looks` names. Tells whether there was as much work left.
+pub(crate) fn weigh_step(
+    alloc: Global,
+    contract: &Contract,
+    step: Option<PathStep>,
+    looks: u64,
+    left: &mut u64,
+) -> Result<bool, Memory> {
+    match contract {
+        Contract::When(cases, _, _) => match step {
+            Some(PathStep::Case(index)) | Some(PathStep::Action(index)) => {
+                weigh_case(alloc, cases.as_slice(), index, looks, left)
+            }
+            _ => Ok(spend(left, 1)),
+        },
+        _ => Ok(weigh_own(contract, looks, left)),
+    }
+}
+
+// Weighs what stands at a contract that isn't a When.
+fn weigh_own(contract: &Contract, looks: u64, left: &mut u64) -> bool {
+    match contract {
+        Contract::Close | Contract::When(_, _, _) => spend(left, 1),
+        Contract::Pay(from, to, token, amount, _) => {
+            let names = of_account(from, token).saturating_add(of_payee(to));
+            spend(left, look(PAY, names, looks)) && weigh_value(amount, looks, left)
+        }
+        Contract::If(observation, _, _) | Contract::Assert(observation, _) => {
+            weigh_observation(observation, looks, left)
+        }
+        Contract::Let(name, value, _) => {
+            spend(left, look(LET, name.as_str().len(), looks)) && weigh_value(value, looks, left)
+        }
+    }
+}
+
+// Weighs a case: the actions of those before it, which an input is tried against, and what follows it, with which what
+// follows the case that takes the input is compared.
+fn weigh_case(
+    alloc: Global,
+    cases: &[Case],
+    index: usize,
+    looks: u64,
+    left: &mut u64,
+) -> Result<bool, Memory> {
+    let Some(case) = cases.get(index) else {
+        return Ok(spend(left, 1));
+    };
+    if !weigh_action(&case.action, looks, left) {
+        return Ok(false);
+    }
+    for other in cases.iter().take(index) {
+        if !weigh_trial(&other.action, &case.action, looks, left) {
+            return Ok(false);
+        }
+    }
+    if index > 0 {
+        weigh_all(alloc, &case.then, left)
+    } else {
+        Ok(true)
+    }
+}
+
+// Weighs an action that is taken.
+fn weigh_action(action: &Action, looks: u64, left: &mut u64) -> bool {
+    match action {
+        Action::Deposit(account, party, token, amount) => {
+            let names = of_account(account, token).saturating_add(of_party(party));
+            spend(left, look(INPUT, names, looks)) && weigh_value(amount, looks, left)
+        }
+        Action::Choice(id, _) => spend(left, look(INPUT, of_choice(id), looks)),
+        Action::Notify(observation) => spend(left, 1)
+            && weigh_observation(observation, looks, left),
+    }
+}
+
+// Weighs an action that an input for another is tried against.
+fn weigh_trial(action: &Action, other: &Action, looks: u64, left: &mut u64) -> bool {
+    match (action, other) {
+        (Action::Deposit(account, party, token, amount), Action::Deposit(_, _, _, _)) => {
+            let names = of_account(account, token).saturating_add(of_party(party));
+            spend(left, look(1, names, 1)) && weigh_value(amount, looks, left)
+        }
+        (Action::Choice(id, bounds), Action::Choice(_, _)) => {
+            spend(left, look(of_bounds(bounds.as_slice()), of_choice(id), 1))
+        }
+        (Action::Notify(observation), Action::Notify(_)) => {
+            weigh_observation(observation, looks, left)
+        }
+        _ => spend(left, 1),
+    }
+}
+
+#[cycle(weigh)]
+fn weigh_value(value: &Value, looks: u64, left: &mut u64) -> bool {
+    let own = match value {
+        Value::AvailableMoney(owner, token) => look(1, of_account(owner, token), looks),
+        Value::ChoiceValue(id) => look(1, of_choice(id), looks),
+        Value::UseValue(name) => look(1, name.as_str().len(), looks),
+        _ => 2,
+    };
+    if !spend(left, own) {
+        return false;
+    }
+    match value {
+        Value::NegValue(a) => weigh_value(a.get(), looks, left),
+        Value::AddValue(a, b)
+        | Value::SubValue(a, b)
+        | Value::MulValue(a, b)
+        | Value::DivValue(a, b) => {
+            weigh_value(a.get(), looks, left) && weigh_value(b.get(), looks, left)
+        }
+        Value::Cond(observation, a, b) => {
+            weigh_observation(observation.get(), looks, left)
+                && weigh_value(a.get(), looks, left)
+                && weigh_value(b.get(), looks, left)
+        }
+        Value::AvailableMoney(_, _)
+        | Value::Constant(_)
+        | Value::ChoiceValue(_)
+        | Value::TimeIntervalStart
+        | Value::TimeIntervalEnd
+        | Value::UseValue(_) => true,
+    }
+}
+
+#[cycle(weigh)]
+fn weigh_observation(observation: &Observation, looks: u64, left: &mut u64) -> bool {
+    if !spend(left, 1) {
+        return false;
+    }
+    match observation {
+        Observation::AndObs(a, b) | Observation::OrObs(a, b) => {
+            weigh_observation(a.get(), looks, left) && weigh_observation(b.get(), looks, left)
+        }
+        Observation::NotObs(a) => weigh_observation(a.get(), looks, left),
+        Observation::ValueGE(a, b)
+        | Observation::ValueGT(a, b)
+        | Observation::ValueLT(a, b)
+        | Observation::ValueLE(a, b)
+        | Observation::ValueEQ(a, b) => {
+            weigh_value(a.get(), looks, left) && weigh_value(b.get(), looks, left)
+        }
+        Observation::ChoseSomething(id) => spend(left, look(1, of_choice(id), looks)),
+        Observation::TrueObs | Observation::FalseObs => true,
+    }
+}
+
+// Weighs a whole contract, which is compared with another.
+fn weigh_all(alloc: Global, contract: &Contract, left: &mut u64) -> Result<bool, Memory> {
+    let mut open = Vec::new(alloc);
+    open.push(contract)?;
+    let most = *left;
+    for _ in 0..most {
+        let Some(at) = open.pop() else {
+            return Ok(true);
+        };
+        if !weigh_own(at, 1, left) {
+            return Ok(false);
+        }
+        match at {
+            Contract::Close => {}
+            Contract::Pay(_, _, _, _, then)
+            | Contract::Let(_, _, then)
+            | Contract::Assert(_, then) => {
+                open.push(then.get())?;
+            }
+            Contract::If(_, then, otherwise) => {
+                open.push(then.get())?;
+                open.push(otherwise.get())?;
+            }
+            Contract::When(cases, _, then) => {
+                for case in cases.as_slice() {
+                    if !weigh_trial(&case.action, &case.action, 1, left) {
+                        return Ok(false);
+                    }
+                    open.push(&case.then)?;
+                }
+                open.push(then.get())?;
+            }
+        }
+    }
+    Ok(false)
+}
+
+/// Weighs what a contract does until it waits or is closed, and returns the weight of its heaviest way there.
+#[cycle(settles)]
+pub(crate) fn weigh_settling(contract: &Contract, looks: u64, left: &mut u64) -> u64 {
+    let before = *left;
+    let _ = weigh_own(contract, looks, left);
+    let own = before.saturating_sub(*left);
+    if *left == 0 {
+        return own;
+    }
+    let behind = match contract {
+        Contract::Close => 0,
+        Contract::Pay(_, _, _, _, then)
+        | Contract::Let(_, _, then)
+        | Contract::Assert(_, then)
+        | Contract::When(_, _, then) => weigh_settling(then.get(), looks, left),
+        Contract::If(_, then, otherwise) => {
+            let one = weigh_settling(then.get(), looks, left);
+            one.max(weigh_settling(otherwise.get(), looks, left))
+        }
+    };
+    own.saturating_add(behind)
+}
+
+/// Weighs a copy of a state.
+pub(crate) fn weigh_state(state: &State, left: &mut u64) -> u64 {
+    let mut bytes: usize = 0;
+    let count = entries_of(state) as u64;
+    if !spend(left, count) {
+        return count;
+    }
+    for (account, _) in state.accounts() {
+        bytes = bytes.saturating_add(of_account(&account.owner, &account.token));
+    }
+    for (id, _) in state.choices() {
+        bytes = bytes.saturating_add(of_choice(id));
+    }
+    for (name, _) in state.bound_values() {
+        bytes = bytes.saturating_add(name.as_str().len());
+    }
+    look(count.saturating_mul(ENTRY), bytes, 1)
+}
+
+/// The work that it takes to find a number in these bounds.
+pub(crate) fn of_bounds(bounds: &[Bound]) -> u64 {
+    bounds.len() as u64 / BOUNDS
+}
+
+// The work that something takes with a look-up of names of so many bytes, which compares so many of them.
+fn look(own: u64, bytes: usize, looks: u64) -> u64 {
+    let one = bytes as u64 / BYTES + 1;
+    own.saturating_add(one.saturating_mul(looks))
+}
+
+fn of_party(party: &Party) -> usize {
+    match party {
+        Party::Address(text) | Party::Role(text) => text.as_str().len(),
+    }
+}
+
+fn of_payee(payee: &Payee) -> usize {
+    match payee {
+        Payee::Account(party) | Payee::Party(party) => of_party(party),
+    }
+}
+
+fn of_account(owner: &Party, token: &Token) -> usize {
+    let symbol = token.symbol.as_slice().len();
+    let named = symbol.saturating_add(token.name.as_str().len());
+    of_party(owner).saturating_add(named)
+}
+
+fn of_choice(id: &ChoiceId) -> usize {
+    id.name.as_str().len().saturating_add(of_party(&id.owner))
+}
