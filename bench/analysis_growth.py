@@ -3,8 +3,8 @@
 
 Needs    (cd crates/marlowe && rt run -- --version), another program may be named as the argument; valgrind, and Debian's package `time`
 Usage    analysis_growth.py [PROGRAM [FAMILY..]]
-Expect   of each family as many instructions for a node at 1 MiB as at 1,000 nodes, within 1.3; of the wide Whens at most four times those of `table`;
-         no text over ten seconds or 128 MiB. Else the script ends with status 1.
+Expect   of each family as many instructions for a node at 1 MiB as at 1,000 nodes, within 1.3, or fewer; of the wide Whens at most four times those of `table`;
+         no text over the line of docs/DECISIONS.md, from 500,000,000 instructions at 2 KB to 10,000,000,000 at 1 MiB; none over 128 MiB. Else the script ends with status 1.
 Mind     instructions are exact and the same on a busy machine; seconds and KiB are of one run at the largest text, and waver.
 """
 import bisect
@@ -20,7 +20,9 @@ from growth import ADA, PROGRAM, TIME, deep_arithmetic, many_forms, wide_pays, w
 
 FEWEST_NODES = 1000
 SIZES = [64 << 10, 256 << 10, 1 << 20]
-STEEPEST, MOST_TIMES, MOST_SECONDS, MOST_KIB = 1.3, 4, 10, 128 << 10
+STEEPEST, MOST_TIMES, MOST_KIB = 1.3, 4, 128 << 10
+# The instructions of a second, as the bound of the search for runs takes them, and the shortest text that it speaks of.
+SECOND, SHORT = 5_000_000_000, 2 << 10
 A, B = {"role_token": "a"}, {"role_token": "b"}
 # Texts nest at most 127 arrays and objects: so many forms one in another fit, a When with its case being three of them.
 DEEP, DEEP_WHENS = 100, 38
@@ -221,14 +223,55 @@ def many_accounts_paid(n):
     return beside(n // DEEP_WHENS, lambda _: chain(DEEP_WHENS // 2, stage))
 
 
+def holds(observation, then):
+    return {"assert": observation, "then": then}
+
+
+def no_square(i, number):
+    """That a choice's square isn't a number that is no square: it is two more than a multiple of four. The analysis doesn't know."""
+    return {"not": {"value": {"multiply": chosen(i), "times": chosen(i)}, "equal_to": 4 * number + 2}}
+
+
+def bounds_of_a_choice(n):
+    """One choice of many bounds, before an Assert that always holds: there is no run, and each end of a bound is tried."""
+    bounds = [{"from": 3 * i, "to": 3 * i + 1} for i in range(n)]
+    return waits({"for_choice": choice(0), "choose_between": bounds}, holds(no_square(0, 1), "close")), None, None
+
+
+def far_constants(n):
+    """Four choices in a row before an Assert that always holds, with eight constants far from each other: there are many sums to try."""
+    def stage(_):
+        squares = [{"multiply": chosen(i), "times": chosen(i)} for i in range(4)]
+        total = functools.reduce(lambda before, i: {"add": before, "and": 1000 * 7**i}, range(8), functools.reduce(lambda a, b: {"add": a, "and": b}, squares))
+        return chain(4, lambda i, rest: chooses(i, rest, -(10**6), 10**6), holds({"value": total, "gt": -1}, "close"))
+    return (stage(0), None, None) if n == 1 else beside(n, stage)
+
+
+def squares_of_choices(n):
+    """Twenty choices one in another, of each of which an Assert says that its square isn't below 0."""
+    def stage(i, rest):
+        return chooses(i, holds({"value": {"multiply": chosen(i), "times": chosen(i)}, "ge_than": 0}, rest), -100, 100)
+    return beside(n, lambda _: chain(20, stage))
+
+
+def alarms_without_a_run(n):
+    """Asserts one behind the other and beside each other, each of which always holds, and is an alarm without a run."""
+    return beside(max(1, n // DEEP), lambda part: chooses(0, chain(min(n, DEEP), lambda i, rest: holds(no_square(0, DEEP * part + i), rest))))
+
+
 FAMILIES = [wide_when, many_forms, wide_pays, deep_arithmetic, many_alarms, many_choices, many_quotients, many_products, many_clamps, many_conditions,
             wide_quotients, wide_conds, undecided_quotients, undecided_conds, undecided_sums, undecided_sums_of_2, undecided_sums_of_8, undecided_sums_of_24,
-            undecided_products, either_product, tree_of_conds, many_cases_of_a_choice, many_accounts_paid]
+            undecided_products, either_product, tree_of_conds, many_cases_of_a_choice, many_accounts_paid, bounds_of_a_choice, far_constants, squares_of_choices, alarms_without_a_run]
 WIDE = [wide_when, many_forms, wide_pays]
 
 
 def text_of(make, parts):
     return json.dumps(make(parts * (100 if make is deep_arithmetic else 1))[0], separators=(",", ":"))
+
+
+def most_instructions(size):
+    """The instructions that an analysis of a text of so many bytes may take."""
+    return SECOND * (0.1 + 1.9 * max(0, size - SHORT) / (SIZES[-1] - SHORT))
 
 
 def first_parts(make, most, holds):
@@ -237,7 +280,9 @@ def first_parts(make, most, holds):
 
 
 def texts_of(make):
-    """The shortest text of this family that has a thousand nodes, and the longest that have at most so many bytes."""
+    """The longest text of this family of 2 KB, if one is so short, the shortest that has a thousand nodes, and the longest that have at most so many bytes."""
+    if len(text_of(make, 1)) <= SHORT:
+        yield text_of(make, first_parts(make, SHORT, lambda text: len(text) > SHORT) - 1)
     yield text_of(make, first_parts(make, SIZES[0] // 10, lambda text: nodes_of(text) >= FEWEST_NODES))
     for size in SIZES:
         yield text_of(make, first_parts(make, size // 10, lambda text: len(text) > size) - 1)
@@ -274,16 +319,18 @@ def main():
                 continue
             print(f"{make.__name__}: {make.__doc__}")
             first = None
+            is_over = False
             for text in texts_of(make):
                 with open(path, "w") as file:
                     file.write(text)
                 nodes, count, table = nodes_of(text), instructions(program, "analyse", path), instructions(program, "table", path)
                 a_node = count / nodes
-                first = first or a_node
-                print(f"  {len(text):8} bytes, {nodes:7} nodes: {a_node:9.0f} instructions a node, {count / table:6.2f} times `table`", flush=True)
+                first = first or (a_node if nodes >= FEWEST_NODES else None)
+                is_over |= count > most_instructions(len(text))
+                print(f"  {len(text):8} bytes, {nodes:7} nodes: {a_node:9.0f} instructions a node, {count / table:6.2f} times `table`, {count / most_instructions(len(text)):5.2f} of the line", flush=True)
             seconds, kib = spent(program, path)
-            print(f"  {seconds:.2f} s, {kib} KiB; for a node {a_node / first:.2f} times as many at the largest")
-            failed |= a_node > STEEPEST * first or make in WIDE and count > MOST_TIMES * table or seconds > MOST_SECONDS or kib > MOST_KIB
+            print(f"  {seconds:.2f} s, {kib} KiB; for a node {a_node / first:.2f} times as many at the largest{', over the line' if is_over else ''}")
+            failed |= is_over or a_node > STEEPEST * first or make in WIDE and count > MOST_TIMES * table or kib > MOST_KIB
     sys.exit(1 if failed else 0)
 
 
