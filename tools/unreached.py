@@ -21,7 +21,7 @@ TOKEN = re.compile(r"[^\s(){},;.:λ→×∷\[\]]+")
 OPENS = re.compile(r"^ *(?:module|(?:abbrev )?mutual)\b")
 ANSWERS = {"Answers", "Invariants", "Proof"}
 # words that stand where a name could, but begin none
-NO_NAMES = {")", "}", "]", "unfolding", "use", "mutual", "where", "infixl", "infixr"}
+NO_NAMES = {")", "}", "]", "})", "unfolding", "use", "mod", "mutual", "where", "infixl", "infixr"}
 
 
 class File:
@@ -65,11 +65,11 @@ class File:
 
 
 def files():
-    """Each file of specs/ and proofs/, by crate, folder and module."""
+    """Each file of specs/ and proofs/, by crate, folder and module. What tells the prover of owners (`formers`) isn't cited by name."""
     found = {}
     for path in TOP.glob("*/*/**/*.antt"):
         crate, kind, *rest = path.relative_to(TOP).with_suffix("").parts
-        if kind in ("specs", "proofs") and path.stem != "Lib":
+        if kind in ("specs", "proofs") and path.stem != "Lib" and "formers" not in rest:
             found[crate, kind, ".".join(rest)] = File(path, (crate, kind, ".".join(rest)))
     return found
 

@@ -84,9 +84,6 @@ none_found spans a (e ∷ es) h n = not_here spans a e.0 e.1 (find account_cmp a
 holds_zero : (es : List (Account × Linear)) (a : Account) → find account_cmp a es ≡ None → number (pos 0) ≡ held es a
 holds_zero es a e = ap (λ (o : Option Linear). unwrap_or o (number (pos 0))) (sym e)
 
-zero_sum : (pos 0 +ℤ pos 0) +ℤ (pos 0 +ℤ pos 0) ≡ pos 0
-zero_sum = refl
-
 le_itself : (n : ℤ) → n ≤ℤ n
 le_itself n = omega (arith, ints)
 

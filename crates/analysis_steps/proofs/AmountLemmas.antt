@@ -30,9 +30,6 @@ le_self a = omega (arith, ints)
 lt_le : (a b : ℤ) → a <ℤ b → a ≤ℤ b
 lt_le a b h = omega (arith, ints)
 
-above_from : (b n : ℤ) → pos 0 <ℤ b → b ≤ℤ n → pos 0 <ℤ n
-above_from b n h k = omega (arith, ints)
-
 never_both : (a b : ℤ) → a <ℤ b → b ≤ℤ a → ⊥
 never_both a b h k = omega (arith, ints)
 
@@ -80,13 +77,6 @@ max_right a b = by_test (int_lt b a) refl
     by_test : (t : Bool) → int_lt b a ≡ t → b ≤ℤ cond t a b
     by_test true e = lt_le b a (true_lt b a e)
     by_test false e = le_self b
-
-max_up : (a b x : ℤ) → a ≤ℤ x → b ≤ℤ x → int_max a b ≤ℤ x
-max_up a b x h k = by_test (int_lt b a)
-  where
-    by_test : (t : Bool) → cond t a b ≤ℤ x
-    by_test true = h
-    by_test false = k
 
 pub max_natural : (b : ℤ) → pos 0 ≤ℤ b → int_max (pos 0) b ≡ b
 max_natural b h = by_test (int_lt b (pos 0)) refl
@@ -136,9 +126,6 @@ paid_whole b d h k = by_test (int_lt (pos 0) d) refl
     by_test false e = same_least (pos 0) d h (false_lt (pos 0) d e)
 
 -- ---- what is shown
-
-pub above_by : (k : Symbols) (l : Linear) (b : ℤ) → IsFromAll k.ranges k.facts (λ r. number_at r l) (Some b) → pos 0 <ℤ b → IsAbove k l
-above_by k l b h g r v = above_from b (number_at r l) g (h r v.ranges v.facts)
 
 pub at_least_by : (k : Symbols) (l m d : Linear) → StandsFor (λ r. number_at r l -ℤ number_at r m) (AreBelow l m) d → IsShown k.ranges k.facts d → IsAtLeast k l m
 at_least_by k l m d s h r v = gap_back (number_at r l) (number_at r m) (subst (λ z. pos 0 ≤ℤ z) (s.number r) (h r v.ranges v.facts))
@@ -206,12 +193,6 @@ pub added_all : (k : Symbols) (due e : Linear) → IsShown k.ranges k.facts due 
 added_all k due e shown is r closed valued x =
     gives_here k r e (int_max (pos 0) (number_at r due)) closed valued (subst (λ (l : Linear). IsBelow k.next l) (sym is) x) (max_natural (number_at r due) (shown r valued.ranges valued.facts) ∙ ap (number_at r) (sym is))
 
-pub natural_above : (b n : ℤ) → pos 0 <ℤ b → n ≤ℤ b → int_max (pos 0) n ≤ℤ b
-natural_above b n h k = max_up (pos 0) n b (lt_le (pos 0) b h) k
-
-pub natural_none : (b n : ℤ) → b ≤ℤ pos 0 → n ≤ℤ b → int_max (pos 0) n ≤ℤ pos 0
-natural_none b n h k = max_up (pos 0) n (pos 0) (le_self (pos 0)) (reach n b (pos 0) k h)
-
 -- ---- sums
 
 pub sum_here : (k : Symbols) (l n e : Linear) → StandsFor (λ r. number_at r l +ℤ number_at r n) (AreBelow l n) e → GivesSum k k l n e
@@ -232,12 +213,6 @@ rest_ranged k m l e most h fresh n r closed valued x y natural up =
   where
     no_more : (a b : ℤ) → pos 0 ≤ℤ b → (a -ℤ b) ≤ℤ a
     no_more a b g = omega (arith, ints)
-
-pub no_from_sum : (a b : Option ℤ) → IsFromSum a b None
-no_from_sum a b x y h k = tt
-
-pub no_up_to_sum : (a b : Option ℤ) → IsUpToSum a b None
-no_up_to_sum a b x y h k = tt
 
 both_from : (a b x y : ℤ) → a ≤ℤ x → b ≤ℤ y → (a +ℤ b) ≤ℤ (x +ℤ y)
 both_from a b x y h k = omega (arith, ints)

@@ -41,12 +41,6 @@ reach a b c h k = omega (arith, ints)
 in_bound_is : (n : ℤ) (b : Bound) → in_bound n b ≡ true → IsFromTo b n
 in_bound_is n b h = let q = both (int_le b.from n) (int_le n b.to) h in (true_le b.from n q.0, true_le n b.to q.1)
 
-is_in_bound : (n : ℤ) (b : Bound) → IsFromTo b n → in_bound n b ≡ true
-is_in_bound n b h = ap (λ t. t && int_le n b.to) (le_true b.from n h.0) ∙ le_true n b.to h.1
-
-never : {P : Type 0} (b : Bool) → b ≡ true → b ≡ false → P
-never b h k = absurd (cc)
-
 empty_bound : (a b n : ℤ) → b <ℤ a → a ≤ℤ n → n ≤ℤ b → ⊥
 empty_bound a b n h k l = omega (arith, ints)
 
@@ -106,26 +100,9 @@ outside_at p (c ∷ bs) (suc i) d h l = outside_at p bs i d (or_neither (p c) (l
 pub ends_at : (ks ls : List Case) (n : ℕ) → ls ≡ drop n ks → IsEndOf ks ls
 ends_at ks ls n e = (n, e)
 
-next_after : (a b : ℤ) → a <ℤ b → (a +ℤ pos 1) ≤ℤ b
-next_after a b h = omega (arith, ints)
-
-last_before : (a b : ℤ) → b <ℤ a → b ≤ℤ (a -ℤ pos 1)
-last_before a b h = omega (arith, ints)
-
 pub and_right : (a b : Bool) → a ≡ true → a && b ≡ false → b ≡ false
 and_right true b e h = h
 and_right false b e h = absurd (cc)
-
-and_left : (a b : Bool) → b ≡ true → a && b ≡ false → a ≡ false
-and_left true true e h = h
-and_left true false e h = absurd (cc)
-and_left false b e h = refl
-
-pub raised_behind : (b : Bound) (from n : ℤ) → b.from ≤ℤ from → in_bound n b ≡ false → from ≤ℤ n → (b.to +ℤ pos 1) ≤ℤ n
-raised_behind b from n f h k = next_after b.to n (false_le n b.to (and_right (int_le b.from n) (int_le n b.to) (le_true b.from n (reach b.from from n f k)) h))
-
-pub lowered_before : (b : Bound) (to n : ℤ) → to ≤ℤ b.to → in_bound n b ≡ false → n ≤ℤ to → n ≤ℤ (b.from -ℤ pos 1)
-lowered_before b to n f h k = last_before b.from n (false_le b.from n (and_left (int_le b.from n) (int_le n b.to) (le_true n b.to (reach n to b.to k f)) h))
 
 -- ---- cases
 

@@ -30,14 +30,6 @@ pub greatest_here : (k : Symbols) (l m e : Linear) (o : Option ℤ) → StandsFo
     → IsUpToAll k.ranges k.facts (λ r. number_at r l +ℤ number_at r m) o
 greatest_here k l m e o s h r x y = subst (IsUpTo o) (s.number r) (h r x y)
 
-pub least_of_sides : (k : Symbols) (l m : Linear) (a b o : Option ℤ) → IsFromAll k.ranges k.facts (λ r. number_at r l) a → IsFromAll k.ranges k.facts (λ r. number_at r m) b → IsFromSum a b o
-    → IsFromAll k.ranges k.facts (λ r. number_at r l +ℤ number_at r m) o
-least_of_sides k l m a b o f g h r x y = h (number_at r l) (number_at r m) (f r x y) (g r x y)
-
-pub greatest_of_sides : (k : Symbols) (l m : Linear) (a b o : Option ℤ) → IsUpToAll k.ranges k.facts (λ r. number_at r l) a → IsUpToAll k.ranges k.facts (λ r. number_at r m) b → IsUpToSum a b o
-    → IsUpToAll k.ranges k.facts (λ r. number_at r l +ℤ number_at r m) o
-greatest_of_sides k l m a b o f g h r x y = h (number_at r l) (number_at r m) (f r x y) (g r x y)
-
 -- ---- the end
 
 from_bound : (o : Option ℤ) (x y : ℤ) → x ≡ y → IsFrom o y → IfSome o (λ n. n ≤ℤ x)

@@ -61,10 +61,6 @@ leads_itself k r c v = knows_leads k r k (knows_itself k r c v)
 
 -- ---- what fits
 
-pub all_any : (ns : List ℤ) → AllByRecursion (Allowed any_runs) ns
-all_any [] = tt
-all_any (n ∷ ns) = (tt, all_any ns)
-
 pub goes_both : (scope : Scope) (a b : Bool) → GoesOn scope (unless (a && b) Leaves128) → GoesOn scope (unless a Leaves128) × GoesOn scope (unless b Leaves128)
 goes_both any_runs a b h = (tt, tt)
 goes_both written_runs true b h = (tt, h)
@@ -265,10 +261,6 @@ module _ {E : Type 0} (o : Result Evaluated E) (k m : Known) where
 
   pub fits_as : (x y : ValueTree) → x ≡ y → IfOk o (λ a. FitsWhereSaid k y a.fits) → IfOk o (λ a. FitsWhereSaid k x a.fits)
   fits_as x y e h = subst (λ z. IfOk o (λ (a : Evaluated). FitsWhereSaid k z a.fits)) (sym e) h
-
-pub ok_both : {A E : Type 0} (o : Result A E) (P Q R : A → Type 0) → ((a : A) → P a → Q a → R a) → IfOk o P → IfOk o Q → IfOk o R
-ok_both (Ok a) P Q R f p q = f a p q
-ok_both (Err z) P Q R f p q = p
 
 pub ok_three : {A E : Type 0} (o : Result A E) (P Q R S : A → Type 0) → ((a : A) → P a → Q a → R a → S a) → IfOk o P → IfOk o Q → IfOk o R → IfOk o S
 ok_three (Ok a) P Q R S f p q r = f a p q r

@@ -1,5 +1,5 @@
 -- Comparisons, observations, and one of two values.
-use Rattle.std.proofs.Common.{◌≡◌, ℤ, pos, ◌+ℤ◌, ◌-ℤ◌, ◌≤ℤ◌, ◌<ℤ◌, int_lt, Bool, true, false, not, cond, ◌&&◌, ◌||◌, ◌⊎◌, List, [], ◌++◌, refl, sym, ap, ◌∙◌, subst, arith, Option, Some, None, Result, inl, inr}
+use Rattle.std.proofs.Common.{◌≡◌, ℤ, pos, ◌+ℤ◌, ◌-ℤ◌, ◌≤ℤ◌, ◌<ℤ◌, int_lt, Bool, true, false, not, cond, ◌&&◌, ◌||◌, ◌⊎◌, List, [], ◌++◌, refl, sym, ap, ◌∙◌, subst, arith, Option, Some, None, option_map, Result, inl, inr}
 use Rattle.std.proofs.lemmas.Int.{ints}
 use Rattle.std.proofs.lemmas.List.{append_assoc}
 use Rattle.std.specs.Prelude.{IfOk, is_some}
@@ -321,9 +321,6 @@ module _ (v : View) (k n m : Symbols) (x y : ObservationTree) (p : Option Symbol
       by_test false l u = g scope i s ps (described_leads scope i s ps k m v d l) u
 
 -- ---- one of two values
-
-pub leads_on_itself : (v : View) (k : Symbols) → LeadsOn v k k
-leads_on_itself v k scope i s ps d = leads_itself k d.numbers d.closed d.valued
 
 pub leads_on_by : (v : View) (k m : Symbols) (x : ValueTree) (e : Linear) → Evaluates (known k v) x (known m v) e → LeadsOn v k m
 leads_on_by v k m x e h scope i s ps d = gives_leads k d.numbers (m, e) (eval i s x) (h.gives scope i s ps d)

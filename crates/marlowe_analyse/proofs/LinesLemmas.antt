@@ -39,23 +39,6 @@ piece_more f xs i x a b c l is e g =
 pub piece_more_at : {X : Type 0} (d : X) (f : X → List ℕ) (xs : List X) (i : ℕ) (a b c : List ℕ) → i < length xs → b ≡ a ++ flat_map f (take i xs) → c ≡ b ++ f (get_or xs i d) → c ≡ a ++ flat_map f (take (i + 1) xs)
 piece_more_at d f xs i a b c l e g = piece_more f xs i (get_or xs i d) a b c l (get_or_default xs i d (get_or xs i d) l) e g
 
--- a key that is no place of an item
-pub word_text : (key : Key) → ((n : ℕ) → key ≡ keys.Item n → ⊥) → key_text key ≡ codes "." ++ key_word key
-word_text (keys.Item n) h = absurd (h n refl)
-word_text keys.Then h = refl
-word_text keys.Else h = refl
-word_text keys.TimeoutContinuation h = refl
-word_text keys.When h = refl
-word_text keys.Case h = refl
-word_text keys.Close h = refl
-word_text keys.Pay h = refl
-word_text keys.If h = refl
-word_text keys.Let h = refl
-word_text keys.Assert h = refl
-word_text keys.Deposits h = refl
-word_text keys.ChooseBetween h = refl
-word_text keys.NotifyIf h = refl
-
 -- lines of told alarms
 pub lines_each : (runs : Bool) (ts : List ToldAlarm) → flat_map (alarm_lines runs) (map line_of ts) ≡ flat_map (λ t. alarm_lines runs (line_of t)) ts
 lines_each runs [] = refl
