@@ -227,22 +227,26 @@ def holds(observation, then):
     return {"assert": observation, "then": then}
 
 
-def no_square(i, number):
-    """That a choice's square isn't a number that is no square: it is two more than a multiple of four. The analysis doesn't know."""
-    return {"not": {"value": {"multiply": chosen(i), "times": chosen(i)}, "equal_to": 4 * number + 2}}
+def square(i):
+    return {"multiply": chosen(i), "times": chosen(i)}
+
+
+def is_not(value, number):
+    """That a square isn't a number that is no square: it is two more than a multiple of four. The analysis doesn't know."""
+    return {"not": {"value": value, "equal_to": 4 * number + 2}}
 
 
 def bounds_of_a_choice(n):
     """One choice of many bounds, before an Assert that always holds: there is no run, and each end of a bound is tried."""
     bounds = [{"from": 3 * i, "to": 3 * i + 1} for i in range(n)]
-    return waits({"for_choice": choice(0), "choose_between": bounds}, holds(no_square(0, 1), "close")), None, None
+    return waits({"for_choice": choice(0), "choose_between": bounds}, holds(is_not(square(0), 1), "close")), None, None
 
 
 def far_constants(n):
     """Four choices in a row before an Assert that always holds, with eight constants far from each other: there are many sums to try."""
     def stage(_):
-        squares = [{"multiply": chosen(i), "times": chosen(i)} for i in range(4)]
-        total = functools.reduce(lambda before, i: {"add": before, "and": 1000 * 7**i}, range(8), functools.reduce(lambda a, b: {"add": a, "and": b}, squares))
+        parts = [*map(square, range(4)), *(1000 * 7**i for i in range(8))]
+        total = functools.reduce(lambda before, part: {"add": before, "and": part}, parts)
         return chain(4, lambda i, rest: chooses(i, rest, -(10**6), 10**6), holds({"value": total, "gt": -1}, "close"))
     return (stage(0), None, None) if n == 1 else beside(n, stage)
 
@@ -250,19 +254,24 @@ def far_constants(n):
 def squares_of_choices(n):
     """Twenty choices one in another, of each of which an Assert says that its square isn't below 0."""
     def stage(i, rest):
-        return chooses(i, holds({"value": {"multiply": chosen(i), "times": chosen(i)}, "ge_than": 0}, rest), -100, 100)
+        return chooses(i, holds({"value": square(i), "ge_than": 0}, rest), -100, 100)
     return beside(n, lambda _: chain(20, stage))
 
 
 def alarms_without_a_run(n):
     """Asserts one behind the other and beside each other, each of which always holds, and is an alarm without a run."""
-    return beside(max(1, n // DEEP), lambda part: chooses(0, chain(min(n, DEEP), lambda i, rest: holds(no_square(0, DEEP * part + i), rest))))
+    def part(number):
+        asserts = chain(min(n, DEEP), lambda i, rest: holds(is_not({"use_value": "y"}, DEEP * number + i), rest))
+        return chooses(0, {"let": "y", "be": square(0), "then": asserts})
+    return beside(max(1, n // DEEP), part)
 
 
 FAMILIES = [wide_when, many_forms, wide_pays, deep_arithmetic, many_alarms, many_choices, many_quotients, many_products, many_clamps, many_conditions,
             wide_quotients, wide_conds, undecided_quotients, undecided_conds, undecided_sums, undecided_sums_of_2, undecided_sums_of_8, undecided_sums_of_24,
             undecided_products, either_product, tree_of_conds, many_cases_of_a_choice, many_accounts_paid, bounds_of_a_choice, far_constants, squares_of_choices, alarms_without_a_run]
 WIDE = [wide_when, many_forms, wide_pays]
+# Those in which the search for runs costs most.
+SEARCHED = [bounds_of_a_choice, far_constants, squares_of_choices, alarms_without_a_run]
 
 
 def text_of(make, parts):
@@ -274,18 +283,21 @@ def most_instructions(size):
     return SECOND * (0.1 + 1.9 * max(0, size - SHORT) / (SIZES[-1] - SHORT))
 
 
-def first_parts(make, most, holds):
-    """The least number of parts, of at most so many, with which what is asked holds of the text."""
-    return bisect.bisect_left(range(most), True, 1, key=lambda parts: holds(text_of(make, parts)))
+def first_parts(make, asked):
+    """The least number of parts with which what is asked holds of the text, as it does of longer ones."""
+    most = 1
+    while not asked(text_of(make, most)):
+        most *= 2
+    return bisect.bisect_left(range(most), True, most // 2, key=lambda parts: asked(text_of(make, parts)))
 
 
 def texts_of(make):
     """The longest text of this family of 2 KB, if one is so short, the shortest that has a thousand nodes, and the longest that have at most so many bytes."""
     if len(text_of(make, 1)) <= SHORT:
-        yield text_of(make, first_parts(make, SHORT, lambda text: len(text) > SHORT) - 1)
-    yield text_of(make, first_parts(make, SIZES[0] // 10, lambda text: nodes_of(text) >= FEWEST_NODES))
+        yield text_of(make, first_parts(make, lambda text: len(text) > SHORT) - 1)
+    yield text_of(make, first_parts(make, lambda text: nodes_of(text) >= FEWEST_NODES))
     for size in SIZES:
-        yield text_of(make, first_parts(make, size // 10, lambda text: len(text) > size) - 1)
+        yield text_of(make, first_parts(make, lambda text: len(text) > size) - 1)
 
 
 def nodes_of(text):

@@ -17,23 +17,29 @@ rows_analysis, which have alarms of all kinds.
 Of each answer it asks: status 0, with a text on standard output alone, or status 1, with one line `refused ..` on standard error alone; at
 most a second; at most 64 MiB. Of rows: status 0 or 1, and nothing on standard error. What takes longer than a second beside the other workers
 is asked again alone before it is at fault.
-An analysis may take 20 seconds, since an alarm for which no run is found takes all its tries, and its text may have status 3 too. It is also asked:
+An analysis may take two seconds, as the search for runs does what the bound on its work allows, and its text may have status 3 too. Among its texts are those whose
+search costs most, of bench/analysis_growth.py: many bounds of a choice, far constants, squares, alarms without a run. It is also asked:
 - that with and without --json the status is the same, and all that is told: kinds, places, runs, parties, tokens and numbers;
 - that it has the lines, or the keys, of docs/formats.md, in its order; that its places are in the contract's text, with a form that can warn so;
 - that it has alarms where its status is 3, and none where it is 0;
 - that it refuses the contract or the state just where `run` does, by the same line.
 """
-import argparse, collections, glob, json, multiprocessing, os, random, re, shutil, signal, sys, tempfile, time, typing
+import argparse, collections, glob, itertools, json, multiprocessing, os, random, re, shutil, signal, sys, tempfile, time, typing
 from analysed import EMPTY, rows_of
 from interpreter import has
 
 ROOT = os.path.dirname(os.path.dirname(os.path.abspath(__file__)))
+sys.path.append(f"{ROOT}/bench")
+from analysis_growth import SEARCHED, texts_of
+
 PROGRAM = f"{ROOT}/crates/marlowe/out/marlowe"
 ROWS = f"{ROOT}/crates/rows_transactions/out/rows_transactions"
 WORDS = ["run", "table", "play", "analyse"]
 MOST_SECONDS, MOST_KIB, MOST_FAULTS = 1.0, 64 * 1024, 100
-# An analysis takes a number of tries for each alarm, however short the texts are.
-ANALYSIS_SECONDS = 10
+# What an analysis may take: the bound on the work of its search, at 5,000,000,000 instructions a second.
+ANALYSIS_SECONDS = 2
+# The bytes of the longest texts of an analysis whose search costs most.
+HOSTILE_BYTES = 64 << 10
 # The other files of a `run` of an analysed contract.
 BESIDE = f"{ROOT}/crates/rows_runs/data/examples/escrow_1_the_buyer_deposits"
 # The bytes of a spoiled text at most: twice those that a program reads of a file.
@@ -430,7 +436,12 @@ def texts_of_examples():
     plays = [[text_of(it)] for it in sorted(glob.glob(f"{ROOT}/examples/plays/*/scenario.json"))]
     analyses = {(contract, state or json.dumps(EMPTY)) for it in glob.glob(f"{ROOT}/crates/rows_analysis/data/*.txt") for _, contract, state, *_ in rows_of(it)}
     analyses = [texts[:2] for texts in runs] + [[it.encode() for it in texts] for texts in sorted(analyses)]
+    analyses += [[text.encode(), json.dumps(EMPTY).encode()] for make in SEARCHED for text in itertools.takewhile(is_short, texts_of(make))]
     return {"run": runs, "table": [texts[:1] for texts in runs], "play": plays, "analyse": analyses}
+
+
+def is_short(text):
+    return len(text) <= HOSTILE_BYTES
 
 
 def text_of(file):
