@@ -1,5 +1,5 @@
 -- Views of states whose accounts change, and of what was paid.
-use Rattle.std.proofs.Common.{◌≡◌, ℕ, ℤ, pos, neg_ℤ, ◌+ℤ◌, ◌-ℤ◌, ◌*ℤ◌, ◌^◌, ◌≤ℤ◌, ◌<ℤ◌, int_lt, int_le, Bool, true, false, cond, List, [], ◌∷◌, ◌++◌, map, refl, sym, ap, ◌∙◌, subst, arith, Option, Some, IfSome}
+use Rattle.std.proofs.Common.{◌≡◌, ℕ, ℤ, pos, neg_ℤ, ◌+ℤ◌, ◌^◌, ◌≤ℤ◌, ◌<ℤ◌, int_lt, int_le, Bool, true, false, cond, List, [], ◌∷◌, ◌++◌, map, refl, sym, ap, ◌∙◌, subst, arith, Option, Some, IfSome}
 use Rattle.std.proofs.lemmas.Int.{ints}
 use Rattle.std.specs.Prelude.{not}
 use Rattle.std.specs.Option.{unwrap_or}
@@ -24,13 +24,13 @@ use Rattle.contract.specs.declared.payment.Payment.{Payment}
 use Rattle.states.specs.States.{StateMaps, money_of, with_money, counted}
 use Rattle.states.proofs.Accounts.{money_of-with_money}
 use Rattle.evaluation.specs.Numbers.{fits}
-use Rattle.semantics.specs.Reduction.{account_of, balance, debited, credited, refund_of}
+use Rattle.semantics.specs.Reduction.{account_of, refund_of}
 use Rattle.linear.specs.Linear.{Linear, Valuation, number_at, number}
 use Rattle.linear.proofs.NumberLaws.{both, true_lt}
 use Rattle.analysis_spec.specs.Runs.{reaches_party, paid_to}
 use Rattle.analysis_walk.specs.Limits.{Scope, any_runs, written_runs, Allowed}
 use Rattle.analysis_walk.proofs.PaidLaws.{total_append}
-use Rattle.analysis_values.specs.Known.{View, held, with_amount, IsSeen}
+use Rattle.analysis_values.specs.Known.{View, with_amount, IsSeen}
 use Rattle.analysis_values.proofs.KnownLaws.{fits_between}
 
 -- ---- numbers
