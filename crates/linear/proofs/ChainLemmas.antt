@@ -10,7 +10,7 @@ use Rattle.linear.specs.WalkSupport.{IsStep, IsNext}
 use Rattle.linear.specs.ChainSupport.{IsPutIn, IsFilled, IsTakenOut, RoundsUp}
 use Rattle.linear.proofs.LinearLaws.{spread_right, greater_is}
 use Rattle.linear.proofs.WalkLemmas.{IsWalk, walk_on, walked, put_is}
-use Rattle.linear.proofs.QueryLaws.{combined_split, natural_times, natural_at}
+use Rattle.linear.proofs.QueryLemmas.{combined_split, natural_times, natural_at}
 
 -- ---- terms that are put into a list
 

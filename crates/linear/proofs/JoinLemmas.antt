@@ -9,7 +9,7 @@ use Rattle.linear.specs.Ranged.{IsHull}
 use Rattle.linear.specs.Joined.{Joins, AreShared, AreJoined}
 use Rattle.linear.proofs.KnownLaws.{natural_both, below_both}
 use Rattle.linear.proofs.LinearLaws.{same_number}
-use Rattle.linear.proofs.QueryLaws.{natural_at}
+use Rattle.linear.proofs.QueryLemmas.{natural_at}
 use Rattle.linear.proofs.HeldLemmas.{ranges_below}
 
 -- ---- facts

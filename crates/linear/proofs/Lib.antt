@@ -1,7 +1,7 @@
 pub mod NumberLaws
 pub mod LinearLaws
 pub mod WalkLemmas
-pub mod QueryLaws
+pub mod QueryLemmas
 pub mod ChainLemmas
 pub mod KnownLaws
 pub mod HeldLemmas

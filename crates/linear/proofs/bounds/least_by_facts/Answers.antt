@@ -2,7 +2,7 @@ use Rattle.std.proofs.Common.{◌*ℤ◌, ◌-◌, length, to_z, of_z, arith}
 use Rattle.std.specs.Int.{w128}
 use Rattle.linear.specs.Linear.{number_at}
 use Rattle.linear.specs.Bounded.{numbered}
-use Rattle.linear.proofs.QueryLaws.{better_all}
+use Rattle.linear.proofs.QueryLemmas.{better_all}
 use Rattle.linear.proofs.bounds.least_by_facts.Goals as goal
 
 pub loop-newer-preserved : goal.loop-newer-preserved

@@ -3,7 +3,7 @@ use Rattle.std.specs.Int.{w128}
 use Rattle.std.proofs.lemmas.Int.{to_z-of_z}
 use Rattle.std.proofs.lemmas.Option.{IfSome_then}
 use Rattle.linear.specs.Bounded.{numbered}
-use Rattle.linear.proofs.QueryLaws.{least_of_both}
+use Rattle.linear.proofs.QueryLemmas.{least_of_both}
 use Rattle.linear.proofs.bounds.least_combined.Goals as goal
 
 pub returns : goal.returns

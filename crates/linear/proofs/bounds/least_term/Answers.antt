@@ -3,7 +3,7 @@ use Rattle.std.specs.Int.{w128}
 use Rattle.std.proofs.lemmas.Int.{ints, to_z-of_z}
 use Rattle.std.proofs.lemmas.Option.{IfSome_then}
 use Rattle.linear.specs.Bounded.{numbered}
-use Rattle.linear.proofs.QueryLaws.{least_up, least_down}
+use Rattle.linear.proofs.QueryLemmas.{least_up, least_down}
 use Rattle.linear.proofs.bounds.least_term.Goals as goal
 
 pub returns-in_ok-bound : goal.returns-in_ok-bound

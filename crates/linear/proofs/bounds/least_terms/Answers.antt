@@ -2,7 +2,7 @@ use Rattle.std.proofs.Common.{rules, ◌≡◌, ◌+ℤ◌, ℤ, FitsSigned, to_
 use Rattle.std.specs.Int.{w128}
 use Rattle.std.proofs.lemmas.Int.{ints, to_z-of_z}
 use Rattle.linear.specs.Bounded.{numbered}
-use Rattle.linear.proofs.QueryLaws.{IsBounding, bounding_on}
+use Rattle.linear.proofs.QueryLemmas.{IsBounding, bounding_on}
 use Rattle.linear.proofs.bounds.least_terms.Goals as goal
 
 pub loop-preserved : goal.loop-preserved

@@ -1,5 +1,5 @@
 use Rattle.linear.specs.Bounded.{numbered}
-use Rattle.linear.proofs.QueryLaws.{IsBounding}
+use Rattle.linear.proofs.QueryLemmas.{IsBounding}
 use Rattle.linear.proofs.bounds.least_terms.Given as goal
 
 abbrev pub invariant-loop : goal.invariant-loop

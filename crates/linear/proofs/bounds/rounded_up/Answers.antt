@@ -2,7 +2,7 @@ use Rattle.std.proofs.Common.{rules, ◌-ℤ◌, pos, FitsSigned, arith}
 use Rattle.std.specs.Int.{w128}
 use Rattle.std.proofs.lemmas.Int.{ints, to_z-of_z}
 use Rattle.std.proofs.lemmas.Option.{IfSome_then}
-use Rattle.linear.proofs.QueryLaws.{rounded_above, rounded_below}
+use Rattle.linear.proofs.QueryLemmas.{rounded_above, rounded_below}
 use Rattle.linear.proofs.bounds.rounded_up.Goals as goal
 
 pub returns-in_ok-down : goal.returns-in_ok-down

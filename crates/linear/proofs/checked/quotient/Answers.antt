@@ -1,7 +1,7 @@
 use Rattle.std.proofs.Common.{rules, FitsSigned, ◌∙◌}
 use Rattle.std.specs.Int.{w128}
 use Rattle.std.proofs.lemmas.Int.{to_z-of_z}
-use Rattle.linear.proofs.QueryLaws.{checked_ok}
+use Rattle.linear.proofs.QueryLemmas.{checked_ok}
 use Rattle.linear.proofs.checked.quotient.Goals as goal
 
 pub returns-in-Ok : goal.returns-in-Ok

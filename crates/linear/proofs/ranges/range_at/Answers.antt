@@ -1,5 +1,5 @@
 use Rattle.std.proofs.Common.{arith}
-use Rattle.linear.proofs.QueryLaws.{ranged_at}
+use Rattle.linear.proofs.QueryLemmas.{ranged_at}
 use Rattle.linear.proofs.ranges.range_at.Goals as goal
 
 pub returns-then-at-ranges : goal.returns-then-at-ranges

@@ -1,7 +1,7 @@
 use Rattle.std.proofs.Common.{rules, FitsSigned}
 use Rattle.std.specs.Int.{w128}
 use Rattle.std.proofs.lemmas.Int.{to_z-of_z}
-use Rattle.linear.proofs.QueryLaws.{stands_combined}
+use Rattle.linear.proofs.QueryLemmas.{stands_combined}
 use Rattle.linear.proofs.linear.Linear.combine.Goals as goal
 
 pub returns-in_ok-terms-in-Some-2 : goal.returns-in_ok-terms-in-Some-2

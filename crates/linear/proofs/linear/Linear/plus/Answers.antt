@@ -2,7 +2,7 @@ use Rattle.std.proofs.Common.{◌+ℤ◌, pos}
 use Rattle.linear.specs.Linear.{number_at}
 use Rattle.linear.specs.Combined.{StandsFor, AreBelow, combined_at}
 use Rattle.linear.proofs.LinearLaws.{both_weaker}
-use Rattle.linear.proofs.QueryLaws.{stands_as, sum_of_both}
+use Rattle.linear.proofs.QueryLemmas.{stands_as, sum_of_both}
 use Rattle.linear.proofs.linear.Linear.plus.Goals as goal
 
 pub returns : goal.returns

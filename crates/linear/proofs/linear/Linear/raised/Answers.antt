@@ -5,7 +5,7 @@ use Rattle.linear.specs.Linear.{number_at, IsBelow}
 use Rattle.linear.specs.Combined.{StandsFor, AreBelow}
 use Rattle.linear.specs.Linear.{number}
 use Rattle.linear.proofs.LinearLaws.{both_weaker}
-use Rattle.linear.proofs.QueryLaws.{stands_as, raised_sum}
+use Rattle.linear.proofs.QueryLemmas.{stands_as, raised_sum}
 use Rattle.linear.proofs.linear.Linear.raised.Goals as goal
 
 pub returns : goal.returns

@@ -4,7 +4,7 @@ use Rattle.std.proofs.lemmas.Int.{to_z-of_z}
 use Rattle.linear.specs.Linear.{number_at, IsBelow}
 use Rattle.linear.specs.Combined.{StandsFor, AreBelow, combined_at}
 use Rattle.linear.proofs.LinearLaws.{both_weaker}
-use Rattle.linear.proofs.QueryLaws.{stands_as, first_alone}
+use Rattle.linear.proofs.QueryLemmas.{stands_as, first_alone}
 use Rattle.linear.proofs.linear.Linear.times.Goals as goal
 
 pub returns : goal.returns
