@@ -28,13 +28,13 @@ use Rattle.linear.proofs.KnownLaws.{gives_here, terms_more, knows_itself, knows_
 use Rattle.analysis_spec.specs.declared.kind.AlarmKind.TheVariants.{Leaves128}
 use Rattle.analysis_walk.specs.Limits.{Scope, any_runs, written_runs, Allowed, GoesOn}
 use Rattle.analysis_walk.proofs.ListLaws.{all_append}
-use Rattle.analysis_values.specs.Known.{View, Known, held, IsDescribed, known}
+use Rattle.analysis_values.specs.Known.{View, held, IsDescribed, known}
 use Rattle.analysis_values.specs.Answered.{unless, Evaluates, FitsWhereSaid, StaysWhereSaid}
 use Rattle.analysis_values.proofs.KnownLaws.{found_below, fits_between, unwrapped, sees_more, same_seen, unwrapped_allowed}
 use Rattle.analysis_values.specs.declared.values.Evaluated.{Evaluated}
 use Rattle.analysis_values.specs.declared.operations.Arithmetic.{Arithmetic}
 use Rattle.analysis_values.specs.declared.operations.Arithmetic.TheVariants.{Sum, Difference, Product, Quotient}
-use Rattle.analysis_values.specs.Steps.{EvaluatesBoth, BothFitWhereSaid, GivesOf, GivesOpposite, tree_of, result_of}
+use Rattle.analysis_values.specs.Steps.{IsEvaluated, EvaluatesBoth, BothFitWhereSaid, GivesOf, GivesOpposite, tree_of, result_of}
 
 -- ---- what is still true
 
@@ -255,12 +255,8 @@ tree_visited Quotient x y i s = refl
 
 -- ---- what a step answers
 
-module _ {E : Type 0} (o : Result Evaluated E) (k m : Known) where
-  pub value_as : (x y : ValueTree) → x ≡ y → IfOk o (λ a. Evaluates k y m a.number) → IfOk o (λ a. Evaluates k x m a.number)
-  value_as x y e h = subst (λ z. IfOk o (λ (a : Evaluated). Evaluates k z m a.number)) (sym e) h
-
-  pub fits_as : (x y : ValueTree) → x ≡ y → IfOk o (λ a. FitsWhereSaid k y a.fits) → IfOk o (λ a. FitsWhereSaid k x a.fits)
-  fits_as x y e h = subst (λ z. IfOk o (λ (a : Evaluated). FitsWhereSaid k z a.fits)) (sym e) h
+pub evaluated_as : {E : Type 0} (o : Result Evaluated E) (k : Symbols) (v : View) (m : Symbols) (x y : ValueTree) → x ≡ y → IfOk o (IsEvaluated k v y m) → IfOk o (IsEvaluated k v x m)
+evaluated_as o k v m x y e h = subst (λ z. IfOk o (IsEvaluated k v z m)) (sym e) h
 
 pub ok_three : {A E : Type 0} (o : Result A E) (P Q R S : A → Type 0) → ((a : A) → P a → Q a → R a → S a) → IfOk o P → IfOk o Q → IfOk o R → IfOk o S
 ok_three (Ok a) P Q R S f p q r = f a p q r

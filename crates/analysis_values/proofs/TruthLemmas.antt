@@ -35,8 +35,9 @@ use Rattle.analysis_values.proofs.KnownLaws.{sees_more, same_seen}
 use Rattle.analysis_values.specs.declared.cases.Counted.{Counted}
 use Rattle.analysis_values.specs.declared.comparisons.Comparison.{Comparison}
 use Rattle.analysis_values.specs.declared.comparisons.Comparison.TheVariants.{NoLess, Greater, Less, NoGreater, Same}
-use Rattle.analysis_values.specs.declared.values.Truths.{Truths}
-use Rattle.analysis_values.specs.Steps.{EvaluatesBoth, BothFitWhereSaid, KnowsWhere, IsNoLess, IsLess, IsSame, IsOther, test_of, HoldsOf, FailsOf, LeadsEither, LeadsThere, DecidesThere, Leaves, LooksWhereSaid, LeadsOn, EvaluatesEither}
+use Rattle.analysis_values.specs.declared.values.Evaluated.{Evaluated}
+use Rattle.analysis_values.specs.declared.observations.Truths.{Truths}
+use Rattle.analysis_values.specs.Steps.{EvaluatesBoth, BothFitWhereSaid, KnowsWhere, IsNoLess, IsLess, IsSame, IsOther, test_of, HoldsOf, FailsOf, LeadsEither, LeadsThere, DecidesThere, Leaves, LooksWhereSaid, IsEvaluated, IsObserved, LeadsOn, EvaluatesIn, EvaluatesEither}
 use Rattle.analysis_values.proofs.StepLemmas.{described_leads, through, leads_itself, goes_both}
 
 is_some_map : {A B : Type 0} (f : A → B) (o : Option A) → is_some (option_map f o) ≡ is_some o
@@ -332,16 +333,16 @@ module _ (v : View) (k m : Symbols) (h : LeadsOn v k m) where
       let l = h scope i s ps d in
       through k d.numbers m n l (f scope i s ps (described_leads scope i s ps k m v d l))
 
-  pub evaluated_on : (x : ValueTree) (n : Symbols) (e : Linear) → Evaluates (known m v) x (known n v) e → Evaluates (known k v) x (known n v) e
-  evaluated_on x n e f = record {
-    view = refl;
-    gives = λ scope i s ps d.
-        let l = h scope i s ps d in
-        leads_gives k d.numbers m (n, e) (eval i s x) l (f.gives scope i s ps (described_leads scope i s ps k m v d l));
+  pub evaluated_on : (x : ValueTree) (n : Symbols) (a : Evaluated) → IsEvaluated m v x n a → IsEvaluated k v x n a
+  evaluated_on x n a f = record {
+    number = record {
+      view = refl;
+      gives = λ scope i s ps d.
+          let l = h scope i s ps d in
+          leads_gives k d.numbers m (n, a.number) (eval i s x) l (f.number.gives scope i s ps (described_leads scope i s ps k m v d l));
+    };
+    fits = λ scope i s ps d z. f.fits scope i s ps (described_leads scope i s ps k m v d (h scope i s ps d)) z;
   }
-
-  pub fits_on : (x : ValueTree) (said : Bool) → FitsWhereSaid (known m v) x said → FitsWhereSaid (known k v) x said
-  fits_on x said f scope i s ps d z = f scope i s ps (described_leads scope i s ps k m v d (h scope i s ps d)) z
 
 -- a Cond of another observation is one of its parts
 not_chosen : (i : Interval) (s : StateMaps) (o : ObservationTree) (x y : ValueTree) → eval i s (cond_value (not_obs o) x y) ≡ eval i s (cond_value o y x)
@@ -386,32 +387,27 @@ or_visited i s o p x y = by_test (holds i s o)
     by_test true = append_assoc (looked i s o) [] (visited i s x)
     by_test false = append_assoc (looked i s o) (looked i s p) (cond (holds i s p) (visited i s x) (visited i s y))
 
-module _ (k n : Known) (z x : ValueTree) where
-  evaluated_alike : (e : Linear) → ((i : Interval) (s : StateMaps) → eval i s z ≡ eval i s x) → Evaluates k x n e → Evaluates k z n e
-  evaluated_alike e same h = record { view = h.view; gives = λ scope i s ps d. subst (λ m. Gives k.symbols d.numbers (n.symbols, e) m) (sym (same i s)) (h.gives scope i s ps d) }
+evaluated_alike : (k : Symbols) (v : View) (n : Symbols) (a : Evaluated) (z x : ValueTree) → ((i : Interval) (s : StateMaps) → eval i s z ≡ eval i s x) → ((i : Interval) (s : StateMaps) → visited i s z ≡ visited i s x)
+    → IsEvaluated k v x n a → IsEvaluated k v z n a
+evaluated_alike k v n a z x same alike h = record {
+  number = record { view = refl; gives = λ scope i s ps d. subst (λ m. Gives k d.numbers (n, a.number) m) (sym (same i s)) (h.number.gives scope i s ps d) };
+  fits = λ scope i s ps d g. subst (AllByRecursion (Allowed scope)) (sym (alike i s)) (h.fits scope i s ps d g);
+}
 
-  fits_alike : (said : Bool) → ((i : Interval) (s : StateMaps) → visited i s z ≡ visited i s x) → FitsWhereSaid k x said → FitsWhereSaid k z said
-  fits_alike said same h scope i s ps d g = subst (AllByRecursion (Allowed scope)) (sym (same i s)) (h scope i s ps d g)
+module _ (k : Symbols) (v : View) (n : Symbols) (a : Evaluated) (o : ObservationTree) (x y : ValueTree) where
+  pub not_evaluated : IsEvaluated k v (cond_value o y x) n a → IsEvaluated k v (cond_value (not_obs o) x y) n a
+  not_evaluated h = evaluated_alike k v n a (cond_value (not_obs o) x y) (cond_value o y x) (λ i s. not_chosen i s o x y) (λ i s. not_visited i s o x y) h
 
-module _ (k n : Known) (o : ObservationTree) (x y : ValueTree) where
-  pub not_evaluated : (e : Linear) → Evaluates k (cond_value o y x) n e → Evaluates k (cond_value (not_obs o) x y) n e
-  not_evaluated e h = evaluated_alike k n (cond_value (not_obs o) x y) (cond_value o y x) e (λ i s. not_chosen i s o x y) h
+  pub and_evaluated : (p : ObservationTree) → IsEvaluated k v (cond_value o (cond_value p x y) y) n a → IsEvaluated k v (cond_value (and_obs o p) x y) n a
+  and_evaluated p h = evaluated_alike k v n a (cond_value (and_obs o p) x y) (cond_value o (cond_value p x y) y) (λ i s. and_chosen i s o p x y) (λ i s. and_visited i s o p x y) h
 
-  pub not_fits : (said : Bool) → FitsWhereSaid k (cond_value o y x) said → FitsWhereSaid k (cond_value (not_obs o) x y) said
-  not_fits said h = fits_alike k n (cond_value (not_obs o) x y) (cond_value o y x) said (λ i s. not_visited i s o x y) h
+  pub or_evaluated : (p : ObservationTree) → IsEvaluated k v (cond_value o x (cond_value p x y)) n a → IsEvaluated k v (cond_value (or_obs o p) x y) n a
+  or_evaluated p h = evaluated_alike k v n a (cond_value (or_obs o p) x y) (cond_value o x (cond_value p x y)) (λ i s. or_chosen i s o p x y) (λ i s. or_visited i s o p x y) h
 
-module _ (k n : Known) (o p : ObservationTree) (x y : ValueTree) where
-  pub and_evaluated : (e : Linear) → Evaluates k (cond_value o (cond_value p x y) y) n e → Evaluates k (cond_value (and_obs o p) x y) n e
-  and_evaluated e h = evaluated_alike k n (cond_value (and_obs o p) x y) (cond_value o (cond_value p x y) y) e (λ i s. and_chosen i s o p x y) h
-
-  pub and_fits : (said : Bool) → FitsWhereSaid k (cond_value o (cond_value p x y) y) said → FitsWhereSaid k (cond_value (and_obs o p) x y) said
-  and_fits said h = fits_alike k n (cond_value (and_obs o p) x y) (cond_value o (cond_value p x y) y) said (λ i s. and_visited i s o p x y) h
-
-  pub or_evaluated : (e : Linear) → Evaluates k (cond_value o x (cond_value p x y)) n e → Evaluates k (cond_value (or_obs o p) x y) n e
-  or_evaluated e h = evaluated_alike k n (cond_value (or_obs o p) x y) (cond_value o x (cond_value p x y)) e (λ i s. or_chosen i s o p x y) h
-
-  pub or_fits : (said : Bool) → FitsWhereSaid k (cond_value o x (cond_value p x y)) said → FitsWhereSaid k (cond_value (or_obs o p) x y) said
-  or_fits said h = fits_alike k n (cond_value (or_obs o p) x y) (cond_value o x (cond_value p x y)) said (λ i s. or_visited i s o p x y) h
+-- by the truth of an observation as a whole
+pub evaluated_either : (k : Symbols) (v : View) (m n : Symbols) (a : Evaluated) (b c : Option Counted) (o : ObservationTree) (x y : ValueTree) (t : Truths) → IsObserved k v o m t → EvaluatesIn v t.if_true x b → EvaluatesIn v t.if_false y c
+    → EvaluatesEither m b c t.fits n a.number a.fits → IsEvaluated k v (cond_value o x y) n a
+evaluated_either k v m n a b c o x y t p f g h = let r = h k v o x y t.if_true t.if_false p.truths f g in record { number = r.0; fits = r.1 p.fits }
 
 -- neither is possible
 pub neither_evaluated : (v : View) (k n : Symbols) (o : ObservationTree) (x y : ValueTree) (e : Linear) → DecidesIn v k o None None → Evaluates (known k v) (cond_value o x y) (known n v) e
@@ -561,9 +557,5 @@ either_both k a b m h r c v g = h r c v g
 
 -- ---- what a step answers
 
-module _ {E : Type 0} (o : Result Truths E) (v : View) (k m : Symbols) where
-  pub truths_as : (x y : ObservationTree) → x ≡ y → IfOk o (λ p. DecidesThere v k m y p.if_true p.if_false) → IfOk o (λ p. DecidesThere v k m x p.if_true p.if_false)
-  truths_as x y e h = subst (λ z. IfOk o (λ (p : Truths). DecidesThere v k m z p.if_true p.if_false)) (sym e) h
-
-  pub looks_as : (x y : ObservationTree) → x ≡ y → IfOk o (λ p. LooksWhereSaid v k y p.fits) → IfOk o (λ p. LooksWhereSaid v k x p.fits)
-  looks_as x y e h = subst (λ z. IfOk o (λ (p : Truths). LooksWhereSaid v k z p.fits)) (sym e) h
+pub observed_as : {E : Type 0} (o : Result Truths E) (k : Symbols) (v : View) (m : Symbols) (x y : ObservationTree) → x ≡ y → IfOk o (IsObserved k v y m) → IfOk o (IsObserved k v x m)
+observed_as o k v m x y e h = subst (λ z. IfOk o (IsObserved k v z m)) (sym e) h

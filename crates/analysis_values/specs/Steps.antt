@@ -20,6 +20,15 @@ use Rattle.analysis_values.specs.declared.comparisons.Comparison.{Comparison}
 use Rattle.analysis_values.specs.declared.comparisons.Comparison.TheVariants.{NoLess, Greater, Less, NoGreater, Same}
 use Rattle.analysis_values.specs.declared.operations.Arithmetic.{Arithmetic}
 use Rattle.analysis_values.specs.declared.operations.Arithmetic.TheVariants.{Sum, Difference, Product, Quotient}
+use Rattle.analysis_values.specs.declared.values.Evaluated.{Evaluated}
+use Rattle.analysis_values.specs.declared.observations.Truths.{Truths}
+
+-- ---- values
+
+-- what is answered of a value, in a view: an expression stands for its number, and its numbers fit where that is said
+pub record IsEvaluated (k : Symbols) (v : View) (x : ValueTree) (m : Symbols) (a : Evaluated) : Type 0 where
+  pub number : Evaluates (known k v) x (known m v) a.number
+  pub fits : FitsWhereSaid (known k v) x a.fits
 
 -- ---- two operands
 
@@ -124,6 +133,11 @@ pub record Leaves (k m : Symbols) (p q : Option Symbols) (n : Symbols) (if_true 
 -- where the numbers that it looks at are said to fit, the runs that are spoken of may visit them
 abbrev pub LooksWhereSaid : View → Symbols → ObservationTree → Bool → Type 0
 LooksWhereSaid v k o said = (scope : Scope) (i : Interval) (s : StateMaps) (ps : List Payment) → IsDescribed scope (known k v) i s ps → GoesOn scope (unless said Leaves128) → AllByRecursion (Allowed scope) (looked i s o)
+
+-- .. and both, of what is answered of an observation
+pub record IsObserved (k : Symbols) (v : View) (o : ObservationTree) (m : Symbols) (t : Truths) : Type 0 where
+  pub truths : DecidesThere v k m o t.if_true t.if_false
+  pub fits : LooksWhereSaid v k o t.fits
 
 -- ---- one of two values
 

@@ -11,9 +11,11 @@
 
 mod cases;
 mod comparisons;
+mod conditionals;
 mod evaluated;
 mod known;
 mod lookup;
+mod observations;
 mod observed;
 mod operations;
 mod plain;

@@ -7,8 +7,8 @@ ghost use Rattle.analysis_values.specs.Known.{IsDescribed, known_with};
 ghost use Rattle.analysis_values.specs.Answered.{unless, Decides, Unites};
 
 use crate::known::Known;
+use crate::observations::truth_in;
 use crate::truths::joined;
-use crate::values::truth_in;
 use crate::view::View;
 use collections::{Memory, TryClone};
 use contract::Observation;

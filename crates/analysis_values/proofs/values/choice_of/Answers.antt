@@ -2,8 +2,8 @@ use Rattle.std.proofs.Common.{true}
 use Rattle.analysis_values.proofs.StepLemmas.{choice_stands, choice_fits}
 use Rattle.analysis_values.proofs.values.choice_of.Goals as goal
 
-pub returns-clause-number : goal.returns-clause-number
-returns-clause-number c = choice_stands c.args.view.now c.args.symbols.now c.args.id.now c.in_ok-number.number c.in_ok-number.ensures
-
-pub returns-clause-fits : goal.returns-clause-fits
-returns-clause-fits c = choice_fits c.args.view.now c.args.symbols.now c.args.id.now true
+pub returns : goal.returns
+returns c = record {
+  number = choice_stands c.args.view.now c.args.symbols.now c.args.id.now c.in_ok-number.number c.in_ok-number.ensures;
+  fits = choice_fits c.args.view.now c.args.symbols.now c.args.id.now true;
+}
