@@ -258,6 +258,10 @@ tree_visited Quotient x y i s = refl
 pub evaluated_as : {E : Type 0} (o : Result Evaluated E) (k : Symbols) (v : View) (m : Symbols) (x y : ValueTree) → x ≡ y → IfOk o (IsEvaluated k v y m) → IfOk o (IsEvaluated k v x m)
 evaluated_as o k v m x y e h = subst (λ z. IfOk o (IsEvaluated k v z m)) (sym e) h
 
+pub ok_both : {A E : Type 0} (o : Result A E) (P Q R : A → Type 0) → ((a : A) → P a → Q a → R a) → IfOk o P → IfOk o Q → IfOk o R
+ok_both (Ok a) P Q R f p q = f a p q
+ok_both (Err z) P Q R f p q = p
+
 pub ok_three : {A E : Type 0} (o : Result A E) (P Q R S : A → Type 0) → ((a : A) → P a → Q a → R a → S a) → IfOk o P → IfOk o Q → IfOk o R → IfOk o S
 ok_three (Ok a) P Q R S f p q r = f a p q r
 ok_three (Err z) P Q R S f p q r = p
