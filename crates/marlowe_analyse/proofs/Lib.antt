@@ -1,5 +1,6 @@
 mod PlacesLemmas
 mod LinesLemmas
 mod RunsLemmas
+mod WrittenLemmas
 mod AnalysedLemmas
 mod ReadLemmas

@@ -153,6 +153,7 @@ fn has_numbers(inputs: &[Input]) -> bool
     true
 }
 
+#[tactic(auto, using(crate::proofs::WrittenLemmas::fits_so))]
 fn has_number(input: &Input) -> bool
     ensures { result ≡ input_fits input.now }
 {
