@@ -22,9 +22,9 @@ use semantics::{Plain, matching_case};
 use std::alloc::Global;
 
 // What a try takes, and what the beginning of a transaction takes, beside what the contract asks for.
-const TRY: u64 = 10;
+const TRY: u64 = 14;
 
-const TRANSACTION: u64 = 4;
+const TRANSACTION: u64 = 6;
 
 // The entries of a state that are looked at by a unit of work.
 const ENTRIES: u64 = 4;

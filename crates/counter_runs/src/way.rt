@@ -108,8 +108,8 @@ impl Way {
     /// The work that it takes to play a run of so many transactions again, where to find it took so much.
     pub(crate) fn replay(&self, transactions: usize, found: u64) -> u64 {
         let copies = self.copy.saturating_mul(transactions as u64);
-        let played = found.saturating_mul(REPLAY);
-        played.saturating_add(copies).saturating_add(self.behind)
+        let played = found.saturating_add(self.behind).saturating_mul(REPLAY);
+        played.saturating_add(copies)
     }
 
     /// The last moment at which every When still waits that is left by a case from a step on.

@@ -13,13 +13,13 @@ const PAY: u64 = 5;
 
 const LET: u64 = 4;
 
-const INPUT: u64 = 10;
+const INPUT: u64 = 14;
 
 // What a copy of an entry of a state takes.
-const ENTRY: u64 = 10;
+const ENTRY: u64 = 12;
 
 // Bytes of names and bounds of choices that are compared by a unit of work.
-const BYTES: u64 = 32;
+const BYTES: u64 = 128;
 
 const BOUNDS: u64 = 4;
 
@@ -259,7 +259,8 @@ pub(crate) fn of_bounds(bounds: &[Bound]) -> u64 {
 // The work that something takes with a look-up of names of so many bytes, which compares so many of them.
 fn look(own: u64, bytes: usize, looks: u64) -> u64 {
     let one = bytes as u64 / BYTES + 1;
-    own.saturating_add(one.saturating_mul(looks))
+    own.saturating_add(1)
+        .saturating_add(one.saturating_mul(looks) / 2)
 }
 
 fn of_party(party: &Party) -> usize {
