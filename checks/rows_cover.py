@@ -132,7 +132,6 @@ LEFT = {
     "copy Symbols": KNOWN,
     "copy Known": KNOWN,
     "copy View": KNOWN,
-    "copy Runs": KNOWN,
     "call evaluation::known": EXACT,
     "call evaluation::negation": EXACT,
     "call evaluation::sum": EXACT,
