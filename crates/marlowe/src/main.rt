@@ -49,7 +49,10 @@ fn main(rt: HostRuntime) -> ExitCode {
                 json,
                 no_runs,
             },
-        ) => tell_analysis(&rt, analyse_files(&rt, contract, state, reader_of(json, no_runs))),
+        ) => tell_analysis(
+            &rt,
+            analyse_files(&rt, contract, state, reader_of(json, no_runs)),
+        ),
         Ok(Task::Play { scenario, one }) => {
             let shown = rt.stderr().is_terminal();
             tell_answer(&rt, play_file(&rt, scenario, one, shown))

@@ -38,7 +38,10 @@ pub fn printed<R: Files + AllocGlobal + Threads + Wait + Sync>(
                 json,
                 no_runs,
             },
-        ) => told(alloc, analyse_files(rt, kept, contract, state, reader_of(json, no_runs))),
+        ) => told(
+            alloc,
+            analyse_files(rt, kept, contract, state, reader_of(json, no_runs)),
+        ),
         Ok(Task::Play { scenario, one }) => told(alloc, play_file(rt, kept, scenario, one)),
         Err(error) => {
             let text = format!(in alloc; "{error}")?;
