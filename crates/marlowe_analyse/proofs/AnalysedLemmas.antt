@@ -1,5 +1,5 @@
 -- What is printed of a contract and a state.
-use Rattle.std.proofs.Common.{◌≡◌, ◌≢◌, ℕ, suc, arith, Bool, true, List, [], ◌∷◌, length, map, refl, sym, ap, ◌∙◌, subst, Option, Result, Ok, Err}
+use Rattle.std.proofs.Common.{◌≡◌, ◌≢◌, ℕ, suc, arith, Bool, true, List, [], ◌∷◌, length, map, refl, sym, ap, ◌∙◌, subst}
 use Rattle.std.specs.Prelude.{Contains, ◌↔◌, ◌==◌}
 use Rattle.std.proofs.lemmas.List.Elements.{All-from_recursion, recursion_from_All, All-contains, All-contains_itself, All-weaker}
 use Rattle.std.proofs.lemmas.Bool.Decides.{Decides-eqb}
@@ -12,10 +12,10 @@ use Rattle.analysis_spec.specs.declared.paid.PaidRange.{PaidRange}
 use Rattle.analysis_spec.specs.Analysed.{IsSilent, NamesWhatComes, StaysUnlessTold, PaysWithinRanges, PaysOthersNothing}
 use Rattle.marlowe_analyse.specs.declared.analysed.Reader.{Reader}
 use Rattle.marlowe_analyse.specs.declared.told.ToldAlarm.{ToldAlarm}
-use Rattle.marlowe_analyse.specs.Told.{Alarms, without_runs, IsSo, NeverAlarms}
+use Rattle.marlowe_analyse.specs.Told.{Alarms, without_runs, NeverAlarms}
 use Rattle.marlowe_analyse.specs.ToldLines.{Line, line_at, line_of}
 use Rattle.marlowe_analyse.specs.Printed.{printed, TellsOfTree}
-use Rattle.marlowe_analyse.specs.RunsSupport.{AreTold, TellsAll}
+use Rattle.marlowe_analyse.specs.RunsSupport.{TellsAll}
 
 -- where no alarm of these is of a kind, none of fewer is
 silent : (all alarms : List Alarm) (kind : AlarmKind) → ((a : Alarm) → Contains alarms a → Contains all a) → IsSilent all kind → IsSilent alarms kind

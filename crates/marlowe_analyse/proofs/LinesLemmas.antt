@@ -1,5 +1,5 @@
 -- Lines behind lines.
-use Rattle.std.proofs.Common.{◌≡◌, ℕ, ◌+◌, ◌<◌, Bool, true, false, List, [], ◌∷◌, ◌++◌, map, take, length, refl, sym, ap, ◌∙◌, subst, append_assoc, Option, Some, None}
+use Rattle.std.proofs.Common.{◌≡◌, ℕ, ◌+◌, ◌<◌, Bool, true, false, List, [], ◌∷◌, ◌++◌, map, take, length, refl, sym, ap, ◌∙◌, subst, append_assoc, Option, Some}
 use Rattle.std.specs.Prelude.{flat_map, codes, ◌==◌}
 use Rattle.std.proofs.Math.ListN.{get_or}
 use Rattle.std.proofs.lemmas.List.{take_more, flat_map_more, get_or_default}
@@ -14,10 +14,8 @@ use Rattle.serde_json.proofs.Texts.{print-outline}
 use Rattle.json_write_contracts.specs.Tokens.{Puts, data_tokens}
 use Rattle.marlowe_analyse.specs.declared.told.Key.{Key}
 use Rattle.marlowe_analyse.specs.declared.told.ToldAlarm.{ToldAlarm}
-use Rattle.marlowe_analyse.specs.declared.told.Key.TheVariants as keys
-use Rattle.marlowe_analyse.specs.Places.{key_word}
 use Rattle.marlowe_analyse.specs.ToldLines.{line_of}
-use Rattle.marlowe_analyse.specs.Lines.{key_text, transaction_line, run_lines, alarm_lines, alarms_lines}
+use Rattle.marlowe_analyse.specs.Lines.{transaction_line, run_lines, alarm_lines, alarms_lines}
 use Rattle.marlowe_analyse.specs.Tools.{key_json, alarm_json, told_json}
 use Rattle.marlowe_analyse.proofs.AnalysedLemmas.{not_zero}
 

@@ -1,5 +1,5 @@
 -- What is read, and what is told of it.
-use Rattle.std.proofs.Common.{◌≡◌, ◌≢◌, ℕ, Bool, true, List, refl, sym, ap, ◌∙◌, subst, Option, Result, Ok, Err, MatchResult}
+use Rattle.std.proofs.Common.{◌≡◌, ◌≢◌, ℕ, Bool, true, List, refl, sym, ap, ◌∙◌, subst, Option, Result, Ok, Err}
 use Rattle.std.specs.Prelude.{IfOk}
 use Rattle.collections.specs.Answers.{◌>>=◌, AsideBy}
 use Rattle.contract.specs.declared.tree.Contract.{Contract}

@@ -1,5 +1,5 @@
 -- What is told of all alarms.
-use Rattle.std.proofs.Common.{◌≡◌, ℕ, ◌+◌, ◌<◌, ◌≤◌, List, [], ◌∷◌, ◌++◌, map, take, length, refl, sym, ap, ◌∙◌, subst, Option, Some, None, IfSome, ◌⊎◌, inl, inr, All, arith}
+use Rattle.std.proofs.Common.{◌≡◌, ℕ, ◌+◌, ◌<◌, ◌≤◌, List, [], ◌∷◌, ◌++◌, map, take, length, refl, sym, ap, ◌∙◌, subst, Option, IfSome, ◌⊎◌, inl, inr, arith}
 use Rattle.std.specs.Prelude.{Contains}
 use Rattle.std.specs.List.Sorted.{IsPermutation}
 use Rattle.std.proofs.Math.ListN.{get_or}
@@ -15,9 +15,9 @@ use Rattle.analysis_walk.proofs.ListLaws.{all_append}
 use Rattle.analysis_spec.specs.CounterRuns.{EndsIn}
 use Rattle.marlowe_analyse.specs.declared.order.Standing.{Standing}
 use Rattle.marlowe_analyse.specs.declared.told.ToldAlarm.{ToldAlarm}
-use Rattle.marlowe_analyse.specs.Told.{Alarms, without_runs, EndSo}
+use Rattle.marlowe_analyse.specs.Told.{Alarms, without_runs}
 use Rattle.marlowe_analyse.specs.ToldLines.{line_at, line_of, LineFits}
-use Rattle.marlowe_analyse.specs.RunsSupport.{HasAllPlaces, StandForAll, AreTold, TellsOf, TellsAll}
+use Rattle.marlowe_analyse.specs.RunsSupport.{HasAllPlaces, StandForAll, TellsOf, TellsAll}
 
 -- ---- the order
 

@@ -3,7 +3,6 @@ use Rattle.std.specs.Prelude.{◌≡◌, ◌↔◌, ℕ, Bool, true, false, List
 use Rattle.collections.specs.Answers.{◌>>=◌}
 use Rattle.serde_json.specs.Written.{compact_text}
 use Rattle.contract.specs.Tree.{ContractTree, contract_tree}
-use Rattle.contract.specs.declared.tree.Contract.{Contract}
 use Rattle.states.specs.States.{StateMaps}
 use Rattle.json_read_names.specs.ReadsText.{of_text}
 use Rattle.json_read_contracts.specs.ReadsContract.{contract}

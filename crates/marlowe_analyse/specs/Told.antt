@@ -1,13 +1,12 @@
 -- What is told of a contract and the state in which it starts, and when that is so.
-use Rattle.std.specs.Prelude.{◌≡◌, ℕ, pos, List, map, Option, Some, None, IfSome, Result, Ok}
+use Rattle.std.specs.Prelude.{ℕ, pos, List, map, Option, Some, None, IfSome, Result, Ok}
 use Rattle.std.specs.FinMap.{empty}
 use Rattle.std.specs.List.{AllByRecursion}
-use Rattle.contract.specs.Tree.{ContractTree, contract_tree}
+use Rattle.contract.specs.Tree.{ContractTree}
 use Rattle.contract.specs.declared.transaction.Transaction.{Transaction}
 use Rattle.states.specs.States.{StateMaps}
 use Rattle.json_read_names.specs.declared.fault.JsonFault.{JsonFault}
 use Rattle.json_read_names.specs.ReadsText.{of_text}
-use Rattle.json_read_contracts.specs.ReadsContract.{contract}
 use Rattle.json_read_inputs.specs.ReadsState.{state}
 use Rattle.semantics.specs.Walk.{standing}
 use Rattle.analysis_spec.specs.declared.kind.AlarmKind.{AlarmKind}

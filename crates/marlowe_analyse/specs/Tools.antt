@@ -1,5 +1,5 @@
 -- The JSON for tools.
-use Rattle.std.specs.Prelude.{ℕ, ℤ, pos, Bool, true, false, List, map, Option, Some, None, codes}
+use Rattle.std.specs.Prelude.{ℤ, pos, Bool, true, false, List, map, Option, Some, None, codes}
 use Rattle.serde_json.specs.Data.{Data, string, array, null}
 use Rattle.serde_json.specs.View.{items_of}
 use Rattle.contract.specs.declared.transaction.Transaction.{Transaction}

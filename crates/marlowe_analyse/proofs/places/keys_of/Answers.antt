@@ -1,4 +1,4 @@
-use Rattle.std.proofs.Common.{List, ◌∷◌, [], ◌++◌, ap, sym, ◌∙◌}
+use Rattle.std.proofs.Common.{◌∷◌, [], ◌++◌, ap, sym, ◌∙◌}
 use Rattle.contract.specs.Tree.{contract_tree}
 use Rattle.marlowe_analyse.specs.declared.told.Key.{Key}
 use Rattle.marlowe_analyse.proofs.PlacesLemmas.{goes_on_at, leaves_at, arrives}

@@ -1,4 +1,4 @@
-use Rattle.std.proofs.Common.{ℕ, List, ◌+◌, ◌∷◌, [], ◌++◌, take, length, get_or, sym, subst}
+use Rattle.std.proofs.Common.{ℕ, List, [], take, length, sym, subst}
 use Rattle.std.proofs.lemmas.List.{take_more}
 use Rattle.contract.specs.Tree.{contract_tree}
 use Rattle.marlowe_analyse.specs.declared.told.ToldAlarm.{ToldAlarm}

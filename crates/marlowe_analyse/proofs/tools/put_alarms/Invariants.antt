@@ -1,7 +1,7 @@
 use Rattle.std.proofs.Common.{take, map}
 use Rattle.json_write_contracts.specs.Tokens.{Adds}
 use Rattle.json_write_contracts.proofs.ListedLaws.{front}
-use Rattle.marlowe_analyse.specs.ToldLines.{line_of, LineFits}
+use Rattle.marlowe_analyse.specs.ToldLines.{line_of}
 use Rattle.marlowe_analyse.specs.Tools.{alarm_json}
 use Rattle.marlowe_analyse.proofs.tools.put_alarms.Given as goal
 

@@ -1,4 +1,4 @@
-use Rattle.std.proofs.Common.{List, [], ◌∷◌, ◌++◌, map, ap, ◌∙◌}
+use Rattle.std.proofs.Common.{[], ◌∷◌, ◌++◌, map, ap, ◌∙◌}
 use Rattle.marlowe_analyse.specs.ToldLines.{line_of}
 use Rattle.marlowe_analyse.specs.Tools.{told_json}
 use Rattle.marlowe_analyse.proofs.LinesLemmas.{whole_text, told_put}

@@ -1,7 +1,7 @@
 use Rattle.std.proofs.Common.{take, map}
 use Rattle.json_write_contracts.specs.Tokens.{Adds}
 use Rattle.json_write_contracts.proofs.ListedLaws.{front}
-use Rattle.contract_json.specs.WrittenInput.{transaction_json, transaction_fits}
+use Rattle.contract_json.specs.WrittenInput.{transaction_json}
 use Rattle.marlowe_analyse.proofs.tools.put_transactions.Given as goal
 
 -- the items so far are written
