@@ -3,25 +3,40 @@
 //!
 //! These lines say what files hold, and print nothing:
 //!
+//! - `let NAME TEXT` names a text for all lines below: in a text `$NAME$` then stands for it;
 //! - `file NAME TEXT` keeps a text as what the file of that name holds from then on, in place of a file of that name that
 //!   lies here;
-//! - `more TEXT` adds to the text that was kept last, and `times N TEXT` adds a text N times.
+//! - `more TEXT` adds to the text that was kept last, and `times N TEXT` adds a text N times, each time with its number from 0 in place
+//!   of `%`;
+//! - `contract TEXT` is `file contract.json TEXT`, and analyses start without a state again; `state TEXT` is `file state.json TEXT`, and
+//!   they start from it.
 //!
-//! This is a row:
+//! These are rows:
 //!
-//! - `marlowe WORDS` is a command line whose words have no spaces in them. It prints what the program prints: on standard
-//!   output, or, where that stays empty, on standard error. A play is for `--one`, or for a scenario with one plan: then
-//!   its lines are always the same.
+//! - `marlowe WORDS` is a command line whose words have no spaces in them;
+//! - `run TEXT` keeps a text in `transaction.json` and is `marlowe run contract.json state.json transaction.json`;
+//! - `table TEXT` keeps a text in `contract.json` and is `marlowe table contract.json`;
+//! - `analyse` is `marlowe analyse contract.json`, with `state.json` behind it where a state is given, and `json` is that with `--json`;
+//!   `alarms` prints the lines of `analyse` for alarms alone;
+//! - `play TEXT` keeps a text in `scenario.json` and is `marlowe play scenario.json --one`, and `threads TEXT` the same without `--one`, for
+//!   a scenario with one plan; `last N TEXT` prints the last N lines of `play`;
+//! - without a text `run`, `table`, `play`, `threads` and `last` take the file as it was kept;
+//! - `example FOLDER` runs the three files of an example and prints its table: `as written`, or what is printed that isn't written there,
+//!   or `another table`.
 //!
+//! A row prints the lines of standard output as they are, each line of standard error behind `stderr`, and `status N` where that isn't 0.
 //! `#` begins a comment, and an empty line is nothing. Any other line prints `no such row`.
 #![tactic(auto)]
 
-mod commands;
-mod kept;
+mod answers;
+mod asked;
+mod examples;
+mod given;
+mod shown;
 
-use crate::commands::printed;
-use crate::kept::Kept;
-use rows_text::{Report, RowFault, first, put_answer};
+use crate::answers::answer;
+use crate::given::Given;
+use rows_text::{Report, put_answer};
 use std::process::ExitCode;
 use std::rt::{Env, Files};
 use std::sync::Wait;
@@ -57,29 +72,13 @@ fn report_of<'t, R: Files + AllocGlobal + Threads + Wait + Sync>(
     path: &'t str,
     text: &'t str,
 ) -> io::Result<Report<'t>> {
-    let mut kept = Kept::new(rt.alloc());
+    let mut given = Given::new(rt.alloc());
     let mut report = Report::new(rt.alloc(), path, text);
     for line in text.lines() {
         if report.take(rt.alloc(), line)? {
-            put_answer(&mut report, answer(rt, &mut kept, line))?;
+            put_answer(&mut report, answer(rt, &mut given, line))?;
         }
     }
     report.finish(rt.alloc())?;
     Ok(report)
-}
-
-// The answer to a line, if it is a row.
-fn answer<R: Files + AllocGlobal + Threads + Wait + Sync>(
-    rt: &R,
-    kept: &mut Kept,
-    line: &str,
-) -> Result<Option<Vec<u8>>, RowFault> {
-    let (word, rest) = first(line);
-    if kept.keeps(rt.alloc(), word, rest)? {
-        return Ok(None);
-    }
-    match word {
-        "marlowe" => Ok(Some(printed(rt, kept, line)?)),
-        _ => Err(RowFault::NoSuchRow),
-    }
 }

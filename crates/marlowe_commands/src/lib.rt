@@ -1,0 +1,16 @@
+//! What a command of `marlowe` prints on both streams, and its status: from the words of a command line and what the files of its
+//! paths hold.
+//!
+//! `command` is the whole program but for its files and its streams. `run_printed`, `table_printed`, `analysis_printed` and
+//! `play_printed` are its tasks, from texts. docs/formats.md has what is printed.
+#![tactic(auto)]
+
+mod command;
+mod printed;
+mod tasks;
+mod texts;
+
+pub use command::command;
+pub use printed::Printed;
+pub use tasks::{analysis_printed, play_printed, run_printed, table_printed};
+pub use texts::Texts;

@@ -1,0 +1,47 @@
+//! What is printed.
+ghost use Rattle.std.specs.Prelude.{◌≡◌, [], ◌∷◌, ◌++◌, IfOk};
+ghost use Rattle.marlowe_commands.specs.Streams.{streams_of, on_output, on_errors};
+
+use collections::Memory;
+use std::alloc::Global;
+
+/// What a command prints, and its status: 0 for a text on standard output, 3 for an analysis there that has alarms, 1 for a refusal
+/// on standard error, and 2 for a file that can't be read or a fault of the command line, there too.
+#[derive(Drop)]
+pub struct Printed {
+    pub output: Vec<u8>,
+    pub errors: Vec<u8>,
+    pub status: u8,
+}
+
+impl Printed {
+    /// A text on standard output.
+    pub(crate) fn on_output(alloc: Global, text: Vec<u8>, status: u8) -> Printed
+        ensures { streams_of result ≡ on_output text.items status }
+    {
+        Printed {
+            output: text,
+            errors: Vec::new(alloc),
+            status,
+        }
+    }
+
+    /// A text on standard error.
+    pub(crate) fn on_errors(alloc: Global, text: Vec<u8>, status: u8) -> Printed
+        ensures { streams_of result ≡ on_errors text.items status }
+    {
+        Printed {
+            output: Vec::new(alloc),
+            errors: text,
+            status,
+        }
+    }
+
+    /// A refusal, from its line without a line feed.
+    pub(crate) fn refusal(alloc: Global, mut line: Vec<u8>) -> Result<Printed, Memory>
+        ensures { IfOk result (λ printed. streams_of printed ≡ on_errors (line.items ++ 10 ∷ []) 1) }
+    {
+        line.push(b'\n')?;
+        Ok(Printed::on_errors(alloc, line, 1))
+    }
+}

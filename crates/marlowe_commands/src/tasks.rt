@@ -1,0 +1,80 @@
+//! The tasks of the program, from texts to what is printed.
+ghost use Rattle.std.specs.Prelude.{IfOk, option_map};
+ghost use Rattle.marlowe_run.specs.Run.{run_text};
+ghost use Rattle.marlowe_run.specs.TableText.{table_text};
+ghost use Rattle.marlowe_commands.specs.Streams.{streams_of};
+ghost use Rattle.marlowe_commands.specs.Tasks.{PrintsRun, PrintsTable, PrintsAnalysis, PrintsPlay};
+
+use crate::printed::Printed;
+use collections::Memory;
+use marlowe_analyse::{Analysed, Reader, analyse_text};
+use marlowe_play::{PlayFault, Watch, play_refusal, play_watched};
+use marlowe_run::{Fault, RunFault, TableFault, refusal, run, table_text};
+use std::alloc::{AllocError, Global};
+use std::sync::Wait;
+use std::thread::Threads;
+
+/// What is printed for one transaction: its outcome, with status 0, or the line of its refusal.
+pub fn run_printed(
+    alloc: Global,
+    contract: &[u8],
+    state: &[u8],
+    transaction: &[u8],
+) -> Result<Printed, Memory>
+    ensures { IfOk result (λ printed. PrintsRun (run_text contract.now state.now transaction.now) (streams_of printed)) }
+{
+    match run(alloc, contract, state, transaction) {
+        Ok(text) => Ok(Printed::on_output(alloc, text, 0)),
+        Err(RunFault::Memory) => Err(AllocError),
+        Err(fault) => Printed::refusal(alloc, refusal(alloc, &Fault::Run(fault))?),
+    }
+}
+
+/// What is printed for the table of a contract: its lines, with status 0, or the line of its refusal.
+pub fn table_printed(alloc: Global, contract: &[u8]) -> Result<Printed, Memory>
+    ensures { IfOk result (λ printed. PrintsTable (table_text contract.now) (streams_of printed)) }
+{
+    match table_text(alloc, contract) {
+        Ok(text) => Ok(Printed::on_output(alloc, text, 0)),
+        Err(TableFault::Memory) => Err(AllocError),
+        Err(fault) => Printed::refusal(alloc, refusal(alloc, &Fault::Table(fault))?),
+    }
+}
+
+/// What is printed for the analysis of a contract from a state: the analysis, with status 0 where the contract never warns and stays
+/// within 128 bits, and 3 where there is an alarm; or the line of its refusal.
+pub fn analysis_printed(
+    alloc: Global,
+    contract: &[u8],
+    state: Option<&[u8]>,
+    reader: Reader,
+) -> Result<Printed, Memory>
+    ensures { IfOk result (λ printed. PrintsAnalysis reader contract.now (option_map (λ text. text.now) state.entry) (streams_of printed)) }
+{
+    match analyse_text(alloc, contract, state, reader) {
+        Ok(Analysed { text, is_clear }) => {
+            let status = if is_clear { 0 } else { 3 };
+            Ok(Printed::on_output(alloc, text, status))
+        }
+        Err(RunFault::Memory) => Err(AllocError),
+        Err(fault) => Printed::refusal(alloc, refusal(alloc, &Fault::Run(fault))?),
+    }
+}
+
+/// What is printed for a play, while somebody is told how far it is: its lines, with status 0, or the line of its refusal. `one` plan is
+/// played after another, or all at once.
+pub fn play_printed<R: AllocGlobal + Threads + Wait + Sync, W: Watch + Sync>(
+    rt: &R,
+    watch: &W,
+    scenario: &[u8],
+    one: bool,
+) -> Result<Printed, Memory>
+    ensures { IfOk result (λ printed. PrintsPlay scenario.now (streams_of printed)) }
+{
+    let alloc = rt.alloc();
+    match play_watched(rt, alloc, scenario, one, watch) {
+        Ok(text) => Ok(Printed::on_output(alloc, text, 0)),
+        Err(PlayFault::Memory) => Err(AllocError),
+        Err(fault) => Printed::refusal(alloc, play_refusal(alloc, &fault)?),
+    }
+}

@@ -1,0 +1,63 @@
+//! The command line of a row.
+use crate::given::Given;
+use crate::shown::Part;
+use rows_text::{RowFault, first, number};
+use std::alloc::Global;
+
+/// A command line, and which of its lines the row prints.
+#[derive(Clone, Copy)]
+pub struct Asked<'l> {
+    pub line: &'l str,
+    pub part: Part,
+}
+
+/// What a row asks for, whose text is kept first.
+pub fn what_is_asked<'l>(
+    alloc: Global,
+    given: &mut Given,
+    word: &str,
+    rest: &'l str,
+) -> Result<Asked<'l>, RowFault> {
+    let (part, text) = match word {
+        "last" => {
+            let (count, text) = first(rest);
+            (Part::Last(number(count)?), text)
+        }
+        "alarms" => (Part::Alarms, rest),
+        _ => (Part::All, rest),
+    };
+    let line = match word {
+        "marlowe" => text,
+        "run" => {
+            keep(alloc, given, "transaction.json", text)?;
+            "run contract.json state.json transaction.json"
+        }
+        "table" => {
+            keep(alloc, given, "contract.json", text)?;
+            "table contract.json"
+        }
+        "analyse" | "alarms" if given.has_state => "analyse contract.json state.json",
+        "analyse" | "alarms" => "analyse contract.json",
+        "json" if given.has_state => "analyse contract.json state.json --json",
+        "json" => "analyse contract.json --json",
+        "play" | "last" => {
+            keep(alloc, given, "scenario.json", text)?;
+            "play scenario.json --one"
+        }
+        "threads" => {
+            keep(alloc, given, "scenario.json", text)?;
+            "play scenario.json"
+        }
+        _ => return Err(RowFault::NoSuchRow),
+    };
+    Ok(Asked { line, part })
+}
+
+// Keeps the text of a row, if it has one.
+fn keep(alloc: Global, given: &mut Given, name: &str, text: &str) -> Result<(), RowFault> {
+    if text.is_empty() {
+        Ok(())
+    } else {
+        given.keep(alloc, name, text)
+    }
+}
