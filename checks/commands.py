@@ -6,12 +6,10 @@ Usage    commands.py [PROGRAM]               compares all files that crates/rows
          commands.py --write FILE [PROGRAM]  writes into the file below each row what the program prints, in place of what stood there
          commands.py --apart                 compares them, but for those of `analyse`, with a Marlowe, its tables and a ledger in Python, which share
                                              no code with the program (interpreter.py, tables.py, plays.py); it needs nothing built
-Expect   `FILE ok N rows` for each file. What is printed on standard output comes with status 0, or with 3 where it begins with an alarm; a line
-         `refused ..` on standard error with 1, all else there with 2; and the other stream stays empty.
+Expect   `FILE ok N rows` for each file: both streams and the status are as written.
 Else     the first row that differs, with what is written and what comes here, and status 1.
 """
 import os
-import re
 import shutil
 import subprocess
 import sys
@@ -22,85 +20,126 @@ sys.path.insert(0, HERE)
 import interpreter
 import plays
 import readings
+import rows
 import tables
 
-CRATE = os.path.join(HERE, "..", "crates", "rows_commands")
+CRATE = os.path.join(rows.CRATES, "rows_commands")
 DATA = os.path.join(CRATE, "data")
-PROGRAM = os.path.join(HERE, "..", "crates", "marlowe", "out", "marlowe")
-# How an analysis begins that has an alarm: as lines, and as JSON.
-ALARM = re.compile(r'\w+ at \.|\{"alarms":\[\{')
+PROGRAM = os.path.join(rows.CRATES, "marlowe", "out", "marlowe")
+# The command line of a row, and the file that holds its text.
+ROWS = {
+    "run": ("run contract.json state.json transaction.json", "transaction.json"),
+    "table": ("table contract.json", "contract.json"),
+    "play": ("play scenario.json --one", "scenario.json"),
+    "last": ("play scenario.json --one", "scenario.json"),
+    "threads": ("play scenario.json", "scenario.json"),
+}
+ANALYSES = {"analyse": "", "alarms": "", "json": " --json"}
+# How a line begins that tells what a party is paid.
+OF_RANGE = ('{"address"', '{"role_token"')
 
 
-def lines_of(path):
-    with open(path, encoding="utf-8") as file:
-        return file.read().removesuffix("\n").split("\n")
-
-
-def files():
-    return [name for name in lines_of(os.path.join(CRATE, "args")) if name]
-
-
-class Folder:
+class Folder(rows.Given):
     """A copy of the data, in which the files that lines give are written."""
 
     def __init__(self):
+        super().__init__()
         self.place = tempfile.mkdtemp()
-        self.last = None
         self.path = os.path.join(self.place, "data")
         shutil.copytree(DATA, self.path)
 
-    def keeps(self, word, rest):
-        """Whether a line gives a file, or nothing."""
-        if word == "file":
-            name, _, text = rest.partition(" ")
-            self.last = os.path.join(self.path, name)
-            os.makedirs(os.path.dirname(self.last), exist_ok=True)
-            with open(self.last, "w", encoding="utf-8") as file:
+    def written(self):
+        """The folder, with each file that is given."""
+        for name, text in self.files.items():
+            path = os.path.join(self.path, name)
+            os.makedirs(os.path.dirname(path), exist_ok=True)
+            with open(path, "wb") as file:
                 file.write(text)
-        elif word in ("more", "times"):
-            times, text = (1, rest) if word == "more" else (int(rest.split(" ", 1)[0]), rest.split(" ", 1)[1])
-            with open(self.last, "a", encoding="utf-8") as file:
-                file.write(text * times)
-        return word in ("", "#", "file", "more", "times")
+        return self.path
 
     def read(self, name):
+        if name in self.files:
+            return self.files[name]
         with open(os.path.join(self.path, name), "rb") as file:
             return file.read()
 
+    def command(self, word, rest):
+        """The command line of a row, whose text is kept first."""
+        if word == "marlowe":
+            return rest
+        if word in ANALYSES:
+            return "analyse contract.json" + " state.json" * self.has_state + ANALYSES[word]
+        if word not in ROWS:
+            raise rows.NoSuchRow
+        line, name = ROWS[word]
+        if rest:
+            self.keep(name, rest)
+        return line
 
-def status_of(printed, told):
-    """The status that comes with what is printed on the two streams."""
-    if printed:
-        return 3 if ALARM.match(printed) else 0
-    return 1 if told.startswith("refused ") else 2
+
+def part_of(word, count, output):
+    """The lines of standard output that a row prints."""
+    lines = output.removesuffix("\n").split("\n")
+    lines = lines[-count:] if word == "last" else [line for line in lines if word != "alarms" or not line.startswith(OF_RANGE)]
+    return "\n".join(lines)
 
 
-def answer_of(program, folder, line):
-    """What the program prints for a command line."""
-    done = subprocess.run([program, *line.split()[1:]], cwd=folder.path, capture_output=True)
-    printed, told = done.stdout.decode(), done.stderr.decode()
-    if (printed and told) or done.returncode != status_of(printed, told):
-        sys.exit(f"{line}\nstatus {done.returncode}, {printed!r} and {told!r}")
-    return (printed + told).removesuffix("\n").split("\n")
+def answer(folder, line, streams):
+    """What a row prints, where `streams` tells what comes of a command line: both streams and the status; None where it tells nothing."""
+    word, _, rest = line.partition(" ")
+    try:
+        if folder.keeps(word, rest):
+            return None
+        if word == "example":
+            return example(folder, rest, streams)
+        count, rest = (int(rest.split(" ")[0]), rest.partition(" ")[2]) if word == "last" else (0, rest)
+        came = streams(folder, folder.command(word, rest))
+        return came and rows.in_lines(part_of(word, count, came[0]), *came[1:])
+    except rows.NoSuchRow:
+        return ["no such row"]
+
+
+def example(folder, path, streams):
+    run = streams(folder, f"run {path}/contract.json {path}/state.json {path}/transaction.json")
+    table = streams(folder, f"table {path}/contract.json")
+    if not is_as_in(folder, path, run, "output.json", "refusal.txt"):
+        return rows.in_lines(*run)
+    return ["as written" if is_as_in(folder, path, table, "table.txt", "table.txt") else "another table"]
+
+
+def is_as_in(folder, path, streams, output, refusal):
+    printed, told, status = streams
+    try:
+        return status in (0, 1) and folder.read(f"{path}/{refusal if status else output}").decode() == (told if status else printed)
+    except OSError:
+        return False
+
+
+def of_program(program):
+    """What the built program prints for a command line."""
+    def streams(folder, line):
+        done = subprocess.run([program, *line.split()], cwd=folder.written(), capture_output=True)
+        return done.stdout.decode(), done.stderr.decode(), done.returncode
+    return streams
 
 
 def state(given):
     """A state, as far as it can be refused."""
     readings.first_form(given, "accounts choices boundValues minTime")
-    return readings.read(given, accounts=readings.accounts, choices=lambda rows: keyed(rows, readings.choice_id),
-                         boundValues=lambda rows: keyed(rows, readings.text), minTime=readings.time)
+    return readings.read(given, accounts=readings.accounts, choices=lambda pairs: keyed(pairs, readings.choice_id),
+                         boundValues=lambda pairs: keyed(pairs, readings.text), minTime=readings.time)
 
 
 def keyed(json_rows, key_of):
     """Rows of keys and numbers, each key once."""
-    rows = []
+    found = []
     for item in readings.items(json_rows):
         first, second = readings.pair(item)
         key = key_of(first)
-        if any(key == known for known, _ in rows):
+        if any(key == known for known, _ in found):
             raise readings.Fault("BadState")
-        rows.append([key, readings.number(second)])
-    return rows
+        found.append([key, readings.number(second)])
+    return found
 
 
 def interval(given):
@@ -129,21 +168,25 @@ def read_apart(texts):
 
 def run_apart(*texts):
     """What `marlowe run` prints for three texts."""
-    return [interpreter.printed(*read_apart(zip(("contract", "state", "transaction"), texts)))]
+    return interpreter.printed(*read_apart(zip(("contract", "state", "transaction"), texts)))
+
+
+def table_apart(text):
+    return "\n".join(tables.lines(text))
 
 
 def play_apart(text):
     output, refusal, _ = plays.wanted(text)
-    return (output + refusal).removesuffix("\n").split("\n")
+    return (output + refusal).removesuffix("\n")
 
 
 # Words of the program, each with how many files it takes.
-APART = {"run": (3, run_apart), "table": (1, tables.lines), "play": (1, play_apart)}
+APART = {"run": (3, run_apart), "table": (1, table_apart), "play": (1, play_apart)}
 
 
-def answer_apart(folder, line):
+def apart(folder, line):
     """What Python says that the program prints, or None for a line of which it says nothing: one that is at fault, or asks for help or for an analysis."""
-    command, *names = [word for word in line.split()[1:] if word != "--one"]
+    command, *names = [word for word in line.split() if word != "--one"]
     count, answered = APART.get(command, (None, None))
     if len(names) != count or any(name.startswith("-") for name in names):
         return None
@@ -152,56 +195,50 @@ def answer_apart(folder, line):
     except OSError:
         return None
     try:
-        return answered(*texts)
+        told = answered(*texts)
     except readings.Fault as fault:
-        return [str(fault)]
+        told = str(fault)
+    return ("", told + "\n", 1) if told.startswith("refused ") else (told + "\n", "", 0)
 
 
-def rows(lines, answered):
+def answers(lines, streams):
     """Each line that is no answer, with its answer, or None where it has none, and with what is written below it."""
-    folder, place = Folder(), 0
+    folder = Folder()
     try:
-        while place < len(lines):
-            line, place = lines[place], place + 1
-            written = []
-            while place < len(lines) and lines[place].startswith("="):
-                written.append(lines[place][1:].removeprefix(" "))
-                place += 1
-            word, _, rest = line.partition(" ")
-            yield line, None if folder.keeps(word, rest) else answered(folder, line), written
+        for line, written in rows.answered(lines):
+            yield line, answer(folder, line, streams), written
     finally:
         shutil.rmtree(folder.place)
 
 
-def compare(name, answered):
+def compare(name, streams):
     count = 0
-    for line, came, written in rows(lines_of(os.path.join(DATA, name)), answered):
+    for line, came, written in answers(rows.lines_of(os.path.join(DATA, name)), streams):
         if came is not None and came != written:
             sys.exit(f"{name}: {line}\nwritten " + "\n        ".join(written) + "\nhere    " + "\n        ".join(came))
         count += came is not None
     print(f"{name} ok {count} rows")
 
 
-def write(path, answered):
-    kept = []
-    for line, came, _ in rows(lines_of(path), answered):
-        kept += [line] + [f"= {each}" if each else "=" for each in came or []]
+def write(path, streams):
+    text = rows.with_answers([(line, came or []) for line, came, _ in answers(rows.lines_of(path), streams)])
     with open(path, "w", encoding="utf-8") as file:
-        file.write("".join(line + "\n" for line in kept))
+        file.write(text)
 
 
 def main(words):
+    names = [name for name in rows.lines_of(os.path.join(CRATE, "args")) if name]
     if words == ["--apart"]:
-        for name in files():
-            compare(name, answer_apart)
+        for name in names:
+            compare(name, apart)
         return
     to_write, words = words[:1] == ["--write"], words[words[:1] == ["--write"]:]
-    program = os.path.abspath(words[to_write] if len(words) > to_write else PROGRAM)
+    streams = of_program(os.path.abspath(words[to_write] if len(words) > to_write else PROGRAM))
     if to_write:
-        write(words[0], lambda folder, line: answer_of(program, folder, line))
+        write(words[0], streams)
     else:
-        for name in files():
-            compare(name, lambda folder, line: answer_of(program, folder, line))
+        for name in names:
+            compare(name, streams)
 
 
 if __name__ == "__main__":

@@ -1,12 +1,12 @@
 #!/usr/bin/env python3
-"""Reads and plays the rows of `rows_scenarios` in plain Python, apart from the program, and compares that with the answers that stand below
-them.
+"""Reads the scenarios of `rows_values` in plain Python, apart from the program, and compares that with the answers that stand below them; and
+writes random scenarios as rows of plays.
 
-Needs    plays.py and readings.py beside it, and nothing built.
-Usage    scenario_rows.py                compares all files
-         scenario_rows.py --write FILE   writes each answer below its row, in place of what stood there
+Needs    plays.py, readings.py and rows.py beside it, and nothing built. `commands.py --apart` compares the rows of plays.
+Usage    scenario_rows.py                compares all rows
+         scenario_rows.py --write        writes each answer below its row, in place of what stood there
          scenario_rows.py --random [COUNT [SEED [FILE]]]   writes short random scenarios as rows, each above its answer
-Expect   `FILE ok N rows` for each file. The random rows of 100 by seed 1 are the first that are there, in `compared.txt`.
+Expect   `N rows as written`. The random rows of 100 by seed 1 are the first of `rows_commands/data/plays/compared.txt`.
 Else     the first row that differs, with what is written and what comes here, and status 1.
 """
 import os
@@ -17,46 +17,13 @@ sys.path.insert(0, HERE)
 import plays
 import random_scenarios
 import readings
+import rows
 from ledger import compact
 
 TITLE = "# random scenarios, as a program written apart plays them"
-DATA = os.path.join(HERE, "..", "crates", "rows_scenarios", "data")
-
-
-class NoSuchRow(Exception):
-    """The line is none of the program's."""
-
-
-class Given:
-    """The texts that lines gave so far."""
-
-    def __init__(self):
-        self.named, self.built = {}, b""
-
-    def whole(self, text):
-        pieces = text.split("$")
-        if any(name not in self.named for name in pieces[1::2]):
-            raise NoSuchRow
-        return b"".join(self.named[piece] if place % 2 else piece.encode() for place, piece in enumerate(pieces))
-
-    def keeps(self, word, rest):
-        """Whether a line gives a text, or nothing."""
-        if word == "let":
-            name, text = rest.split(" ", 1)
-            self.named[name] = self.whole(text)
-        elif word == "text":
-            self.built = self.whole(rest)
-        elif word == "more":
-            self.built += self.whole(rest)
-        elif word == "times":
-            times, text = rest.split(" ", 1)
-            self.built += b"".join(self.whole(text).replace(b"%", str(time).encode()) for time in range(int(times)))
-        elif word == "hex":
-            self.built += bytes.fromhex(rest)
-        return word in ("", "#", "let", "text", "more", "times", "hex")
-
-    def text(self, rest):
-        return self.whole(rest) if rest else self.built
+READ = os.path.join(rows.CRATES, "rows_values", "data", "scenarios.txt")
+PLAYED = os.path.join(rows.CRATES, "rows_commands", "data", "plays", "compared.txt")
+ROW = "read scenario"
 
 
 # ---- what is read, as it is printed
@@ -113,84 +80,57 @@ def told(text):
     return lines
 
 
-def play_lines(text):
-    output, refusal, _ = plays.wanted(text)
-    return (output + refusal).removesuffix("\n").split("\n")
-
-
-def answer(given, word, rest):
+def answer(given, line):
+    """What a row prints, or None for a line that is no row."""
+    word, _, rest = line.partition(" ")
     try:
-        return answer_to_row(given, word, rest)
-    except NoSuchRow:
+        if word == "text":
+            return given.keep("text", rest)
+        if given.keeps(word, rest):
+            return None
+        if line != ROW and not line.startswith(ROW + " "):
+            raise rows.NoSuchRow
+        text = line.removeprefix(ROW).removeprefix(" ")
+        return told(given.whole(text) if text else given.files["text"])
+    except rows.NoSuchRow:
         return ["no such row"]
 
 
-def answer_to_row(given, word, rest):
-    if word == "read":
-        return told(given.text(rest))
-    if word in ("play", "threads"):
-        return play_lines(given.text(rest))
-    if word == "last":
-        count, _, rest = rest.partition(" ")
-        return play_lines(given.text(rest))[-int(count):]
-    raise NoSuchRow
+def answers(lines):
+    """Each line that is no answer, with its answer, or None where it has none, and with what is written below it."""
+    given = rows.Given()
+    return [(line, answer(given, line), written) for line, written in rows.answered(lines)]
 
 
-# ---- files of rows
-
-def rows(lines):
-    """Each line that is no answer, with its answer and with what is written below it."""
-    given, place = Given(), 0
-    while place < len(lines):
-        line, place = lines[place], place + 1
-        written = []
-        while place < len(lines) and lines[place].startswith("="):
-            written.append(lines[place][2:])
-            place += 1
-        word, _, rest = line.partition(" ")
-        # the texts of faults are the program's own words: they stay as they are written
-        own = word == "texts"
-        yield line, written if own else None if given.keeps(word, rest) else answer(given, word, rest), written
-
-
-def compare(name):
+def compare():
     count = 0
-    for line, came, written in rows(lines_of(os.path.join(DATA, name))):
+    for line, came, written in answers(rows.lines_of(READ)):
         if came is not None and came != written:
-            sys.exit(f"{name}: {line}\nwritten " + "\n        ".join(written) + "\nhere    " + "\n        ".join(came))
+            sys.exit(f"{line}\nwritten " + "\n        ".join(written) + "\nhere    " + "\n        ".join(came))
         count += came is not None
-    print(f"{name} ok {count} rows")
+    print(f"{count} rows as written")
 
 
-def write(path):
-    kept = []
-    for line, came, _ in rows(lines_of(path)):
-        kept += [line] + ["= " + each for each in came or []]
-    with open(path, "w") as file:
-        file.write("".join(line + "\n" for line in kept))
+def write(path, lines):
+    with open(path, "w", encoding="utf-8") as file:
+        file.write(rows.with_answers(lines))
 
 
 def write_random(count, seed, path):
-    kept, number = [TITLE], 0
-    while sum(line.startswith("play") for line in kept) < count:
+    kept, number = [(TITLE, [])], 0
+    while len(kept) <= count:
         text = random_scenarios.text(f"{seed}.{number}", plays.Play)
         number += 1
         if 0 < len(text) <= 3000 and b"$" not in text:
-            kept += ["play " + text.decode()] + ["= " + each for each in play_lines(text)]
-    with open(path, "w") as file:
-        file.write("".join(line + "\n" for line in kept))
-
-
-def lines_of(path):
-    with open(path) as file:
-        return file.read().removesuffix("\n").split("\n")
+            output, refusal, _ = plays.wanted(text)
+            kept.append(("play " + text.decode(), rows.in_lines(output, refusal, 1 if refusal else 0)))
+    write(path, kept)
 
 
 if sys.argv[1:2] == ["--write"]:
-    write(sys.argv[2])
+    write(READ, [(line, came or []) for line, came, _ in answers(rows.lines_of(READ))])
 elif sys.argv[1:2] == ["--random"]:
     words = sys.argv[2:]
-    write_random(int(words[0]) if words else 100, words[1] if words[1:] else "1", words[2] if words[2:] else os.path.join(DATA, "compared.txt"))
+    write_random(int(words[0]) if words else 100, words[1] if words[1:] else "1", words[2] if words[2:] else PLAYED)
 else:
-    for each in sorted(os.listdir(DATA)):
-        compare(each)
+    compare()

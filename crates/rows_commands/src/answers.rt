@@ -1,10 +1,11 @@
 //! What is printed for a row.
 use crate::asked::what_is_asked;
 use crate::examples::example;
-use crate::given::{Folder, Given};
+use crate::folder::Folder;
 use crate::shown::shown;
 use marlowe_commands::{Printed, command};
 use marlowe_play::Unwatched;
+use rows_given::Given;
 use rows_text::{RowFault, first};
 use std::rt::Files;
 use std::sync::Wait;

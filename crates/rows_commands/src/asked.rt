@@ -1,6 +1,6 @@
 //! The command line of a row.
-use crate::given::Given;
 use crate::shown::Part;
+use rows_given::Given;
 use rows_text::{RowFault, first, number};
 use std::alloc::Global;
 
@@ -26,38 +26,23 @@ pub fn what_is_asked<'l>(
         "alarms" => (Part::Alarms, rest),
         _ => (Part::All, rest),
     };
-    let line = match word {
-        "marlowe" => text,
-        "run" => {
-            keep(alloc, given, "transaction.json", text)?;
-            "run contract.json state.json transaction.json"
-        }
-        "table" => {
-            keep(alloc, given, "contract.json", text)?;
-            "table contract.json"
-        }
-        "analyse" | "alarms" if given.has_state => "analyse contract.json state.json",
-        "analyse" | "alarms" => "analyse contract.json",
-        "json" if given.has_state => "analyse contract.json state.json --json",
-        "json" => "analyse contract.json --json",
-        "play" | "last" => {
-            keep(alloc, given, "scenario.json", text)?;
-            "play scenario.json --one"
-        }
-        "threads" => {
-            keep(alloc, given, "scenario.json", text)?;
-            "play scenario.json"
-        }
+    let (name, line) = match word {
+        "marlowe" => ("", text),
+        "run" => (
+            "transaction.json",
+            "run contract.json state.json transaction.json",
+        ),
+        "table" => ("contract.json", "table contract.json"),
+        "analyse" | "alarms" if given.has_state() => ("", "analyse contract.json state.json"),
+        "analyse" | "alarms" => ("", "analyse contract.json"),
+        "json" if given.has_state() => ("", "analyse contract.json state.json --json"),
+        "json" => ("", "analyse contract.json --json"),
+        "play" | "last" => ("scenario.json", "play scenario.json --one"),
+        "threads" => ("scenario.json", "play scenario.json"),
         _ => return Err(RowFault::NoSuchRow),
     };
-    Ok(Asked { line, part })
-}
-
-// Keeps the text of a row, if it has one.
-fn keep(alloc: Global, given: &mut Given, name: &str, text: &str) -> Result<(), RowFault> {
-    if text.is_empty() {
-        Ok(())
-    } else {
-        given.keep(alloc, name, text)
+    if !name.is_empty() && !text.is_empty() {
+        given.keep(alloc, name, text)?;
     }
+    Ok(Asked { line, part })
 }

@@ -1,9 +1,9 @@
 //! Examples: a folder for each, with the three files of a run and what the program prints for them.
 use crate::answers::printed;
-use crate::given::Given;
 use crate::shown::{Part, shown};
 use marlowe_commands::Printed;
 use marlowe_io::{LoadFault, load_file};
+use rows_given::Given;
 use rows_text::RowFault;
 use std::rt::Files;
 use std::sync::Wait;

@@ -1,15 +1,7 @@
 //! `rows_commands`: command lines of `marlowe` as data. It plays the files that its arguments name, line by line, as
 //! `rows_text` says: below each row stands what the program prints for it.
 //!
-//! These lines say what files hold, and print nothing:
-//!
-//! - `let NAME TEXT` names a text for all lines below: in a text `$NAME$` then stands for it;
-//! - `file NAME TEXT` keeps a text as what the file of that name holds from then on, in place of a file of that name that
-//!   lies here;
-//! - `more TEXT` adds to the text that was kept last, and `times N TEXT` adds a text N times, each time with its number from 0 in place
-//!   of `%`;
-//! - `contract TEXT` is `file contract.json TEXT`, and analyses start without a state again; `state TEXT` is `file state.json TEXT`, and
-//!   they start from it.
+//! The lines before a row say what files hold, as `rows_given` says, in place of those that lie here.
 //!
 //! These are rows:
 //!
@@ -31,11 +23,11 @@
 mod answers;
 mod asked;
 mod examples;
-mod given;
+mod folder;
 mod shown;
 
 use crate::answers::answer;
-use crate::given::Given;
+use rows_given::Given;
 use rows_text::{Report, put_answer};
 use std::process::ExitCode;
 use std::rt::{Env, Files};

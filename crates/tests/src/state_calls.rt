@@ -1,102 +1,77 @@
 //! States.
-use crate::made::{ada, address, choice, role, text};
-use contract::{Entries, State, StateFault, TryClone};
+use crate::made::{ada, choice, role, text};
+use contract::{Entries, Party, State, StateFault, TryClone};
+use std::process::Abort;
+
+// What `start` gives for the accounts of two roles in ada.
+fn started(
+    rt: &(impl Abort + AllocGlobal),
+    first: (&str, i128),
+    second: (&str, i128),
+) -> Result<State, StateFault> {
+    let rows = [
+        (role(rt, first.0), ada(rt), first.1),
+        (role(rt, second.0), ada(rt), second.1),
+    ];
+    State::start(rt.alloc(), rows.as_slice(), 6)
+}
+
+// What a role has in ada.
+fn money(rt: &(impl Abort + AllocGlobal), state: &State, name: &str) -> i128 {
+    let owner: Party = role(rt, name);
+    state.money(&owner, &ada(rt))
+}
 
 #[test]
-fn a_state_starts_with_its_accounts(rt: HostRuntime) {
-    let rows = [
-        (role(&rt, "a"), ada(&rt), 5),
-        (address(&rt, "x"), ada(&rt), 7),
-    ];
-    let state = State::start(rt.alloc(), rows.as_slice(), 6).expect(&rt, "a state");
-    assert_eq!(rt; state.accounts().len(), 2);
-    assert_eq!(rt; state.money(&role(&rt, "a"), &ada(&rt)), 5);
-    assert_eq!(rt; state.money(&role(&rt, "b"), &ada(&rt)), 0);
+fn a_state_starts_with_its_accounts_in_order(rt: HostRuntime) {
+    let mut state = started(&rt, ("b", 5), ("a", 7)).expect(&rt, "a state");
+    assert_eq!(rt; money(&rt, &state, "b"), 5);
+    assert_eq!(rt; money(&rt, &state, "c"), 0);
     assert_eq!(rt; state.min_time(), 6);
-    let first = state.first_account().expect(&rt, "an account");
-    assert!(rt; first.0.owner == address(&rt, "x"));
-    assert_eq!(rt; first.1, 7);
+    assert_eq!(rt; state.first_account().expect(&rt, "an account").1, 7);
     assert!(rt; state.try_clone().expect(&rt, "memory") == state);
+    let taken = state.take_accounts();
+    assert_eq!(rt; taken.len(), 2);
+    assert_eq!(rt; taken[0].1, 7);
+    assert!(rt; state == State::new(rt.alloc(), 6));
 }
 
 #[test]
-fn an_account_of_zero_is_not_positive(rt: HostRuntime) {
-    let rows = [(role(&rt, "a"), ada(&rt), 5), (role(&rt, "a"), ada(&rt), 0)];
-    let refused = State::start(rt.alloc(), rows.as_slice(), 0);
-    assert!(rt; matches!(&refused, Err(StateFault::NotPositive)));
-}
-
-#[test]
-fn an_account_that_is_given_twice_is_repeated(rt: HostRuntime) {
-    let rows = [
-        (role(&rt, "a"), ada(&rt), 5),
-        (role(&rt, "b"), ada(&rt), 5),
-        (role(&rt, "a"), ada(&rt), 1),
-    ];
-    let refused = State::start(rt.alloc(), rows.as_slice(), 0);
-    assert!(rt; matches!(&refused, Err(StateFault::Repeated)));
+fn accounts_that_no_state_has_are_refused(rt: HostRuntime) {
+    let zero = started(&rt, ("a", 5), ("a", 0)).err();
+    assert_eq!(rt; zero, Some(StateFault::NotPositive));
+    let twice = started(&rt, ("a", 5), ("a", 1)).err();
+    assert_eq!(rt; twice, Some(StateFault::Repeated));
 }
 
 #[test]
 fn an_account_that_is_emptied_is_gone(rt: HostRuntime) {
-    let mut state = State::new(rt.alloc(), 0);
-    state
-        .set_money(&role(&rt, "a"), &ada(&rt), 5)
-        .expect(&rt, "memory");
-    state
-        .set_money(&role(&rt, "b"), &ada(&rt), 3)
-        .expect(&rt, "memory");
+    let mut state = started(&rt, ("a", 5), ("b", 3)).expect(&rt, "a state");
     state
         .set_money(&role(&rt, "a"), &ada(&rt), 0)
         .expect(&rt, "memory");
     assert_eq!(rt; state.accounts().len(), 1);
-    assert_eq!(rt; state.money(&role(&rt, "b"), &ada(&rt)), 3);
+    assert_eq!(rt; money(&rt, &state, "b"), 3);
 }
 
 #[test]
-fn a_choice_is_recorded(rt: HostRuntime) {
-    let mut state = State::new(rt.alloc(), 0);
+fn choices_and_values_are_recorded(rt: HostRuntime) {
+    let mut state = State::from_entries(
+        Entries::new(rt.alloc()),
+        Entries::new(rt.alloc()),
+        Entries::new(rt.alloc()),
+        0,
+    );
     state
         .set_choice(&choice(&rt, "release", "b"), -1)
         .expect(&rt, "memory");
     assert_eq!(rt; state.choice(&choice(&rt, "release", "b")), Some(-1));
     assert_eq!(rt; state.choice(&choice(&rt, "release", "a")), None);
-    assert_eq!(rt; state.choices().len(), 1);
-}
-
-#[test]
-fn a_value_is_bound_anew(rt: HostRuntime) {
-    let mut state = State::new(rt.alloc(), 0);
     let name = text(&rt, "x");
     state.set_bound(&name, -3).expect(&rt, "memory");
     state.set_bound(&name, 4).expect(&rt, "memory");
     state.set_min_time(9);
     assert_eq!(rt; state.bound(&name), Some(4));
-    assert_eq!(rt; state.bound_values().len(), 1);
+    assert_eq!(rt; (state.choices().len(), state.bound_values().len()), (1, 1));
     assert_eq!(rt; state.min_time(), 9);
-    assert!(rt; state != State::new(rt.alloc(), 9));
-}
-
-#[test]
-fn all_accounts_are_taken_out_in_order(rt: HostRuntime) {
-    let rows = [
-        (role(&rt, "a"), ada(&rt), 5),
-        (address(&rt, "x"), ada(&rt), 7),
-    ];
-    let mut state = State::start(rt.alloc(), rows.as_slice(), 0).expect(&rt, "a state");
-    let taken = state.take_accounts();
-    assert_eq!(rt; taken.len(), 2);
-    assert_eq!(rt; taken[0].1, 7);
-    assert!(rt; state == State::new(rt.alloc(), 0));
-}
-
-#[test]
-fn a_state_is_made_of_sorted_maps(rt: HostRuntime) {
-    let state = State::from_entries(
-        Entries::new(rt.alloc()),
-        Entries::new(rt.alloc()),
-        Entries::new(rt.alloc()),
-        9,
-    );
-    assert!(rt; state == State::new(rt.alloc(), 9));
 }

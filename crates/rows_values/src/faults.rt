@@ -1,0 +1,184 @@
+//! The values of faults and tasks, one after another.
+use compiler::CompileFault;
+use contract::{SemFault, StateFault};
+use contract_json::{JsonFault, WriteFault};
+use marlowe_cli::{Task, WordsFault};
+use marlowe_io::LoadFault;
+use marlowe_play::PlayFault;
+use marlowe_run::{Fault, RunFault, TableFault, refusal};
+use rows_text::{RowFault, put_same};
+use std::alloc::{AllocError, Global};
+use std::fmt::Display;
+
+const SEM_FAULTS: [SemFault; 7] = [
+    SemFault::InvalidInterval,
+    SemFault::IntervalInPast,
+    SemFault::Ambiguous,
+    SemFault::NoMatch,
+    SemFault::Useless,
+    SemFault::Leaves128,
+    SemFault::Memory,
+];
+
+const JSON_FAULTS: [JsonFault; 9] = [
+    JsonFault::NotJson,
+    JsonFault::TooLong,
+    JsonFault::NoForm,
+    JsonFault::NotWhole,
+    JsonFault::OutOfRange,
+    JsonFault::BadHex,
+    JsonFault::Merkleized,
+    JsonFault::BadState,
+    JsonFault::Memory,
+];
+
+const STATE_FAULTS: [StateFault; 3] = [
+    StateFault::NotPositive,
+    StateFault::Repeated,
+    StateFault::Memory,
+];
+
+const COMPILE_FAULTS: [CompileFault; 3] = [
+    CompileFault::TooManyNodes,
+    CompileFault::TooDeep,
+    CompileFault::Memory,
+];
+
+const WRITE_FAULTS: [WriteFault; 2] = [WriteFault::OutOfRange, WriteFault::Memory];
+
+const RUN_FAULTS: [RunFault; 6] = [
+    RunFault::Contract(JsonFault::NoForm),
+    RunFault::State(JsonFault::BadState),
+    RunFault::Transaction(JsonFault::NotWhole),
+    RunFault::Semantics(SemFault::Useless),
+    RunFault::Write(WriteFault::OutOfRange),
+    RunFault::Memory,
+];
+
+const TABLE_FAULTS: [TableFault; 3] = [
+    TableFault::Contract(JsonFault::NoForm),
+    TableFault::Compile(CompileFault::TooDeep),
+    TableFault::Memory,
+];
+
+const LOAD_FAULTS: [LoadFault; 2] = [LoadFault::Unreadable, LoadFault::Memory];
+
+const WORDS_FAULTS: [WordsFault; 2] = [WordsFault::NoText, WordsFault::Memory];
+
+const FAULTS: [Fault; 2] = [
+    Fault::Run(RunFault::Memory),
+    Fault::Table(TableFault::Memory),
+];
+
+const TASKS: [Task<'static>; 4] = [
+    Task::Table { contract: "a" },
+    Task::Run {
+        contract: "a",
+        state: "b",
+        transaction: "c",
+    },
+    Task::Play {
+        scenario: "a",
+        one: true,
+    },
+    Task::Analyse {
+        contract: "a",
+        state: Some("b"),
+        json: true,
+        no_runs: false,
+    },
+];
+
+/// A line of the text of each fault of that name.
+pub fn texts_row(alloc: Global, name: &str) -> Result<Vec<u8>, RowFault> {
+    let texts = match name {
+        "SemFault" => texts_of(alloc, SEM_FAULTS.as_slice())?,
+        "StateFault" => texts_of(alloc, STATE_FAULTS.as_slice())?,
+        "CompileFault" => texts_of(alloc, COMPILE_FAULTS.as_slice())?,
+        "JsonFault" => texts_of(alloc, JSON_FAULTS.as_slice())?,
+        "WriteFault" => texts_of(alloc, WRITE_FAULTS.as_slice())?,
+        "RunFault" => texts_of(alloc, RUN_FAULTS.as_slice())?,
+        "TableFault" => texts_of(alloc, TABLE_FAULTS.as_slice())?,
+        "PlayFault" => {
+            let setup = PlayFault::Setup(Vec::new(alloc));
+            let faults = [
+                PlayFault::Scenario(JsonFault::NoForm),
+                setup,
+                PlayFault::Memory,
+            ];
+            texts_of(alloc, faults.as_slice())?
+        }
+        _ => return Err(RowFault::NoSuchRow),
+    };
+    Ok(texts)
+}
+
+/// Whether the values of that name are told apart.
+pub fn apart_row(alloc: Global, name: &str) -> Result<Vec<u8>, RowFault> {
+    let line = match name {
+        "LoadFault" => apart_of(alloc, LOAD_FAULTS.as_slice())?,
+        "WordsFault" => apart_of(alloc, WORDS_FAULTS.as_slice())?,
+        "Fault" => apart_of(alloc, FAULTS.as_slice())?,
+        "Task" => apart_of(alloc, TASKS.as_slice())?,
+        _ => return Err(RowFault::NoSuchRow),
+    };
+    Ok(line)
+}
+
+/// The line of the refusal for each fault of that name.
+pub fn refused_row(alloc: Global, name: &str) -> Result<Vec<u8>, RowFault> {
+    let mut lines = Vec::new(alloc);
+    match name {
+        "RunFault" => {
+            for fault in RUN_FAULTS {
+                put_refusal(alloc, &mut lines, Fault::Run(fault))?;
+            }
+        }
+        "TableFault" => {
+            for fault in TABLE_FAULTS {
+                put_refusal(alloc, &mut lines, Fault::Table(fault))?;
+            }
+        }
+        _ => return Err(RowFault::NoSuchRow),
+    }
+    lines.pop();
+    Ok(lines)
+}
+
+fn put_refusal(alloc: Global, lines: &mut Vec<u8>, fault: Fault) -> Result<(), AllocError> {
+    lines.extend_from_slice(refusal(alloc, &fault)?.as_slice())?;
+    lines.push(b'\n')?;
+    Ok(())
+}
+
+// A line of the text of each fault, behind it `again` where the fault equals the one before it.
+fn texts_of<F: Display + PartialEq>(alloc: Global, faults: &[F]) -> Result<Vec<u8>, AllocError> {
+    let mut lines = Vec::new(alloc);
+    let mut last: Option<&F> = None;
+    for fault in faults {
+        let is_again = match last {
+            Some(before) => *before == *fault,
+            None => false,
+        };
+        let again = if is_again { " again" } else { "" };
+        let text = format!(in alloc; "{fault}{again}\n")?;
+        lines.extend_from_slice(text.as_bytes())?;
+        last = Some(fault);
+    }
+    lines.pop();
+    Ok(lines)
+}
+
+// For each value ` same` where it equals itself, and before it, but at the first, whether it equals the one before it.
+fn apart_of<T: PartialEq>(alloc: Global, values: &[T]) -> Result<Vec<u8>, AllocError> {
+    let mut line = String::from_str(alloc, "apart")?;
+    let mut last: Option<&T> = None;
+    for value in values {
+        if let Some(before) = last {
+            put_same(&mut line, *before == *value)?;
+        }
+        put_same(&mut line, *value == *value)?;
+        last = Some(value);
+    }
+    Ok(line.into_bytes())
+}

@@ -1,0 +1,45 @@
+//! What no text of the greatest length stands for: numbers that JSON lacks, and large contracts.
+use crate::sorts::text_or_fault;
+use crate::spellings::in_hex;
+use contract::{Boxed, Contract, Text, TryClone, Value};
+use contract_bytes::encode_contract;
+use contract_json::write_contract;
+use rows_text::{RowFault, number, same_or_other, wide};
+use std::alloc::{AllocError, Global};
+
+/// The bytes of the contract that binds `x` to a number, and a line for its text or the fault of writing it.
+pub fn constant_row(alloc: Global, text: &str) -> Result<Vec<u8>, RowFault> {
+    let close = Boxed::new(alloc, Contract::Close)?;
+    let name = Text::from_string(String::from_str(alloc, "x")?);
+    let contract = Contract::Let(name, Value::Constant(number(text)?), close);
+    Ok(lent(contract, |contract| bytes_and_text(alloc, contract))?)
+}
+
+// Dropped once: lends what would else be owned by a function of many ways out.
+fn lent<T: Drop, U, F: FnOnce(&T) -> U>(thing: T, lend: F) -> U
+    requires { F.IsAlwaysCallable lend }
+{
+    lend(&thing)
+}
+
+fn bytes_and_text(alloc: Global, contract: &Contract) -> Result<Vec<u8>, AllocError> {
+    let bytes = encode_contract(alloc, contract)?;
+    let mut lines = in_hex(alloc, bytes.as_slice())?;
+    lines.push(b'\n')?;
+    let text = text_or_fault(alloc, write_contract(alloc, contract))?;
+    lines.extend_from_slice(text.as_slice())?;
+    Ok(lines)
+}
+
+/// Whether a copy of a contract that waits for so many notifies is the same, and how many bytes the contract has.
+pub fn large_row(alloc: Global, text: &str) -> Result<Vec<u8>, RowFault> {
+    let contract = wide(alloc, number(text)?)?;
+    Ok(lent(contract, |contract| copy_and_length(alloc, contract))?)
+}
+
+fn copy_and_length(alloc: Global, contract: &Contract) -> Result<Vec<u8>, AllocError> {
+    let same = same_or_other(lent(contract.try_clone()?, |copy| *copy == *contract));
+    let bytes = encode_contract(alloc, contract)?;
+    let told = format!(in alloc; "{same} in {} bytes", bytes.len())?;
+    Ok(told.into_bytes())
+}

@@ -1,0 +1,142 @@
+//! Tables of contracts.
+use collections::{Boxed, Items, TryClone};
+use compiler::{CompileFault, compile};
+use contract::{Action, Case, Contract, Observation};
+use contract_json::read_contract;
+use marlowe_run::compile_fault_name;
+use rows_text::{RowFault, nested, number, parts, put_beside, put_copies, put_copy, wide};
+use std::alloc::{AllocError, Global};
+use table::{Cont, Entry, Table};
+
+/// The answer to a row about a table.
+pub fn table_row(alloc: Global, word: &str, text: &str) -> Result<Vec<u8>, RowFault> {
+    let answer = match word {
+        "last" => asked_row(alloc, text, Asked::LastTimeout)?,
+        "copies" => asked_row(alloc, text, Asked::Copies)?,
+        "nested" => made_row(alloc, nested(alloc, number(text)?)?, Asked::Height)?,
+        "wide" => made_row(alloc, wide(alloc, number(text)?)?, Asked::Root)?,
+        "grid" => {
+            let (outer, inner) = parts(text)?;
+            let contract = grid(alloc, number(outer)?, number(inner)?)?;
+            made_row(alloc, contract, Asked::Root)?
+        }
+        _ => return Err(RowFault::NoSuchRow),
+    };
+    Ok(answer)
+}
+
+fn told(alloc: Global, line: &str) -> Result<Vec<u8>, AllocError> {
+    Vec::from_slice(alloc, line.as_bytes())
+}
+
+fn told_fault(alloc: Global, fault: CompileFault) -> Result<Vec<u8>, AllocError> {
+    told(alloc, compile_fault_name(fault))
+}
+
+// Dropped once: lends what would else be owned by a function of many ways out.
+fn lent<T: Drop, U, F: FnOnce(&T) -> U>(thing: T, lend: F) -> U
+    requires { F.IsAlwaysCallable lend }
+{
+    lend(&thing)
+}
+
+// What is printed of the table of a contract and the number of its root.
+#[derive(Clone, Copy)]
+enum Asked {
+    LastTimeout,
+    Height,
+    Root,
+    Copies,
+}
+
+fn asked_row(alloc: Global, text: &str, asked: Asked) -> Result<Vec<u8>, AllocError> {
+    match read_contract(alloc, text.as_bytes()) {
+        Ok(contract) => lent(contract, |contract| compiled(alloc, contract, asked)),
+        Err(_) => told(alloc, "no such row"),
+    }
+}
+
+fn made_row(alloc: Global, contract: Contract, asked: Asked) -> Result<Vec<u8>, AllocError> {
+    lent(contract, |contract| compiled(alloc, contract, asked))
+}
+
+// A contract that waits for so many notifies of what is true, each followed by an equal one that waits for so many more, and each
+// of these by close. Nothing is shared in it.
+fn grid(alloc: Global, outer: u32, inner: u32) -> Result<Contract, AllocError> {
+    let mut cases = Items::new(alloc);
+    for _ in 0..outer {
+        cases.push(Case {
+            action: Action::Notify(Observation::TrueObs),
+            then: wide(alloc, inner)?,
+        })?;
+    }
+    let close = Boxed::new(alloc, Contract::Close)?;
+    Ok(Contract::When(cases, 100, close))
+}
+
+fn compiled(alloc: Global, contract: &Contract, asked: Asked) -> Result<Vec<u8>, AllocError> {
+    match compile(alloc, contract) {
+        Ok((table, root)) => lent(table, |table| asked_of(alloc, table, root, asked)),
+        Err(fault) => told_fault(alloc, fault),
+    }
+}
+
+fn asked_of(alloc: Global, table: &Table, root: Cont, asked: Asked) -> Result<Vec<u8>, AllocError> {
+    match asked {
+        Asked::LastTimeout => last(alloc, table, root),
+        Asked::Height => height(alloc, table, root),
+        Asked::Root => root_of(alloc, root),
+        Asked::Copies => copies(alloc, table, root),
+    }
+}
+
+// Whether a copy of the table, of its root and of each node is the same, and each node the one before it.
+fn copies(alloc: Global, table: &Table, root: Cont) -> Result<Vec<u8>, AllocError> {
+    let mut lines = String::from_str(alloc, "table")?;
+    put_copy(&mut lines, table)?;
+    lines.push_str(" root")?;
+    put_copy(&mut lines, &root)?;
+    put_nodes(&mut lines, "\nv", table.values())?;
+    put_nodes(&mut lines, "\no", table.observations())?;
+    put_nodes(&mut lines, "\nc", table.cases())?;
+    put_nodes(&mut lines, "\nk", table.conts())?;
+    Ok(lines.into_bytes())
+}
+
+fn put_nodes<N: TryClone + PartialEq + Drop>(
+    lines: &mut String,
+    letter: &str,
+    nodes: &[Entry<N>],
+) -> Result<(), AllocError> {
+    lines.push_str(letter)?;
+    put_copies(lines, nodes)?;
+    put_beside(lines, nodes)
+}
+
+fn last(alloc: Global, table: &Table, root: Cont) -> Result<Vec<u8>, AllocError> {
+    if !table.contains(root) {
+        return told(alloc, "no such number");
+    }
+    match table.last_timeout(root) {
+        Some(time) => {
+            let line = format!(in alloc; "{time}")?;
+            Ok(line.into_bytes())
+        }
+        None => told(alloc, "none"),
+    }
+}
+
+fn height(alloc: Global, table: &Table, root: Cont) -> Result<Vec<u8>, AllocError> {
+    if !table.contains(root) {
+        return told(alloc, "no such number");
+    }
+    let height = table.cont_node(root).height;
+    let line = format!(in alloc; "height {height}")?;
+    Ok(line.into_bytes())
+}
+
+fn root_of(alloc: Global, root: Cont) -> Result<Vec<u8>, AllocError> {
+    let number = root.0;
+    let line = format!(in alloc; "root k{number}")?;
+    Ok(line.into_bytes())
+}
