@@ -10,7 +10,7 @@ Expect   how many contracts, runs and transactions there were, which alarms were
 Else     what differs, and a folder with the contract, the state and the transactions; then status 1
 
 Half of the contracts are made form by form: choices, deposits, Lets, Ifs and Pays of amounts that may be asked for or held, so that some never
-warn. The others are those of rows_analysis/data with a few numbers, parties or comparisons changed. Of each it asks:
+warn. The others are those of rows_commands/data/analyses with a few numbers, parties or comparisons changed. Of each it asks:
 - status 0 and no alarm, or status 3 and alarms;
 - each run that is told is accepted up to its last transaction, which warns of that kind, or is refused with Leaves128;
 - in no random run a warning of a kind comes that no alarm has, nor Leaves128 without its alarm;
@@ -262,7 +262,7 @@ def rows_of(file):
 
 def contracts_of_rows():
     found = {}
-    for file in sorted(glob.glob(f"{ROOT}/crates/rows_analysis/data/*.txt")):
+    for file in sorted(glob.glob(f"{ROOT}/crates/rows_commands/data/analyses/*.txt")):
         for _, contract, state, _, _, _ in rows_of(file):
             found[contract + state] = json.loads(contract), json.loads(state) if state else EMPTY
     return list(found.values())

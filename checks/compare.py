@@ -12,7 +12,7 @@ HERE = os.path.dirname(os.path.abspath(__file__))
 sys.path.insert(0, HERE)
 from interpreter import printed
 PROGRAM = os.path.join(HERE, "..", "crates", "marlowe", "out", "marlowe")
-ROWS = os.path.join(HERE, "..", "crates", "rows_runs")
+ROWS = os.path.join(HERE, "..", "crates", "rows_values")
 TITLE = "# random contracts, as a program written apart answers"
 R = random.Random()
 PARTIES = [{"role_token": "a"}, {"role_token": "b"}, {"address": "x"}]

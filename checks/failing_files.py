@@ -16,7 +16,7 @@ import argparse, os, shutil, subprocess, sys, tempfile, threading
 
 ROOT = os.path.dirname(os.path.dirname(os.path.abspath(__file__)))
 PROGRAM = f"{ROOT}/crates/marlowe/out/marlowe"
-EXAMPLES = f"{ROOT}/crates/rows_runs/data/examples"
+EXAMPLES = f"{ROOT}/crates/rows_commands/data/examples"
 PLAY = f"{ROOT}/examples/plays/escrow/scenario.json"
 wrong = []
 

@@ -19,6 +19,7 @@ HERE = os.path.dirname(os.path.abspath(__file__))
 TOP = os.path.join(HERE, "..")
 sys.path.insert(0, os.path.join(TOP, "tools"))
 import draw
+import rows
 import timeline
 
 DATA = os.path.join(TOP, "crates", "rows_commands", "data")
@@ -39,15 +40,9 @@ def write(text, *path):
 
 
 def answers(folder):
-    """What stands below each command of a folder's rows, without the folder's path."""
-    found, command = {}, None
-    for line in read(folder, "rows.txt").splitlines():
-        if line.startswith("marlowe "):
-            command = line.replace(folder + "/", "")
-            found[command] = ""
-        elif line.startswith("="):
-            found[command] += line[1:].removeprefix(" ") + "\n"
-    return found
+    """What each command of a folder's rows prints on standard output, without the folder's path."""
+    given = rows.answered(read(folder, "rows.txt").splitlines())
+    return {line.replace(folder + "/", ""): "".join(each + "\n" for each in rows.output_of(written)) for line, written in given if line.startswith("marlowe ")}
 
 
 def scenarios(folder):

@@ -14,6 +14,8 @@ import subprocess
 import sys
 from pathlib import Path
 
+import rows as row_files
+
 TOP = Path(__file__).resolve().parent.parent
 PAGE = TOP / "docs" / "tutorial.md"
 DATA = TOP / "crates" / "rows_commands" / "data" / "tutorial"
@@ -31,14 +33,11 @@ def blocks(text):
 
 
 def rows():
-    """What stands below each command of the rows, and the files that they give, each with whether a row before printed its text."""
-    found, given, command = {}, {}, None
-    for line in (DATA / "rows.txt").read_text().splitlines():
+    """What each command of the rows prints, and the files that they give, each with whether a row before printed its text."""
+    found, given = {}, {}
+    for line, written in row_files.answered((DATA / "rows.txt").read_text().splitlines()):
         if line.startswith("marlowe "):
-            command = line.replace("tutorial/", "")
-            found[command] = []
-        elif line.startswith("="):
-            found[command].append(line[1:].removeprefix(" "))
+            found[line.replace("tutorial/", "")] = row_files.output_of(written) + row_files.errors_of(written)
         elif line.startswith("file "):
             _, name, text = line.split(" ", 2)
             given[name.removeprefix("tutorial/")] = any(text in each for printed in found.values() for each in printed)

@@ -67,8 +67,8 @@ def call_answers():
 
 def program_answers():
     """What the program itself tells, beside the texts of `clap`."""
-    text = (TOP / "crates/marlowe/src/main.rt").read_text()
-    told = re.findall(r'eprintln!\(rt; "([^"]+)"\)', text)
+    text = "".join((TOP / "crates" / path).read_text() for path in ("marlowe_commands/src/command.rt", "marlowe/src/main.rt"))
+    told = re.findall(r'"((?:unreadable|unwritable|error:)[^"]*?)(?:\\n)?"', text)
     names = ["no text in UTF-8" if "no text in UTF-8" in each else each.split(" ")[0] for each in told]
     return list(dict.fromkeys(names)) + WORDS
 

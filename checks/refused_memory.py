@@ -21,7 +21,7 @@ from concurrent.futures import ThreadPoolExecutor
 TOP = os.path.join(os.path.dirname(os.path.abspath(__file__)), "..")
 CALLS = os.path.join(TOP, "crates/tests_memory/out/tests_memory")
 MARLOWE = os.path.join(TOP, "crates/marlowe/out/marlowe")
-EXAMPLES = os.path.join(TOP, "crates/rows_runs/data/examples")
+EXAMPLES = os.path.join(TOP, "crates/rows_commands/data/examples")
 PLAYS = os.path.join(TOP, "examples/plays")
 SECONDS = 60
 

@@ -10,8 +10,8 @@ so, and this script that there is a row for each name. It reads the sources and 
 - faults: each variant of each enum `..Fault` stands by its name in an answer of the row programs that print it, or is named in a
   test; and the text that it displays stands in an answer below a row `texts ENUM`;
 - replies and verdicts: the word for each variant begins an answer, or stands in one;
-- calls: each function and method of the crates PUBLIC whose result can be Memory is called in a source of a row program, of `tests` or
-  of `tests_threads`. Methods are found by their names alone;
+- calls: each function and method of the crates PUBLIC whose result can be Memory is called in a source of a row program, of
+  `marlowe_commands`, of `tests` or of `tests_threads`. Methods are found by their names alone;
 - copies: each type with `TryClone` has a row that copies it; `==`: each public type that has it stands in a row that compares.
 
 What no row can print, or need not, is in LEFT, with the reason. Expect no line."""
@@ -26,26 +26,27 @@ ROWS = [crate for crate in CRATES if crate.startswith("rows_")]
 TESTS = ["tests", "tests_threads"]
 LIBRARIES = [crate for crate in CRATES if crate not in ROWS + TESTS + ["marlowe", "uses", "refused_calls", "tests_memory"]]
 # The crates whose calls a user makes.
-PUBLIC = """marlowe_run marlowe_analyse marlowe_play marlowe_cli marlowe_io contract_json json_read_scenarios evaluation semantics states compiler table machine contract_bytes
+PUBLIC = """marlowe_commands marlowe_run marlowe_analyse marlowe_play marlowe_cli marlowe_io contract_json json_read_scenarios evaluation semantics states compiler table machine contract_bytes
             bundle eutxo_types eutxo parallel_check roles ledger chain builder hub parties""".split()
 
 # Where the names of an enum's variants are printed, and for a variant that isn't printed by its own name, how.
 PRINTED = {
-    "SemFault": (["rows_runs"], {}),
-    "StateFault": (["rows_scenarios"], {}),
-    "CompileFault": (["rows_tables"], {}),
-    "JsonFault": (["rows_runs"], {}),
-    "WriteFault": (["rows_runs"], {}),
-    "RunFault": (["rows_runs"], {"Contract": "refused contract ", "State": "refused state ", "Transaction": "refused transaction ", "Semantics": "refused NoMatch$"}),
-    "TableFault": (["rows_tables"], {"Contract": "refused contract ", "Compile": "TooDeep$"}),
-    "PlayFault": (["rows_scenarios"], {"Scenario": "refused scenario ", "Setup": "refused thread "}),
+    "SemFault": (["rows_commands"], {}),
+    "StateFault": (["rows_commands"], {}),
+    "CompileFault": (["rows_values"], {"Memory": "Memory$"}),
+    "JsonFault": (["rows_values"], {"Memory": "Memory$"}),
+    "WriteFault": (["rows_values"], {"Memory": "Memory$"}),
+    "RunFault": (["rows_values"], {"Contract": "refused contract ", "State": "refused state ", "Transaction": "refused transaction ", "Semantics": "refused Useless$",
+                                   "Write": "refused OutOfRange$"}),
+    "TableFault": (["rows_values"], {"Contract": "refused contract ", "Compile": "refused TooDeep$"}),
+    "PlayFault": (["rows_commands"], {"Scenario": "refused scenario ", "Setup": "refused thread "}),
     "GenesisFault": (["rows_chain"], {}),
     "BundleFault": (["rows_transactions"], {}),
     "TxFault": (["rows_transactions", "rows_chain"], {}),
     "StepFault": (["rows_transactions"], {}),
     "BuildFault": (["rows_chain"], {}),
-    "LoadFault": (["rows_runs"], {"Unreadable": "unreadable$"}),
-    "Fault": (["rows_runs", "rows_tables"], {"Run": "refused NoMatch$", "Table": "refused contract "}),
+    "LoadFault": (["rows_values"], {"Unreadable": "unreadable$", "Memory": "Memory$"}),
+    "Fault": (["rows_commands"], {"Run": "refused NoMatch$", "Table": "refused contract "}),
     "WordsFault": ([], {}),
     "Verdict": (["rows_chain"], {"Accepted": r"\d+ accepted", "Refused": r"\d+ refused "}),
     "Reply": (["rows_chain"], {"Published": "published ", "NotCompiled": "refused TooDeep$", "IdInUse": "in use$", "Advanced": "advanced$", "Backward": "backward$",
@@ -54,21 +55,21 @@ PRINTED = {
 
 # What copies a type, and compares the copy by `==`: a row program, and how a row of it begins. ROW has what compares only.
 COPIED = {
-    "rows_runs copy contract": "Contract Boxed Items",
-    "rows_runs copy value": "Value",
-    "rows_runs copy observation": "Observation",
-    "rows_runs copy action": "Action",
-    "rows_runs copy case": "Case",
-    "rows_runs copy input": "Input",
-    "rows_runs copy party": "Party Text",
-    "rows_runs copy token": "Token Bytes",
-    "rows_runs copy choice_id": "ChoiceId",
-    "rows_runs copy payee": "Payee",
-    "rows_runs copy bound": "Bound",
-    "rows_runs copy state": "State Account Entries",
-    "rows_runs copy transaction": "Transaction",
-    "rows_runs run": "Outcome Warning Payment",
-    "rows_tables copies": "Table Entry ValueNode ObservationNode CaseNode ContNode Cont",
+    "rows_values copy contract": "Contract Boxed Items",
+    "rows_values copy value": "Value",
+    "rows_values copy observation": "Observation",
+    "rows_values copy action": "Action",
+    "rows_values copy case": "Case",
+    "rows_values copy input": "Input",
+    "rows_values copy party": "Party Text",
+    "rows_values copy token": "Token Bytes",
+    "rows_values copy choice_id": "ChoiceId",
+    "rows_values copy payee": "Payee",
+    "rows_values copy bound": "Bound",
+    "rows_values copy state": "State Account Entries",
+    "rows_values copy transaction": "Transaction",
+    "rows_values run": "Outcome Warning Payment",
+    "rows_values copies": "Table Entry ValueNode ObservationNode CaseNode ContNode Cont",
     "rows_transactions copies transaction": "Tx Spend OutputRef Redeemer Output Lock Datum Bundle",
     "rows_transactions copies found": "Resolved Scripts",
     "rows_transactions copies published": "Published",
@@ -80,23 +81,23 @@ COPIED = {
     "rows_chain look": "Look Ask PayoutLock Unspent ThreadOutput",
 }
 COMPARED = {
-    "rows_runs texts SemFault": "SemFault",
-    "rows_runs texts StateFault": "StateFault",
-    "rows_runs texts CompileFault": "CompileFault",
-    "rows_runs texts JsonFault": "JsonFault",
-    "rows_runs texts WriteFault": "WriteFault",
-    "rows_runs texts RunFault": "RunFault",
-    "rows_runs texts TableFault": "TableFault",
-    "rows_runs compare transaction": "Interval Transaction",
-    "rows_scenarios texts PlayFault": "PlayFault",
+    "rows_values texts SemFault": "SemFault",
+    "rows_values texts StateFault": "StateFault",
+    "rows_values texts CompileFault": "CompileFault",
+    "rows_values texts JsonFault": "JsonFault",
+    "rows_values texts WriteFault": "WriteFault",
+    "rows_values texts RunFault": "RunFault",
+    "rows_values texts TableFault": "TableFault",
+    "rows_values compare transaction": "Interval Transaction",
+    "rows_values texts PlayFault": "PlayFault",
     "rows_transactions texts BundleFault": "BundleFault",
     "rows_transactions apart StepFault": "StepFault",
     "rows_transactions apart StepAnswer": "StepAnswer",
     "rows_transactions totals": "WideSum",
-    "rows_runs apart LoadFault": "LoadFault",
-    "rows_runs apart WordsFault": "WordsFault",
-    "rows_runs apart Fault": "Fault",
-    "rows_runs apart Task": "Task",
+    "rows_values apart LoadFault": "LoadFault",
+    "rows_values apart WordsFault": "WordsFault",
+    "rows_values apart Fault": "Fault",
+    "rows_values apart Task": "Task",
     "rows_chain texts GenesisFault": "GenesisFault",
     "rows_chain copies ": "Entry",
 }
@@ -105,13 +106,12 @@ COMPARED = {
 MEMORY = "answered only where memory was refused"
 EXACT = "its clause is an equation without \"memory aside\", and its one fault is Leaves128"
 ONE = "it has one value"
-KNOWN = "each If that rows_analysis analyses copies what is known"
+KNOWN = "each If that rows_commands analyses copies what is known"
 LEFT = {
     "fault SemFault::Memory": MEMORY,
     "fault CompileFault::Memory": MEMORY,
     "fault JsonFault::Memory": MEMORY,
     "fault WriteFault::Memory": MEMORY,
-    "fault TableFault::Memory": MEMORY,
     "fault PlayFault::Memory": MEMORY,
     "fault GenesisFault::Memory": MEMORY,
     "fault BundleFault::Memory": MEMORY,
@@ -150,7 +150,6 @@ LEFT = {
     "call roles::put_due": "each built step of a row prints what it puts",
     "call roles::continuation": "each built start of a row prints what it makes",
     "call ledger::judge": "each Submit and Round of a row answers what it answers",
-    "call marlowe_play::play_watched": "each play of a row is one that nobody watches",
     "call json_read_scenarios::scenario_from_json": "each reading of a scenario's text is its answer",
     "== Refusal": "the reader within json_tree has two faults, which rows print as JsonFault's",
     "== Leaves128": ONE,
@@ -176,12 +175,13 @@ def code(crates):
 
 def lines(program):
     """The lines of a row program's data."""
-    return [line for path in sorted((TOP / "crates" / program / "data").glob("*.txt")) for line in read(path).splitlines()]
+    return [line for path in sorted((TOP / "crates" / program / "data").rglob("*.txt")) for line in read(path).splitlines()]
 
 
 LINES = {program: lines(program) for program in ROWS if (TOP / "crates" / program / "data").is_dir()}
-ANSWERS = {program: [line[2:] for line in rows if line.startswith("= ")] for program, rows in LINES.items()}
-RUN = code(ROWS + TESTS)
+ANSWERS = {program: [line[2:].removeprefix("stderr ") for line in rows if line.startswith("= ")] for program, rows in LINES.items()}
+# `marlowe_commands` is what the command lines of rows_commands call.
+RUN = code(ROWS + TESTS + ["marlowe_commands"])
 TESTED = code(TESTS)
 
 

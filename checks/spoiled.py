@@ -13,7 +13,7 @@ Else     what is wrong, the command line over copies of its files, and what it w
 Each text is spoiled once or a few times: a byte changed, a part cut out or doubled, a key renamed, a number put to an end of its range,
 a name in some script of the world, a number written as a text or a text as a number, a part exchanged for one of another text. A play is in
 threads or, with --one, in turn; an analysis has a state or none, and is for people or, with --json, for tools. It is also of the contracts of
-rows_analysis, which have alarms of all kinds.
+the analyses of rows_commands, which have alarms of all kinds.
 Of each answer it asks: status 0, with a text on standard output alone, or status 1, with one line `refused ..` on standard error alone; at
 most a second; at most 64 MiB. Of rows: status 0 or 1, and nothing on standard error. What takes longer than a second beside the other workers
 is asked again alone before it is at fault.
@@ -41,7 +41,7 @@ ANALYSIS_SECONDS = 2
 # The bytes of the longest texts of an analysis whose search costs most.
 HOSTILE_BYTES = 64 << 10
 # The other files of a `run` of an analysed contract.
-BESIDE = f"{ROOT}/crates/rows_runs/data/examples/escrow_1_the_buyer_deposits"
+BESIDE = f"{ROOT}/crates/rows_commands/data/examples/escrow_1_the_buyer_deposits"
 # The bytes of a spoiled text at most: twice those that a program reads of a file.
 MOST_BYTES = 1 << 21
 
@@ -431,10 +431,10 @@ def kinds_of(word, answer):
 
 def texts_of_examples():
     """For each command the texts of its examples, of each of which one is spoiled."""
-    folders = sorted(glob.glob(f"{ROOT}/crates/rows_runs/data/examples/*/"))
+    folders = sorted(glob.glob(f"{ROOT}/crates/rows_commands/data/examples/*/"))
     runs = [[text_of(f"{folder}/{it}.json") for it in ("contract", "state", "transaction")] for folder in folders]
     plays = [[text_of(it)] for it in sorted(glob.glob(f"{ROOT}/examples/plays/*/scenario.json"))]
-    analyses = {(contract, state or json.dumps(EMPTY)) for it in glob.glob(f"{ROOT}/crates/rows_analysis/data/*.txt") for _, contract, state, *_ in rows_of(it)}
+    analyses = {(contract, state or json.dumps(EMPTY)) for it in glob.glob(f"{ROOT}/crates/rows_commands/data/analyses/*.txt") for _, contract, state, *_ in rows_of(it)}
     analyses = [texts[:2] for texts in runs] + [[it.encode() for it in texts] for texts in sorted(analyses)]
     analyses += [[text.encode(), json.dumps(EMPTY).encode()] for make in SEARCHED for text in itertools.takewhile(is_short, texts_of(make))]
     return {"run": runs, "table": [texts[:1] for texts in runs], "play": plays, "analyse": analyses}

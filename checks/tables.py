@@ -2,7 +2,7 @@
 """Compiles contracts in plain Python, apart from the program, and compares the tables of the examples with that.
 
 Needs    readings.py beside it, and nothing built. It is written from docs/tables.md and docs/formats.md, and shares no code with the program.
-Usage    tables.py                 compares `table.txt` of each folder of crates/rows_runs/data/examples
+Usage    tables.py                 compares `table.txt` of each folder of crates/rows_commands/data/examples
          tables.py CONTRACT        prints what `marlowe table CONTRACT` has to print
 Expect   `N tables as written`; or the lines of the table, or `refused contract FAULT` and status 1.
 Else     the first folder whose table differs, and status 1.
@@ -15,7 +15,7 @@ HERE = os.path.dirname(os.path.abspath(__file__))
 sys.path.insert(0, HERE)
 import readings
 
-EXAMPLES = os.path.join(HERE, "..", "crates", "rows_runs", "data", "examples")
+EXAMPLES = os.path.join(HERE, "..", "crates", "rows_commands", "data", "examples")
 VALUES = [("amount_of_token", "in_account"), ("negate",), ("add", "and"), ("value", "minus"), ("multiply", "times"), ("divide", "by"), ("value_of_choice",),
           ("use_value",), ("if", "then", "else")]
 OBSERVATIONS = [("both", "and"), ("either", "or"), ("not",), ("chose_something_for",), ("value", "ge_than"), ("value", "gt"), ("value", "lt"),

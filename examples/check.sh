@@ -5,7 +5,7 @@
 cd "$(dirname "$0")/.." || exit 2
 program=crates/marlowe/out/marlowe
 failed=0
-for example in crates/rows_runs/data/examples/*/; do
+for example in crates/rows_commands/data/examples/*/; do
   example=${example%/}
   name=${example##*/}
   out=$("$program" run "$example/contract.json" "$example/state.json" "$example/transaction.json" 2>&1)
@@ -32,7 +32,7 @@ done
 # an analysis without alarms, one with an alarm, and one of a text that is no contract
 for wanted in "escrow_1_the_buyer_deposits 0" "partial_pay 3" "not_json 1"; do
   name=${wanted% *}
-  example=crates/rows_runs/data/examples/$name
+  example=crates/rows_commands/data/examples/$name
   "$program" analyse "$example/contract.json" "$example/state.json" >/dev/null 2>&1
   status=$?
   if [ "$status" = "${wanted#* }" ]; then echo "$name, analysed: as written"

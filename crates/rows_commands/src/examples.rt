@@ -43,14 +43,14 @@ fn is_as_in<R: Files + AllocGlobal>(
     refusal: &str,
 ) -> Result<bool, RowFault> {
     match printed.status {
-        0 => holds(rt, folder, output, printed.output.as_slice()),
-        1 => holds(rt, folder, refusal, printed.errors.as_slice()),
+        0 => is_in_file(rt, folder, output, printed.output.as_slice()),
+        1 => is_in_file(rt, folder, refusal, printed.errors.as_slice()),
         _ => Ok(false),
     }
 }
 
 // Whether a file of a folder is there and holds a text.
-fn holds<R: Files + AllocGlobal>(
+fn is_in_file<R: Files + AllocGlobal>(
     rt: &R,
     folder: &str,
     name: &str,
