@@ -17,19 +17,7 @@ pub enum Part {
 pub fn shown(alloc: Global, printed: &Printed, part: Part) -> Result<Vec<u8>, Memory> {
     let mut lines = Vec::new(alloc);
     put_output(&mut lines, printed.output.as_slice(), part)?;
-    if let Some(errors) = printed.errors.strip_suffix(b"\n") {
-        for line in errors.split(|byte| *byte == b'\n') {
-            put_line(
-                &mut lines,
-                if line.is_empty() {
-                    b"stderr"
-                } else {
-                    b"stderr "
-                },
-                line,
-            )?;
-        }
-    }
+    put_errors(&mut lines, printed.errors.as_slice())?;
     if printed.status != 0 {
         let status = format!(in alloc; "status {}", printed.status)?;
         put_line(&mut lines, b"", status.as_bytes())?;
@@ -39,20 +27,45 @@ pub fn shown(alloc: Global, printed: &Printed, part: Part) -> Result<Vec<u8>, Me
 }
 
 fn put_output(lines: &mut Vec<u8>, output: &[u8], part: Part) -> Result<(), Memory> {
-    let Some(output) = output.strip_suffix(b"\n") else {
-        return Ok(());
-    };
-    let count = output.split(|byte| *byte == b'\n').count();
     let left_out = match part {
-        Part::Last(most) => count.saturating_sub(most),
+        Part::Last(most) => count_of(output).saturating_sub(most),
         Part::All | Part::Alarms => 0,
     };
-    for line in output.split(|byte| *byte == b'\n').skip(left_out) {
+    if output.is_empty() {
+        return Ok(());
+    }
+    for line in without_end(output)
+        .split(|byte| *byte == b'\n')
+        .skip(left_out)
+    {
         if !matches!(part, Part::Alarms) || !is_of_range(line) {
             put_line(lines, b"", line)?;
         }
     }
     Ok(())
+}
+
+fn put_errors(lines: &mut Vec<u8>, errors: &[u8]) -> Result<(), Memory> {
+    if errors.is_empty() {
+        return Ok(());
+    }
+    for line in without_end(errors).split(|byte| *byte == b'\n') {
+        let word: &[u8] = if line.is_empty() {
+            b"stderr"
+        } else {
+            b"stderr "
+        };
+        put_line(lines, word, line)?;
+    }
+    Ok(())
+}
+
+fn count_of(output: &[u8]) -> usize {
+    without_end(output).split(|byte| *byte == b'\n').count()
+}
+
+fn without_end(text: &[u8]) -> &[u8] {
+    text.strip_suffix(b"\n").unwrap_or(text)
 }
 
 // Whether a line of an analysis tells what a party is paid: it begins with the party.
