@@ -2,7 +2,7 @@
 """Has 1, 2, 4 and 16 seats of a hub, each in a thread of its own, submit the same number of payments in all, and prints calls a second beside those of one seat; and the
 time of Submits by one seat with checks made before (`admit`) beside that without (`call`), all of which is under the lock but for a copy of each transaction.
 
-Build the program first: (cd crates/rows_workers && rt run -- data/rows.txt)
+Build the program first: (cd crates/rows_chain && rt run -- data/workers.txt)
 The program measures by the clock, so run this on a machine that does nothing else. Of RUNS times the least is taken.
 What to expect: about as many calls a second from many seats as from one, since they take turns under one lock; some less, for the turns themselves.
 """
@@ -12,7 +12,7 @@ import sys
 import tempfile
 
 HERE = os.path.dirname(os.path.abspath(__file__))
-PROGRAM = os.path.join(HERE, "..", "crates", "rows_workers", "out", "rows_workers")
+PROGRAM = os.path.join(HERE, "..", "crates", "rows_chain", "out", "rows_chain")
 CALLS = 320
 SEATS = (1, 2, 4, 16)
 RUNS = 7

@@ -1,7 +1,7 @@
 #!/usr/bin/env python3
 """Has a round's 1,024 payments of 16 inputs each checked by one worker and by four, in turn, by the program of rows, and prints the least time of each and their ratio.
 
-Build the program first: (cd crates/rows_workers && rt run -- data/rows.txt); another one may be named as the argument.
+Build the program first: (cd crates/rows_chain && rt run -- data/workers.txt); another one may be named as the argument.
 Expect: on four processors that nothing else uses, four workers are at least LEAST times as fast as one; else the script ends with status 1.
 The program measures by the clock, from the first job to the last answer. Where it may, as root, the script gives it real-time priority for the seconds
 that it runs, so that other processes wait. That frees processors, but not what lies below a virtual machine: there a processor is half as
@@ -15,7 +15,7 @@ import sys
 import tempfile
 
 HERE = os.path.dirname(os.path.abspath(__file__))
-PROGRAM = os.path.join(HERE, "..", "crates", "rows_workers", "out", "rows_workers")
+PROGRAM = os.path.join(HERE, "..", "crates", "rows_chain", "out", "rows_chain")
 PAYMENTS = 1024
 INPUTS = 16
 RUNS = 10

@@ -11,7 +11,7 @@ so, and this script that there is a row for each name. It reads the sources and 
   test; and the text that it displays stands in an answer below a row `texts ENUM`;
 - replies and verdicts: the word for each variant begins an answer, or stands in one;
 - calls: each function and method of the crates PUBLIC whose result can be Memory is called in a source of a row program, of
-  `marlowe_commands`, of `tests` or of `tests_threads`. Methods are found by their names alone;
+  `marlowe_commands` or of `tests`. Methods are found by their names alone;
 - copies: each type with `TryClone` has a row that copies it; `==`: each public type that has it stands in a row that compares.
 
 What no row can print, or need not, is in LEFT, with the reason. Expect no line."""
@@ -23,8 +23,8 @@ from pathlib import Path
 TOP = Path(__file__).resolve().parent.parent
 CRATES = [line.split(":")[0].split()[0] for line in (TOP / "crates.txt").read_text().splitlines() if ":" in line and line[0] != "#"]
 ROWS = [crate for crate in CRATES if crate.startswith("rows_")]
-TESTS = ["tests", "tests_threads"]
-LIBRARIES = [crate for crate in CRATES if crate not in ROWS + TESTS + ["marlowe", "uses", "refused_calls", "tests_memory"]]
+TESTS = ["tests"]
+LIBRARIES = [crate for crate in CRATES if crate not in ROWS + TESTS + ["marlowe", "uses"]]
 # The crates whose calls a user makes.
 PUBLIC = """marlowe_commands marlowe_run marlowe_analyse marlowe_play marlowe_cli marlowe_io contract_json json_read_scenarios evaluation semantics states compiler table machine contract_bytes
             bundle eutxo_types eutxo parallel_check roles ledger chain builder hub parties""".split()

@@ -1,5 +1,5 @@
-//! `rows_chain`: worked rows of a chain as data. It plays the files that its arguments name, line by line, as `rows_text` says:
-//! below each row stands its answer.
+//! `rows_chain`: worked rows of a chain, of a hub's seats, of many checks and of many callers at once, as data. It plays the files
+//! that its arguments name, line by line, as `rows_text` says: below each row stands its answer.
 //!
 //! A paragraph is a session of its own. It begins with a line `# SUBJECT`. Then `genesis` and an output, a
 //! line each, have the outputs that the chain begins with, `geneses COUNT` and an output has it so many times, and `begin TICK`
@@ -63,27 +63,176 @@
 //! `texts ENUM` prints the text of each fault of that name, a line for each, in their order, and `faults` whether a copy of each
 //! fault of a builder is the `same`. They need no chain.
 //!
+//! `hub SEATS TICK` begins a chain in place of `begin` and opens a hub with so many seats (the nearest number from 1 to 64): it prints
+//! `begun`, and the lines below it are for its seats, up to a line `close`, which prints what `history` would. There are no questions
+//! there but `build`, `seen` and `seen_by_parts`, and besides the calls above there are these:
+//!
+//! - `admit SEAT NAME` has the transaction that is written checked by what the last look shows, and admitted with this check;
+//! - `round_by SEAT WORKERS COUNT` has so many workers check a round (the nearest number from 1 to 16);
+//! - `party SEAT NAME THREAD ..` has the party of that name step the threads by one notification each in one transaction, and prints how
+//!   many calls it made.
+//!
+//! These run in threads of their own and wait for each other. They print `met`, or `gave up` where one came in vain, and then for each
+//! seat that made calls the places of their entries:
+//!
+//! - `meet COUNT`: seat 0 makes a round by two workers, where the first check waits for another one to begin;
+//! - `look_meanwhile COUNT`: the same of a round in which the first check waits until seat 1 has looked;
+//! - `overtake THREAD` or `overtake THREAD OTHER`: seat 1 plays a party that steps the threads by one notification each, and waits after
+//!   its first call until a party at seat 2 has stepped the first of them.
+//!
+//! These need no chain either; where INPUTS is left out, it is 1:
+//!
+//! - `workers WORKERS JOBS INPUTS` has so many payments of so many inputs each checked by so many workers, and prints how many are
+//!   accepted, and whether their checks stand in the order of the payments. `time` prints how many microseconds that took, for
+//!   measurements alone (`bench/checks_at_once.py`);
+//! - `seats SEATS PAYMENTS INPUTS` has so many seats of a hub, each in a thread of its own, submit so many payments each, and prints how
+//!   many entries the closed chain has, and how many of them are accepted. `time_calls` prints how many microseconds the calls took, and
+//!   `time_admits 1 PAYMENTS INPUTS` the same for one seat that admits payments that were checked before (`bench/calls_of_seats.py`);
+//! - `calls SEATS CALLS` has so many seats, each in a thread of its own, make so many calls each: of all six kinds, with rounds by 16
+//!   workers among them. It prints how many entries the closed chain has, whether each receipt is what its entry says, with the seat
+//!   and the number that the call had, and whether the pool was full at times. So where there are as many entries as calls, each
+//!   belongs to one receipt. To run longer than `data/workers.txt`, play a file of one line, as `calls 64 100000`.
+//!
 //! A line that begins with `- ` says what follows, and an empty line is nothing. Any other line prints `no such row`.
 #![tactic(auto)]
 
-mod asked;
-mod built;
-mod copies;
-mod faults;
-mod front;
-mod offers;
-mod parts;
-mod played;
-mod recorded;
-mod replies;
-mod session;
-mod shown;
-mod started;
+mod calls;
+mod lines;
+mod meeting;
+mod party;
+mod payments;
+mod row;
+mod seats;
+mod sitting;
+mod workers;
 
-use crate::session::Session;
-use rows_text::print_rows;
+use crate::lines::Rows;
+use crate::row::seats_of;
+use crate::sitting::play_at;
+use crate::workers::{answer, is_of_workers};
+use chain::{Chain, GenesisFault};
+use collections::Items;
+use hub::Opening;
+use rows_calls::Session;
+use rows_text::{RowFault, first, number, parts, put_answer, text_beside};
+use std::alloc::Global;
+use std::marker::Brand;
 use std::process::ExitCode;
+use std::rt::{Clock, Env, Files};
+use std::sync::Wait;
+use std::thread::Threads;
+use std::{env, fs, io, mem};
 
 fn main(rt: HostRuntime) -> ExitCode {
-    print_rows::<Session, HostRuntime>(&rt)
+    match print_files(&rt) {
+        Ok(true) => ExitCode::SUCCESS,
+        Ok(false) => ExitCode::from(1),
+        Err(_) => ExitCode::from(2),
+    }
+}
+
+// Whether the rows of each file that the command line names are answered as it says. The files are read here and not by `print_rows`:
+// no proof of its trait's method knows that the runtime can be lent to threads.
+fn print_files<R: Env + Files + Clock + Print + AllocGlobal + Threads + Wait + Sync>(
+    rt: &R,
+) -> io::Result<bool> {
+    let words: Vec<String> = env::args(rt)?.collect(rt.alloc())?;
+    let mut as_written = true;
+    for path in words.iter().skip(1) {
+        let text = fs::read_to_string(rt, path.as_str())?;
+        let mut rows = Rows::new(rt.alloc(), path.as_str(), text.as_str());
+        take_all(rt, &mut rows)?;
+        rt.write_all(rows.report.text())?;
+        as_written = as_written && rows.report.is_as_written();
+    }
+    Ok(as_written)
+}
+
+fn take_all<R: Files + Clock + AllocGlobal + Threads + Wait + Sync>(
+    rt: &R,
+    rows: &mut Rows<'_>,
+) -> io::Result<()> {
+    let mut session = Session::new(rt.alloc());
+    while let Some(line) = rows.next(rt.alloc())? {
+        let (word, rest) = first(line);
+        match word {
+            "use" => take_file(rt, &mut session, rows, rest)?,
+            "hub" => play_hub(rt, &mut session, rows, rest)?,
+            _ => take_line(rt, &mut session, rows, line)?,
+        }
+    }
+    Ok(rows.report.finish(rt.alloc())?)
+}
+
+// The lines of the file of that name.
+fn take_file<R: Files + Clock + AllocGlobal + Threads + Wait + Sync>(
+    rt: &R,
+    session: &mut Session,
+    rows: &mut Rows<'_>,
+    name: &str,
+) -> io::Result<()> {
+    let text = text_beside(rt, &rows.report, name)?;
+    for line in text.lines() {
+        take_line(rt, session, rows, line)?;
+    }
+    Ok(())
+}
+
+// The answer to a line, which is taken once more where its call is refused memory.
+fn take_line<R: Clock + AllocGlobal + Threads + Wait + Sync>(
+    rt: &R,
+    session: &mut Session,
+    rows: &mut Rows<'_>,
+    line: &str,
+) -> io::Result<()> {
+    let answer = answer_to(rt, session, line);
+    if put_answer(&mut rows.report, answer)? {
+        let again = answer_to(rt, session, line);
+        put_answer(&mut rows.report, again)?;
+    }
+    Ok(())
+}
+
+fn answer_to<R: Clock + AllocGlobal + Threads + Wait + Sync>(
+    rt: &R,
+    session: &mut Session,
+    line: &str,
+) -> Result<Option<Vec<u8>>, RowFault> {
+    let (word, rest) = first(line);
+    if is_of_workers(word) {
+        Ok(Some(answer(rt, word, rest)?.into_bytes()))
+    } else {
+        session.take(rt.alloc(), line)
+    }
+}
+
+// From `SEATS TICK`: begins a chain with what is written, and plays the lines below at a hub.
+fn play_hub<R: AllocGlobal + Threads + Wait + Sync>(
+    rt: &R,
+    session: &mut Session,
+    rows: &mut Rows<'_>,
+    rest: &str,
+) -> io::Result<()> {
+    match opening_of(rt.alloc(), session, rest) {
+        Ok(opening) => {
+            rows.report.come(b"begun")?;
+            play_at::<Brand, R>(rt, rt.alloc(), opening, &mut session.desk, rows)
+        }
+        Err(fault) => {
+            put_answer(&mut rows.report, Err(fault))?;
+            Ok(())
+        }
+    }
+}
+
+fn opening_of(alloc: Global, session: &mut Session, rest: &str) -> Result<Opening, RowFault> {
+    let (seats, tick) = parts(rest)?;
+    let seats = seats_of(number(seats)?);
+    let tick = number(tick)?;
+    let outputs = mem::replace(&mut session.desk.genesis, Items::new(alloc));
+    match Chain::genesis(alloc, outputs, tick) {
+        Ok(chain) => Ok(Opening::new(chain, u64::from(seats))),
+        Err(GenesisFault::Memory) => Err(RowFault::Memory),
+        Err(_) => Err(RowFault::NoSuchRow),
+    }
 }

@@ -73,8 +73,22 @@ fn take_line<S: Answers<R>, R: Files + AllocGlobal>(
 ) -> io::Result<()> {
     match line.strip_prefix("use ") {
         Some(name) => take_file(rt, session, report, name),
-        None => put_answer(report, session.take(rt, line)),
+        None => put_taken(rt, session, report, line),
     }
+}
+
+// The answer to a line of the session's, which is taken once more where its call is refused memory.
+fn put_taken<S: Answers<R>, R: Files + AllocGlobal>(
+    rt: &R,
+    session: &mut S,
+    report: &mut Report<'_>,
+    line: &str,
+) -> io::Result<()> {
+    let answer = session.take(rt, line);
+    if put_answer(report, answer)? {
+        put_answer(report, session.take(rt, line))?;
+    }
+    Ok(())
 }
 
 // The lines of the file of that name which lies beside the one that names it.
@@ -84,30 +98,45 @@ fn take_file<S: Answers<R>, R: Files + AllocGlobal>(
     report: &mut Report<'_>,
     name: &str,
 ) -> io::Result<()> {
+    let text = text_beside(rt, report, name)?;
+    for line in text.lines() {
+        put_taken(rt, session, report, line)?;
+    }
+    Ok(())
+}
+
+/// The text of the file of that name which lies beside the one that is reported.
+pub fn text_beside<R: Files + AllocGlobal>(
+    rt: &R,
+    report: &Report<'_>,
+    name: &str,
+) -> io::Result<String> {
     let folder = match report.path().rsplit_once('/') {
         Some((folder, _)) => folder,
         None => ".",
     };
     let path = format!(in rt.alloc(); "{folder}/{name}")?;
-    let text = fs::read_to_string(rt, path.as_str())?;
-    for line in text.lines() {
-        put_answer(report, session.take(rt, line))?;
-    }
-    Ok(())
+    fs::read_to_string(rt, path.as_str())
 }
 
-/// Puts the answer to a line beside what is wanted.
+/// Puts the answer to a line beside what is wanted. Whether its call was refused memory, so that the line is to be taken once more:
+/// then the word `memory` stands there.
 pub fn put_answer(
     report: &mut Report<'_>,
     answer: Result<Option<Vec<u8>>, RowFault>,
-) -> io::Result<()> {
+) -> io::Result<bool> {
     match answer {
-        Ok(Some(answer)) => Ok(report.come(answer.as_slice())?),
-        Ok(None) => Ok(()),
-        Err(RowFault::NoSuchRow) => Ok(report.come(b"no such row")?),
-        Err(RowFault::Memory) => Err(io::Error::from(AllocError)),
-        Err(RowFault::Failed) => Err(io::Error::from(io::ErrorKind::Other)),
+        Ok(Some(answer)) => report.come(answer.as_slice())?,
+        Ok(None) => {}
+        Err(RowFault::NoSuchRow) => report.come(b"no such row")?,
+        Err(RowFault::Refused) => {
+            report.come(b"memory")?;
+            return Ok(true);
+        }
+        Err(RowFault::Memory) => return Err(io::Error::from(AllocError)),
+        Err(RowFault::Failed) => return Err(io::Error::from(io::ErrorKind::Other)),
     }
+    Ok(false)
 }
 
 /// An answer that is a text, as bytes.

@@ -1,6 +1,6 @@
 //! Checks at hand. What owns checks and resolutions is generic in their scripts, so that no proof walks through the drop of these.
 use crate::copied::put_same;
-use crate::fault::RowFault;
+use crate::fault::{RowFault, called};
 use crate::verdicts::verdict_line;
 use collections::{Same, TryClone};
 use eutxo::{Checked, Resolved, Validator, check, recheck};
@@ -8,16 +8,13 @@ use eutxo_types::Tx;
 use std::alloc::{AllocError, Global};
 
 /// Checks a transaction with what is found, and keeps the check at hand: the line for the verdict.
-pub fn keep_check<V: Validator + Drop, E: Drop>(
+pub fn keep_check<V: Validator + Drop>(
     alloc: Global,
     checks: &mut Vec<Checked<V>>,
     tx: &Tx,
-    found: Result<Resolved<V>, E>,
-) -> Result<String, RowFault>
-where
-    RowFault: From<E>,
-{
-    let checked = check(alloc, tx, found?)?;
+    found: Result<Resolved<V>, RowFault>,
+) -> Result<String, RowFault> {
+    let checked = called(check(alloc, tx, found?))?;
     let line = verdict_line(alloc, checked.verdict())?;
     checks.push(checked)?;
     Ok(line)
@@ -25,22 +22,19 @@ where
 
 /// The verdict on a transaction and what is found, by the checks at hand: behind `at hand` where one is of this transaction with
 /// an equal resolution, else `anew`.
-pub fn recheck_line<V: Validator + Drop, E: Drop>(
+pub fn recheck_line<V: Validator + Drop>(
     alloc: Global,
     checks: &[Checked<V>],
     tx: &Tx,
-    found: Result<Resolved<V>, E>,
-) -> Result<String, RowFault>
-where
-    RowFault: From<E>,
-{
+    found: Result<Resolved<V>, RowFault>,
+) -> Result<String, RowFault> {
     let found = found?;
     let how = if is_at_hand(checks, tx, &found) {
         "at hand"
     } else {
         "anew"
     };
-    let verdict = recheck(alloc, tx, &found, checks)?;
+    let verdict = called(recheck(alloc, tx, &found, checks))?;
     let line = verdict_line(alloc, &verdict)?;
     Ok(format!(in alloc; "{how} {line}")?)
 }

@@ -1,4 +1,5 @@
 //! Lines that can't be answered.
+use collections::Memory;
 use compiler::CompileFault;
 use contract_json::JsonFault;
 use hex::FromHexError;
@@ -10,10 +11,20 @@ use std::io;
 pub enum RowFault {
     /// It isn't a line of this program's.
     NoSuchRow,
-    /// Memory was refused.
+    /// A call of the library was refused memory, and nothing has changed: so the line can be taken once more.
+    Refused,
+    /// Memory was refused for something else.
     Memory,
     /// A file couldn't be read or written, or no thread could be had.
     Failed,
+}
+
+/// The answer of a call of the library. It is generic in it, so that no proof walks through its drop.
+pub fn called<T: Drop>(answer: Result<T, Memory>) -> Result<T, RowFault> {
+    match answer {
+        Ok(answer) => Ok(answer),
+        Err(_) => Err(RowFault::Refused),
+    }
 }
 
 impl From<AllocError> for RowFault {
@@ -58,7 +69,7 @@ impl From<FromHexError> for RowFault {
 impl From<CompileFault> for RowFault {
     fn from(fault: CompileFault) -> RowFault {
         match fault {
-            CompileFault::Memory => RowFault::Memory,
+            CompileFault::Memory => RowFault::Refused,
             _ => RowFault::NoSuchRow,
         }
     }

@@ -11,6 +11,9 @@
 //! a row answers otherwise, or a row has no answer, its `FILE:LINE` with what was wanted and what came; then the status is 1.
 //! Of a file without any `=` all that its rows answer is printed: so one sees what rows that are still to be written down answer.
 //!
+//! Where a call of the library is refused memory, the answer is `memory`, and below it what the same line answers when it is taken once
+//! more (`checks/refused_memory.py`). Where an answer itself is refused memory, the program ends with status 2.
+//!
 //! These lines write a transaction, and answer nothing:
 //!
 //! - `in REFERENCE REDEEMER` puts an input behind the others. A reference is `ORIGIN.PLACE`: the origin is `genesis`, the
@@ -50,7 +53,7 @@ mod verdicts;
 mod words;
 
 pub use amounts::{amounts_of, bundle_of, put_amounts, token_of, word_of};
-pub use answers::{Answers, in_bytes, print_rows, put_answer};
+pub use answers::{Answers, in_bytes, print_rows, put_answer, text_beside};
 pub use checks::{check_copies, keep_check, recheck_line};
 pub use copied::{
     apart_of, fault_copies, put_beside, put_copies, put_copy, put_same, put_same_copy,
@@ -58,7 +61,7 @@ pub use copied::{
 };
 pub use datums::{bring_for_input, bring_for_outputs, data_for_outputs, datum_of};
 pub use drafts::{nothing, write};
-pub use fault::RowFault;
+pub use fault::{RowFault, called};
 pub use known::{Known, NamedText, named_text_of};
 pub use large::{nested, wide};
 pub use outputs::{Written, locked, output_of, state_of, written_of};
@@ -67,4 +70,4 @@ pub use references::{Sent, reference_of, sent_of, word_of_id, word_of_reference}
 pub use report::Report;
 pub use spends::{inputs_of, put_keys};
 pub use verdicts::{refusal_line, verdict_line};
-pub use words::{bytes, first, number, parts, put, put_in, replace, text};
+pub use words::{bytes, first, number, parts, put, put_in, replace, take_back, text};

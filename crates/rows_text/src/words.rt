@@ -73,3 +73,10 @@ pub fn put_in<T: Drop>(list: &mut Vec<T>, item: Result<T, RowFault>) -> Result<(
 pub fn replace<T: Drop>(place: &mut T, by: T) {
     *place = by;
 }
+
+/// Takes the last of a list back where a row wasn't answered. It is generic in it, so that no proof walks through its drop.
+pub fn take_back<T: Drop>(list: &mut Vec<T>, told: &Result<String, RowFault>) {
+    if told.is_err() {
+        drop(list.pop());
+    }
+}

@@ -7,6 +7,7 @@ use roles::Published;
 use rows_text::{Named, RowFault, verdict_line};
 use std::alloc::{AllocError, Global};
 use std::sync::Arc;
+use std::sync::atomic::AtomicU64;
 
 /// A validator that a row can ask for: what it is for something published.
 pub trait Asked: Validator + Drop {
@@ -21,7 +22,8 @@ impl Asked for Published {
 
 impl Asked for Stubborn {
     fn of(alloc: Global, _named: &Named) -> Result<Shared<Stubborn>, Memory> {
-        Ok(Shared::new(Arc::new(alloc, Stubborn)?))
+        let asked = Arc::new(alloc, AtomicU64::new(0))?;
+        Ok(Shared::new(Arc::new(alloc, Stubborn::new(0, &asked)?)?))
     }
 }
 

@@ -1,4 +1,5 @@
 //! What is written for the next row, and what is printed for lines.
+use crate::asks::asks_line;
 use crate::checks::{check_line, rules_line};
 use crate::copies::{amounts_room, found_copies, published_copies, rooms, tx_copies};
 use crate::data::datum_row;
@@ -55,6 +56,7 @@ fn answered(alloc: Global, desk: &mut Desk, line: &str) -> Result<Option<String>
         "keep" | "recheck" => Ok(Some(at_hand(alloc, desk, word)?)),
         "copies" => Ok(Some(copies(alloc, desk, rest)?)),
         "local" | "spent" => Ok(Some(rules(alloc, desk, word)?)),
+        "asks" => Ok(Some(asks_line(alloc, &desk.tx, &desk.finds, &desk.known.published)?)),
         "apart" => Ok(Some(apart_row(alloc, rest)?)),
         "totals" => Ok(Some(totals(alloc, rest)?)),
         "room" => Ok(Some(amounts_room(alloc, rest)?)),

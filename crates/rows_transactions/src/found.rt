@@ -24,7 +24,11 @@ pub fn found(
     })
 }
 
-fn copies_of(alloc: Global, outputs: &[Option<Output>]) -> Result<Items<Option<Output>>, Memory> {
+/// Copies of what inputs find.
+pub fn copies_of(
+    alloc: Global,
+    outputs: &[Option<Output>],
+) -> Result<Items<Option<Output>>, Memory> {
     let mut copies = Items::new(alloc);
     for output in outputs {
         copies.push(copy_option(output.as_ref())?)?;

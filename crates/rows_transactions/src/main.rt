@@ -19,6 +19,8 @@
 //! - `keep` prints the same verdict and keeps the check at hand, and `recheck` prints the verdict by the checks at hand, behind
 //!   `at hand` where one of them is of this transaction with an equal resolution, else `anew`. The transaction and what its
 //!   inputs find stay as they are, and `again` drops what they find;
+//! - `asks` prints how often the stubborn script is asked by a check, then together with another check that has the first at hand, and
+//!   then together with one that has it at hand under another script. What is written stays;
 //! - `local` prints the verdict by the rules that the transaction and what its inputs find decide, and `spent` by those of what is
 //!   spent alone. What is written stays;
 //! - `sums STATE AMOUNTS` prints `same` where the amounts are the sums of the accounts of a state, else `other`;
@@ -37,6 +39,7 @@
 //! `#` begins a comment, and an empty line is nothing. Any other line prints `no such row`.
 #![tactic(auto)]
 
+mod asks;
 mod checks;
 mod copies;
 mod data;

@@ -5,10 +5,47 @@ use contract::Input;
 use eutxo::{Spent, StepAnswer, StepFault, Validator};
 use eutxo_types::{Datum, Tx};
 use std::alloc::Global;
+use std::sync::Arc;
+use std::sync::atomic::{AtomicU64, Ordering};
 
-/// It refuses each step with WrongContinuation, takes every output for a start, and grants no payout.
-#[derive(Clone, Copy, PartialEq, Eq)]
-pub struct Stubborn;
+/// It refuses each step with WrongContinuation, takes every output for a start, and grants no payout; and it counts how often it is
+/// asked. Two of one kind are equal, whatever they count.
+#[derive(Drop)]
+pub struct Stubborn {
+    kind: u64,
+    asked: Arc<AtomicU64, Global>,
+}
+
+impl Stubborn {
+    /// One of a kind that counts here.
+    pub fn new(kind: u64, asked: &Arc<AtomicU64, Global>) -> Result<Stubborn, Memory> {
+        Ok(Stubborn {
+            kind,
+            asked: Arc::try_clone(asked)?,
+        })
+    }
+}
+
+impl PartialEq for Stubborn {
+    ghost use Rattle.std.specs.Prelude.{nat_eq};
+    ghost use Rattle.std.specs.Cmp.{partial_equiv_from_equiv, on_per};
+    ghost use Rattle.std.proofs.lemmas.Cmp.{nat_eq_equiv};
+
+    ghost eq = { λ x y. nat_eq x.kind y.kind };
+
+    ghost laws = { on_per (λ c. c.kind) (partial_equiv_from_equiv nat_eq_equiv) };
+
+    fn eq(&self, other: &Stubborn) -> bool {
+        self.kind == other.kind
+    }
+}
+
+impl Eq for Stubborn {
+    ghost use Rattle.std.specs.Cmp.{on_equiv};
+    ghost use Rattle.std.proofs.lemmas.Cmp.{nat_eq_equiv};
+
+    ghost laws = { on_equiv (λ c. c.kind) nat_eq_equiv };
+}
 
 impl Validator for Stubborn {
     ghost use Rattle.std.specs.Prelude.{true, false, refl, Some};
@@ -29,6 +66,7 @@ impl Validator for Stubborn {
         _tx: &Tx,
         _spent: &[Spent<'_>],
     ) -> Result<StepAnswer, Memory> {
+        self.asked.fetch_add(1, Ordering::SeqCst);
         Ok(StepAnswer::Takes {
             fault: Some(StepFault::WrongContinuation),
             goes_on: true,
@@ -37,6 +75,7 @@ impl Validator for Stubborn {
     }
 
     fn start(&self, _alloc: Global, _datum: &Datum, _amount: &Bundle) -> Result<bool, Memory> {
+        self.asked.fetch_add(1, Ordering::SeqCst);
         Ok(true)
     }
 

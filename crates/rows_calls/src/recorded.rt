@@ -1,0 +1,78 @@
+//! The steps of a thread as they are printed.
+use crate::shown::state_word;
+use chain::StepRecord;
+use collections::{Items, Memory};
+use contract::{Input, Payment, Warning};
+use contract_json::fitting_to_json;
+use rows_text::{RowFault, called};
+use std::alloc::{AllocError, Global};
+
+/// What was recorded of a step. Dropped once: who owns it is generic in it, so that no proof walks through its drop.
+pub trait Recorded: Drop {
+    fn put(&self, alloc: Global, lines: &mut String) -> Result<(), AllocError>;
+}
+
+/// The number of the steps, and below it some lines for each.
+pub fn steps_lines<T: Recorded>(
+    alloc: Global,
+    steps: Result<Items<T>, Memory>,
+) -> Result<String, RowFault> {
+    let steps = called(steps)?;
+    let mut lines = format!(in alloc; "steps {}", steps.len())?;
+    for step in steps.as_slice() {
+        step.put(alloc, &mut lines)?;
+    }
+    Ok(lines)
+}
+
+impl Recorded for StepRecord {
+    fn put(&self, alloc: Global, lines: &mut String) -> Result<(), AllocError> {
+        let (from, to) = (self.interval.from, self.interval.to);
+        let head = format!(in alloc; "\n from {from} to {to} number {}", self.number.0)?;
+        lines.push_str(head.as_str())?;
+        put_inputs(alloc, lines, self.inputs.as_slice())?;
+        put_warnings(alloc, lines, self.warnings.as_slice())?;
+        put_payments(alloc, lines, self.payments.as_slice())?;
+        let state = state_word(alloc, &self.state)?;
+        put_line(lines, "state", state.as_str())
+    }
+}
+
+fn put_line(lines: &mut String, sort: &str, word: &str) -> Result<(), AllocError> {
+    lines.push_str("\n ")?;
+    lines.push_str(sort)?;
+    lines.push(' ')?;
+    lines.push_str(word)
+}
+
+fn put_inputs(alloc: Global, lines: &mut String, inputs: &[Input]) -> Result<(), AllocError> {
+    for input in inputs {
+        let word = input_words(alloc, input)?;
+        put_line(lines, "input", word.as_str())?;
+    }
+    Ok(())
+}
+
+fn input_words(alloc: Global, input: &Input) -> Result<String, AllocError> {
+    match input {
+        Input::Deposit(_, _, _, amount) => format!(in alloc; "deposit {amount}"),
+        Input::Choice(_, number) => format!(in alloc; "choice {number}"),
+        Input::Notify => String::from_str(alloc, "notify"),
+    }
+}
+
+fn put_warnings(alloc: Global, lines: &mut String, warnings: &[Warning]) -> Result<(), AllocError> {
+    for warning in warnings {
+        let word = fitting_to_json(alloc, warning)?.to_string(alloc)?;
+        put_line(lines, "warning", word.as_str())?;
+    }
+    Ok(())
+}
+
+fn put_payments(alloc: Global, lines: &mut String, payments: &[Payment]) -> Result<(), AllocError> {
+    for payment in payments {
+        let word = fitting_to_json(alloc, payment)?.to_string(alloc)?;
+        put_line(lines, "payment", word.as_str())?;
+    }
+    Ok(())
+}

@@ -1,0 +1,5 @@
+use Rattle.rows_chain.proofs.seats.call.Given as goal
+
+-- the session is what the opening made
+abbrev pub ghosts-play_at : goal.ghosts-play_at
+ghosts-play_at g a = record { session = a.opening }

@@ -1,0 +1,132 @@
+//! Rows of many checks and of many callers at once.
+use crate::payments::payments;
+use crate::row::{Row, row_of};
+use crate::seats::{Played, admit, call, pay};
+use collections::Memory;
+use eutxo::{Checked, Validator};
+use eutxo_types::Verdict;
+use parallel_check::{NoGate, check_all};
+use rows_text::{RowFault, called};
+use std::alloc::Global;
+use std::io;
+use std::rt::Clock;
+use std::sync::Wait;
+use std::thread::Threads;
+use std::time::Instant;
+
+/// The answer to a row, from its word and what follows.
+pub fn answer<R: Clock + AllocGlobal + Threads + Wait + Sync>(
+    rt: &R,
+    word: &str,
+    rest: &str,
+) -> Result<String, RowFault> {
+    let row = row_of(rest).ok_or(RowFault::NoSuchRow)?;
+    match word {
+        "workers" => check_line(rt, row),
+        "time" => Ok(time_line(rt, row)?),
+        "seats" => seats_line(rt, row),
+        "calls" => calls_line(rt, row),
+        "time_calls" => micros_line(rt, pay(rt, row)?),
+        "time_admits" => micros_line(rt, admit(rt, row)?),
+        _ => Err(RowFault::NoSuchRow),
+    }
+}
+
+/// Whether a row begins so.
+pub fn is_of_workers(word: &str) -> bool {
+    match word {
+        "workers" | "time" | "seats" | "calls" | "time_calls" | "time_admits" => true,
+        _ => false,
+    }
+}
+
+fn check_line<R: AllocGlobal + Threads + Wait + Sync>(
+    rt: &R,
+    row: Row,
+) -> Result<String, RowFault> {
+    let jobs = payments(rt.alloc(), row)?;
+    let checks = called(check_all(rt, rt.alloc(), &NoGate, row.workers(), jobs))?;
+    Ok(line_of(rt.alloc(), row, &checks)?)
+}
+
+fn time_line<R: Clock + AllocGlobal + Threads + Wait + Sync>(
+    rt: &R,
+    row: Row,
+) -> io::Result<String> {
+    let jobs = payments(rt.alloc(), row)?;
+    let start = Instant::now(rt)?;
+    let _checks = check_all(rt, rt.alloc(), &NoGate, row.workers(), jobs)?;
+    let took = start.elapsed(rt)?;
+    Ok(format!(in rt.alloc(); "{}", took.as_micros())?)
+}
+
+fn seats_line<R: Clock + AllocGlobal + Threads + Wait + Sync>(
+    rt: &R,
+    row: Row,
+) -> Result<String, RowFault> {
+    let played = pay(rt, row)?;
+    Ok(format!(in rt.alloc();
+        "seats {}, payments {} each: {} entries, {} accepted",
+        row.seats(),
+        row.jobs,
+        played.entries,
+        played.accepted
+    )?)
+}
+
+fn calls_line<R: Clock + AllocGlobal + Threads + Wait + Sync>(
+    rt: &R,
+    row: Row,
+) -> Result<String, RowFault> {
+    let played = call(rt, row)?;
+    let told = match played.amiss {
+        None => format!(in rt.alloc(); "all as the receipts say")?,
+        Some((seat, place)) => {
+            format!(in rt.alloc(); "not as receipt {place} of seat {seat} says")?
+        }
+    };
+    let full = if played.was_full {
+        ", the pool full at times"
+    } else {
+        ""
+    };
+    Ok(format!(in rt.alloc();
+        "seats {}, calls {} each: {} entries, {told}{full}",
+        row.seats(),
+        row.jobs,
+        played.entries
+    )?)
+}
+
+fn micros_line<R: AllocGlobal>(rt: &R, played: Played) -> Result<String, RowFault> {
+    Ok(format!(in rt.alloc(); "{}", played.micros)?)
+}
+
+fn line_of<V: Validator>(alloc: Global, row: Row, checks: &[Checked<V>]) -> Result<String, Memory> {
+    let accepted = checks
+        .iter()
+        .filter(|c| *c.verdict() == Verdict::Accepted)
+        .count();
+    let order = if are_in_order(checks) {
+        "in order"
+    } else {
+        "out of order"
+    };
+    format!(in alloc;
+        "workers {}, payments {}: {accepted} accepted, {order}",
+        row.workers(),
+        row.jobs
+    )
+}
+
+// Whether each check is of the payment that may happen from its place on.
+fn are_in_order<V: Validator>(checks: &[Checked<V>]) -> bool {
+    let mut place = 0i64;
+    for checked in checks {
+        if checked.tx().interval.from != place {
+            return false;
+        }
+        place = place.saturating_add(1);
+    }
+    true
+}

@@ -1,5 +1,0 @@
-use Rattle.std.proofs.Common.{length}
-use Rattle.rows_workers.proofs.payments.+are_positive.Given as goal
-
-abbrev pub decreases-are_positive : goal.decreases-are_positive
-decreases-are_positive l = length l.entries.now

@@ -1,5 +1,0 @@
-use Rattle.rows_workers.proofs.seats.admit.Given as goal
-
--- the session is what the opening made
-abbrev pub ghosts-admit_by_one : goal.ghosts-admit_by_one
-ghosts-admit_by_one g a = record { session = a.opening }

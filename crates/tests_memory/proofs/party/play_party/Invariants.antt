@@ -1,5 +1,0 @@
-use Rattle.tests_memory.proofs.party.play_party.Given as goal
-
--- the session is what the opening made
-abbrev pub ghosts-play_at : goal.ghosts-play_at
-ghosts-play_at g a = record { session = a.opening }
