@@ -15,8 +15,6 @@ mod one_check;
 mod other_script;
 mod plain_calls;
 mod step;
-#[cfg(test)]
-mod tested;
 
 pub use claim::claim_now;
 pub use close::close_thread;
