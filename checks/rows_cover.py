@@ -132,6 +132,7 @@ LEFT = {
     "copy Symbols": KNOWN,
     "copy Known": KNOWN,
     "copy View": KNOWN,
+    "call marlowe_play::play": "is play_watched with a watch that does nothing; each row of a play calls that",
     "call evaluation::known": EXACT,
     "call evaluation::negation": EXACT,
     "call evaluation::sum": EXACT,
