@@ -5,12 +5,12 @@
 //! `play_printed` are its tasks, from texts. docs/formats.md has what is printed.
 #![tactic(auto)]
 
-mod command;
+mod command_line;
 mod printed;
 mod tasks;
 mod texts;
 
-pub use command::command;
+pub use command_line::command;
 pub use printed::Printed;
 pub use tasks::{analysis_printed, play_printed, run_printed, table_printed};
 pub use texts::Texts;

@@ -2,7 +2,7 @@
 ghost use Rattle.std.specs.Prelude.{IfOk, option_map};
 ghost use Rattle.marlowe_run.specs.Run.{run_text};
 ghost use Rattle.marlowe_run.specs.TableText.{table_text};
-ghost use Rattle.marlowe_commands.specs.Streams.{streams_of};
+ghost use Rattle.marlowe_commands.specs.Streams.{streams_of, IsOnOneStream, IsTextOr};
 ghost use Rattle.marlowe_commands.specs.Tasks.{PrintsRun, PrintsTable, PrintsAnalysis, PrintsPlay};
 
 use crate::printed::Printed;
@@ -21,7 +21,8 @@ pub fn run_printed(
     state: &[u8],
     transaction: &[u8],
 ) -> Result<Printed, Memory>
-    ensures { IfOk result (λ printed. PrintsRun (run_text contract.now state.now transaction.now) (streams_of printed)) }
+    ensures told { IfOk result (λ printed. PrintsRun (run_text contract.now state.now transaction.now) (streams_of printed)) }
+    ensures stream { IfOk result (λ printed. IsTextOr 1 (streams_of printed)) }
 {
     match run(alloc, contract, state, transaction) {
         Ok(text) => Ok(Printed::on_output(alloc, text, 0)),
@@ -32,7 +33,8 @@ pub fn run_printed(
 
 /// What is printed for the table of a contract: its lines, with status 0, or the line of its refusal.
 pub fn table_printed(alloc: Global, contract: &[u8]) -> Result<Printed, Memory>
-    ensures { IfOk result (λ printed. PrintsTable (table_text contract.now) (streams_of printed)) }
+    ensures told { IfOk result (λ printed. PrintsTable (table_text contract.now) (streams_of printed)) }
+    ensures stream { IfOk result (λ printed. IsTextOr 1 (streams_of printed)) }
 {
     match table_text(alloc, contract) {
         Ok(text) => Ok(Printed::on_output(alloc, text, 0)),
@@ -49,7 +51,8 @@ pub fn analysis_printed(
     state: Option<&[u8]>,
     reader: Reader,
 ) -> Result<Printed, Memory>
-    ensures { IfOk result (λ printed. PrintsAnalysis reader contract.now (option_map (λ text. text.now) state.entry) (streams_of printed)) }
+    ensures told { IfOk result (λ printed. PrintsAnalysis reader contract.now (option_map (λ text. text.now) state.entry) (streams_of printed)) }
+    ensures stream { IfOk result (λ printed. IsOnOneStream (streams_of printed)) }
 {
     match analyse_text(alloc, contract, state, reader) {
         Ok(Analysed { text, is_clear }) => {
@@ -69,7 +72,8 @@ pub fn play_printed<R: AllocGlobal + Threads + Wait + Sync, W: Watch + Sync>(
     scenario: &[u8],
     one: bool,
 ) -> Result<Printed, Memory>
-    ensures { IfOk result (λ printed. PrintsPlay scenario.now (streams_of printed)) }
+    ensures told { IfOk result (λ printed. PrintsPlay scenario.now (streams_of printed)) }
+    ensures stream { IfOk result (λ printed. IsTextOr 1 (streams_of printed)) }
 {
     let alloc = rt.alloc();
     match play_watched(rt, alloc, scenario, one, watch) {
