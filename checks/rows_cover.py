@@ -32,7 +32,7 @@ PUBLIC = """marlowe_commands marlowe_run marlowe_analyse marlowe_play marlowe_cl
 # Where the names of an enum's variants are printed, and for a variant that isn't printed by its own name, how.
 PRINTED = {
     "SemFault": (["rows_commands"], {}),
-    "StateFault": (["rows_commands"], {}),
+    "StateFault": (["rows_values"], {"Memory": "Memory$"}),
     "CompileFault": (["rows_values"], {"Memory": "Memory$"}),
     "JsonFault": (["rows_values"], {"Memory": "Memory$"}),
     "WriteFault": (["rows_values"], {"Memory": "Memory$"}),
@@ -142,6 +142,9 @@ LEFT = {
     "call evaluation::value": EXACT,
     "call evaluation::holds": EXACT,
     "call semantics::matching_case": EXACT,
+    "call states::State::set_money": "each payment and each deposit of a run that a row prints makes it",
+    "call states::State::set_choice": "each choice of a run that a row prints makes it",
+    "call states::State::set_bound": "each Let of a run that a row prints makes it",
     "call table::Table::push_value": "each value of a table that a row prints was put there by it",
     "call table::Table::push_observation": "each observation of a table that a row prints was put there by it",
     "call table::Table::push_case": "each case of a table that a row prints was put there by it",

@@ -21,6 +21,7 @@ use std::thread::Threads;
 
 /// What the words of a command line print, the first word being the program's own name, where its paths lead to these texts. Who watches is
 /// told how far a play is.
+#[tactic(auto, using(crate::proofs::TaskLemmas::asks_analysis))]
 pub fn command<T: Texts, R: AllocGlobal + Threads + Wait + Sync, W: Watch + Sync>(
     rt: &R,
     texts: &T,
@@ -62,7 +63,7 @@ fn task_told<'a, T: Texts, R: AllocGlobal + Threads + Wait + Sync, W: Watch + Sy
     task: Task<'a>,
 ) -> Result<Printed, Stop<'a>>
     ensures stream { IfOk result (λ printed. IsOnOneStream (streams_of printed)) }
-    ensures alarms { IfOk result (λ printed. printed.status ≡ 3 → IsAnalysis task) }
+    ensures alarms { IfOk result (λ printed. printed.status ≡ 3 → IsAnalysis task.entry) }
 {
     let alloc = rt.alloc();
     match task {

@@ -6,6 +6,7 @@ use crate::numbers::{constant_row, large_row};
 use crate::on_tables::run_row;
 use crate::sorts::{Asked, sort_row};
 use crate::spellings::{put_row, spell_row};
+use crate::states::start_row;
 use crate::tables::table_row;
 use crate::texts::text_row;
 use rows_given::Given;
@@ -57,6 +58,7 @@ fn answer(alloc: Global, given: &Given, word: &str, rest: &str) -> Result<Vec<u8
         "put" => put_row(alloc, rest),
         "constant" => constant_row(alloc, rest),
         "large" => large_row(alloc, rest),
+        "start" => start_row(alloc, rest),
         "texts" => texts_row(alloc, rest),
         "apart" => apart_row(alloc, rest),
         "refused" => refused_row(alloc, rest),

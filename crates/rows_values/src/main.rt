@@ -20,6 +20,7 @@
 //! - `constant N` prints the bytes of the contract that binds `x` to a number, and its text or the fault of writing it;
 //! - `large N` prints whether a copy of a contract that waits for so many notifies, each followed by close, is the `same`, and how many bytes
 //!   the contract has;
+//! - `start ROLE AMOUNT,ROLE AMOUNT ..` prints the state that starts with these accounts in ada, or the fault;
 //! - `refused ENUM` prints the line of the refusal for each fault of that name;
 //! - `texts ENUM` prints the text of each fault of that name, a line for each, in their order;
 //! - `apart ENUM` prints for each value of that name that it is the `same` as itself, and before it that it is an `other` than the
@@ -45,12 +46,14 @@ mod faults;
 mod files;
 mod forms;
 mod intents;
+mod lending;
 mod lines;
 mod numbers;
 mod on_tables;
 mod scenarios;
 mod sorts;
 mod spellings;
+mod states;
 mod tables;
 mod texts;
 

@@ -1,4 +1,5 @@
 //! What no text of the greatest length stands for: numbers that JSON lacks, and large contracts.
+use crate::lending::lent;
 use crate::sorts::text_or_fault;
 use crate::spellings::in_hex;
 use contract::{Boxed, Contract, Text, TryClone, Value};
@@ -13,13 +14,6 @@ pub fn constant_row(alloc: Global, text: &str) -> Result<Vec<u8>, RowFault> {
     let name = Text::from_string(String::from_str(alloc, "x")?);
     let contract = Contract::Let(name, Value::Constant(number(text)?), close);
     Ok(lent(contract, |contract| bytes_and_text(alloc, contract))?)
-}
-
-// Dropped once: lends what would else be owned by a function of many ways out.
-fn lent<T: Drop, U, F: FnOnce(&T) -> U>(thing: T, lend: F) -> U
-    requires { F.IsAlwaysCallable lend }
-{
-    lend(&thing)
 }
 
 fn bytes_and_text(alloc: Global, contract: &Contract) -> Result<Vec<u8>, AllocError> {

@@ -1,4 +1,5 @@
 //! Runs on the tree of a contract and on its table.
+use crate::lending::lent;
 use compiler::compile;
 use contract::{Contract, Outcome, SemFault, TryClone};
 use contract_json::{Transaction, read_contract, read_state, read_transaction, write_outcome};
@@ -37,13 +38,6 @@ fn told_on_tree(
         }
         Err(fault) => refusal(alloc, &Fault::Run(fault)),
     }
-}
-
-// Dropped once: lends what would else be owned by a function of many ways out.
-fn lent<T: Drop, U, F: FnOnce(&T) -> U>(thing: T, lend: F) -> U
-    requires { F.IsAlwaysCallable lend }
-{
-    lend(&thing)
 }
 
 // What is printed for a run on a contract that is compiled first, without a line feed.
@@ -138,10 +132,10 @@ fn computed_text(
     written(alloc, table, copied(outcome)?)
 }
 
-// A copy of an outcome, in place of what it is of.
-fn copied(outcome: Outcome<Cont>) -> Result<Outcome<Cont>, RunFault> {
-    let copy = outcome.try_clone()?;
-    if copy == outcome {
+// A copy of a thing, in place of what it is of. It is generic, so that no proof walks through the drop of an outcome.
+fn copied<T: TryClone + PartialEq + Drop>(thing: T) -> Result<T, RunFault> {
+    let copy = thing.try_clone()?;
+    if copy == thing {
         Ok(copy)
     } else {
         Err(RunFault::Semantics(SemFault::NoMatch))

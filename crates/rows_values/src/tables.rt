@@ -1,4 +1,5 @@
 //! Tables of contracts.
+use crate::lending::lent;
 use collections::{Boxed, Items, TryClone};
 use compiler::{CompileFault, compile};
 use contract::{Action, Case, Contract, Observation};
@@ -31,13 +32,6 @@ fn told(alloc: Global, line: &str) -> Result<Vec<u8>, AllocError> {
 
 fn told_fault(alloc: Global, fault: CompileFault) -> Result<Vec<u8>, AllocError> {
     told(alloc, compile_fault_name(fault))
-}
-
-// Dropped once: lends what would else be owned by a function of many ways out.
-fn lent<T: Drop, U, F: FnOnce(&T) -> U>(thing: T, lend: F) -> U
-    requires { F.IsAlwaysCallable lend }
-{
-    lend(&thing)
 }
 
 // What is printed of the table of a contract and the number of its root.

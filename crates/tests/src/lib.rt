@@ -1,14 +1,8 @@
-//! Tests of what no row of a row program can say: calls on states, maps and lists, files that fail in the middle, and words that are no
-//! text. They stand in a crate of their own, since a crate with tests is proved twice.
+//! Tests of what no row of a row program can say: files that fail in the middle, and words that are no text. They stand in a crate of their
+//! own, since a crate with tests is proved twice.
 #![tactic(auto)]
 
 #[cfg(test)]
 mod files;
-#[cfg(test)]
-mod made;
-#[cfg(test)]
-mod owners;
-#[cfg(test)]
-mod state_calls;
 #[cfg(test)]
 mod words;
