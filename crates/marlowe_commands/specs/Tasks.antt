@@ -10,7 +10,7 @@ use Rattle.marlowe_analyse.specs.declared.analysed.Reader.{Reader}
 use Rattle.marlowe_analyse.specs.Printed.{IsClear, TellsSo, is_read}
 use Rattle.marlowe_play.specs.Faults.{play_refusal_text, scenario_fault}
 use Rattle.marlowe_cli.specs.declared.task.Task.{Task}
-use Rattle.marlowe_cli.specs.declared.task.Task.TheVariants.{Run, Table, Analyse, Play}
+use Rattle.marlowe_cli.specs.declared.task.Task.TheVariants.{Analyse}
 use Rattle.marlowe_commands.specs.Streams.{Streams, on_output, on_errors, IsTextOr}
 
 -- a refusal: a line on standard error, with status 1
