@@ -3,3 +3,4 @@ pub mod ListedContract
 pub mod SymbolsOf
 pub mod AddsLaws
 pub mod ListedLaws
+mod WholeText

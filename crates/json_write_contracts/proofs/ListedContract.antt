@@ -76,5 +76,3 @@ case_json-parts k = ap case_json (case_tree-parts k)
 
 pub case_fits-parts : (k : Case) → case_fits (case_tree k) ≡ (action_fits (action_tree k.action) && contract_fits (contract_tree k.then))
 case_fits-parts k = ap case_fits (case_tree-parts k)
-
-pub ruleset contract_writes = (contract_json-Close, contract_fits-Close, contract_json-Pay, contract_fits-Pay, contract_json-If, contract_fits-If, contract_json-When, contract_fits-When, contract_json-Let, contract_fits-Let, contract_json-Assert, contract_fits-Assert, case_json-parts, case_fits-parts)

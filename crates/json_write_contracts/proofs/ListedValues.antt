@@ -161,7 +161,3 @@ observation_json-FalseObs = ap observation_json laws.observation_tree-FalseObs
 
 pub observation_fits-FalseObs : observation_fits (observation_tree observations.FalseObs) ≡ true
 observation_fits-FalseObs = ap observation_fits laws.observation_tree-FalseObs
-
-pub ruleset value_writes = (value_json-AvailableMoney, value_fits-AvailableMoney, value_json-Constant, value_fits-Constant, value_json-NegValue, value_fits-NegValue, value_json-AddValue, value_fits-AddValue, value_json-SubValue, value_fits-SubValue, value_json-MulValue, value_fits-MulValue, value_json-DivValue, value_fits-DivValue, value_json-ChoiceValue, value_fits-ChoiceValue, value_json-TimeIntervalStart, value_fits-TimeIntervalStart, value_json-TimeIntervalEnd, value_fits-TimeIntervalEnd, value_json-UseValue, value_fits-UseValue, value_json-Cond, value_fits-Cond)
-
-pub ruleset observation_writes = (observation_json-AndObs, observation_fits-AndObs, observation_json-OrObs, observation_fits-OrObs, observation_json-NotObs, observation_fits-NotObs, observation_json-ChoseSomething, observation_fits-ChoseSomething, observation_json-ValueGE, observation_fits-ValueGE, observation_json-ValueGT, observation_fits-ValueGT, observation_json-ValueLT, observation_fits-ValueLT, observation_json-ValueLE, observation_fits-ValueLE, observation_json-ValueEQ, observation_fits-ValueEQ, observation_json-TrueObs, observation_fits-TrueObs, observation_json-FalseObs, observation_fits-FalseObs)

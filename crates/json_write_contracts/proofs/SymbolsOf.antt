@@ -123,9 +123,3 @@ symbols-more xs i x below is here before =
 -- all cases
 pub symbols-over : (all xs : List Case) (i : ℕ) → xs ≡ all → length xs ≤ i → ListSymbols (map (λ k. case_tree k) (take i xs)) → ListSymbols (map (λ k. case_tree k) all)
 symbols-over all xs i same over h = subst (λ ys. ListSymbols (map (λ k. case_tree k) ys)) (take_all i xs over ∙ same) h
-
-pub ruleset value_symbols = (value-symbols-AvailableMoney, value-symbols-Constant, value-symbols-NegValue, value-symbols-AddValue, value-symbols-SubValue, value-symbols-MulValue, value-symbols-DivValue, value-symbols-ChoiceValue, value-symbols-TimeIntervalStart, value-symbols-TimeIntervalEnd, value-symbols-UseValue, value-symbols-Cond)
-
-pub ruleset observation_symbols = (observation-symbols-AndObs, observation-symbols-OrObs, observation-symbols-NotObs, observation-symbols-ChoseSomething, observation-symbols-ValueGE, observation-symbols-ValueGT, observation-symbols-ValueLT, observation-symbols-ValueLE, observation-symbols-ValueEQ, observation-symbols-TrueObs, observation-symbols-FalseObs)
-
-pub ruleset contract_symbols = (contract-symbols-Close, contract-symbols-Pay, contract-symbols-If, contract-symbols-When, contract-symbols-Let, contract-symbols-Assert, case-symbols)

@@ -4,3 +4,4 @@ pub mod WrittenContract
 pub mod Written
 pub mod Symbols
 pub mod Tokens
+pub mod Members

@@ -7,15 +7,18 @@ ghost use Rattle.serde_json.specs.View.{items_of};
 ghost use Rattle.hex.specs.Hex.{IsBytes};
 ghost use Rattle.contract.specs.Tree.{action_tree, value_tree, observation_tree};
 ghost use Rattle.json_write_contracts.specs.Symbols.{ValueSymbols, ObservationSymbols, ActionSymbols};
+ghost use Rattle.json_write_contracts.specs.Members.{member_tokens, AddsFitting};
 ghost use Rattle.json_write_contracts.specs.Tokens.{Keeps, Puts, PutsFitting};
 ghost use Rattle.json_write_contracts.specs.WrittenNames as written_names;
+ghost use Rattle.json_write_contracts.specs.WrittenNames.{number_fits};
 ghost use Rattle.json_write_contracts.specs.WrittenValues as written_values;
 ghost use Rattle.json_write_contracts.specs.WrittenContract as written_contracts;
 ghost use Rattle.json_write_contracts.specs.WrittenValues.{value_fits, observation_fits};
 ghost use Rattle.json_write_contracts.specs.WrittenContract.{bound_fits, action_fits};
 
 use crate::fault::WriteFault;
-use crate::name_forms::{put_choice_id, put_party, put_token};
+use crate::members::{end_object, end_with_one, end_with_three};
+use crate::name_forms::symbol_is_bytes;
 use crate::numbers::put_number;
 use crate::values::{put_observation, put_value};
 use collections::Items;
@@ -24,18 +27,24 @@ use json::Writer;
 use names::{Bound, ChoiceId, Party, Token};
 use std::alloc::Global;
 
+// A member that is a number.
+fn number_member(out: &mut Writer, key: &str, n: &i128) -> Result<(), WriteFault>
+    ensures put { AddsFitting result out.old out.new (number_fits n.now) (member_tokens key.now (written_names.number_json n.now)) }
+    ensures err { OnErr result (Keeps out.old out.new) }
+{
+    out.key(key)?;
+    put_number(out, *n)
+}
+
 /// Writes a bound. An end that doesn't lie from -2^63 to 2^64 - 1 is out of range.
 pub fn put_bound(out: &mut Writer, bound: &Bound) -> Result<(), WriteFault>
     ensures put { PutsFitting result out.old out.new (bound_fits bound.now) (written_contracts.bound_json bound.now) }
     ensures err { OnErr result (Keeps out.old out.new) }
 {
     out.begin_object()?;
-    out.key("from")?;
-    put_number(out, bound.from)?;
-    out.key("to")?;
-    put_number(out, bound.to)?;
-    out.end_object()?;
-    Ok(())
+    number_member(out, "from", &bound.from)?;
+    number_member(out, "to", &bound.to)?;
+    end_object(out)
 }
 
 fn put_bounds(out: &mut Writer, bounds: &Items<Bound>) -> Result<(), WriteFault>
@@ -64,20 +73,29 @@ fn put_deposit(
     ensures value_symbols { OnOk result (ValueSymbols (value_tree value.now)) }
     ensures symbol { OnOk result (IsBytes token.now.symbol) }
 {
+    // touch: the symbol is bytes
+    symbol_is_bytes(token);
     out.begin_object()?;
     out.key("deposits")?;
     put_value(alloc, out, value)?;
-    out.key("into_account")?;
-    put_party(out, account)?;
-    out.key("of_token")?;
-    put_token(alloc, out, token)?;
-    out.key("party")?;
-    put_party(out, party)?;
-    out.end_object()?;
-    Ok(())
+    Ok(end_with_three(
+        alloc,
+        out,
+        "into_account",
+        account,
+        "of_token",
+        token,
+        "party",
+        party,
+    )?)
 }
 
-fn put_choice(out: &mut Writer, id: &ChoiceId, bounds: &Items<Bound>) -> Result<(), WriteFault>
+fn put_choice(
+    alloc: Global,
+    out: &mut Writer,
+    id: &ChoiceId,
+    bounds: &Items<Bound>,
+) -> Result<(), WriteFault>
     ensures put { PutsFitting result out.old out.new (list_all bound_fits bounds.now) (written_names.two (codes "choose_between") (array (items_of (map written_contracts.bound_json bounds.now)))
         (codes "for_choice") (written_names.choice_id_json id.now)) }
     ensures err { OnErr result (Keeps out.old out.new) }
@@ -85,10 +103,7 @@ fn put_choice(out: &mut Writer, id: &ChoiceId, bounds: &Items<Bound>) -> Result<
     out.begin_object()?;
     out.key("choose_between")?;
     put_bounds(out, bounds)?;
-    out.key("for_choice")?;
-    put_choice_id(out, id)?;
-    out.end_object()?;
-    Ok(())
+    Ok(end_with_one(alloc, out, "for_choice", id)?)
 }
 
 fn put_notify(alloc: Global, out: &mut Writer, observation: &Observation) -> Result<(), WriteFault>
@@ -99,8 +114,7 @@ fn put_notify(alloc: Global, out: &mut Writer, observation: &Observation) -> Res
     out.begin_object()?;
     out.key("notify_if")?;
     put_observation(alloc, out, observation)?;
-    out.end_object()?;
-    Ok(())
+    end_object(out)
 }
 
 /// Writes an action. A number in it that doesn't lie from -2^63 to 2^64 - 1 is out of range.
@@ -113,7 +127,7 @@ pub fn put_action(alloc: Global, out: &mut Writer, action: &Action) -> Result<()
         Action::Deposit(account, party, token, value) => {
             put_deposit(alloc, out, account, party, token, value)
         }
-        Action::Choice(id, bounds) => put_choice(out, id, bounds),
+        Action::Choice(id, bounds) => put_choice(alloc, out, id, bounds),
         Action::Notify(observation) => put_notify(alloc, out, observation),
     }
 }

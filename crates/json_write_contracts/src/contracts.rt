@@ -7,7 +7,8 @@ ghost use Rattle.serde_json.specs.Data.{array, string};
 ghost use Rattle.serde_json.specs.View.{items_of};
 ghost use Rattle.contract.specs.Tree.{value_tree, observation_tree, contract_tree, case_tree};
 ghost use Rattle.json_write_contracts.specs.Symbols.{ValueSymbols, ObservationSymbols, ContractSymbols, CaseSymbols, ListSymbols};
-ghost use Rattle.json_write_contracts.specs.Tokens.{Keeps, Puts, PutsFitting};
+ghost use Rattle.json_write_contracts.specs.Members.{member_tokens, AddsFitting};
+ghost use Rattle.json_write_contracts.specs.Tokens.{Keeps, PutsFitting};
 ghost use Rattle.json_write_contracts.specs.WrittenNames as written_names;
 ghost use Rattle.json_write_contracts.specs.WrittenValues as written_values;
 ghost use Rattle.json_write_contracts.specs.WrittenContract as written_contracts;
@@ -17,10 +18,11 @@ ghost use Rattle.json_write_contracts.specs.WrittenContract.{contract_fits, case
 
 use crate::actions::put_action;
 use crate::fault::WriteFault;
-use crate::name_forms::{put_party, put_payee, put_text, put_token};
-use crate::numbers::put_time;
-use crate::values::{put_observation, put_value, word};
-use collections::{Boxed, Items, Memory, Text};
+use crate::members::{begin_with, end_object, end_with_two, put_member, put_term};
+use crate::name_forms::symbol_is_bytes;
+use crate::numbers::is_time;
+use crate::values::{put_observation, put_value};
+use collections::{Boxed, Items, Text};
 use contract::{Case, Contract, Observation, Value};
 use json::Writer;
 use names::{Party, Payee, Token};
@@ -29,14 +31,13 @@ use std::alloc::Global;
 /// Writes a contract: compact, with each object's keys in the order of their bytes. A number in it that doesn't lie
 /// from -2^63 to 2^64 - 1 is out of range.
 #[cycle(put_contract)]
-#[tactic(auto, using(crate::proofs::ListedContract::contract_writes, crate::proofs::SymbolsOf::contract_symbols))]
 pub fn put_contract(alloc: Global, out: &mut Writer, contract: &Contract) -> Result<(), WriteFault>
     ensures put { PutsFitting result out.old out.new (contract_fits (contract_tree contract.now)) (written_contracts.contract_json (contract_tree contract.now)) }
     ensures err { OnErr result (Keeps out.old out.new) }
     ensures symbols { OnOk result (ContractSymbols (contract_tree contract.now)) }
 {
     match contract {
-        Contract::Close => Ok(word(out, "close")?),
+        Contract::Close => put_term(alloc, out, &"close"),
         Contract::Pay(from, to, token, pay, then) => put_pay(
             alloc, out, from, to, token, pay, then,
         ),
@@ -65,19 +66,13 @@ fn put_pay(
     ensures value_symbols { OnOk result (ValueSymbols (value_tree pay.now)) }
     ensures then_symbols { OnOk result (ContractSymbols (contract_tree then.now)) }
 {
-    out.begin_object()?;
-    out.key("from_account")?;
-    put_party(out, from)?;
+    // touch: the symbol is bytes
+    symbol_is_bytes(token);
+    begin_with(alloc, out, "from_account", from)?;
     out.key("pay")?;
     put_value(alloc, out, pay)?;
-    out.key("then")?;
-    put_boxed(alloc, out, then)?;
-    out.key("to")?;
-    put_payee(out, to)?;
-    out.key("token")?;
-    put_token(alloc, out, token)?;
-    out.end_object()?;
-    Ok(())
+    contract_member(alloc, out, "then", then)?;
+    Ok(end_with_two(alloc, out, "to", to, "token", token)?)
 }
 
 #[cycle(put_contract)]
@@ -96,14 +91,11 @@ fn put_if(
     ensures otherwise_symbols { OnOk result (ContractSymbols (contract_tree otherwise.now)) }
 {
     out.begin_object()?;
-    out.key("else")?;
-    put_boxed(alloc, out, otherwise)?;
+    contract_member(alloc, out, "else", otherwise)?;
     out.key("if")?;
     put_observation(alloc, out, condition)?;
-    out.key("then")?;
-    put_boxed(alloc, out, then)?;
-    out.end_object()?;
-    Ok(())
+    contract_member(alloc, out, "then", then)?;
+    end_object(out)
 }
 
 #[cycle(put_contract)]
@@ -121,15 +113,13 @@ fn put_when(
     ensures case_symbols { OnOk result (ListSymbols (map (λ k. case_tree k) cases.now)) }
     ensures then_symbols { OnOk result (ContractSymbols (contract_tree then.now)) }
 {
-    out.begin_object()?;
-    out.key("timeout")?;
-    put_timeout(out, timeout)?;
-    out.key("timeout_continuation")?;
-    put_boxed(alloc, out, then)?;
+    // touch: a time fits
+    is_time(*timeout);
+    begin_with(alloc, out, "timeout", timeout)?;
+    contract_member(alloc, out, "timeout_continuation", then)?;
     out.key("when")?;
     put_cases(alloc, out, cases)?;
-    out.end_object()?;
-    Ok(())
+    end_object(out)
 }
 
 #[cycle(put_contract)]
@@ -149,12 +139,9 @@ fn put_let(
     out.begin_object()?;
     out.key("be")?;
     put_value(alloc, out, value)?;
-    out.key("let")?;
-    put_text(out, name)?;
-    out.key("then")?;
-    put_boxed(alloc, out, then)?;
-    out.end_object()?;
-    Ok(())
+    put_member(alloc, out, "let", name)?;
+    contract_member(alloc, out, "then", then)?;
+    end_object(out)
 }
 
 #[cycle(put_contract)]
@@ -173,15 +160,12 @@ fn put_assert(
     out.begin_object()?;
     out.key("assert")?;
     put_observation(alloc, out, condition)?;
-    out.key("then")?;
-    put_boxed(alloc, out, then)?;
-    out.end_object()?;
-    Ok(())
+    contract_member(alloc, out, "then", then)?;
+    end_object(out)
 }
 
 /// Writes a case: its action, and the contract that is gone on with.
 #[cycle(put_contract)]
-#[tactic(auto, using(crate::proofs::ListedContract::contract_writes, crate::proofs::SymbolsOf::contract_symbols))]
 pub fn put_case(alloc: Global, out: &mut Writer, case: &Case) -> Result<(), WriteFault>
     ensures put { PutsFitting result out.old out.new (case_fits (case_tree case.now)) (written_contracts.case_json (case_tree case.now)) }
     ensures err { OnErr result (Keeps out.old out.new) }
@@ -192,8 +176,7 @@ pub fn put_case(alloc: Global, out: &mut Writer, case: &Case) -> Result<(), Writ
     put_action(alloc, out, &case.action)?;
     out.key("then")?;
     put_contract(alloc, out, &case.then)?;
-    out.end_object()?;
-    Ok(())
+    end_object(out)
 }
 
 #[cycle(put_contract)]
@@ -210,19 +193,18 @@ fn put_cases(alloc: Global, out: &mut Writer, cases: &Items<Case>) -> Result<(),
     Ok(())
 }
 
+// A member that is a contract.
 #[cycle(put_contract)]
-fn put_boxed(alloc: Global, out: &mut Writer, contract: &Boxed<Contract>) -> Result<(), WriteFault>
-    ensures put { PutsFitting result out.old out.new (contract_fits (contract_tree contract.now)) (written_contracts.contract_json (contract_tree contract.now)) }
+fn contract_member(
+    alloc: Global,
+    out: &mut Writer,
+    key: &str,
+    contract: &Boxed<Contract>,
+) -> Result<(), WriteFault>
+    ensures put { AddsFitting result out.old out.new (contract_fits (contract_tree contract.now)) (member_tokens key.now (written_contracts.contract_json (contract_tree contract.now))) }
     ensures err { OnErr result (Keeps out.old out.new) }
     ensures symbols { OnOk result (ContractSymbols (contract_tree contract.now)) }
 {
+    out.key(key)?;
     put_contract(alloc, out, contract.get())
-}
-
-fn put_timeout(out: &mut Writer, timeout: &i64) -> Result<(), Memory>
-    ensures put { OnOk result (Puts out.old out.new (written_names.number_json timeout.now)) }
-    ensures err { OnErr result (Keeps out.old out.new) }
-    ensures fits { time_fits timeout.now ≡ true }
-{
-    put_time(out, *timeout)
 }

@@ -1,22 +1,24 @@
 //! Values and observations.
 //! Where a call fails, what was written before it stays, and behind it stand some tokens or none.
-ghost use Rattle.std.specs.Prelude.{◌≡◌, ◌&&◌, codes, OnOk, OnErr};
-ghost use Rattle.serde_json.specs.Data.{string};
+ghost use Rattle.std.specs.Prelude.{◌≡◌, true, ◌&&◌, codes, OnOk, OnErr};
+ghost use Rattle.serde_json.specs.Data.{string, boolean};
 ghost use Rattle.hex.specs.Hex.{IsBytes};
 ghost use Rattle.contract.specs.Tree.{value_tree, observation_tree};
 ghost use Rattle.json_write_contracts.specs.Symbols.{ValueSymbols, ObservationSymbols};
+ghost use Rattle.json_write_contracts.specs.Members.{member_tokens, AddsFitting};
 ghost use Rattle.json_write_contracts.specs.Tokens.{Keeps, Puts, PutsFitting};
 ghost use Rattle.json_write_contracts.specs.WrittenNames as written_names;
 ghost use Rattle.json_write_contracts.specs.WrittenValues as written_values;
 ghost use Rattle.json_write_contracts.specs.WrittenValues.{value_fits, observation_fits};
 
 use crate::fault::WriteFault;
-use crate::name_forms::{put_choice_id, put_party, put_text, put_token};
+use crate::members::{end_object, end_with_two, put_one, put_term};
+use crate::name_forms::symbol_is_bytes;
 use crate::numbers::put_number;
-use collections::{Boxed, Memory, Text};
+use collections::{Boxed, Memory};
 use contract::{Observation, Value};
 use json::Writer;
-use names::{ChoiceId, Party, Token};
+use names::{Party, Token};
 use std::alloc::Global;
 
 fn put_available(
@@ -24,42 +26,22 @@ fn put_available(
     out: &mut Writer,
     party: &Party,
     token: &Token,
-) -> Result<(), Memory>
-    ensures put { OnOk result (Puts out.old out.new (written_names.two (codes "amount_of_token") (written_names.token_json token.now) (codes "in_account") (written_names.party_json party.now))) }
+) -> Result<(), WriteFault>
+    ensures put { PutsFitting result out.old out.new true (written_names.two (codes "amount_of_token") (written_names.token_json token.now) (codes "in_account") (written_names.party_json party.now)) }
     ensures err { OnErr result (Keeps out.old out.new) }
     ensures symbol { OnOk result (IsBytes token.now.symbol) }
 {
+    // touch: the symbol is bytes
+    symbol_is_bytes(token);
     out.begin_object()?;
-    out.key("amount_of_token")?;
-    put_token(alloc, out, token)?;
-    out.key("in_account")?;
-    put_party(out, party)?;
-    out.end_object()?;
-    Ok(())
+    Ok(end_with_two(alloc, out, "amount_of_token", token, "in_account", party)?)
 }
 
-// An object of one key, beside a choice.
-fn one_choice(out: &mut Writer, key: &str, id: &ChoiceId) -> Result<(), Memory>
-    ensures put { OnOk result (Puts out.old out.new (written_names.one key.now (written_names.choice_id_json id.now))) }
+fn put_truth(out: &mut Writer, truth: bool) -> Result<(), WriteFault>
+    ensures put { PutsFitting result out.old out.new true (boolean truth) }
     ensures err { OnErr result (Keeps out.old out.new) }
 {
-    out.begin_object()?;
-    out.key(key)?;
-    put_choice_id(out, id)?;
-    out.end_object()?;
-    Ok(())
-}
-
-// An object of one key, beside a text.
-fn one_text(out: &mut Writer, key: &str, text: &Text) -> Result<(), Memory>
-    ensures put { OnOk result (Puts out.old out.new (written_names.one key.now (string text.now))) }
-    ensures err { OnErr result (Keeps out.old out.new) }
-{
-    out.begin_object()?;
-    out.key(key)?;
-    put_text(out, text)?;
-    out.end_object()?;
-    Ok(())
+    Ok(out.boolean(truth)?)
 }
 
 /// Writes a word of its own.
@@ -73,24 +55,23 @@ pub fn word(out: &mut Writer, word: &str) -> Result<(), Memory>
 /// Writes a value: a constant as a number, and each other form as an object or a word of its own. A constant that
 /// doesn't lie from -2^63 to 2^64 - 1 is out of range.
 #[cycle(put_value)]
-#[tactic(auto, using(crate::proofs::ListedValues::value_writes, crate::proofs::SymbolsOf::value_symbols))]
 pub fn put_value(alloc: Global, out: &mut Writer, value: &Value) -> Result<(), WriteFault>
     ensures put { PutsFitting result out.old out.new (value_fits (value_tree value.now)) (written_values.value_json (value_tree value.now)) }
     ensures err { OnErr result (Keeps out.old out.new) }
     ensures symbols { OnOk result (ValueSymbols (value_tree value.now)) }
 {
     match value {
-        Value::AvailableMoney(party, token) => Ok(put_available(alloc, out, party, token)?),
+        Value::AvailableMoney(party, token) => put_available(alloc, out, party, token),
         Value::Constant(n) => put_number(out, *n),
         Value::NegValue(v) => one_value(alloc, out, "negate", v),
         Value::AddValue(v, w) => two_values(alloc, out, "add", v, "and", w),
         Value::SubValue(v, w) => two_values(alloc, out, "minus", w, "value", v),
         Value::MulValue(v, w) => two_values(alloc, out, "multiply", v, "times", w),
         Value::DivValue(v, w) => two_values(alloc, out, "by", w, "divide", v),
-        Value::ChoiceValue(id) => Ok(one_choice(out, "value_of_choice", id)?),
-        Value::TimeIntervalStart => Ok(word(out, "time_interval_start")?),
-        Value::TimeIntervalEnd => Ok(word(out, "time_interval_end")?),
-        Value::UseValue(name) => Ok(one_text(out, "use_value", name)?),
+        Value::ChoiceValue(id) => put_one(alloc, out, "value_of_choice", id),
+        Value::TimeIntervalStart => put_term(alloc, out, &"time_interval_start"),
+        Value::TimeIntervalEnd => put_term(alloc, out, &"time_interval_end"),
+        Value::UseValue(name) => put_one(alloc, out, "use_value", name),
         Value::Cond(condition, then, otherwise) => {
             put_cond(alloc, out, condition, then, otherwise)
         }
@@ -100,7 +81,6 @@ pub fn put_value(alloc: Global, out: &mut Writer, value: &Value) -> Result<(), W
 /// Writes an observation: `true`, `false`, or an object. A constant in it that doesn't lie from -2^63 to 2^64 - 1 is
 /// out of range.
 #[cycle(put_value)]
-#[tactic(auto, using(crate::proofs::ListedValues::observation_writes, crate::proofs::SymbolsOf::observation_symbols))]
 pub fn put_observation(
     alloc: Global,
     out: &mut Writer,
@@ -114,15 +94,47 @@ pub fn put_observation(
         Observation::AndObs(o, p) => two_observations(alloc, out, "and", p, "both", o),
         Observation::OrObs(o, p) => two_observations(alloc, out, "either", o, "or", p),
         Observation::NotObs(o) => one_observation(alloc, out, "not", o),
-        Observation::ChoseSomething(id) => Ok(one_choice(out, "chose_something_for", id)?),
+        Observation::ChoseSomething(id) => put_one(alloc, out, "chose_something_for", id),
         Observation::ValueGE(v, w) => two_values(alloc, out, "ge_than", w, "value", v),
         Observation::ValueGT(v, w) => two_values(alloc, out, "gt", w, "value", v),
         Observation::ValueLT(v, w) => two_values(alloc, out, "lt", w, "value", v),
         Observation::ValueLE(v, w) => two_values(alloc, out, "le_than", w, "value", v),
         Observation::ValueEQ(v, w) => two_values(alloc, out, "equal_to", w, "value", v),
-        Observation::TrueObs => Ok(out.boolean(true)?),
-        Observation::FalseObs => Ok(out.boolean(false)?),
+        Observation::TrueObs => put_truth(out, true),
+        Observation::FalseObs => put_truth(out, false),
     }
+}
+
+// A member that is a value.
+#[cycle(put_value)]
+fn value_member(
+    alloc: Global,
+    out: &mut Writer,
+    key: &str,
+    value: &Boxed<Value>,
+) -> Result<(), WriteFault>
+    ensures put { AddsFitting result out.old out.new (value_fits (value_tree value.now)) (member_tokens key.now (written_values.value_json (value_tree value.now))) }
+    ensures err { OnErr result (Keeps out.old out.new) }
+    ensures symbols { OnOk result (ValueSymbols (value_tree value.now)) }
+{
+    out.key(key)?;
+    put_value(alloc, out, value.get())
+}
+
+// A member that is an observation.
+#[cycle(put_value)]
+fn observation_member(
+    alloc: Global,
+    out: &mut Writer,
+    key: &str,
+    observation: &Boxed<Observation>,
+) -> Result<(), WriteFault>
+    ensures put { AddsFitting result out.old out.new (observation_fits (observation_tree observation.now)) (member_tokens key.now (written_values.observation_json (observation_tree observation.now))) }
+    ensures err { OnErr result (Keeps out.old out.new) }
+    ensures symbols { OnOk result (ObservationSymbols (observation_tree observation.now)) }
+{
+    out.key(key)?;
+    put_observation(alloc, out, observation.get())
 }
 
 #[cycle(put_value)]
@@ -137,10 +149,8 @@ fn one_value(
     ensures symbols { OnOk result (ValueSymbols (value_tree value.now)) }
 {
     out.begin_object()?;
-    out.key(key)?;
-    put_value(alloc, out, value.get())?;
-    out.end_object()?;
-    Ok(())
+    value_member(alloc, out, key, value)?;
+    end_object(out)
 }
 
 #[cycle(put_value)]
@@ -155,10 +165,8 @@ fn one_observation(
     ensures symbols { OnOk result (ObservationSymbols (observation_tree observation.now)) }
 {
     out.begin_object()?;
-    out.key(key)?;
-    put_observation(alloc, out, observation.get())?;
-    out.end_object()?;
-    Ok(())
+    observation_member(alloc, out, key, observation)?;
+    end_object(out)
 }
 
 #[cycle(put_value)]
@@ -177,12 +185,9 @@ fn two_values(
     ensures second_symbols { OnOk result (ValueSymbols (value_tree w.now)) }
 {
     out.begin_object()?;
-    out.key(a)?;
-    put_value(alloc, out, v.get())?;
-    out.key(b)?;
-    put_value(alloc, out, w.get())?;
-    out.end_object()?;
-    Ok(())
+    value_member(alloc, out, a, v)?;
+    value_member(alloc, out, b, w)?;
+    end_object(out)
 }
 
 #[cycle(put_value)]
@@ -201,12 +206,9 @@ fn two_observations(
     ensures second_symbols { OnOk result (ObservationSymbols (observation_tree p.now)) }
 {
     out.begin_object()?;
-    out.key(a)?;
-    put_observation(alloc, out, o.get())?;
-    out.key(b)?;
-    put_observation(alloc, out, p.get())?;
-    out.end_object()?;
-    Ok(())
+    observation_member(alloc, out, a, o)?;
+    observation_member(alloc, out, b, p)?;
+    end_object(out)
 }
 
 #[cycle(put_value)]
@@ -225,12 +227,8 @@ fn put_cond(
     ensures otherwise_symbols { OnOk result (ValueSymbols (value_tree otherwise.now)) }
 {
     out.begin_object()?;
-    out.key("else")?;
-    put_value(alloc, out, otherwise.get())?;
-    out.key("if")?;
-    put_observation(alloc, out, condition.get())?;
-    out.key("then")?;
-    put_value(alloc, out, then.get())?;
-    out.end_object()?;
-    Ok(())
+    value_member(alloc, out, "else", otherwise)?;
+    observation_member(alloc, out, "if", condition)?;
+    value_member(alloc, out, "then", then)?;
+    end_object(out)
 }

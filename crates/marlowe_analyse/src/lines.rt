@@ -11,7 +11,7 @@ use collections::{Items, Memory};
 use contract::Transaction;
 use contract_json::{PutJson, WriteFault};
 use json::Writer;
-use json_terms::term_text;
+use json_write_contracts::term_text;
 use std::alloc::{AllocError, Global};
 
 /// A line that there is no alarm, or the lines of each, with runs or without.

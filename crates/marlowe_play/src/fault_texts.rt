@@ -2,7 +2,7 @@
 use builder::BuildFault;
 use collections::Memory;
 use eutxo_types::TxFault;
-use json_terms::{Term, term_text};
+use json_write_contracts::{Term, term_text};
 use marlowe_run::sem_fault_name;
 use std::alloc::Global;
 

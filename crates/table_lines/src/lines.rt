@@ -4,7 +4,7 @@ ghost use Rattle.table_lines.specs.TableLines.{line_end, value_words, observatio
 
 use crate::lists::in_brackets;
 use collections::Memory;
-use json_terms::term_text;
+use json_write_contracts::term_text;
 use nodes::{CaseNode, ContNode, ObservationNode, ValueNode};
 use std::alloc::Global;
 use std::fmt::Write;

@@ -1,11 +1,23 @@
-use Rattle.json_write_contracts.proofs.AddsLaws.{then, wrote}
+use Rattle.json_write_contracts.proofs.AddsLaws.{then, wrote, refused, stopped, failed}
 use Rattle.json_write_contracts.proofs.actions.put_deposit.Goals as goal
 
 pub returns-clause-put : goal.returns-clause-put
-returns-clause-put c = (
-  c.in_ok-put_value.ensures.put.0,
-  then (wrote c.in_ok-begin_object.ensures) (then (wrote c.in_ok-key.ensures) (then c.in_ok-put_value.ensures.put.1
-      (then (wrote c.in_ok-key-2.ensures) (then c.in_ok-put_party.ensures.put
-      (then (wrote c.in_ok-key-3.ensures) (then c.in_ok-put_token.ensures.put
-      (then (wrote c.in_ok-key-4.ensures) (then c.in_ok-put_party-2.ensures.put (wrote c.in_ok-end_object.ensures))))))))),
-)
+returns-clause-put c = (c.in_ok-put_value.ensures.put.0, then (wrote c.in_ok-begin_object.ensures) (then (wrote c.in_ok-key.ensures) (then c.in_ok-put_value.ensures.put.1 c.in_ok-end_with_three.ensures.put)))
+
+pub returns-in_err-begin_object-clause-err : goal.returns-in_err-begin_object-clause-err
+returns-in_err-begin_object-clause-err c = failed c.from_residual.result (refused c.in_err-begin_object.ensures)
+
+pub returns-in_err-key-clause-err : goal.returns-in_err-key-clause-err
+returns-in_err-key-clause-err c = stopped c.from_residual-in_err-key.result (wrote c.in_ok-begin_object.ensures) (refused c.in_err-key.ensures)
+
+pub returns-in_err-put_value-clause-err : goal.returns-in_err-put_value-clause-err
+returns-in_err-put_value-clause-err c = stopped c.from_residual-in_err-put_value.result (then (wrote c.in_ok-begin_object.ensures) (wrote c.in_ok-key.ensures)) c.in_err-put_value.ensures.err
+
+pub returns-in_err-end_with_three-clause-err : goal.returns-in_err-end_with_three-clause-err
+returns-in_err-end_with_three-clause-err c = stopped c.from_residual-in_err-end_with_three.result (then (wrote c.in_ok-begin_object.ensures) (then (wrote c.in_ok-key.ensures) c.in_ok-put_value.ensures.put.1)) c.in_err-end_with_three.ensures.err
+
+pub returns-clause-value_symbols : goal.returns-clause-value_symbols
+returns-clause-value_symbols c = c.in_ok-put_value.ensures.symbols
+
+pub returns-clause-symbol : goal.returns-clause-symbol
+returns-clause-symbol c = c.symbol_is_bytes.ensures

@@ -1,56 +1,222 @@
-use Rattle.std.proofs.Common.{◌&&◌}
-use Rattle.contract.specs.Tree.{case_tree}
-use Rattle.json_write_contracts.specs.WrittenContract.{case_json, case_fits}
-use Rattle.json_write_contracts.proofs.AddsLaws.{then, wrote, stopped, refused}
+use Rattle.std.proofs.Common.{◌≡◌, true, ◌&&◌, sym, subst, OnOk, rules}
+use Rattle.contract.specs.Tree.{contract_tree, case_tree}
+use Rattle.contract.proofs.TreeLaws.{case_tree-parts}
+use Rattle.json_write_contracts.specs.Symbols.{ContractSymbols}
+use Rattle.json_write_contracts.specs.Members.{member_tokens, AddsFitting}
+use Rattle.json_write_contracts.specs.Tokens.{PutsFitting}
+use Rattle.json_write_contracts.specs.WrittenNames.{time_fits}
+use Rattle.json_write_contracts.specs.WrittenContract.{contract_json, contract_fits, case_json, case_fits}
+use Rattle.json_write_contracts.proofs.ListedContract.{contract_fits-Close, contract_json-Close, contract_fits-Pay, contract_json-Pay, contract_fits-If, contract_json-If, contract_fits-When, contract_json-When, contract_fits-Let, contract_json-Let, contract_fits-Assert, contract_json-Assert}
 use Rattle.json_write_contracts.proofs.ListedLaws.{listed, closed, all-more, all-over}
-use Rattle.json_write_contracts.proofs.SymbolsOf.{symbols-more, symbols-over}
+use Rattle.json_write_contracts.proofs.SymbolsOf.{contract-symbols-Close, contract-symbols-Pay, contract-symbols-If, contract-symbols-When, contract-symbols-Let, contract-symbols-Assert, case-symbols, symbols-more, symbols-over}
+use Rattle.json_write_contracts.proofs.AddsLaws.{then, wrote, refused, stopped, left, after, flagged, held, failed, both, all_three}
 use Rattle.json_write_contracts.proofs.contracts.+put_contract.Goals as goal
 
+pub contract_member-returns-clause-put : goal.contract_member-returns-clause-put
+contract_member-returns-clause-put t c = subst (λ v. AddsFitting c.put_contract.result c.args.out.now c.put_contract.new.out (contract_fits (contract_tree v)) (member_tokens c.args.key.now (contract_json (contract_tree v)))) c.get.ensures (after _ _ _ c.put_contract.result (wrote c.in_ok-key.ensures) c.put_contract.ensures.put)
+
+pub contract_member-returns-clause-err : goal.contract_member-returns-clause-err
+contract_member-returns-clause-err t c = left _ c.put_contract.result (wrote c.in_ok-key.ensures) c.put_contract.ensures.err
+
+pub contract_member-returns-in_err-key-clause-err : goal.contract_member-returns-in_err-key-clause-err
+contract_member-returns-in_err-key-clause-err t c = failed c.from_residual.result (refused c.in_err-key.ensures)
+
+pub contract_member-returns-clause-symbols : goal.contract_member-returns-clause-symbols
+contract_member-returns-clause-symbols t c = subst (λ v. OnOk c.put_contract.result (ContractSymbols (contract_tree v))) c.get.ensures c.put_contract.ensures.symbols
+
 pub put_pay-returns-clause-put : goal.put_pay-returns-clause-put
-put_pay-returns-clause-put t c = (
-  λ j. c.in_ok-put_value.ensures.put.0 j && c.in_ok-put_boxed.ensures.put.0 j,
-  then (wrote c.in_ok-begin_object.ensures) (then (wrote c.in_ok-key.ensures) (then c.in_ok-put_party.ensures.put (then (wrote c.in_ok-key-2.ensures) (then c.in_ok-put_value.ensures.put.1 (then (wrote c.in_ok-key-3.ensures) (then c.in_ok-put_boxed.ensures.put.1 (then (wrote c.in_ok-key-4.ensures) (then c.in_ok-put_payee.ensures.put (then (wrote c.in_ok-key-5.ensures) (then c.in_ok-put_token.ensures.put (wrote c.in_ok-end_object.ensures))))))))))),
-)
+put_pay-returns-clause-put t c = (λ j. c.in_ok-put_value.ensures.put.0 j && c.in_ok-contract_member.ensures.put.0 j, then c.in_ok-begin_with.ensures.put (then (wrote c.in_ok-key.ensures) (then c.in_ok-put_value.ensures.put.1 (then c.in_ok-contract_member.ensures.put.1 c.in_ok-end_with_two.ensures.put))))
 
-pub put_pay-returns-in_err-put_payee-clause-err : goal.put_pay-returns-in_err-put_payee-clause-err
-put_pay-returns-in_err-put_payee-clause-err t c =
-    stopped c.from_residual-in_err-put_payee.result (then (wrote c.in_ok-begin_object.ensures) (then (wrote c.in_ok-key.ensures) (then c.in_ok-put_party.ensures.put (then (wrote c.in_ok-key-2.ensures) (then c.in_ok-put_value.ensures.put.1 (then (wrote c.in_ok-key-3.ensures) (then c.in_ok-put_boxed.ensures.put.1 (wrote c.in_ok-key-4.ensures)))))))) c.in_err-put_payee.ensures.err
+pub put_pay-returns-in_err-begin_with-clause-err : goal.put_pay-returns-in_err-begin_with-clause-err
+put_pay-returns-in_err-begin_with-clause-err t c = failed c.from_residual.result c.in_err-begin_with.ensures.err
 
-pub put_pay-returns-in_err-key-5-clause-err : goal.put_pay-returns-in_err-key-5-clause-err
-put_pay-returns-in_err-key-5-clause-err t c =
-    stopped c.from_residual-in_err-key-5.result (then (wrote c.in_ok-begin_object.ensures) (then (wrote c.in_ok-key.ensures) (then c.in_ok-put_party.ensures.put (then (wrote c.in_ok-key-2.ensures) (then c.in_ok-put_value.ensures.put.1 (then (wrote c.in_ok-key-3.ensures) (then c.in_ok-put_boxed.ensures.put.1 (then (wrote c.in_ok-key-4.ensures) c.in_ok-put_payee.ensures.put)))))))) (refused c.in_err-key-5.ensures)
+pub put_pay-returns-in_err-key-clause-err : goal.put_pay-returns-in_err-key-clause-err
+put_pay-returns-in_err-key-clause-err t c = stopped c.from_residual-in_err-key.result c.in_ok-begin_with.ensures.put (refused c.in_err-key.ensures)
 
-pub put_pay-returns-in_err-put_token-clause-err : goal.put_pay-returns-in_err-put_token-clause-err
-put_pay-returns-in_err-put_token-clause-err t c =
-    stopped c.from_residual-in_err-put_token.result (then (wrote c.in_ok-begin_object.ensures) (then (wrote c.in_ok-key.ensures) (then c.in_ok-put_party.ensures.put (then (wrote c.in_ok-key-2.ensures) (then c.in_ok-put_value.ensures.put.1 (then (wrote c.in_ok-key-3.ensures) (then c.in_ok-put_boxed.ensures.put.1 (then (wrote c.in_ok-key-4.ensures) (then c.in_ok-put_payee.ensures.put (wrote c.in_ok-key-5.ensures)))))))))) c.in_err-put_token.ensures.err
+pub put_pay-returns-in_err-put_value-clause-err : goal.put_pay-returns-in_err-put_value-clause-err
+put_pay-returns-in_err-put_value-clause-err t c = stopped c.from_residual-in_err-put_value.result (then c.in_ok-begin_with.ensures.put (wrote c.in_ok-key.ensures)) c.in_err-put_value.ensures.err
 
-pub put_pay-returns-in_err-end_object-clause-err : goal.put_pay-returns-in_err-end_object-clause-err
-put_pay-returns-in_err-end_object-clause-err t c =
-    stopped c.from_residual-in_err-end_object.result (then (wrote c.in_ok-begin_object.ensures) (then (wrote c.in_ok-key.ensures) (then c.in_ok-put_party.ensures.put (then (wrote c.in_ok-key-2.ensures) (then c.in_ok-put_value.ensures.put.1 (then (wrote c.in_ok-key-3.ensures) (then c.in_ok-put_boxed.ensures.put.1 (then (wrote c.in_ok-key-4.ensures) (then c.in_ok-put_payee.ensures.put (then (wrote c.in_ok-key-5.ensures) c.in_ok-put_token.ensures.put)))))))))) (refused c.in_err-end_object.ensures)
+pub put_pay-returns-in_err-contract_member-clause-err : goal.put_pay-returns-in_err-contract_member-clause-err
+put_pay-returns-in_err-contract_member-clause-err t c = stopped c.from_residual-in_err-contract_member.result (then c.in_ok-begin_with.ensures.put (then (wrote c.in_ok-key.ensures) c.in_ok-put_value.ensures.put.1)) c.in_err-contract_member.ensures.err
+
+pub put_pay-returns-in_err-end_with_two-clause-err : goal.put_pay-returns-in_err-end_with_two-clause-err
+put_pay-returns-in_err-end_with_two-clause-err t c = stopped c.from_residual-in_err-end_with_two.result (then c.in_ok-begin_with.ensures.put (then (wrote c.in_ok-key.ensures) (then c.in_ok-put_value.ensures.put.1 c.in_ok-contract_member.ensures.put.1))) c.in_err-end_with_two.ensures.err
+
+pub put_pay-returns-clause-token_symbol : goal.put_pay-returns-clause-token_symbol
+put_pay-returns-clause-token_symbol t c = c.symbol_is_bytes.ensures
+
+pub put_pay-returns-clause-value_symbols : goal.put_pay-returns-clause-value_symbols
+put_pay-returns-clause-value_symbols t c = c.in_ok-put_value.ensures.symbols
+
+pub put_pay-returns-clause-then_symbols : goal.put_pay-returns-clause-then_symbols
+put_pay-returns-clause-then_symbols t c = c.in_ok-contract_member.ensures.symbols
 
 pub put_if-returns-clause-put : goal.put_if-returns-clause-put
-put_if-returns-clause-put t c = (
-  λ j. c.in_ok-put_observation.ensures.put.0 j && c.in_ok-put_boxed-2.ensures.put.0 j && c.in_ok-put_boxed.ensures.put.0 j,
-  then (wrote c.in_ok-begin_object.ensures) (then (wrote c.in_ok-key.ensures) (then c.in_ok-put_boxed.ensures.put.1 (then (wrote c.in_ok-key-2.ensures) (then c.in_ok-put_observation.ensures.put.1 (then (wrote c.in_ok-key-3.ensures) (then c.in_ok-put_boxed-2.ensures.put.1 (wrote c.in_ok-end_object.ensures))))))),
-)
+put_if-returns-clause-put t c = flagged _ _ _ c.end_object.result (λ j. c.in_ok-put_observation.ensures.put.0 j && c.in_ok-contract_member-2.ensures.put.0 j && c.in_ok-contract_member.ensures.put.0 j) (after _ _ _ c.end_object.result (wrote c.in_ok-begin_object.ensures) (after _ _ _ c.end_object.result c.in_ok-contract_member.ensures.put.1 (after _ _ _ c.end_object.result (wrote c.in_ok-key.ensures) (after _ _ _ c.end_object.result c.in_ok-put_observation.ensures.put.1 (after _ _ _ c.end_object.result c.in_ok-contract_member-2.ensures.put.1 c.end_object.ensures.put)))))
+
+pub put_if-returns-clause-err : goal.put_if-returns-clause-err
+put_if-returns-clause-err t c = left _ c.end_object.result (wrote c.in_ok-begin_object.ensures) (left _ c.end_object.result c.in_ok-contract_member.ensures.put.1 (left _ c.end_object.result (wrote c.in_ok-key.ensures) (left _ c.end_object.result c.in_ok-put_observation.ensures.put.1 (left _ c.end_object.result c.in_ok-contract_member-2.ensures.put.1 c.end_object.ensures.err))))
+
+pub put_if-returns-in_err-begin_object-clause-err : goal.put_if-returns-in_err-begin_object-clause-err
+put_if-returns-in_err-begin_object-clause-err t c = failed c.from_residual.result (refused c.in_err-begin_object.ensures)
+
+pub put_if-returns-in_err-contract_member-clause-err : goal.put_if-returns-in_err-contract_member-clause-err
+put_if-returns-in_err-contract_member-clause-err t c = stopped c.from_residual-in_err-contract_member.result (wrote c.in_ok-begin_object.ensures) c.in_err-contract_member.ensures.err
+
+pub put_if-returns-in_err-key-clause-err : goal.put_if-returns-in_err-key-clause-err
+put_if-returns-in_err-key-clause-err t c = stopped c.from_residual-in_err-key.result (then (wrote c.in_ok-begin_object.ensures) c.in_ok-contract_member.ensures.put.1) (refused c.in_err-key.ensures)
+
+pub put_if-returns-in_err-put_observation-clause-err : goal.put_if-returns-in_err-put_observation-clause-err
+put_if-returns-in_err-put_observation-clause-err t c = stopped c.from_residual-in_err-put_observation.result (then (wrote c.in_ok-begin_object.ensures) (then c.in_ok-contract_member.ensures.put.1 (wrote c.in_ok-key.ensures))) c.in_err-put_observation.ensures.err
+
+pub put_if-returns-in_err-contract_member-2-clause-err : goal.put_if-returns-in_err-contract_member-2-clause-err
+put_if-returns-in_err-contract_member-2-clause-err t c = stopped c.from_residual-in_err-contract_member-2.result (then (wrote c.in_ok-begin_object.ensures) (then c.in_ok-contract_member.ensures.put.1 (then (wrote c.in_ok-key.ensures) c.in_ok-put_observation.ensures.put.1))) c.in_err-contract_member-2.ensures.err
+
+pub put_if-returns-clause-condition_symbols : goal.put_if-returns-clause-condition_symbols
+put_if-returns-clause-condition_symbols t c = held c.end_object.result c.in_ok-put_observation.ensures.symbols
+
+pub put_if-returns-clause-then_symbols : goal.put_if-returns-clause-then_symbols
+put_if-returns-clause-then_symbols t c = held c.end_object.result c.in_ok-contract_member-2.ensures.symbols
+
+pub put_if-returns-clause-otherwise_symbols : goal.put_if-returns-clause-otherwise_symbols
+put_if-returns-clause-otherwise_symbols t c = held c.end_object.result c.in_ok-contract_member.ensures.symbols
 
 pub put_when-returns-clause-put : goal.put_when-returns-clause-put
-put_when-returns-clause-put t c = (
-  λ j. c.in_ok-put_cases.ensures.put.0 j && c.in_ok-put_timeout.ensures.fits j && c.in_ok-put_boxed.ensures.put.0 j,
-  then (wrote c.in_ok-begin_object.ensures) (then (wrote c.in_ok-key.ensures) (then c.in_ok-put_timeout.ensures.put (then (wrote c.in_ok-key-2.ensures) (then c.in_ok-put_boxed.ensures.put.1 (then (wrote c.in_ok-key-3.ensures) (then c.in_ok-put_cases.ensures.put.1 (wrote c.in_ok-end_object.ensures))))))),
-)
+put_when-returns-clause-put t c =
+    let fits : time_fits c.args.timeout.now ≡ true = search rules in
+    flagged _ _ _ c.end_object.result (λ j. c.in_ok-put_cases.ensures.put.0 j && fits j && c.in_ok-contract_member.ensures.put.0 j) (after _ _ _ c.end_object.result c.in_ok-begin_with.ensures.put (after _ _ _ c.end_object.result c.in_ok-contract_member.ensures.put.1 (after _ _ _ c.end_object.result (wrote c.in_ok-key.ensures) (after _ _ _ c.end_object.result c.in_ok-put_cases.ensures.put.1 c.end_object.ensures.put))))
+
+pub put_when-returns-clause-err : goal.put_when-returns-clause-err
+put_when-returns-clause-err t c = left _ c.end_object.result c.in_ok-begin_with.ensures.put (left _ c.end_object.result c.in_ok-contract_member.ensures.put.1 (left _ c.end_object.result (wrote c.in_ok-key.ensures) (left _ c.end_object.result c.in_ok-put_cases.ensures.put.1 c.end_object.ensures.err)))
+
+pub put_when-returns-in_err-begin_with-clause-err : goal.put_when-returns-in_err-begin_with-clause-err
+put_when-returns-in_err-begin_with-clause-err t c = failed c.from_residual.result c.in_err-begin_with.ensures.err
+
+pub put_when-returns-in_err-contract_member-clause-err : goal.put_when-returns-in_err-contract_member-clause-err
+put_when-returns-in_err-contract_member-clause-err t c = stopped c.from_residual-in_err-contract_member.result c.in_ok-begin_with.ensures.put c.in_err-contract_member.ensures.err
+
+pub put_when-returns-in_err-key-clause-err : goal.put_when-returns-in_err-key-clause-err
+put_when-returns-in_err-key-clause-err t c = stopped c.from_residual-in_err-key.result (then c.in_ok-begin_with.ensures.put c.in_ok-contract_member.ensures.put.1) (refused c.in_err-key.ensures)
+
+pub put_when-returns-in_err-put_cases-clause-err : goal.put_when-returns-in_err-put_cases-clause-err
+put_when-returns-in_err-put_cases-clause-err t c = stopped c.from_residual-in_err-put_cases.result (then c.in_ok-begin_with.ensures.put (then c.in_ok-contract_member.ensures.put.1 (wrote c.in_ok-key.ensures))) c.in_err-put_cases.ensures.err
+
+pub put_when-returns-clause-case_symbols : goal.put_when-returns-clause-case_symbols
+put_when-returns-clause-case_symbols t c = held c.end_object.result c.in_ok-put_cases.ensures.symbols
+
+pub put_when-returns-clause-then_symbols : goal.put_when-returns-clause-then_symbols
+put_when-returns-clause-then_symbols t c = held c.end_object.result c.in_ok-contract_member.ensures.symbols
 
 pub put_let-returns-clause-put : goal.put_let-returns-clause-put
-put_let-returns-clause-put t c = (
-  λ j. c.in_ok-put_value.ensures.put.0 j && c.in_ok-put_boxed.ensures.put.0 j,
-  then (wrote c.in_ok-begin_object.ensures) (then (wrote c.in_ok-key.ensures) (then c.in_ok-put_value.ensures.put.1 (then (wrote c.in_ok-key-2.ensures) (then c.in_ok-put_text.ensures.put (then (wrote c.in_ok-key-3.ensures) (then c.in_ok-put_boxed.ensures.put.1 (wrote c.in_ok-end_object.ensures))))))),
-)
+put_let-returns-clause-put t c = flagged _ _ _ c.end_object.result (λ j. c.in_ok-put_value.ensures.put.0 j && c.in_ok-contract_member.ensures.put.0 j) (after _ _ _ c.end_object.result (wrote c.in_ok-begin_object.ensures) (after _ _ _ c.end_object.result (wrote c.in_ok-key.ensures) (after _ _ _ c.end_object.result c.in_ok-put_value.ensures.put.1 (after _ _ _ c.end_object.result c.in_ok-put_member.ensures.put (after _ _ _ c.end_object.result c.in_ok-contract_member.ensures.put.1 c.end_object.ensures.put)))))
+
+pub put_let-returns-clause-err : goal.put_let-returns-clause-err
+put_let-returns-clause-err t c = left _ c.end_object.result (wrote c.in_ok-begin_object.ensures) (left _ c.end_object.result (wrote c.in_ok-key.ensures) (left _ c.end_object.result c.in_ok-put_value.ensures.put.1 (left _ c.end_object.result c.in_ok-put_member.ensures.put (left _ c.end_object.result c.in_ok-contract_member.ensures.put.1 c.end_object.ensures.err))))
+
+pub put_let-returns-in_err-begin_object-clause-err : goal.put_let-returns-in_err-begin_object-clause-err
+put_let-returns-in_err-begin_object-clause-err t c = failed c.from_residual.result (refused c.in_err-begin_object.ensures)
+
+pub put_let-returns-in_err-key-clause-err : goal.put_let-returns-in_err-key-clause-err
+put_let-returns-in_err-key-clause-err t c = stopped c.from_residual-in_err-key.result (wrote c.in_ok-begin_object.ensures) (refused c.in_err-key.ensures)
+
+pub put_let-returns-in_err-put_value-clause-err : goal.put_let-returns-in_err-put_value-clause-err
+put_let-returns-in_err-put_value-clause-err t c = stopped c.from_residual-in_err-put_value.result (then (wrote c.in_ok-begin_object.ensures) (wrote c.in_ok-key.ensures)) c.in_err-put_value.ensures.err
+
+pub put_let-returns-in_err-put_member-clause-err : goal.put_let-returns-in_err-put_member-clause-err
+put_let-returns-in_err-put_member-clause-err t c = stopped c.from_residual-in_err-put_member.result (then (wrote c.in_ok-begin_object.ensures) (then (wrote c.in_ok-key.ensures) c.in_ok-put_value.ensures.put.1)) c.in_err-put_member.ensures.err
+
+pub put_let-returns-in_err-contract_member-clause-err : goal.put_let-returns-in_err-contract_member-clause-err
+put_let-returns-in_err-contract_member-clause-err t c = stopped c.from_residual-in_err-contract_member.result (then (wrote c.in_ok-begin_object.ensures) (then (wrote c.in_ok-key.ensures) (then c.in_ok-put_value.ensures.put.1 c.in_ok-put_member.ensures.put))) c.in_err-contract_member.ensures.err
+
+pub put_let-returns-clause-value_symbols : goal.put_let-returns-clause-value_symbols
+put_let-returns-clause-value_symbols t c = held c.end_object.result c.in_ok-put_value.ensures.symbols
+
+pub put_let-returns-clause-then_symbols : goal.put_let-returns-clause-then_symbols
+put_let-returns-clause-then_symbols t c = held c.end_object.result c.in_ok-contract_member.ensures.symbols
 
 pub put_assert-returns-clause-put : goal.put_assert-returns-clause-put
-put_assert-returns-clause-put t c = (
-  λ j. c.in_ok-put_observation.ensures.put.0 j && c.in_ok-put_boxed.ensures.put.0 j,
-  then (wrote c.in_ok-begin_object.ensures) (then (wrote c.in_ok-key.ensures) (then c.in_ok-put_observation.ensures.put.1 (then (wrote c.in_ok-key-2.ensures) (then c.in_ok-put_boxed.ensures.put.1 (wrote c.in_ok-end_object.ensures))))),
-)
+put_assert-returns-clause-put t c = flagged _ _ _ c.end_object.result (λ j. c.in_ok-put_observation.ensures.put.0 j && c.in_ok-contract_member.ensures.put.0 j) (after _ _ _ c.end_object.result (wrote c.in_ok-begin_object.ensures) (after _ _ _ c.end_object.result (wrote c.in_ok-key.ensures) (after _ _ _ c.end_object.result c.in_ok-put_observation.ensures.put.1 (after _ _ _ c.end_object.result c.in_ok-contract_member.ensures.put.1 c.end_object.ensures.put))))
+
+pub put_assert-returns-clause-err : goal.put_assert-returns-clause-err
+put_assert-returns-clause-err t c = left _ c.end_object.result (wrote c.in_ok-begin_object.ensures) (left _ c.end_object.result (wrote c.in_ok-key.ensures) (left _ c.end_object.result c.in_ok-put_observation.ensures.put.1 (left _ c.end_object.result c.in_ok-contract_member.ensures.put.1 c.end_object.ensures.err)))
+
+pub put_assert-returns-in_err-begin_object-clause-err : goal.put_assert-returns-in_err-begin_object-clause-err
+put_assert-returns-in_err-begin_object-clause-err t c = failed c.from_residual.result (refused c.in_err-begin_object.ensures)
+
+pub put_assert-returns-in_err-key-clause-err : goal.put_assert-returns-in_err-key-clause-err
+put_assert-returns-in_err-key-clause-err t c = stopped c.from_residual-in_err-key.result (wrote c.in_ok-begin_object.ensures) (refused c.in_err-key.ensures)
+
+pub put_assert-returns-in_err-put_observation-clause-err : goal.put_assert-returns-in_err-put_observation-clause-err
+put_assert-returns-in_err-put_observation-clause-err t c = stopped c.from_residual-in_err-put_observation.result (then (wrote c.in_ok-begin_object.ensures) (wrote c.in_ok-key.ensures)) c.in_err-put_observation.ensures.err
+
+pub put_assert-returns-in_err-contract_member-clause-err : goal.put_assert-returns-in_err-contract_member-clause-err
+put_assert-returns-in_err-contract_member-clause-err t c = stopped c.from_residual-in_err-contract_member.result (then (wrote c.in_ok-begin_object.ensures) (then (wrote c.in_ok-key.ensures) c.in_ok-put_observation.ensures.put.1)) c.in_err-contract_member.ensures.err
+
+pub put_assert-returns-clause-condition_symbols : goal.put_assert-returns-clause-condition_symbols
+put_assert-returns-clause-condition_symbols t c = held c.end_object.result c.in_ok-put_observation.ensures.symbols
+
+pub put_assert-returns-clause-then_symbols : goal.put_assert-returns-clause-then_symbols
+put_assert-returns-clause-then_symbols t c = held c.end_object.result c.in_ok-contract_member.ensures.symbols
+
+pub put_case-returns-clause-put : goal.put_case-returns-clause-put
+put_case-returns-clause-put t c = subst (λ k. PutsFitting c.end_object.result c.args.out.now c.end_object.new.out (case_fits k) (case_json k)) (sym (case_tree-parts c.args.case.now)) (flagged _ _ _ c.end_object.result (λ j. c.in_ok-put_action.ensures.put.0 j && c.in_ok-put_contract.ensures.put.0 j) (after _ _ _ c.end_object.result (wrote c.in_ok-begin_object.ensures) (after _ _ _ c.end_object.result (wrote c.in_ok-key.ensures) (after _ _ _ c.end_object.result c.in_ok-put_action.ensures.put.1 (after _ _ _ c.end_object.result (wrote c.in_ok-key-2.ensures) (after _ _ _ c.end_object.result c.in_ok-put_contract.ensures.put.1 c.end_object.ensures.put))))))
+
+pub put_case-returns-clause-err : goal.put_case-returns-clause-err
+put_case-returns-clause-err t c = left _ c.end_object.result (wrote c.in_ok-begin_object.ensures) (left _ c.end_object.result (wrote c.in_ok-key.ensures) (left _ c.end_object.result c.in_ok-put_action.ensures.put.1 (left _ c.end_object.result (wrote c.in_ok-key-2.ensures) (left _ c.end_object.result c.in_ok-put_contract.ensures.put.1 c.end_object.ensures.err))))
+
+pub put_case-returns-in_err-begin_object-clause-err : goal.put_case-returns-in_err-begin_object-clause-err
+put_case-returns-in_err-begin_object-clause-err t c = failed c.from_residual.result (refused c.in_err-begin_object.ensures)
+
+pub put_case-returns-in_err-key-clause-err : goal.put_case-returns-in_err-key-clause-err
+put_case-returns-in_err-key-clause-err t c = stopped c.from_residual-in_err-key.result (wrote c.in_ok-begin_object.ensures) (refused c.in_err-key.ensures)
+
+pub put_case-returns-in_err-put_action-clause-err : goal.put_case-returns-in_err-put_action-clause-err
+put_case-returns-in_err-put_action-clause-err t c = stopped c.from_residual-in_err-put_action.result (then (wrote c.in_ok-begin_object.ensures) (wrote c.in_ok-key.ensures)) c.in_err-put_action.ensures.err
+
+pub put_case-returns-in_err-key-2-clause-err : goal.put_case-returns-in_err-key-2-clause-err
+put_case-returns-in_err-key-2-clause-err t c = stopped c.from_residual-in_err-key-2.result (then (wrote c.in_ok-begin_object.ensures) (then (wrote c.in_ok-key.ensures) c.in_ok-put_action.ensures.put.1)) (refused c.in_err-key-2.ensures)
+
+pub put_case-returns-in_err-put_contract-clause-err : goal.put_case-returns-in_err-put_contract-clause-err
+put_case-returns-in_err-put_contract-clause-err t c = stopped c.from_residual-in_err-put_contract.result (then (wrote c.in_ok-begin_object.ensures) (then (wrote c.in_ok-key.ensures) (then c.in_ok-put_action.ensures.put.1 (wrote c.in_ok-key-2.ensures)))) c.in_err-put_contract.ensures.err
+
+pub put_case-returns-clause-symbols : goal.put_case-returns-clause-symbols
+put_case-returns-clause-symbols t c = held c.end_object.result (case-symbols c.args.case.now c.in_ok-put_action.ensures.symbols c.in_ok-put_contract.ensures.symbols)
+
+pub put_contract-returns-in-Close-clause-put : goal.put_contract-returns-in-Close-clause-put
+put_contract-returns-in-Close-clause-put t c = rw (c.in-Close.is, contract_fits-Close, contract_json-Close) c.put_term.ensures.put
+
+pub put_contract-returns-in-Close-clause-symbols : goal.put_contract-returns-in-Close-clause-symbols
+put_contract-returns-in-Close-clause-symbols t c = rw c.in-Close.is (held c.put_term.result contract-symbols-Close)
+
+pub put_contract-returns-in-Pay-clause-put : goal.put_contract-returns-in-Pay-clause-put
+put_contract-returns-in-Pay-clause-put t c = rw (c.in-Pay.is, contract_fits-Pay, contract_json-Pay) c.put_pay.ensures.put
+
+pub put_contract-returns-in-Pay-clause-symbols : goal.put_contract-returns-in-Pay-clause-symbols
+put_contract-returns-in-Pay-clause-symbols t c = rw c.in-Pay.is (all_three c.put_pay.result (contract-symbols-Pay _ _ _ _ _) c.put_pay.ensures.token_symbol c.put_pay.ensures.value_symbols c.put_pay.ensures.then_symbols)
+
+pub put_contract-returns-in-If-clause-put : goal.put_contract-returns-in-If-clause-put
+put_contract-returns-in-If-clause-put t c = rw (c.in-If.is, contract_fits-If, contract_json-If) c.put_if.ensures.put
+
+pub put_contract-returns-in-If-clause-symbols : goal.put_contract-returns-in-If-clause-symbols
+put_contract-returns-in-If-clause-symbols t c = rw c.in-If.is (all_three c.put_if.result (contract-symbols-If _ _ _) c.put_if.ensures.condition_symbols c.put_if.ensures.then_symbols c.put_if.ensures.otherwise_symbols)
+
+pub put_contract-returns-in-When-clause-put : goal.put_contract-returns-in-When-clause-put
+put_contract-returns-in-When-clause-put t c = rw (c.in-When.is, contract_fits-When, contract_json-When) c.put_when.ensures.put
+
+pub put_contract-returns-in-When-clause-symbols : goal.put_contract-returns-in-When-clause-symbols
+put_contract-returns-in-When-clause-symbols t c = rw c.in-When.is (both c.put_when.result (contract-symbols-When _ _ _) c.put_when.ensures.case_symbols c.put_when.ensures.then_symbols)
+
+pub put_contract-returns-in-Let-clause-put : goal.put_contract-returns-in-Let-clause-put
+put_contract-returns-in-Let-clause-put t c = rw (c.in-Let.is, contract_fits-Let, contract_json-Let) c.put_let.ensures.put
+
+pub put_contract-returns-in-Let-clause-symbols : goal.put_contract-returns-in-Let-clause-symbols
+put_contract-returns-in-Let-clause-symbols t c = rw c.in-Let.is (both c.put_let.result (contract-symbols-Let _ _ _) c.put_let.ensures.value_symbols c.put_let.ensures.then_symbols)
+
+pub put_contract-returns-in-Assert-clause-put : goal.put_contract-returns-in-Assert-clause-put
+put_contract-returns-in-Assert-clause-put t c = rw (c.in-Assert.is, contract_fits-Assert, contract_json-Assert) c.put_assert.ensures.put
+
+pub put_contract-returns-in-Assert-clause-symbols : goal.put_contract-returns-in-Assert-clause-symbols
+put_contract-returns-in-Assert-clause-symbols t c = rw c.in-Assert.is (both c.put_assert.result (contract-symbols-Assert _ _) c.put_assert.ensures.condition_symbols c.put_assert.ensures.then_symbols)
 
 pub put_cases-loop-case-preserved : goal.put_cases-loop-case-preserved
 put_cases-loop-case-preserved t c =

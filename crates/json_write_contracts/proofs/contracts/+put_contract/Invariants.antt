@@ -20,8 +20,8 @@ invariant-put_cases-loop-case l =
 abbrev pub decreases-put_contract : goal.decreases-put_contract
 decreases-put_contract l = 3 * goal.size-put_contract l
 
-abbrev pub decreases-put_boxed : goal.decreases-put_boxed
-decreases-put_boxed l = 3 * size-Contract l.contract.now + 1
+abbrev pub decreases-contract_member : goal.decreases-contract_member
+decreases-contract_member l = 3 * size-Contract l.contract.now + 1
 
 abbrev pub decreases-put_pay : goal.decreases-put_pay
 decreases-put_pay l = 3 * size-Contract l.then.now + 2

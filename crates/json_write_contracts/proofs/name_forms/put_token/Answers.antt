@@ -1,7 +1,20 @@
-use Rattle.json_write_contracts.proofs.AddsLaws.{then, wrote}
+use Rattle.json_write_contracts.proofs.AddsLaws.{then, wrote, refused, stopped, behind, left, held, failed}
 use Rattle.json_write_contracts.proofs.name_forms.put_token.Goals as goal
 
 pub returns-clause-put : goal.returns-clause-put
-returns-clause-put c =
-    then (wrote c.in_ok-begin_object.ensures) (then (wrote c.in_ok-key.ensures) (then c.in_ok-put_bytes.ensures.put
-    (then (wrote c.in_ok-key-2.ensures) (then c.in_ok-put_text.ensures.put (wrote c.in_ok-end_object.ensures)))))
+returns-clause-put c = behind _ _ c.end_with_text.result (wrote c.in_ok-begin_object.ensures) (behind _ _ c.end_with_text.result (wrote c.in_ok-key.ensures) (behind _ _ c.end_with_text.result c.in_ok-put_bytes.ensures.put c.end_with_text.ensures.put))
+
+pub returns-clause-err : goal.returns-clause-err
+returns-clause-err c = left _ c.end_with_text.result (wrote c.in_ok-begin_object.ensures) (left _ c.end_with_text.result (wrote c.in_ok-key.ensures) (left _ c.end_with_text.result c.in_ok-put_bytes.ensures.put c.end_with_text.ensures.err))
+
+pub returns-in_err-begin_object-clause-err : goal.returns-in_err-begin_object-clause-err
+returns-in_err-begin_object-clause-err c = failed c.from_residual.result (refused c.in_err-begin_object.ensures)
+
+pub returns-in_err-key-clause-err : goal.returns-in_err-key-clause-err
+returns-in_err-key-clause-err c = stopped c.from_residual-in_err-key.result (wrote c.in_ok-begin_object.ensures) (refused c.in_err-key.ensures)
+
+pub returns-in_err-put_bytes-clause-err : goal.returns-in_err-put_bytes-clause-err
+returns-in_err-put_bytes-clause-err c = stopped c.from_residual-in_err-put_bytes.result (then (wrote c.in_ok-begin_object.ensures) (wrote c.in_ok-key.ensures)) c.in_err-put_bytes.ensures.err
+
+pub returns-clause-symbol : goal.returns-clause-symbol
+returns-clause-symbol c = held c.end_with_text.result c.in_ok-put_bytes.ensures.bytes

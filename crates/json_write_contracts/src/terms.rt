@@ -1,14 +1,17 @@
-//! Terms as compact JSON.
+//! Terms: what is written as one JSON value of its own, and its compact text.
 ghost use Rattle.std.specs.Prelude.{◌≡◌, IfOk, OnOk, OnErr, string_bytes};
+ghost use Rattle.hex.specs.Hex.{encode_lower};
 ghost use Rattle.serde_json.specs.Data.{Data, string};
 ghost use Rattle.serde_json.specs.Written.{compact_text};
 ghost use Rattle.json_write_contracts.specs.Tokens.{Keeps, Puts};
 ghost use Rattle.json_write_contracts.specs.WrittenNames as written_names;
 
-use collections::{Memory, Text};
+use crate::members::put_pair;
+use crate::name_forms::{put_bytes, put_choice_id, put_party, put_payee, put_text, put_token};
+use crate::numbers::{put_amount, put_time};
+use collections::{Bytes, Memory, Text};
 use json::Writer;
-use json_write_contracts::{put_choice_id, put_party, put_payee, put_text, put_token};
-use names::{ChoiceId, Party, Payee, Token};
+use names::{Account, ChoiceId, Party, Payee, Token};
 use std::alloc::Global;
 
 /// What is written as one JSON value, in the form in which it is read.
@@ -71,5 +74,50 @@ impl Term for Text {
 
     fn put(&self, _alloc: Global, out: &mut Writer) -> Result<(), Memory> {
         put_text(out, self)
+    }
+}
+
+// An account is the list of its owner and its token.
+impl Term for Account {
+    ghost json = { λ account. written_names.pair_json (written_names.party_json account.owner) (written_names.token_json account.token) };
+
+    fn put(&self, alloc: Global, out: &mut Writer) -> Result<(), Memory> {
+        put_pair(alloc, out, &self.owner, &self.token)
+    }
+}
+
+// Bytes are a text of lower-case hexadecimal.
+impl Term for Bytes {
+    ghost json = { λ bytes. string (encode_lower bytes) };
+
+    fn put(&self, alloc: Global, out: &mut Writer) -> Result<(), Memory> {
+        put_bytes(alloc, out, self)
+    }
+}
+
+// An amount of any size.
+impl Term for i128 {
+    ghost json = { written_names.wide_json };
+
+    fn put(&self, alloc: Global, out: &mut Writer) -> Result<(), Memory> {
+        put_amount(alloc, out, self)
+    }
+}
+
+// A time.
+impl Term for i64 {
+    ghost json = { written_names.number_json };
+
+    fn put(&self, _alloc: Global, out: &mut Writer) -> Result<(), Memory> {
+        put_time(out, *self)
+    }
+}
+
+// A word of its own.
+impl Term for &str {
+    ghost json = { λ word. string word.now };
+
+    fn put(&self, _alloc: Global, out: &mut Writer) -> Result<(), Memory> {
+        out.string(self)
     }
 }

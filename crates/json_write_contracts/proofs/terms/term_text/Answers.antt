@@ -1,6 +1,6 @@
 use Rattle.std.proofs.Common.{ap, ◌∙◌, ℕ, Vec, Global}
-use Rattle.json_terms.proofs.WholeText.{compact}
-use Rattle.json_terms.proofs.terms.term_text.Goals as goal
+use Rattle.json_write_contracts.proofs.WholeText.{compact}
+use Rattle.json_write_contracts.proofs.terms.term_text.Goals as goal
 
 pub returns : goal.returns
 returns g c =

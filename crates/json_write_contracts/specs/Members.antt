@@ -1,0 +1,22 @@
+-- What the writers of single members put, behind what they wrote before.
+use Rattle.std.specs.Prelude.{◌≡◌, ◌≢◌, List, ℕ, ◌∷◌, Bool, true, false, Result, MatchResult}
+use Rattle.json.specs.Token.{Token}
+use Rattle.json.specs.Tree.{members_tokens}
+use Rattle.json.specs.Written as json
+use Rattle.serde_json.specs.Data.{Data, Members}
+use Rattle.serde_json.specs.Written.{members_outline}
+use Rattle.json_write_contracts.specs.Tokens.{Adds, data_tokens}
+use Rattle.json_write_contracts.specs.declared.fault.WriteFault.{WriteFault}
+use Rattle.json_write_contracts.specs.declared.fault.WriteFault.TheVariants as faults
+
+-- a member: its key, and its value
+abbrev pub member_tokens : List ℕ → Data → List Token
+member_tokens key d = Token.key key ∷ data_tokens d
+
+-- the members with which an object ends, and its end
+abbrev pub Ends : json.Written → json.Written → Members → Type 0
+Ends old new ms = Adds old new (members_tokens (members_outline ms))
+
+-- These tokens came, and JSON has all their numbers; or one it doesn't have; or the call was refused for memory.
+abbrev pub AddsFitting : Result (Unit {0}) WriteFault → json.Written → json.Written → Bool → List Token → Type 0
+AddsFitting result old new fits ts = MatchResult result (λ done. (fits ≡ true) × Adds old new ts) (λ fault. fault ≢ faults.Memory → fits ≡ false)
