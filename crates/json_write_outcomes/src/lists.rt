@@ -3,7 +3,8 @@
 ghost use Rattle.std.specs.Prelude.{◌≡◌, map, OnOk, OnErr};
 ghost use Rattle.serde_json.specs.Data.{Data, array};
 ghost use Rattle.serde_json.specs.View.{items_of};
-ghost use Rattle.json_write_contracts.specs.Tokens.{Keeps, Puts};
+ghost use Rattle.json_write_contracts.specs.Members.{member_tokens};
+ghost use Rattle.json_write_contracts.specs.Tokens.{Adds, Keeps, Puts};
 ghost use Rattle.json_write_outcomes.specs.Each.{Each};
 
 use collections::Memory;
@@ -40,4 +41,19 @@ pub(crate) fn put_list<T: PutItem>(
     }
     out.end_array()?;
     Ok(())
+}
+
+// A member that is such a list.
+pub(crate) fn list_member<T: PutItem>(
+    alloc: Global,
+    out: &mut Writer,
+    key: &str,
+    items: &[T],
+) -> Result<(), Memory>
+    ensures put { OnOk result (Adds out.old out.new (member_tokens key.now (array (items_of (map T.json items.now))))) }
+    ensures err { OnErr result (Keeps out.old out.new) }
+    ensures known { OnOk result (Each T.known items.now) }
+{
+    out.key(key)?;
+    put_list(alloc, out, items)
 }

@@ -1,34 +1,56 @@
 //! Outcomes.
 //! Where a call fails, what was written before it stays, and behind it stand some tokens or none.
-ghost use Rattle.std.specs.Prelude.{◌≡◌, true, map, OnOk, OnErr};
-ghost use Rattle.serde_json.specs.Data.{array};
+ghost use Rattle.std.specs.Prelude.{◌≡◌, true, map, codes, OnOk, OnErr};
+ghost use Rattle.serde_json.specs.Data.{array, no_members, member};
 ghost use Rattle.serde_json.specs.View.{items_of};
 ghost use Rattle.contract.specs.Tree.{contract_tree};
-ghost use Rattle.json_write_contracts.specs.Tokens.{Keeps, Puts, PutsFitting};
+ghost use Rattle.json_write_contracts.specs.Members.{member_tokens, Ends};
+ghost use Rattle.json_write_contracts.specs.Tokens.{Adds, Keeps, PutsFitting};
 ghost use Rattle.json_write_contracts.specs.WrittenNames.{time_fits};
 ghost use Rattle.json_write_contracts.specs.WrittenContract.{contract_fits};
-ghost use Rattle.json_write_outcomes.specs.WrittenOutcome.{payment_json, warning_json, outcome_json};
+ghost use Rattle.json_write_outcomes.specs.WrittenOutcome.{payment_json, warning_json, state_json, outcome_json};
 
-use crate::lists::put_list;
+use crate::lists::list_member;
 use crate::state_forms::put_state;
 use collections::{Items, Memory};
 use contract::{Contract, Outcome, Payment, Warning};
 use json::Writer;
 use json_write_contracts::{WriteFault, put_contract};
+use states::State;
 use std::alloc::Global;
 
-fn put_payments(alloc: Global, out: &mut Writer, payments: &Items<Payment>) -> Result<(), Memory>
-    ensures put { OnOk result (Puts out.old out.new (array (items_of (map payment_json payments.now)))) }
+fn payments_member(alloc: Global, out: &mut Writer, payments: &Items<Payment>) -> Result<(), Memory>
+    ensures put { OnOk result (Adds out.old out.new (member_tokens (codes "payments") (array (items_of (map payment_json payments.now))))) }
     ensures err { OnErr result (Keeps out.old out.new) }
 {
-    put_list(alloc, out, payments.as_slice())
+    list_member(alloc, out, "payments", payments.as_slice())
 }
 
-fn put_warnings(alloc: Global, out: &mut Writer, warnings: &Items<Warning>) -> Result<(), Memory>
-    ensures put { OnOk result (Puts out.old out.new (array (items_of (map warning_json warnings.now)))) }
+fn warnings_member(alloc: Global, out: &mut Writer, warnings: &Items<Warning>) -> Result<(), Memory>
+    ensures put { OnOk result (Adds out.old out.new (member_tokens (codes "warnings") (array (items_of (map warning_json warnings.now))))) }
     ensures err { OnErr result (Keeps out.old out.new) }
 {
-    put_list(alloc, out, warnings.as_slice())
+    list_member(alloc, out, "warnings", warnings.as_slice())
+}
+
+// What stands behind the contract, and the object's end.
+fn end_outcome(
+    alloc: Global,
+    out: &mut Writer,
+    payments: &Items<Payment>,
+    state: &State,
+    warnings: &Items<Warning>,
+) -> Result<(), Memory>
+    ensures put { OnOk result (Ends out.old out.new (member (codes "payments") (array (items_of (map payment_json payments.now))) (member (codes "state") (state_json state.now)
+        (member (codes "warnings") (array (items_of (map warning_json warnings.now))) no_members)))) }
+    ensures err { OnErr result (Keeps out.old out.new) }
+    ensures time { OnOk result (time_fits state.now.min_time ≡ true) }
+{
+    payments_member(alloc, out, payments)?;
+    out.key("state")?;
+    put_state(alloc, out, state)?;
+    warnings_member(alloc, out, warnings)?;
+    out.end_object()
 }
 
 /// Writes an outcome: the contract that remains, the payments and the warnings in order, and the state. A number
@@ -47,12 +69,11 @@ pub fn put_outcome(
     out.begin_object()?;
     out.key("contract")?;
     put_contract(alloc, out, outcome.place)?;
-    out.key("payments")?;
-    put_payments(alloc, out, &outcome.payments)?;
-    out.key("state")?;
-    put_state(alloc, out, &outcome.state)?;
-    out.key("warnings")?;
-    put_warnings(alloc, out, &outcome.warnings)?;
-    out.end_object()?;
-    Ok(())
+    Ok(end_outcome(
+        alloc,
+        out,
+        &outcome.payments,
+        &outcome.state,
+        &outcome.warnings,
+    )?)
 }

@@ -8,7 +8,7 @@ use crate::lists::PutItem;
 use collections::Memory;
 use contract::Payment;
 use json::Writer;
-use json_write_contracts::{put_amount, put_party, put_payee, put_token};
+use json_write_contracts::{end_with_three, put_member};
 use std::alloc::Global;
 
 /// Writes a payment. An amount that JSON doesn't have is a text of its decimal digits.
@@ -17,16 +17,17 @@ pub fn put_payment(alloc: Global, out: &mut Writer, payment: &Payment) -> Result
     ensures err { OnErr result (Keeps out.old out.new) }
 {
     out.begin_object()?;
-    out.key("amount")?;
-    put_amount(alloc, out, &payment.amount)?;
-    out.key("payment_from")?;
-    put_party(out, &payment.from)?;
-    out.key("to")?;
-    put_payee(out, &payment.to)?;
-    out.key("token")?;
-    put_token(alloc, out, &payment.token)?;
-    out.end_object()?;
-    Ok(())
+    put_member(alloc, out, "amount", &payment.amount)?;
+    end_with_three(
+        alloc,
+        out,
+        "payment_from",
+        &payment.from,
+        "to",
+        &payment.to,
+        "token",
+        &payment.token,
+    )
 }
 
 impl PutItem for Payment {

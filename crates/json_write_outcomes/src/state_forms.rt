@@ -1,41 +1,42 @@
 //! States.
 //! Where a call fails, what was written before it stays, and behind it stand some tokens or none.
-ghost use Rattle.std.specs.Prelude.{◌≡◌, true, map, OnOk, OnErr};
+ghost use Rattle.std.specs.Prelude.{◌≡◌, true, map, codes, OnOk, OnErr};
 ghost use Rattle.std.specs.FinMap.{entries};
 ghost use Rattle.serde_json.specs.Data.{array};
 ghost use Rattle.serde_json.specs.View.{items_of};
-ghost use Rattle.json_write_contracts.specs.Tokens.{Keeps, Puts};
+ghost use Rattle.json_write_contracts.specs.Members.{member_tokens};
+ghost use Rattle.json_write_contracts.specs.Tokens.{Adds, Keeps, Puts};
 ghost use Rattle.json_write_contracts.specs.WrittenNames.{number_json, time_fits};
 ghost use Rattle.json_write_outcomes.specs.Each.{Each, HasBytes};
 ghost use Rattle.json_write_outcomes.specs.WrittenOutcome.{account_row_json, choice_row_json, bound_row_json, state_json};
 
-use crate::lists::put_list;
+use crate::lists::list_member;
 use collections::Memory;
 use json::Writer;
 use json_write_contracts::put_time;
 use states::State;
 use std::alloc::Global;
 
-fn put_accounts(alloc: Global, out: &mut Writer, state: &State) -> Result<(), Memory>
-    ensures put { OnOk result (Puts out.old out.new (array (items_of (map account_row_json (entries state.now.accounts))))) }
+fn accounts_member(alloc: Global, out: &mut Writer, state: &State) -> Result<(), Memory>
+    ensures put { OnOk result (Adds out.old out.new (member_tokens (codes "accounts") (array (items_of (map account_row_json (entries state.now.accounts)))))) }
     ensures err { OnErr result (Keeps out.old out.new) }
     ensures symbols { OnOk result (Each HasBytes (entries state.now.accounts)) }
 {
-    put_list(alloc, out, state.accounts())
+    list_member(alloc, out, "accounts", state.accounts())
 }
 
-fn put_bound_values(alloc: Global, out: &mut Writer, state: &State) -> Result<(), Memory>
-    ensures put { OnOk result (Puts out.old out.new (array (items_of (map bound_row_json (entries state.now.bound_values))))) }
+fn bound_values_member(alloc: Global, out: &mut Writer, state: &State) -> Result<(), Memory>
+    ensures put { OnOk result (Adds out.old out.new (member_tokens (codes "boundValues") (array (items_of (map bound_row_json (entries state.now.bound_values)))))) }
     ensures err { OnErr result (Keeps out.old out.new) }
 {
-    put_list(alloc, out, state.bound_values())
+    list_member(alloc, out, "boundValues", state.bound_values())
 }
 
-fn put_choices(alloc: Global, out: &mut Writer, state: &State) -> Result<(), Memory>
-    ensures put { OnOk result (Puts out.old out.new (array (items_of (map choice_row_json (entries state.now.choices))))) }
+fn choices_member(alloc: Global, out: &mut Writer, state: &State) -> Result<(), Memory>
+    ensures put { OnOk result (Adds out.old out.new (member_tokens (codes "choices") (array (items_of (map choice_row_json (entries state.now.choices)))))) }
     ensures err { OnErr result (Keeps out.old out.new) }
 {
-    put_list(alloc, out, state.choices())
+    list_member(alloc, out, "choices", state.choices())
 }
 
 fn put_min_time(out: &mut Writer, state: &State) -> Result<(), Memory>
@@ -55,14 +56,10 @@ pub fn put_state(alloc: Global, out: &mut Writer, state: &State) -> Result<(), M
     ensures time { OnOk result (time_fits state.now.min_time ≡ true) }
 {
     out.begin_object()?;
-    out.key("accounts")?;
-    put_accounts(alloc, out, state)?;
-    out.key("boundValues")?;
-    put_bound_values(alloc, out, state)?;
-    out.key("choices")?;
-    put_choices(alloc, out, state)?;
+    accounts_member(alloc, out, state)?;
+    bound_values_member(alloc, out, state)?;
+    choices_member(alloc, out, state)?;
     out.key("minTime")?;
     put_min_time(out, state)?;
-    out.end_object()?;
-    Ok(())
+    out.end_object()
 }

@@ -10,7 +10,7 @@ use crate::lists::PutItem;
 use collections::{Memory, Text};
 use contract::Warning;
 use json::Writer;
-use json_write_contracts::{put_amount, put_party, put_payee, put_text, put_token, word};
+use json_write_contracts::{end_with_one, end_with_three, put_member};
 use names::{Party, Payee, Token};
 use std::alloc::Global;
 
@@ -27,18 +27,18 @@ fn put_deposit_warning(
     ensures err { OnErr result (Keeps out.old out.new) }
 {
     out.begin_object()?;
-    out.key("account")?;
-    put_party(out, account)?;
-    out.key("amount")?;
-    put_amount(alloc, out, amount)?;
-    out.key("party")?;
-    put_party(out, party)?;
-    out.key("token")?;
-    put_token(alloc, out, token)?;
-    out.key("warning")?;
-    word(out, "NonPositiveDeposit")?;
-    out.end_object()?;
-    Ok(())
+    put_member(alloc, out, "account", account)?;
+    put_member(alloc, out, "amount", amount)?;
+    end_with_three(
+        alloc,
+        out,
+        "party",
+        party,
+        "token",
+        token,
+        "warning",
+        &"NonPositiveDeposit",
+    )
 }
 
 fn put_pay_warning(
@@ -54,18 +54,18 @@ fn put_pay_warning(
     ensures err { OnErr result (Keeps out.old out.new) }
 {
     out.begin_object()?;
-    out.key("account")?;
-    put_party(out, account)?;
-    out.key("amount")?;
-    put_amount(alloc, out, amount)?;
-    out.key("payee")?;
-    put_payee(out, payee)?;
-    out.key("token")?;
-    put_token(alloc, out, token)?;
-    out.key("warning")?;
-    word(out, "NonPositivePay")?;
-    out.end_object()?;
-    Ok(())
+    put_member(alloc, out, "account", account)?;
+    put_member(alloc, out, "amount", amount)?;
+    end_with_three(
+        alloc,
+        out,
+        "payee",
+        payee,
+        "token",
+        token,
+        "warning",
+        &"NonPositivePay",
+    )
 }
 
 fn put_partial_warning(
@@ -83,20 +83,19 @@ fn put_partial_warning(
     ensures err { OnErr result (Keeps out.old out.new) }
 {
     out.begin_object()?;
-    out.key("account")?;
-    put_party(out, account)?;
-    out.key("expected")?;
-    put_amount(alloc, out, expected)?;
-    out.key("paid")?;
-    put_amount(alloc, out, paid)?;
-    out.key("payee")?;
-    put_payee(out, payee)?;
-    out.key("token")?;
-    put_token(alloc, out, token)?;
-    out.key("warning")?;
-    word(out, "PartialPay")?;
-    out.end_object()?;
-    Ok(())
+    put_member(alloc, out, "account", account)?;
+    put_member(alloc, out, "expected", expected)?;
+    put_member(alloc, out, "paid", paid)?;
+    end_with_three(
+        alloc,
+        out,
+        "payee",
+        payee,
+        "token",
+        token,
+        "warning",
+        &"PartialPay",
+    )
 }
 
 fn put_shadowing(
@@ -111,27 +110,16 @@ fn put_shadowing(
     ensures err { OnErr result (Keeps out.old out.new) }
 {
     out.begin_object()?;
-    out.key("name")?;
-    put_text(out, name)?;
-    out.key("new")?;
-    put_amount(alloc, out, new)?;
-    out.key("old")?;
-    put_amount(alloc, out, old)?;
-    out.key("warning")?;
-    word(out, "Shadowing")?;
-    out.end_object()?;
-    Ok(())
+    put_member(alloc, out, "name", name)?;
+    end_with_three(alloc, out, "new", new, "old", old, "warning", &"Shadowing")
 }
 
-fn put_failed_assertion(out: &mut Writer) -> Result<(), Memory>
+fn put_failed_assertion(alloc: Global, out: &mut Writer) -> Result<(), Memory>
     ensures put { OnOk result (Puts out.old out.new (written_names.one (codes "warning") (string (codes "AssertionFailed")))) }
     ensures err { OnErr result (Keeps out.old out.new) }
 {
     out.begin_object()?;
-    out.key("warning")?;
-    word(out, "AssertionFailed")?;
-    out.end_object()?;
-    Ok(())
+    end_with_one(alloc, out, "warning", &"AssertionFailed")
 }
 
 /// Writes a warning (Marlowe specification version 3, "Compute transaction"): an object with its name under the
@@ -151,7 +139,7 @@ pub fn put_warning(alloc: Global, out: &mut Writer, warning: &Warning) -> Result
             put_partial_warning(alloc, out, account, payee, token, paid, expected)
         }
         Warning::Shadowing(name, old, new) => put_shadowing(alloc, out, name, old, new),
-        Warning::AssertionFailed => put_failed_assertion(out),
+        Warning::AssertionFailed => put_failed_assertion(alloc, out),
     }
 }
 

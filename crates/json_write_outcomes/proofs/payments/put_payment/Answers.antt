@@ -1,11 +1,14 @@
-use Rattle.json_write_contracts.proofs.AddsLaws.{then, wrote, stopped, refused}
+use Rattle.json_write_contracts.proofs.AddsLaws.{wrote, refused, stopped, behind, left, failed}
 use Rattle.json_write_outcomes.proofs.payments.put_payment.Goals as goal
 
 pub returns-clause-put : goal.returns-clause-put
-returns-clause-put c = then (wrote c.in_ok-begin_object.ensures) (then (wrote c.in_ok-key.ensures) (then c.in_ok-put_amount.ensures.put (then (wrote c.in_ok-key-2.ensures) (then c.in_ok-put_party.ensures.put (then (wrote c.in_ok-key-3.ensures) (then c.in_ok-put_payee.ensures.put (then (wrote c.in_ok-key-4.ensures) (then c.in_ok-put_token.ensures.put (wrote c.in_ok-end_object.ensures)))))))))
+returns-clause-put c = behind _ _ c.end_with_three.result (wrote c.in_ok-begin_object.ensures) (behind _ _ c.end_with_three.result c.in_ok-put_member.ensures.put c.end_with_three.ensures.put)
 
-pub returns-in_err-put_token-clause-err : goal.returns-in_err-put_token-clause-err
-returns-in_err-put_token-clause-err c = stopped c.from_residual-in_err-put_token.result (then (wrote c.in_ok-begin_object.ensures) (then (wrote c.in_ok-key.ensures) (then c.in_ok-put_amount.ensures.put (then (wrote c.in_ok-key-2.ensures) (then c.in_ok-put_party.ensures.put (then (wrote c.in_ok-key-3.ensures) (then c.in_ok-put_payee.ensures.put (wrote c.in_ok-key-4.ensures)))))))) c.in_err-put_token.ensures.err
+pub returns-clause-err : goal.returns-clause-err
+returns-clause-err c = left _ c.end_with_three.result (wrote c.in_ok-begin_object.ensures) (left _ c.end_with_three.result c.in_ok-put_member.ensures.put c.end_with_three.ensures.err)
 
-pub returns-in_err-end_object-clause-err : goal.returns-in_err-end_object-clause-err
-returns-in_err-end_object-clause-err c = stopped c.from_residual-in_err-end_object.result (then (wrote c.in_ok-begin_object.ensures) (then (wrote c.in_ok-key.ensures) (then c.in_ok-put_amount.ensures.put (then (wrote c.in_ok-key-2.ensures) (then c.in_ok-put_party.ensures.put (then (wrote c.in_ok-key-3.ensures) (then c.in_ok-put_payee.ensures.put (then (wrote c.in_ok-key-4.ensures) c.in_ok-put_token.ensures.put)))))))) (refused c.in_err-end_object.ensures)
+pub returns-in_err-begin_object-clause-err : goal.returns-in_err-begin_object-clause-err
+returns-in_err-begin_object-clause-err c = failed c.from_residual.result (refused c.in_err-begin_object.ensures)
+
+pub returns-in_err-put_member-clause-err : goal.returns-in_err-put_member-clause-err
+returns-in_err-put_member-clause-err c = stopped c.from_residual-in_err-put_member.result (wrote c.in_ok-begin_object.ensures) c.in_err-put_member.ensures.err
