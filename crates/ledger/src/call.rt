@@ -69,17 +69,23 @@ pub struct Entry {
 impl Drop for Call {
     fn drop(self) {
         match self {
-            Call::Publish {
-                contract: _,
-                currency: _,
-            } => {}
+            Call::Publish { contract, currency } => {
+                let_go(contract);
+                let_go(currency);
+            }
             Call::Advance(_) => {}
-            Call::Look(_) => {}
-            Call::Submit(_) => {}
-            Call::Enqueue(_) => {}
+            Call::Look(ask) => let_go(ask),
+            Call::Submit(tx) => let_go(tx),
+            Call::Enqueue(tx) => let_go(tx),
             Call::Round(_) => {}
         }
     }
+}
+
+// Drops what it is given, of any type: so no tree or transaction is opened in the drop of a call.
+fn let_go<T: Drop>(value: T) {
+    // dropped once
+    let _owned = value;
 }
 
 impl Drop for Reply {
