@@ -5,12 +5,12 @@ use Rattle.std.specs.Int.{int_min, int_max}
 use Rattle.linear.specs.Linear.{Linear, Valuation, number_at, IsBelow, IsUpTo}
 use Rattle.linear.specs.Bounded.{IsShown, IsFromAll, IsUpToAll}
 use Rattle.linear.specs.Combined.{StandsFor, AreBelow}
-use Rattle.linear.specs.Symbols.{Symbols, Knows, Gives}
-use Rattle.linear.specs.Held.{GivesAny, Learns}
-use Rattle.linear.specs.Either.{IsAtLeast}
+use Rattle.symbols.specs.Symbols.{Symbols, Knows, Gives}
+use Rattle.symbols.specs.Held.{GivesAny, Learns}
+use Rattle.symbols.specs.Either.{IsAtLeast}
 use Rattle.linear.proofs.NumberLaws.{true_lt, false_lt, lt_true}
 use Rattle.linear.proofs.LinearLaws.{same_number}
-use Rattle.linear.proofs.KnownLaws.{terms_more, knows_itself, gives_here}
+use Rattle.symbols.proofs.KnownLaws.{terms_more, knows_itself, gives_here}
 use Rattle.analysis_steps.specs.Amounts.{IsAbove, LearnsIf, amount_paid, GivesPaid, GivesAdded, GivesSum, GivesRest, IsFromSum, IsUpToSum}
 
 -- ---- numbers

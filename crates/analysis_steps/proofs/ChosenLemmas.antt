@@ -20,7 +20,7 @@ use Rattle.contract.specs.Tree.{ActionTree, action_tree}
 use Rattle.states.specs.States.{StateMaps}
 use Rattle.semantics.specs.Applying.{in_bound, matches}
 use Rattle.linear.specs.Linear.{Linear, Valuation, number_at}
-use Rattle.linear.specs.Held.{GivesAny}
+use Rattle.symbols.specs.Held.{GivesAny}
 use Rattle.linear.proofs.NumberLaws.{both, true_le, false_le, le_true}
 use Rattle.analysis_walk.specs.Limits.{Scope, any_runs, written_runs, Allowed}
 use Rattle.analysis_walk.specs.Covered.{NoneTakes}

@@ -10,7 +10,7 @@ use Rattle.semantics.specs.Computed.{refunds}
 use Rattle.linear.specs.Linear.{Linear, number_at, IsFrom, IsUpTo}
 use Rattle.linear.specs.Bounded.{IsFromAll, IsUpToAll}
 use Rattle.linear.specs.Combined.{StandsFor, AreBelow}
-use Rattle.linear.specs.Symbols.{Symbols}
+use Rattle.symbols.specs.Symbols.{Symbols}
 use Rattle.analysis_spec.specs.Runs.{reaches_party, paid_to}
 use Rattle.analysis_walk.specs.declared.span.Span.{Span}
 use Rattle.analysis_walk.specs.Limits.{Scope, LiesIn}

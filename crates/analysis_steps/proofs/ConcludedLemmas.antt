@@ -27,8 +27,8 @@ use Rattle.semantics.specs.Reduction.{Reduction, account_of, balance, debited, c
 use Rattle.semantics.specs.Applying.{taken, taken_numbers, taken_warnings}
 use Rattle.semantics.specs.Computed.{pay_step}
 use Rattle.linear.specs.Linear.{Linear, Valuation, number_at}
-use Rattle.linear.specs.Symbols.{Gives}
-use Rattle.linear.specs.Either.{IsAtLeast}
+use Rattle.symbols.specs.Symbols.{Gives}
+use Rattle.symbols.specs.Either.{IsAtLeast}
 use Rattle.linear.proofs.NumberLaws.{true_lt, false_lt}
 use Rattle.analysis_spec.specs.declared.kind.AlarmKind.{AlarmKind}
 use Rattle.analysis_spec.specs.declared.kind.AlarmKind.TheVariants.{NonPositiveDeposit, NonPositivePay, PartialPay, Shadowing, AssertionFailed, Leaves128}

@@ -15,10 +15,10 @@ use Rattle.contract.specs.declared.payment.Payment.{Payment}
 use Rattle.states.specs.States.{StateMaps, with_money}
 use Rattle.evaluation.specs.Numbers.{fits}
 use Rattle.semantics.specs.Reduction.{account_of, balance, debited, credited}
-use Rattle.linear.specs.Linear.{Linear, Valuation, number_at, IsBelow, number}
-use Rattle.linear.specs.Symbols.{IsValued, Agree, Gives}
+use Rattle.linear.specs.Linear.{Linear, Valuation, number_at, IsBelow, number, Agree}
+use Rattle.symbols.specs.Symbols.{IsValued, Gives}
 use Rattle.linear.proofs.LinearLaws.{same_number}
-use Rattle.linear.proofs.KnownLaws.{terms_more, below_more, up_more}
+use Rattle.symbols.proofs.KnownLaws.{terms_more, below_more, up_more}
 use Rattle.analysis_spec.specs.Runs.{paid_to}
 use Rattle.analysis_walk.specs.Limits.{Scope, any_runs, written_runs, Allowed}
 use Rattle.analysis_values.specs.Known.{View, Known, held, AreTimes, IsSeen, SeesBelow, IsDescribed, known, with_amount}

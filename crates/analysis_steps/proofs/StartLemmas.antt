@@ -15,7 +15,7 @@ use Rattle.names.specs.Orders.{account_cmp, choice_id_cmp, bytes_cmp}
 use Rattle.states.specs.States.{StateMaps, AllPositive}
 use Rattle.evaluation.specs.Numbers.{fits}
 use Rattle.linear.specs.Linear.{Valuation, number_at, number}
-use Rattle.linear.specs.Held.{symbols_of}
+use Rattle.symbols.specs.Held.{symbols_of}
 use Rattle.analysis_walk.specs.Limits.{Scope, any_runs, written_runs, Allowed}
 use Rattle.analysis_walk.specs.Conclusions.{IsLater, DescribesStart}
 use Rattle.analysis_values.specs.Known.{Known, AreTimes, EntriesBelow, IsDescribed}

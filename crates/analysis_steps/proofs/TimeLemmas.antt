@@ -7,10 +7,10 @@ use Rattle.contract.specs.declared.payment.Payment.{Payment}
 use Rattle.states.specs.States.{StateMaps}
 use Rattle.linear.specs.Linear.{Linear, number_at, IsBelow, number}
 use Rattle.linear.specs.Combined.{StandsFor, AreBelow}
-use Rattle.linear.specs.Symbols.{Symbols}
-use Rattle.linear.specs.Held.{Assumes}
+use Rattle.symbols.specs.Symbols.{Symbols}
+use Rattle.symbols.specs.Held.{Assumes}
 use Rattle.linear.proofs.LinearLaws.{same_number}
-use Rattle.linear.proofs.KnownLaws.{terms_more, knows_itself}
+use Rattle.symbols.proofs.KnownLaws.{terms_more, knows_itself}
 use Rattle.analysis_walk.specs.Limits.{Scope, any_runs, written_runs, Admitted}
 use Rattle.analysis_walk.specs.Conclusions.{IsLater, WaitsSo, TimesOutSo}
 use Rattle.analysis_values.specs.Known.{Known, IsSeen, SeesBelow, IsDescribed}

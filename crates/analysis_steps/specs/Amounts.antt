@@ -2,7 +2,7 @@
 use Rattle.std.specs.Prelude.{◌≡◌, ℤ, pos, ◌+ℤ◌, ◌-ℤ◌, ◌≤ℤ◌, ◌<ℤ◌, int_lt, Bool, true, if◌then◌else◌, Option}
 use Rattle.std.specs.Int.{int_min, int_max}
 use Rattle.linear.specs.Linear.{Linear, Valuation, number_at, IsBelow, IsFrom, IsUpTo}
-use Rattle.linear.specs.Symbols.{Symbols, IsValued, IsClosed, Knows, Gives}
+use Rattle.symbols.specs.Symbols.{Symbols, IsValued, IsClosed, Knows, Gives}
 
 -- an expression is above 0, as far as what is known allows
 abbrev pub IsAbove : Symbols → Linear → Type 0

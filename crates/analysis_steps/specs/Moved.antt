@@ -10,8 +10,7 @@ use Rattle.contract.specs.declared.interval.Interval.{Interval}
 use Rattle.contract.specs.declared.payment.Payment.{Payment}
 use Rattle.states.specs.States.{StateMaps, with_money, counted}
 use Rattle.semantics.specs.Reduction.{account_of, balance, debited, credited, account_sums}
-use Rattle.linear.specs.Linear.{Linear, Valuation, number_at, IsBelow}
-use Rattle.linear.specs.Symbols.{Agree}
+use Rattle.linear.specs.Linear.{Linear, Valuation, number_at, IsBelow, Agree}
 use Rattle.analysis_spec.specs.declared.kind.AlarmKind.TheVariants.{Leaves128}
 use Rattle.analysis_spec.specs.Runs.{reaches_party, paid_to}
 use Rattle.analysis_walk.specs.Limits.{Scope, Allowed, GoesOn}

@@ -3,8 +3,8 @@ use Rattle.std.specs.Prelude.{◌≡◌, ◌≤◌, ℤ, ◌≤ℤ◌, Bool, tru
 use Rattle.contract.specs.declared.interval.Interval.{Interval}
 use Rattle.contract.specs.declared.payment.Payment.{Payment}
 use Rattle.states.specs.States.{StateMaps}
-use Rattle.linear.specs.Linear.{Linear, Valuation, number_at, IsBelow}
-use Rattle.linear.specs.Symbols.{Symbols, IsValued, IsClosed, Agree, Knows}
+use Rattle.linear.specs.Linear.{Linear, Valuation, number_at, IsBelow, Agree}
+use Rattle.symbols.specs.Symbols.{Symbols, IsValued, IsClosed, Knows}
 use Rattle.analysis_walk.specs.Limits.{Scope}
 use Rattle.analysis_values.specs.Known.{Known, IsDescribed}
 use Rattle.analysis_values.specs.Answered.{IsTime}

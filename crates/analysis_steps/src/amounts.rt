@@ -4,7 +4,7 @@ ghost use Rattle.std.specs.Int.{int_max};
 ghost use Rattle.std.specs.Option.{IfSome};
 ghost use Rattle.linear.specs.Linear.{Linear as Expression, IsUpTo};
 ghost use Rattle.linear.specs.Bounded.{IsShown};
-ghost use Rattle.linear.specs.Either.{IsAtLeast};
+ghost use Rattle.symbols.specs.Either.{IsAtLeast};
 ghost use Rattle.analysis_steps.specs.Amounts.{IsAbove, LearnsIf, GivesPaid, GivesAdded, GivesSum, GivesRest, IsFromSum, IsUpToSum};
 
 use analysis_values::Known;

@@ -3,7 +3,7 @@ ghost use Rattle.std.specs.Prelude.{◌≡◌, true, IfOk, OnOk};
 ghost use Rattle.names.specs.declared.payee.Payee.TheVariants.{Account as ToAccount, Party as ToParty};
 ghost use Rattle.semantics.specs.Reduction.{account_of};
 ghost use Rattle.linear.specs.Bounded.{IsShown};
-ghost use Rattle.linear.specs.Either.{IsAtLeast};
+ghost use Rattle.symbols.specs.Either.{IsAtLeast};
 ghost use Rattle.analysis_values.specs.Known.{held};
 ghost use Rattle.analysis_steps.specs.Moved.{Debits, Grows, PaysOut, Moves, Transfers};
 

@@ -10,9 +10,10 @@ ghost use Rattle.analysis_values.specs.Known.{IsDescribed};
 use crate::times::later;
 use analysis_values::Known;
 use collections::Memory;
-use linear::{Linear, Symbols};
+use linear::Linear;
 use states::State;
 use std::alloc::Global;
+use symbols::Symbols;
 
 // It does nothing: each number of these entries has 128 bits.
 fn see<K>(entries: &[(K, i128)])

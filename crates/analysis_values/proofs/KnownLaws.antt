@@ -11,11 +11,10 @@ use Rattle.contract.specs.declared.interval.Interval.{Interval}
 use Rattle.contract.specs.declared.payment.Payment.{Payment}
 use Rattle.states.specs.States.{StateMaps}
 use Rattle.evaluation.specs.Numbers.{fits}
-use Rattle.linear.specs.Linear.{Linear, Valuation, number_at, IsBelow, number}
-use Rattle.linear.specs.Symbols.{Agree}
+use Rattle.linear.specs.Linear.{Linear, Valuation, number_at, IsBelow, number, Agree}
 use Rattle.linear.proofs.NumberLaws.{true_lt, true_le, lt_true, le_true}
 use Rattle.linear.proofs.LinearLaws.{same_number}
-use Rattle.linear.proofs.KnownLaws.{terms_more, below_more}
+use Rattle.symbols.proofs.KnownLaws.{terms_more, below_more}
 use Rattle.analysis_spec.specs.Promises.{IsWritten}
 use Rattle.analysis_walk.specs.Limits.{Scope, any_runs, written_runs, Admitted, Allowed}
 use Rattle.analysis_values.specs.Known.{View, Known, held, AreTimes, IsSeen, EntriesBelow, SymbolsBelow, SeesBelow, IsDescribed}

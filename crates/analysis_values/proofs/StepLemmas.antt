@@ -20,11 +20,11 @@ use Rattle.evaluation.specs.Numbers.{fits}
 use Rattle.semantics.specs.Reduction.{account_of}
 use Rattle.linear.specs.Linear.{Linear, Valuation, number_at, IsBelow, number}
 use Rattle.linear.specs.Combined.{StandsFor, AreBelow}
-use Rattle.linear.specs.Symbols.{Symbols, IsValued, IsClosed, Leads, Gives}
-use Rattle.linear.specs.Held.{GivesAny}
-use Rattle.linear.specs.Results.{GivesMultiple}
+use Rattle.symbols.specs.Symbols.{Symbols, IsValued, IsClosed, Leads, Gives}
+use Rattle.symbols.specs.Held.{GivesAny}
+use Rattle.symbols.specs.Results.{GivesMultiple}
 use Rattle.linear.proofs.LinearLaws.{same_number, plus_none}
-use Rattle.linear.proofs.KnownLaws.{gives_here, terms_more, knows_itself, knows_leads, leads_gives, gives_leads, up_more, below_more}
+use Rattle.symbols.proofs.KnownLaws.{gives_here, terms_more, knows_itself, knows_leads, leads_gives, gives_leads, up_more, below_more}
 use Rattle.analysis_spec.specs.declared.kind.AlarmKind.TheVariants.{Leaves128}
 use Rattle.analysis_walk.specs.Limits.{Scope, any_runs, written_runs, Allowed, GoesOn}
 use Rattle.analysis_walk.proofs.ListLaws.{all_append}

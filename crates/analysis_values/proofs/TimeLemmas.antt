@@ -5,8 +5,8 @@ use Rattle.std.specs.Int.{w128}
 use Rattle.linear.specs.Linear.{Linear, Valuation, number_at, number, symbol, IsBelow}
 use Rattle.linear.specs.Bounded.{IsFromAll}
 use Rattle.linear.specs.Combined.{StandsFor, AreBelow, combined_at}
-use Rattle.linear.specs.Symbols.{Symbols}
-use Rattle.linear.specs.Held.{GivesAny}
+use Rattle.symbols.specs.Symbols.{Symbols}
+use Rattle.symbols.specs.Held.{GivesAny}
 use Rattle.linear.proofs.LinearLaws.{symbol_at, grows, shrinks, reach, no_terms}
 use Rattle.evaluation.specs.Numbers.{fits}
 use Rattle.analysis_spec.specs.Promises.{IsWritten}

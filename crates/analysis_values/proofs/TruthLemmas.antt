@@ -12,19 +12,18 @@ use Rattle.names.specs.declared.choice_id.ChoiceId.{ChoiceId}
 use Rattle.names.specs.Orders.{choice_id_cmp}
 use Rattle.contract.specs.declared.interval.Interval.{Interval}
 use Rattle.contract.specs.declared.payment.Payment.{Payment}
-use Rattle.contract.specs.Tree.{ValueTree, cond_value}
-use Rattle.contract.specs.Tree.{ObservationTree, and_obs, or_obs, not_obs, chose_something}
+use Rattle.contract.specs.Tree.{ValueTree, cond_value, ObservationTree, and_obs, or_obs, not_obs, chose_something}
 use Rattle.states.specs.States.{StateMaps}
 use Rattle.evaluation.specs.Evaluation.{eval, visited, holds, looked}
 use Rattle.linear.specs.Linear.{Linear, Valuation, number_at, IsBelow}
 use Rattle.linear.specs.Combined.{StandsFor, AreBelow}
-use Rattle.linear.specs.Symbols.{Symbols, IsClosed, IsValued, Leads, Gives}
-use Rattle.linear.specs.Held.{Assumes, Distinguishes}
-use Rattle.linear.specs.Joined.{Joins}
-use Rattle.linear.specs.Either.{GivesEither}
+use Rattle.symbols.specs.Symbols.{Symbols, IsClosed, IsValued, Leads, Gives}
+use Rattle.symbols.specs.Held.{Assumes, Distinguishes}
+use Rattle.symbols.specs.Joined.{Joins}
+use Rattle.symbols.specs.Either.{GivesEither}
 use Rattle.linear.proofs.NumberLaws.{true_lt, false_lt, true_le, false_le}
 use Rattle.linear.proofs.LinearLaws.{same_number}
-use Rattle.linear.proofs.KnownLaws.{terms_more, knows_leads, leads_gives, gives_leads}
+use Rattle.symbols.proofs.KnownLaws.{terms_more, knows_leads, leads_gives, gives_leads}
 use Rattle.analysis_spec.specs.declared.kind.AlarmKind.TheVariants.{Leaves128}
 use Rattle.analysis_walk.specs.Limits.{Scope, Allowed, GoesOn}
 use Rattle.analysis_walk.specs.Conclusions.{ObservesSo}

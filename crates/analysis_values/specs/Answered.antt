@@ -9,7 +9,7 @@ use Rattle.states.specs.States.{StateMaps}
 use Rattle.evaluation.specs.Evaluation.{eval, visited, holds}
 use Rattle.evaluation.specs.Numbers.{fits}
 use Rattle.linear.specs.Linear.{Linear, Valuation, number_at}
-use Rattle.linear.specs.Symbols.{IsValued, IsClosed, Leads, Gives}
+use Rattle.symbols.specs.Symbols.{IsValued, IsClosed, Leads, Gives}
 use Rattle.analysis_spec.specs.declared.kind.AlarmKind.{AlarmKind}
 use Rattle.analysis_spec.specs.declared.kind.AlarmKind.TheVariants.{Leaves128}
 use Rattle.analysis_spec.specs.Promises.{IsWritten}

@@ -13,7 +13,7 @@ use Rattle.contract.specs.declared.payment.Payment.{Payment}
 use Rattle.states.specs.States.{StateMaps, money_of}
 use Rattle.semantics.specs.Reduction.{account_of}
 use Rattle.linear.specs.Linear.{Linear, Valuation, number_at, IsBelow, number}
-use Rattle.linear.specs.Symbols.{Symbols, IsValued, IsClosed}
+use Rattle.symbols.specs.Symbols.{Symbols, IsValued, IsClosed}
 use Rattle.analysis_spec.specs.Runs.{paid_to}
 use Rattle.analysis_spec.specs.Promises.{IsWritten}
 use Rattle.analysis_walk.specs.Limits.{Scope, any_runs, written_runs, Allowed}

@@ -4,12 +4,11 @@ use Rattle.std.specs.List.{AllByRecursion}
 use Rattle.std.specs.Option.{IsSomeAnd}
 use Rattle.contract.specs.declared.interval.Interval.{Interval}
 use Rattle.contract.specs.declared.payment.Payment.{Payment}
-use Rattle.contract.specs.Tree.{ValueTree, add_value, sub_value, mul_value, div_value, cond_value}
-use Rattle.contract.specs.Tree.{ObservationTree, value_ge, value_gt, value_lt, value_le, value_eq}
+use Rattle.contract.specs.Tree.{ValueTree, add_value, sub_value, mul_value, div_value, cond_value, ObservationTree, value_ge, value_gt, value_lt, value_le, value_eq}
 use Rattle.states.specs.States.{StateMaps}
 use Rattle.evaluation.specs.Evaluation.{quotient, eval, visited, holds, looked}
 use Rattle.linear.specs.Linear.{Linear, Valuation, number_at, IsBelow}
-use Rattle.linear.specs.Symbols.{Symbols, IsValued, IsClosed, Leads, Gives}
+use Rattle.symbols.specs.Symbols.{Symbols, IsValued, IsClosed, Leads, Gives}
 use Rattle.analysis_spec.specs.declared.kind.AlarmKind.TheVariants.{Leaves128}
 use Rattle.analysis_spec.specs.Promises.{IsWritten}
 use Rattle.analysis_walk.specs.Limits.{Scope, written_runs, Allowed, GoesOn}

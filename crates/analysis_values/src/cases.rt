@@ -4,7 +4,8 @@ ghost use Rattle.analysis_values.specs.Steps.{EvaluatesEither};
 
 use crate::values::{Evaluated, both};
 use collections::Memory;
-use linear::{Linear, Symbols, number_of_either};
+use linear::Linear;
+use symbols::{Symbols, number_of_either};
 
 /// An expression for the number of a value where an observation is true, or where it is false, and what is known there.
 #[derive(Drop)]

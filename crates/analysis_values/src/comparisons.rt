@@ -4,7 +4,8 @@ ghost use Rattle.analysis_values.specs.Steps.{KnowsWhere, HoldsOf, FailsOf};
 
 use crate::truths::{where_less, where_no_less, where_other, where_same};
 use collections::Memory;
-use linear::{Linear, Symbols};
+use linear::Linear;
+use symbols::Symbols;
 
 /// How an observation compares the numbers of two values.
 #[derive(Clone, Copy)]

@@ -10,7 +10,7 @@ use crate::values::{Evaluated, value_in};
 use crate::view::View;
 use collections::{Boxed, Memory};
 use contract::{Observation, Value};
-use linear::Symbols;
+use symbols::Symbols;
 
 // The most parts of a Cond's observation (comparisons, and what joins them) that it is taken apart to: 8.
 const MOST_JOINED: u32 = 8;

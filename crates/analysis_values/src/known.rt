@@ -5,9 +5,9 @@ ghost use Rattle.std.specs.FinMap.Entries.{find};
 ghost use Rattle.names.specs.Orders.{choice_id_cmp, bytes_cmp};
 ghost use Rattle.semantics.specs.Reduction.{account_of};
 ghost use Rattle.linear.specs.Linear.{number_at};
-ghost use Rattle.linear.specs.Bounded.{IsShown, IsFromAll, IsUpToAll};
-ghost use Rattle.linear.specs.Held.{GivesAny, Learns, Assumes, IsRefuted};
-ghost use Rattle.linear.specs.Joined.{Joins};
+ghost use Rattle.linear.specs.Bounded.{IsShown, IsFromAll, IsUpToAll, IsRefuted};
+ghost use Rattle.symbols.specs.Held.{GivesAny, Learns, Assumes};
+ghost use Rattle.symbols.specs.Joined.{Joins};
 ghost use Rattle.analysis_values.specs.Known.{held, with_amount};
 ghost use Rattle.analysis_values.specs.Entries.{in_numbers, keys_of};
 ghost use Rattle.analysis_values.specs.Answered.{StaysWhereSaid, AddsTime};
@@ -16,11 +16,12 @@ use crate::lookup::in_expressions;
 use crate::stays::stays;
 use crate::view::View;
 use collections::{Items, Memory, Text, TryClone};
-use linear::{Linear, Symbols};
+use linear::Linear;
 use names::{Account, ChoiceId, Party, Token};
 use states::State;
 use std::alloc::Global;
 use std::marker::Model;
+use symbols::Symbols;
 
 /// What is known at a place of a contract, of whatever run comes there: symbols that stand for whole numbers, and the
 /// state, the interval of the transaction and what parties were paid, in expressions over them. Clauses see the

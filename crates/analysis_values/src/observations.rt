@@ -9,8 +9,8 @@ use crate::values::{both, both_values};
 use crate::view::View;
 use collections::{Boxed, Memory, TryClone};
 use contract::{Observation, Value};
-use linear::Symbols;
 use names::ChoiceId;
+use symbols::Symbols;
 
 /// What is known of symbols where an observation is true, and where it is false; and whether the numbers that are
 /// visited on the way are shown to fit.

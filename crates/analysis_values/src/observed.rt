@@ -12,7 +12,7 @@ use crate::truths::joined;
 use crate::view::View;
 use collections::{Memory, TryClone};
 use contract::Observation;
-use linear::Symbols;
+use symbols::Symbols;
 
 /// What is known where an observation is true, and where it is false: none where it can't be so. And whether all
 /// numbers that are visited on the way are shown to fit 128 bits, in runs whose times JSON can write.

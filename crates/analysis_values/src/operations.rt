@@ -9,7 +9,8 @@ use crate::sums::{difference, sum};
 use crate::values::Evaluated;
 use crate::view::View;
 use collections::Memory;
-use linear::{Linear, Symbols};
+use linear::Linear;
+use symbols::Symbols;
 
 /// What a value makes of the numbers of two others.
 #[derive(Clone, Copy)]

@@ -7,7 +7,8 @@ ghost use Rattle.analysis_values.specs.Steps.{IsTimeIn, IsLowered, IsFrom128, St
 
 use crate::view::View;
 use collections::{Memory, TryClone};
-use linear::{Linear, Symbols, Term};
+use linear::{Linear, Term};
+use symbols::Symbols;
 
 /// Whether an expression is shown to fit 128 bits, in runs whose times JSON can write. A number is kept in them.
 pub(crate) fn stays(view: &View, symbols: &Symbols, number: &Linear) -> Result<bool, Memory>

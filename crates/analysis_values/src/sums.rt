@@ -3,7 +3,8 @@ ghost use Rattle.std.specs.Prelude.{◌+ℤ◌, ◌-ℤ◌, IfOk};
 ghost use Rattle.analysis_values.specs.Steps.{GivesOf};
 
 use collections::Memory;
-use linear::{Linear, Symbols};
+use linear::Linear;
+use symbols::Symbols;
 
 /// The sum of two expressions, or a new symbol where it leaves 128 bits or has too many symbols.
 pub(crate) fn sum(symbols: &mut Symbols, left: &Linear, right: &Linear) -> Result<Linear, Memory>

@@ -3,7 +3,8 @@ ghost use Rattle.std.specs.Prelude.{IfOk, Some};
 ghost use Rattle.analysis_values.specs.Steps.{KnowsWhere, LeadsEither, IsNoLess, IsLess, IsSame, IsOther};
 
 use collections::{Memory, TryClone};
-use linear::{Linear, Symbols};
+use linear::Linear;
+use symbols::Symbols;
 
 /// What is known where an expression is no less than another; none where that is shown to be impossible.
 pub(crate) fn where_no_less(

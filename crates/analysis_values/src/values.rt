@@ -8,8 +8,9 @@ use crate::operations::{Arithmetic, operated, turned};
 use crate::view::View;
 use collections::{Boxed, Memory, Text, TryClone};
 use contract::Value;
-use linear::{Linear, Symbols};
+use linear::Linear;
 use names::{ChoiceId, Party, Token};
+use symbols::Symbols;
 
 /// An expression for the number of a value, and whether all numbers that are visited on the way are shown to fit 128
 /// bits in runs whose times JSON can write.

@@ -8,9 +8,9 @@ use Rattle.linear.specs.Linear.{Linear, Valuation, sum_at, number_at, Range, IsF
 use Rattle.linear.specs.Bounded.{IsLeast, IsFromAll}
 use Rattle.linear.specs.WalkSupport.{IsStep, IsNext}
 use Rattle.linear.specs.ChainSupport.{IsPutIn, IsFilled, IsTakenOut, RoundsUp}
-use Rattle.linear.proofs.LinearLaws.{spread_right, greater_is}
+use Rattle.linear.proofs.LinearLaws.{spread_right, greater_is, natural_at}
 use Rattle.linear.proofs.WalkLemmas.{IsWalk, walk_on, walked, put_is}
-use Rattle.linear.proofs.QueryLemmas.{combined_split, natural_times, natural_at}
+use Rattle.linear.proofs.QueryLemmas.{combined_split, natural_times}
 
 -- ---- terms that are put into a list
 
@@ -43,6 +43,12 @@ filled p ts i q us j out count w h k = let d = walked p ts i q us j (take count 
 pub from_alone : (es : List Range) (fs : List Linear) (f : Valuation → ℤ) (o : Option ℤ) → IfSome o (IsLeast es f) → IsFromAll es fs f o
 from_alone es fs f None h r a n = tt
 from_alone es fs f (Some b) h r a n = h r a
+
+alone_sum : (c t s n : ℤ) → n ≡ c +ℤ t → t ≤ℤ ((pos 1 *ℤ s) +ℤ (pos 0 *ℤ s)) → n ≤ℤ (c +ℤ s)
+alone_sum c t s n e h = omega (arith, ints)
+
+pub terms_alone : (es : List Range) (c : ℤ) (ts : List (ℕ × ℤ)) (t n : ℤ) → IsLeast es (λ r. (pos 1 *ℤ sum_at r ts) +ℤ (pos 0 *ℤ sum_at r ts)) t → n ≡ c +ℤ t → IsLeast es (λ r. c +ℤ sum_at r ts) n
+terms_alone es c ts t n h e r a = alone_sum c t (sum_at r ts) n e (h r a)
 
 -- all terms behind the first
 pub behind_first : (ts : List (ℕ × ℤ)) → take (length ts - 1) (drop 1 ts) ≡ drop 1 ts

@@ -3,12 +3,6 @@ pub mod LinearLaws
 pub mod WalkLemmas
 pub mod QueryLemmas
 pub mod ChainLemmas
-pub mod KnownLaws
-pub mod HeldLemmas
-pub mod RangeLemmas
-pub mod JoinLemmas
-pub mod ResultLemmas
-pub mod BranchLemmas
-pub mod EitherLemmas
-pub mod DivisionLemmas
-pub mod QuotientLemmas
+pub mod RangeLaws
+pub mod DivisionLaws
+pub mod ResultRangeLemmas

@@ -1,11 +1,10 @@
--- Whole numbers, the number of a linear expression, and the sharper of two bounds.
-use Rattle.std.proofs.Common.{◌≡◌, ℕ, suc, ◌*◌, ℤ, pos, negsuc, ◌+ℤ◌, ◌*ℤ◌, ◌≤ℤ◌, ◌<ℤ◌, neg_ℤ, int_lt, Bool, true, false, cond, List, [], ◌∷◌, refl, sym, ap, ◌∙◌, subst, arith, Option, Some, None, Result, Ok, Err, IfOk}
+-- Whole numbers, the number of a linear expression, the sharper of two bounds, and lists of facts.
+use Rattle.std.proofs.Common.{◌≡◌, ℕ, suc, ◌*◌, ℤ, pos, negsuc, ◌+ℤ◌, ◌*ℤ◌, ◌≤ℤ◌, ◌<ℤ◌, neg_ℤ, int_lt, Bool, true, false, cond, List, [], ◌∷◌, refl, sym, ap, ◌∙◌, subst, arith, Option, Some, None, Result, Ok, Err, IfOk, zero, drop, ◌++◌, take, ◌<◌, ◌≤◌, length, get_or}
 use Rattle.std.proofs.lemmas.Int.{ints}
 use Rattle.std.proofs.Math.Nat.{mul-le-mul_left}
 use Rattle.std.specs.Option.{IfSome}
 use borrow.Author.Differences.{up, down, sum_is_lem, product_is, neg_is, le_out}
-use Rattle.linear.specs.Symbols.{Agree}
-use Rattle.linear.specs.Linear.{Linear, Valuation, sum_at, number_at, TermsBelow, IsBelow, symbol, IsFrom, IsUpTo, greater_of, lesser_of}
+use Rattle.linear.specs.Linear.{Agree, Linear, Valuation, sum_at, number_at, TermsBelow, IsBelow, symbol, IsFrom, IsUpTo, greater_of, lesser_of, AreNatural}
 
 -- ---- whole numbers
 
@@ -59,6 +58,9 @@ lt_le a b h = omega (arith, ints)
 pub reach : (a b c : ℤ) → a ≤ℤ b → b ≤ℤ c → a ≤ℤ c
 reach a b c h k = omega (arith, ints)
 
+pub flipped : (a b : ℤ) → a *ℤ b ≡ b *ℤ a
+flipped a b = omega (arith, ints)
+
 -- ---- expressions
 
 same_sum : (n : ℕ) (q r : Valuation) → Agree n q r → (ts : List (ℕ × ℤ)) → TermsBelow n ts → sum_at q ts ≡ sum_at r ts
@@ -102,3 +104,25 @@ lesser_is (Some a) (Some b) n h k = by_test (int_lt b a)
     by_test : (t : Bool) → n ≤ℤ cond t b a
     by_test true = k
     by_test false = h
+
+-- ---- facts
+
+-- what is kept of a list holds where all of it does
+pub natural_drop : (r : Valuation) (n : ℕ) (fs : List Linear) → AreNatural r fs → AreNatural r (drop n fs)
+natural_drop r zero fs h = h
+natural_drop r (suc n) [] h = tt
+natural_drop r (suc n) (f ∷ fs) h = natural_drop r n fs h.1
+
+pub natural_both : (r : Valuation) (fs gs : List Linear) → AreNatural r fs → AreNatural r gs → AreNatural r (fs ++ gs)
+natural_both r [] gs h k = k
+natural_both r (f ∷ fs) gs h k = (h.0, natural_both r fs gs h.1 k)
+
+pub natural_take : (r : Valuation) (n : ℕ) (fs : List Linear) → AreNatural r fs → AreNatural r (take n fs)
+natural_take r zero fs h = tt
+natural_take r (suc n) [] h = tt
+natural_take r (suc n) (f ∷ fs) h = (h.0, natural_take r n fs h.1)
+
+pub natural_at : (r : Valuation) (fs : List Linear) (i : ℕ) (d : Linear) → i < length fs → AreNatural r fs → pos 0 ≤ℤ number_at r (get_or fs i d)
+natural_at r [] i d l h = absurd (omega arith)
+natural_at r (f ∷ fs) zero d l h = h.0
+natural_at r (f ∷ fs) (suc i) d l h = natural_at r fs i d (omega arith) h.1

@@ -1,7 +1,8 @@
 -- What ranges and facts show of expressions.
-use Rattle.std.proofs.Common.{◌≡◌, ℕ, zero, suc, ◌+◌, ◌*◌, ◌/◌, ◌<◌, ◌≤◌, ℤ, pos, negsuc, ◌+ℤ◌, ◌-ℤ◌, ◌*ℤ◌, ◌≤ℤ◌, ◌<ℤ◌, neg_ℤ, Bool, true, false, List, [], ◌∷◌, length, get_or, Option, cond, sym, ap, ◌∙◌, subst, arith, Result, Ok, Err}
+use Rattle.std.proofs.Common.{◌≡◌, ℕ, zero, suc, ◌+◌, ◌*◌, ◌/◌, ◌<◌, ◌≤◌, ℤ, pos, negsuc, ◌+ℤ◌, ◌-ℤ◌, ◌*ℤ◌, ◌≤ℤ◌, ◌<ℤ◌, neg_ℤ, Bool, true, false, List, [], ◌∷◌, length, get_or, Option, Some, None, cond, sym, ap, ◌∙◌, subst, arith, Result, Ok, Err}
 use Rattle.std.proofs.lemmas.Int.{ints}
 use Rattle.std.proofs.Math.Nat.{div-le_self}
+use Rattle.std.specs.Option.{IfSome}
 use Rattle.std.proofs.lemmas.Nat.{le-div, div_below}
 use Rattle.contract.specs.declared.fault.SemFault.{SemFault}
 use Rattle.contract.specs.declared.fault.SemFault.TheVariants.{Leaves128}
@@ -9,11 +10,11 @@ use Rattle.evaluation.specs.Numbers.{fits}
 use Rattle.evaluation.specs.Evaluation.{quotient}
 use Rattle.evaluation.specs.Checked.{checked}
 use Rattle.linear.specs.declared.bounds.Bounds.{Bounds}
-use Rattle.linear.specs.Linear.{Linear, Valuation, sum_at, number_at, Range, IsFrom, IsUpTo, AreInRange, AreNatural, greater_of}
+use Rattle.linear.specs.Linear.{Linear, Valuation, sum_at, number_at, Range, IsFrom, IsUpTo, AreInRange, greater_of}
 use Rattle.linear.specs.Combined.{StandsFor, AreBelow, combined_at}
 use Rattle.linear.specs.Bounded.{numbered, IsLeast, IsLeastBy, IsRoundedUp, IsFromBy, IsFromAll}
 use Rattle.linear.specs.WalkSupport.{rest_at, IsStep, AreCombined}
-use Rattle.linear.proofs.LinearLaws.{spread_right, times_assoc, paired, grows, shrinks, lt_le, greater_is}
+use Rattle.linear.proofs.LinearLaws.{spread_right, times_assoc, paired, grows, shrinks, lt_le, greater_is, natural_at}
 
 -- ---- ranges by place
 
@@ -140,6 +141,12 @@ rounded_below (negsuc n) (pos (suc m)) z h k e (negsuc d) l =
     opposites : (a d : ℕ) → suc d ≤ a → neg_ℤ (pos a) ≤ℤ negsuc d
     opposites a d h = omega (arith, ints)
 
+-- ---- by ranges
+
+pub by_ranges : (es : List Range) (p : ℤ) (l : Linear) (o : Option ℤ) → IfSome o (IsLeast es (combined_at p l (pos 0) l)) → (fs : List Linear) → IsFromAll es fs (λ r. p *ℤ number_at r l) o
+by_ranges es p l None h fs r a n = tt
+by_ranges es p l (Some b) h fs r a n = subst (λ z. b ≤ℤ z) (first_alone (p *ℤ number_at r l) (number_at r l)) (h r a)
+
 -- ---- by facts
 
 pub natural_times : (j f : ℤ) → j ≤ℤ pos 0 → pos 0 ≤ℤ f → (j *ℤ f) ≤ℤ pos 0
@@ -159,12 +166,15 @@ taken_out es p l fact m j s n z h e b c r a f =
     less_by : (n x y : ℤ) → n ≤ℤ (x +ℤ y) → y ≤ℤ pos 0 → n ≤ℤ x
     less_by n x y h k = omega (arith, ints)
 
-pub natural_at : (r : Valuation) (fs : List Linear) (i : ℕ) (d : Linear) → i < length fs → AreNatural r fs → pos 0 ≤ℤ number_at r (get_or fs i d)
-natural_at r [] i d l h = absurd (omega arith)
-natural_at r (f ∷ fs) zero d l h = h.0
-natural_at r (f ∷ fs) (suc i) d l h = natural_at r fs i d (omega arith) h.1
-
 pub better_all : (es : List Range) (fs : List Linear) (i : ℕ) (fact : Linear) (f : Valuation → ℤ) (a b c : Option ℤ) → i < length fs → fact ≡ get_or fs i fact → c ≡ greater_of a b
     → IsFromAll es fs f a → IsFromBy es fact f b → IsFromAll es fs f c
 better_all es fs i fact f a b c l is e h k r j n =
     subst (λ o. IsFrom o (f r)) (sym e) (greater_is a b (f r) (h r j n) (k r j (subst (λ (x : Linear). pos 0 ≤ℤ number_at r x) (sym is) (natural_at r fs i fact l n))))
+
+-- .. or one by a fact, where there is one
+pub better_by : (es : List Range) (fact : Linear) (f : Valuation → ℤ) (a b c : Option ℤ) → c ≡ greater_of a b → IsFromBy es fact f a → IfSome b (IsLeastBy es fact f) → IsFromBy es fact f c
+better_by es fact f a b c e h k r i n = subst (λ o. IsFrom o (f r)) (sym e) (greater_is a b (f r) (h r i n) (by_one b k))
+  where
+    by_one : (o : Option ℤ) → IfSome o (IsLeastBy es fact f) → IsFrom o (f r)
+    by_one None k = tt
+    by_one (Some m) k = k r i n

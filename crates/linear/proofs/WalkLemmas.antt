@@ -1,5 +1,5 @@
 -- A walk along the terms of two expressions.
-use Rattle.std.proofs.Common.{◌≡◌, ℕ, zero, suc, ◌+◌, ◌<◌, ◌≤◌, ℤ, pos, ◌+ℤ◌, ◌*ℤ◌, List, [], ◌∷◌, ◌++◌, length, drop, get_or, refl, sym, ap, ◌∙◌, subst, arith, length-append}
+use Rattle.std.proofs.Common.{◌≡◌, ℕ, zero, suc, ◌+◌, ◌<◌, ◌≤◌, ℤ, pos, ◌+ℤ◌, ◌*ℤ◌, List, [], ◌∷◌, ◌++◌, length, drop, get_or, refl, sym, ap, ◌∙◌, subst, arith, length-append, take}
 use Rattle.std.proofs.lemmas.Int.{ints}
 use Rattle.std.proofs.lemmas.List.{drop_more}
 use Rattle.linear.specs.Linear.{Valuation, sum_at, TermsBelow}
@@ -98,3 +98,13 @@ put_is old new symbol coefficient l e = record {
   below = λ n h k. subst (TermsBelow n) (sym e) (below_append n old ((symbol, coefficient) ∷ []) k (h, tt));
   sum = λ r. ap (sum_at r) e ∙ sum_append r old ((symbol, coefficient) ∷ []) ∙ end_sum (sum_at r old) (coefficient *ℤ r symbol);
 }
+
+-- ---- symbols below a number
+
+below_next : (n : ℕ) (ts : List (ℕ × ℤ)) (i : ℕ) (d : ℕ × ℤ) → i < length ts → TermsBelow n (take i ts) → (get_or ts i d).0 < n → TermsBelow n (take (suc i) ts)
+below_next n [] i d l h k = absurd (omega arith)
+below_next n (t ∷ ts) zero d l h k = (k, tt)
+below_next n (t ∷ ts) (suc i) d l h k = (h.0, below_next n ts i d (omega arith) h.1 k)
+
+pub below_take : (n : ℕ) (ts : List (ℕ × ℤ)) (i : ℕ) (d : ℕ × ℤ) → i < length ts → TermsBelow n (take i ts) → (get_or ts i d).0 < n → TermsBelow n (take (i + 1) ts)
+below_take n ts i d l h k = let e : suc i ≡ i + 1 = omega arith in subst (λ m. TermsBelow n (take m ts)) e (below_next n ts i d l h k)

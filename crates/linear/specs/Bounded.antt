@@ -33,3 +33,7 @@ IsFromAll es fs f o = (r : Valuation) → AreInRange r es → AreNatural r fs �
 
 abbrev pub IsUpToAll : List Range → List Linear → (Valuation → ℤ) → Option ℤ → Type 0
 IsUpToAll es fs f o = (r : Valuation) → AreInRange r es → AreNatural r fs → IsUpTo o (f r)
+
+-- an expression is below 0, whatever symbols stand for, as far as ranges and facts allow
+abbrev pub IsRefuted : List Range → List Linear → Linear → Type 0
+IsRefuted es fs l = (r : Valuation) → AreInRange r es → AreNatural r fs → pos 0 ≤ℤ number_at r l → ⊥

@@ -1,13 +1,7 @@
 pub mod Linear
 pub mod Combined
 pub mod Bounded
-pub mod Symbols
-pub mod Held
 pub mod Ranged
-pub mod Joined
-pub mod Results
-pub mod Either
-pub mod Quotients
-pub mod Branches
+pub mod ResultRanges
 pub mod WalkSupport
 pub mod ChainSupport

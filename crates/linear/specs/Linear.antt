@@ -1,5 +1,5 @@
 -- Linear expressions over symbols, which stand for whole numbers; ranges of symbols, and facts.
-use Rattle.std.specs.Prelude.{ℕ, ◌<◌, ℤ, pos, ◌+ℤ◌, ◌*ℤ◌, ◌≤ℤ◌, List, [], ◌∷◌, Option, Some, None}
+use Rattle.std.specs.Prelude.{ℕ, ◌<◌, ℤ, pos, ◌+ℤ◌, ◌*ℤ◌, ◌≤ℤ◌, List, [], ◌∷◌, Option, Some, None, ◌⊎◌, ◌≡◌}
 use Rattle.std.specs.Int.{int_min, int_max}
 
 -- a constant, and symbols with their coefficients
@@ -72,3 +72,18 @@ abbrev pub lesser_of : Option ℤ → Option ℤ → Option ℤ
 lesser_of None o = o
 lesser_of (Some m) None = Some m
 lesser_of (Some m) (Some n) = Some (int_min m n)
+
+-- ---- what bounds either of two numbers
+
+-- a number that is bound in one of two ways is bound so
+abbrev pub IsFromEither : Option ℤ → Option ℤ → Option ℤ → Type 0
+IsFromEither a b o = (n : ℤ) → IsFrom a n ⊎ IsFrom b n → IsFrom o n
+
+abbrev pub IsUpToEither : Option ℤ → Option ℤ → Option ℤ → Type 0
+IsUpToEither a b o = (n : ℤ) → IsUpTo a n ⊎ IsUpTo b n → IsUpTo o n
+
+-- ---- numbers for symbols
+
+-- valuations that agree below a number
+abbrev pub Agree : ℕ → Valuation → Valuation → Type 0
+Agree n q r = (m : ℕ) → m < n → q m ≡ r m

@@ -1,9 +1,8 @@
 -- The ranges of symbols in their order, in parts.
-use Rattle.std.specs.Prelude.{◌≡◌, ℕ, ◌+◌, List, [], ◌∷◌, ◌++◌, length, ◌⊎◌}
+use Rattle.std.specs.Prelude.{◌≡◌, ℕ, ◌+◌, List, [], ◌∷◌, ◌++◌, length, ◌⊎◌, ℤ, pos, ◌≤ℤ◌, Option}
 use Rattle.linear.specs.declared.bounds.Bounds.{Bounds}
-use Rattle.linear.specs.Linear.{Valuation, IsFrom, IsUpTo, AreInRange}
+use Rattle.linear.specs.Linear.{Valuation, IsFrom, IsUpTo, AreInRange, Agree, Linear, number_at}
 use Rattle.linear.specs.Bounded.{numbered}
-use Rattle.linear.specs.Symbols.{Agree}
 
 -- parts one behind the other, and what comes behind them
 abbrev pub before : List (List Bounds) → List Bounds → List Bounds
@@ -36,3 +35,19 @@ HoldInBoth n bs cs out = (q r : Valuation) → Agree (n + length out) q r → Ar
 pub record IsHull (bs cs old new : List Bounds) : Type 0 where
   pub same : length new ≡ length old
   pub ranges : (q r : Valuation) → Agree (length old) q r → AreInRange r (numbered 0 old) → AreInRange q (numbered 0 bs) ⊎ AreInRange q (numbered 0 cs) → AreInRange r (numbered 0 new)
+
+-- ---- narrower ranges
+
+-- the range of a symbol where an expression is at least 0
+abbrev pub IsRangeBy : List Bounds → Linear → ℕ → Bounds → Type 0
+IsRangeBy bs l x b = (r : Valuation) → AreInRange r (numbered 0 bs) → pos 0 ≤ℤ number_at r l → IsFrom b.least (r x) × IsUpTo b.greatest (r x)
+
+-- ranges of the same symbols, narrower where an expression is at least 0
+pub record AreNarrowed (bs cs : List Bounds) (l : Linear) : Type 0 where
+  pub same : length cs ≡ length bs
+  pub ranges : (r : Valuation) → AreInRange r (numbered 0 bs) → pos 0 ≤ℤ number_at r l → AreInRange r (numbered 0 cs)
+
+-- ranges of the same symbols, narrower where one of them lies in another range
+pub record AreWithin (bs cs : List Bounds) (x : ℕ) (low high : Option ℤ) : Type 0 where
+  pub same : length cs ≡ length bs
+  pub ranges : (r : Valuation) → AreInRange r (numbered 0 bs) → IsFrom low (r x) → IsUpTo high (r x) → AreInRange r (numbered 0 cs)

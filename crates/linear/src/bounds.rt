@@ -1,11 +1,9 @@
 //! Bounds of expressions, by the ranges of symbols and by facts.
 ghost use Rattle.std.specs.Prelude.{◌≡◌, List, ℤ, pos, ◌+ℤ◌, ◌*ℤ◌, ◌≤ℤ◌, ◌<ℤ◌, IfOk, true};
 ghost use Rattle.std.specs.Option.{IfSome};
-ghost use Rattle.linear.specs.Linear.{Linear as Expression, Valuation, sum_at, number_at, IsFrom, IsUpTo, AreInRange, greater_of, lesser_of};
+ghost use Rattle.linear.specs.Linear.{Linear as Expression, Valuation, sum_at, number_at, IsFrom, IsUpTo, AreInRange, greater_of, lesser_of, IsFromEither, IsUpToEither};
 ghost use Rattle.linear.specs.Combined.{combined_at};
-ghost use Rattle.linear.specs.Bounded.{numbered, IsLeast, IsLeastBy, IsShown, IsRoundedUp};
-ghost use Rattle.linear.specs.Bounded.{IsFromBy, IsFromAll, IsUpToAll};
-ghost use Rattle.linear.specs.Held.{IsRefuted};
+ghost use Rattle.linear.specs.Bounded.{numbered, IsLeast, IsLeastBy, IsShown, IsRoundedUp, IsFromBy, IsFromAll, IsUpToAll, IsRefuted};
 
 use crate::chains::least_by_chain;
 use crate::checked::{negation, product, quotient, sum};
@@ -30,16 +28,12 @@ pub(crate) const UNBOUNDED: Bounds = Bounds {
 /// isn't shown to be natural is always a true answer, and so the time of a query is bounded.
 pub const MOST_FACTS: usize = 32;
 
-/// The most operations and branches that are looked at, the newest: 48. Of expressions that aren't 0 as many are kept, and at most
-/// 8 more.
-pub const MOST_LISTED: usize = 48;
+/// The most facts of which a query takes what they show, the newest: 6, and fewer where they have more than three symbols. Those
+/// that show nothing of what is asked don't count.
+pub const MOST_TAKEN: usize = 6;
 
-// The most facts of which a query takes what they show, the newest: 6, and fewer where they have more than three symbols. Those
-// that show nothing of what is asked don't count.
-pub(crate) const MOST_TAKEN: usize = 6;
-
-// So many facts, and one more: it counts once, and once more for each four of its symbols, as each of them takes time.
-pub(crate) fn counted_with(count: usize, fact: &Linear) -> usize {
+/// So many facts, and one more: it counts once, and once more for each four of its symbols, as each of them takes time.
+pub fn counted_with(count: usize, fact: &Linear) -> usize {
     count
         .saturating_add(fact.terms().len() / 4)
         .saturating_add(1)
@@ -231,6 +225,26 @@ pub(crate) fn lesser(left: Option<i128>, right: Option<i128>) -> Option<i128>
     }
 }
 
+/// The lesser of two lower bounds, where there are both.
+pub fn least_of_both(left: Option<i128>, right: Option<i128>) -> Option<i128>
+    ensures { IsFromEither left right result }
+{
+    match (left, right) {
+        (Some(m), Some(n)) => Some(if n < m { n } else { m }),
+        _ => None,
+    }
+}
+
+/// The greater of two upper bounds, where there are both.
+pub fn greatest_of_both(left: Option<i128>, right: Option<i128>) -> Option<i128>
+    ensures { IsUpToEither left right result }
+{
+    match (left, right) {
+        (Some(m), Some(n)) => Some(if n < m { m } else { n }),
+        _ => None,
+    }
+}
+
 // The most symbols of an expression, the newest, for each of which it is looked what a fact shows that takes it out: 8.
 const MOST_TRIED: usize = 8;
 
@@ -253,11 +267,6 @@ fn least_by_fact(bounds: &Ranges, factor: i128, expression: &Linear, fact: &Line
         );
     }
     best
-}
-
-// Where the newest operations or branches begin that are looked at.
-pub(crate) fn first_looked(count: usize) -> usize {
-    count.saturating_sub(MOST_LISTED)
 }
 
 // A lower bound of a multiple of an expression by the ranges alone.
@@ -315,7 +324,7 @@ fn is_positive(bound: Option<i128>) -> bool
 }
 
 /// Whether the ranges alone show that an expression is at least 0, or they and facts one after another.
-pub(crate) fn follows(bounds: &Ranges, facts: &[Linear], expression: &Linear) -> bool
+pub fn follows(bounds: &Ranges, facts: &[Linear], expression: &Linear) -> bool
     ensures { result ≡ true → IsShown (numbered 0 bounds.now) facts.now expression.now }
 {
     let by_ranges = is_natural(least_by_ranges(bounds, 1, expression));
@@ -326,12 +335,7 @@ pub(crate) fn follows(bounds: &Ranges, facts: &[Linear], expression: &Linear) ->
 }
 
 /// .. or they and the facts from a place on.
-pub(crate) fn follows_newest(
-    bounds: &Ranges,
-    facts: &[Linear],
-    from: usize,
-    expression: &Linear,
-) -> bool
+pub fn follows_newest(bounds: &Ranges, facts: &[Linear], from: usize, expression: &Linear) -> bool
     ensures { result ≡ true → IsShown (numbered 0 bounds.now) facts.now expression.now }
 {
     if from > facts.len() {
@@ -341,7 +345,7 @@ pub(crate) fn follows_newest(
 }
 
 /// Whether an expression is shown to be at least 0: it follows, or one of the facts shows it.
-pub(crate) fn shown(bounds: &Ranges, facts: &[Linear], expression: &Linear) -> bool
+pub fn shown(bounds: &Ranges, facts: &[Linear], expression: &Linear) -> bool
     ensures { result ≡ true → IsShown (numbered 0 bounds.now) facts.now expression.now }
 {
     let chained = follows(bounds, facts, expression);
@@ -367,7 +371,7 @@ fn least_by_all(
 }
 
 /// Whether ranges and facts show that an expression is below 0: the ranges alone, or facts.
-pub(crate) fn refuted(bounds: &Ranges, facts: &[Linear], expression: &Linear) -> bool
+pub fn refuted(bounds: &Ranges, facts: &[Linear], expression: &Linear) -> bool
     ensures { result ≡ true → IsRefuted (numbered 0 bounds.now) facts.now expression.now }
 {
     let by_ranges = is_positive(least_by_ranges(bounds, -1, expression));
@@ -378,14 +382,14 @@ pub(crate) fn refuted(bounds: &Ranges, facts: &[Linear], expression: &Linear) ->
 }
 
 /// A lower bound of an expression by ranges and facts.
-pub(crate) fn least_shown(bounds: &Ranges, facts: &[Linear], expression: &Linear) -> Option<i128>
+pub fn least_shown(bounds: &Ranges, facts: &[Linear], expression: &Linear) -> Option<i128>
     ensures { IsFromAll (numbered 0 bounds.now) facts.now (λ r. number_at r expression.now) result }
 {
     least_by_all(bounds, facts, 1, expression)
 }
 
 /// .. by the ranges alone, where they show one.
-pub(crate) fn some_least(bounds: &Ranges, facts: &[Linear], expression: &Linear) -> Option<i128>
+pub fn some_least(bounds: &Ranges, facts: &[Linear], expression: &Linear) -> Option<i128>
     ensures { IsFromAll (numbered 0 bounds.now) facts.now (λ r. number_at r expression.now) result }
 {
     let alone = least_by_ranges(bounds, 1, expression);
@@ -396,7 +400,7 @@ pub(crate) fn some_least(bounds: &Ranges, facts: &[Linear], expression: &Linear)
 }
 
 /// An upper bound of an expression by ranges and facts.
-pub(crate) fn greatest_shown(bounds: &Ranges, facts: &[Linear], expression: &Linear) -> Option<i128>
+pub fn greatest_shown(bounds: &Ranges, facts: &[Linear], expression: &Linear) -> Option<i128>
     ensures { IsUpToAll (numbered 0 bounds.now) facts.now (λ r. number_at r expression.now) result }
 {
     let bound = least_by_all(bounds, facts, -1, expression)?;

@@ -4,7 +4,7 @@ ghost use Rattle.std.specs.Option.{IfSome};
 ghost use Rattle.evaluation.specs.Evaluation.{quotient};
 
 /// The number with its sign turned.
-pub(crate) fn negation(number: i128) -> Option<i128>
+pub fn negation(number: i128) -> Option<i128>
     ensures { IfSome result (λ n. n ≡ neg_ℤ number) }
 {
     number.checked_neg()
@@ -25,7 +25,7 @@ pub(crate) fn product(left: i128, right: i128) -> Option<i128>
 }
 
 /// The quotient, truncated toward 0; 0 where the divisor is 0.
-pub(crate) fn quotient(dividend: i128, divisor: i128) -> Option<i128>
+pub fn quotient(dividend: i128, divisor: i128) -> Option<i128>
     ensures { IfSome result (λ n. n ≡ quotient dividend divisor) }
 {
     match evaluation::quotient(dividend, divisor) {

@@ -1,39 +1,31 @@
-//! Linear expressions over symbols, which stand for whole numbers, and what is known of them.
+//! Linear expressions over symbols, which stand for whole numbers, and what ranges and facts show of them.
 //!
-//! A `Linear` is an expression with 128-bit coefficients. `Symbols` is what is known of symbols: their ranges, facts
-//! (expressions that are at least 0), expressions that aren't 0, which symbols are products and quotients of what, and
-//! branches: what number a symbol has where conditions hold, as one that is one of two numbers by a comparison.
-//! A step either says what is known after it, or gives a new symbol for a number, whatever numbers the symbols stand for,
-//! as far as what is known allows: so each clause is over all numbers for symbols. Where a number would leave 128 bits
-//! there is no sum, and a product is a symbol of which less is known; where something isn't shown, nothing is said.
+//! A `Linear` is an expression with 128-bit coefficients. `Ranges` are the ranges of symbols, and facts are expressions that are at
+//! least 0: `shown`, `refuted`, `least_shown` and `greatest_shown` say what they show, and `narrow` makes ranges narrower. Each
+//! clause is over all numbers for symbols, as far as ranges and facts allow. Where a number would leave 128 bits there is no sum;
+//! where something isn't shown, nothing is said.
 //!
-//! `specs/Linear.antt` has expressions, ranges and facts. `specs/Symbols.antt` has what is known of symbols, and what it means
-//! that more is known. `specs/Bounded.antt` has what ranges and facts show; the files from `specs/Held.antt` on have what each
-//! step returns. None of them says how far the code looks.
+//! `specs/Linear.antt` has expressions, ranges and facts. `specs/Bounded.antt` has what ranges and facts show, `specs/Ranged.antt`
+//! what is done to ranges, and `specs/ResultRanges.antt` the ranges of products and quotients. None of them says how far the code
+//! looks.
 #![tactic(auto)]
 
-mod apart;
 mod bounds;
-mod branched;
-mod branches;
 mod chains;
 mod checked;
-mod either;
-mod join;
 mod linear;
-mod named;
 mod narrowing;
-mod newest;
-mod operations;
-mod quotients;
 mod ranges;
-mod symbols;
+mod result_ranges;
 mod terms;
 
-pub use bounds::{Bounds, MOST_FACTS, MOST_LISTED};
-pub use branched::Branched;
-pub use either::number_of_either;
+pub use bounds::{
+    Bounds, MOST_FACTS, MOST_TAKEN, counted_with, follows, follows_newest, greatest_of_both,
+    greatest_shown, least_of_both, least_shown, refuted, shown, some_least,
+};
+pub use checked::{negation, quotient};
 pub use linear::Linear;
-pub use named::Named;
-pub use symbols::Symbols;
-pub use terms::{MOST_SYMBOLS, Term};
+pub use narrowing::{narrow, narrow_to};
+pub use ranges::Ranges;
+pub use result_ranges::{product_range, quotient_range};
+pub use terms::{MOST_SYMBOLS, Term, is_below};

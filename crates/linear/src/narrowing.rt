@@ -1,18 +1,14 @@
 //! Ranges that a fact makes narrower.
-ghost use Rattle.std.specs.Prelude.{◌≡◌, ℕ, ℤ, pos, ◌≤ℤ◌, IfOk, OnOk, length, List};
-ghost use Rattle.linear.specs.Linear.{Linear as Expression, Valuation, number_at, IsFrom, IsUpTo, AreInRange};
+ghost use Rattle.std.specs.Prelude.{ℕ, ℤ, pos, ◌≤ℤ◌, IfOk, OnOk};
+ghost use Rattle.linear.specs.Linear.{Valuation, number_at, IsFrom, IsUpTo, AreInRange};
 ghost use Rattle.linear.specs.Bounded.{numbered};
-ghost use Rattle.linear.specs.Symbols.{Operation, Branch};
-ghost use Rattle.linear.specs.Held.{symbols_of, AreNarrowed, AreWithin, IsRangeBy, Learns};
+ghost use Rattle.linear.specs.Ranged.{AreNarrowed, AreWithin, IsRangeBy};
 
-use crate::bounds::{
-    Bounds, MOST_FACTS, above_zero, greater, greatest_of, least_of, least_without, lesser,
-};
+use crate::bounds::{Bounds, above_zero, greater, greatest_of, least_of, least_without, lesser};
 use crate::checked::negation;
 use crate::linear::Linear;
-use crate::newest::make_room;
 use crate::ranges::Ranges;
-use collections::{Items, Memory};
+use collections::Memory;
 
 // The range of a symbol with this coefficient in an expression that is at least 0.
 fn range_by(
@@ -76,8 +72,8 @@ fn narrow_one(
     Ok(())
 }
 
-// Makes the range of each symbol of an expression that is at least 0 narrower.
-fn narrow(bounds: &mut Ranges, expression: &Linear) -> Result<(), Memory>
+/// Makes the range of each symbol of an expression that is at least 0 narrower.
+pub fn narrow(bounds: &mut Ranges, expression: &Linear) -> Result<(), Memory>
     ensures { OnOk result (AreNarrowed bounds.old bounds.new expression.now) }
 {
     for term in expression.terms() {
@@ -87,25 +83,11 @@ fn narrow(bounds: &mut Ranges, expression: &Linear) -> Result<(), Memory>
 }
 
 /// Makes the range of a symbol narrower, where it lies in another as well.
-pub(crate) fn narrow_to(bounds: &mut Ranges, symbol: usize, range: Bounds) -> Result<(), Memory>
+pub fn narrow_to(bounds: &mut Ranges, symbol: usize, range: Bounds) -> Result<(), Memory>
     ensures { OnOk result (AreWithin bounds.old bounds.new symbol range.least range.greatest) }
 {
     let least = greater(least_of(bounds, symbol), range.least);
     let greatest = lesser(greatest_of(bounds, symbol), range.greatest);
     bounds.put(symbol, Bounds { least, greatest })?;
-    Ok(())
-}
-
-/// One fact more, which makes ranges narrower.
-pub(crate) fn put_fact(
-    bounds: &mut Ranges,
-    facts: &mut Items<Linear>,
-    fact: Linear,
-) -> Result<(), Memory>
-    ensures { OnOk result ((ds : List Expression) (os : List Operation) (cs : List Branch) → Learns (symbols_of bounds.old facts.old ds os cs) (symbols_of bounds.new facts.new ds os cs) fact) }
-{
-    narrow(bounds, &fact)?;
-    make_room(fact.memory(), facts, MOST_FACTS)?;
-    facts.push(fact)?;
     Ok(())
 }

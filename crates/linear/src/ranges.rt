@@ -1,10 +1,8 @@
 //! The ranges of symbols, in parts that copies share.
 ghost use Rattle.std.specs.Prelude.{◌≡◌, ◌+◌, ◌*◌, ◌++◌, ◌∷◌, [], length, IfOk, OnOk, OnErr};
-ghost use Rattle.linear.specs.Ranged.{before, AreFull, IsRangeAt, IsRangeOf, ArePut, HoldInBoth, IsHull};
-ghost use Rattle.linear.specs.Held.{AreWithin};
+ghost use Rattle.linear.specs.Ranged.{before, AreFull, IsRangeAt, IsRangeOf, ArePut, HoldInBoth, IsHull, AreWithin};
 
-use crate::bounds::{Bounds, UNBOUNDED};
-use crate::join::{greatest_of_both, least_of_both};
+use crate::bounds::{Bounds, UNBOUNDED, greatest_of_both, least_of_both};
 use collections::{Memory, TryClone};
 use std::alloc::{AllocError, Global};
 use std::marker::Model;
@@ -58,7 +56,7 @@ impl TryClone for Part {
 }
 
 /// The ranges of the symbols below a number, in their order: full parts, and the newest ones, at most 64. Clauses see the list.
-pub(crate) struct Ranges {
+pub struct Ranges {
     count: usize,
     parts: Vec<Part>,
     newest: Vec<Bounds>,
@@ -102,7 +100,7 @@ impl TryClone for Ranges {
 
 impl Ranges {
     /// No ranges yet, in a list that will take memory from `alloc`.
-    pub(crate) fn new(alloc: Global) -> Ranges
+    pub fn new(alloc: Global) -> Ranges
         ensures { result ≡ [] }
     {
         Ranges {
@@ -113,19 +111,19 @@ impl Ranges {
     }
 
     /// Where they take memory from.
-    pub(crate) fn memory(&self) -> Global {
+    pub fn memory(&self) -> Global {
         *self.newest.allocator()
     }
 
     /// How many there are.
-    pub(crate) fn len(&self) -> usize
+    pub fn len(&self) -> usize
         ensures { result ≡ length self.now }
     {
         self.count
     }
 
     /// The range of a symbol; nothing is known of one that isn't there.
-    pub(crate) fn at(&self, symbol: usize) -> Bounds
+    pub fn at(&self, symbol: usize) -> Bounds
         ensures { IsRangeOf self.now symbol result }
     {
         range_in(&self.parts, &self.newest, symbol / PART, symbol % PART)
@@ -139,7 +137,7 @@ impl Ranges {
     }
 
     /// One range more.
-    pub(crate) fn push(&mut self, range: Bounds) -> Result<(), Memory>
+    pub fn push(&mut self, range: Bounds) -> Result<(), Memory>
         ensures { OnOk result (self.new ≡ self.old ++ range ∷ []) }
     {
         match self.count.checked_add(1) {
@@ -153,7 +151,7 @@ impl Ranges {
     }
 
     /// Another range for a symbol, in which it lies as well.
-    pub(crate) fn put(&mut self, symbol: usize, range: Bounds) -> Result<(), Memory>
+    pub fn put(&mut self, symbol: usize, range: Bounds) -> Result<(), Memory>
         ensures { OnOk result (AreWithin self.old self.new symbol range.least range.greatest) }
     {
         put_in(
@@ -174,7 +172,7 @@ impl Ranges {
     }
 
     /// The ranges that hold in either of two cases, which both come from these: where one case has the same part, that part.
-    pub(crate) fn hull(&self, left: &Ranges, right: &Ranges) -> Result<Ranges, Memory>
+    pub fn hull(&self, left: &Ranges, right: &Ranges) -> Result<Ranges, Memory>
         ensures { IfOk result (λ out. IsHull left.now right.now self.now out) }
     {
         let mut out = self.try_clone()?;

@@ -1,6 +1,7 @@
 //! Terms: symbols with their coefficients, the newest symbol first.
-ghost use Rattle.std.specs.Prelude.{◌≡◌, ◌≤◌, ◌+ℤ◌, ◌*ℤ◌, [], length, drop, IfOk, true};
+ghost use Rattle.std.specs.Prelude.{◌≡◌, ℕ, ◌≤◌, ◌+ℤ◌, ◌*ℤ◌, [], length, drop, IfOk, true};
 ghost use Rattle.std.specs.Option.{IfSome, MatchOption};
+ghost use Rattle.linear.specs.Linear.{TermsBelow};
 ghost use Rattle.linear.specs.WalkSupport.{IsTaken, IsStep, IsPut, IsNext, AreCombined};
 
 use crate::checked::{product, sum};
@@ -104,6 +105,18 @@ impl Terms {
             Home::Shared(shared) => shared,
         }
     }
+}
+
+/// Whether all symbols are below a number.
+pub fn is_below(terms: &[Term], count: usize) -> bool
+    ensures { result ≡ true → TermsBelow count terms.now }
+{
+    for term in terms {
+        if term.0 >= count {
+            return false;
+        }
+    }
+    true
 }
 
 // The newest symbol of what is left of two lists of terms; none where nothing is left.

@@ -1,7 +1,7 @@
 use Rattle.std.proofs.Common.{pos, Some}
 use Rattle.std.proofs.lemmas.Result.{IfOk-weaker}
 use Rattle.linear.specs.Linear.{Linear}
-use Rattle.linear.specs.Held.{GivesAny}
+use Rattle.symbols.specs.Held.{GivesAny}
 use Rattle.analysis_steps.specs.Amounts.{GivesRest}
 use Rattle.analysis_steps.proofs.AmountLemmas.{rest_ranged}
 use Rattle.analysis_steps.proofs.amounts.ranged_rest.Goals as goal

@@ -1,5 +1,5 @@
 use Rattle.std.proofs.lemmas.Result.{IfOk-weaker}
-use Rattle.linear.specs.Held.{GivesAny}
+use Rattle.symbols.specs.Held.{GivesAny}
 use Rattle.analysis_steps.specs.Amounts.{GivesSum}
 use Rattle.analysis_steps.proofs.AmountLemmas.{sum_ranged}
 use Rattle.analysis_steps.proofs.amounts.ranged_sum.Goals as goal

@@ -1,5 +1,5 @@
 use Rattle.std.proofs.lemmas.Result.{IfOk-weaker}
-use Rattle.linear.specs.Held.{Assumes}
+use Rattle.symbols.specs.Held.{Assumes}
 use Rattle.analysis_steps.specs.Times.{AssumesMost}
 use Rattle.analysis_steps.proofs.TimeLemmas.{assumes_most_by, assumes_most_none}
 use Rattle.analysis_steps.proofs.times.assume_most.Goals as goal

@@ -1,6 +1,5 @@
 use Rattle.std.proofs.Common.{◌-◌, length, drop}
-use Rattle.linear.proofs.KnownLaws.{natural_take}
-use Rattle.linear.proofs.HeldLemmas.{natural_drop}
+use Rattle.linear.proofs.LinearLaws.{natural_take, natural_drop}
 use Rattle.linear.proofs.bounds.follows_newest.Goals as goal
 
 pub returns : goal.returns

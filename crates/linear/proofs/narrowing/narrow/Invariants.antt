@@ -1,4 +1,4 @@
-use Rattle.linear.specs.Held.{AreNarrowed}
+use Rattle.linear.specs.Ranged.{AreNarrowed}
 use Rattle.linear.proofs.narrowing.narrow.Given as goal
 
 abbrev pub invariant-loop-term : goal.invariant-loop-term

@@ -1,4 +1,4 @@
-use Rattle.linear.proofs.RangeLemmas.{narrowed_by}
+use Rattle.linear.proofs.RangeLaws.{narrowed_by}
 use Rattle.linear.proofs.narrowing.narrow_one.Goals as goal
 
 pub returns : goal.returns

@@ -1,4 +1,4 @@
-use Rattle.linear.proofs.RangeLemmas.{within_by}
+use Rattle.linear.proofs.RangeLaws.{within_by}
 use Rattle.linear.proofs.narrowing.narrow_to.Goals as goal
 
 pub returns : goal.returns

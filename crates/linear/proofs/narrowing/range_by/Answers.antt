@@ -1,5 +1,5 @@
 use Rattle.std.proofs.Common.{refl}
-use Rattle.linear.proofs.RangeLemmas.{risen}
+use Rattle.linear.proofs.RangeLaws.{risen}
 use Rattle.linear.proofs.narrowing.range_by.Goals as goal
 
 pub returns-then-coefficient-gt0 : goal.returns-then-coefficient-gt0

@@ -1,5 +1,5 @@
 use Rattle.std.proofs.Common.{◌∙◌}
-use Rattle.linear.proofs.RangeLemmas.{closed_full, closed_same}
+use Rattle.linear.proofs.RangeLaws.{closed_full, closed_same}
 use Rattle.linear.proofs.ranges.close.Goals as goal
 
 pub returns-clause-full : goal.returns-clause-full

@@ -1,6 +1,6 @@
 use Rattle.std.proofs.Common.{◌*◌}
 use Rattle.linear.specs.declared.bounds.Bounds.{Bounds}
-use Rattle.linear.proofs.RangeLemmas.{both_on}
+use Rattle.linear.proofs.RangeLaws.{both_on}
 use Rattle.linear.proofs.ranges.hull_of.Goals as goal
 
 pub loop-at-preserved : goal.loop-at-preserved

@@ -1,4 +1,4 @@
-use Rattle.linear.proofs.RangeLemmas.{put_set}
+use Rattle.linear.proofs.RangeLaws.{put_set}
 use Rattle.linear.proofs.ranges.put_at.Goals as goal
 
 pub returns-then-at-len : goal.returns-then-at-len

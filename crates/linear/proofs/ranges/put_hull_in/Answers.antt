@@ -1,6 +1,6 @@
 use Rattle.std.proofs.Common.{◌*◌, length, sym, ap, ◌∙◌, subst, arith}
 use Rattle.linear.specs.Ranged.{HoldInBoth}
-use Rattle.linear.proofs.RangeLemmas.{full_set, length_set_before, hull_part, length_newest, hull_newest}
+use Rattle.linear.proofs.RangeLaws.{full_set, length_set_before, hull_part, length_newest, hull_newest}
 use Rattle.linear.proofs.ranges.put_hull_in.Goals as goal
 
 pub returns-in_ok-parts-clause-full : goal.returns-in_ok-parts-clause-full

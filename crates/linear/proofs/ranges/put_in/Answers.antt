@@ -1,6 +1,6 @@
 use Rattle.std.proofs.Common.{length, sym, ap, ◌∙◌, subst, arith}
 use Rattle.linear.specs.Ranged.{ArePut}
-use Rattle.linear.proofs.RangeLemmas.{full_set, length_set_before, put_long, within_part, length_newest, within_newest}
+use Rattle.linear.proofs.RangeLaws.{full_set, length_set_before, put_long, within_part, length_newest, within_newest}
 use Rattle.linear.proofs.ranges.put_in.Goals as goal
 
 pub returns-in_ok-parts-clause-full : goal.returns-in_ok-parts-clause-full

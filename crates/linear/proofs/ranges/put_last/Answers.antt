@@ -1,6 +1,6 @@
 use Rattle.std.proofs.Common.{◌≡◌, refl}
 use Rattle.linear.specs.Ranged.{before}
-use Rattle.linear.proofs.RangeLemmas.{put_behind}
+use Rattle.linear.proofs.RangeLaws.{put_behind}
 use Rattle.linear.proofs.ranges.put_last.Goals as goal
 use Rattle.linear.proofs.ranges.put_last.Goals.{then-len-eq-PART+in_ok-close, else-len-eq-PART}
 

@@ -1,5 +1,5 @@
 use Rattle.std.proofs.Common.{arith, ◌∙◌}
-use Rattle.linear.proofs.RangeLemmas.{of_part, of_newest}
+use Rattle.linear.proofs.RangeLaws.{of_part, of_newest}
 use Rattle.linear.proofs.ranges.range_in.Goals as goal
 
 pub returns-then-place-parts : goal.returns-then-place-parts

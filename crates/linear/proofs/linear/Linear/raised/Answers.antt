@@ -1,9 +1,8 @@
 use Rattle.std.proofs.Common.{◌+ℤ◌}
 use Rattle.std.specs.Int.{w128}
 use Rattle.std.proofs.lemmas.Int.{to_z-of_z}
-use Rattle.linear.specs.Linear.{number_at, IsBelow}
+use Rattle.linear.specs.Linear.{number_at, IsBelow, number}
 use Rattle.linear.specs.Combined.{StandsFor, AreBelow}
-use Rattle.linear.specs.Linear.{number}
 use Rattle.linear.proofs.LinearLaws.{both_weaker}
 use Rattle.linear.proofs.QueryLemmas.{stands_as, raised_sum}
 use Rattle.linear.proofs.linear.Linear.raised.Goals as goal

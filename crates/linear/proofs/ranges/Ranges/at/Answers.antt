@@ -1,5 +1,5 @@
 use Rattle.linear.specs.Ranged.{before}
-use Rattle.linear.proofs.RangeLemmas.{of_symbol}
+use Rattle.linear.proofs.RangeLaws.{of_symbol}
 use Rattle.linear.proofs.ranges.Ranges.at.Goals as goal
 
 pub returns : goal.returns

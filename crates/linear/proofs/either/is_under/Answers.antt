@@ -1,5 +1,0 @@
-use Rattle.linear.proofs.EitherLemmas.{under_both}
-use Rattle.linear.proofs.either.is_under.Goals as goal
-
-pub returns : goal.returns
-returns c = λ h. under_both c.args.one.now c.args.left.now c.args.other.now c.args.right.now c.args.side.now (c.in_ok-first.ensures c.if-not-first.false) (c.in_ok-second.ensures h)

@@ -1,8 +1,0 @@
-use Rattle.linear.proofs.EitherLemmas.{relates_none}
-use Rattle.linear.proofs.either.relate_inner.Goals as goal
-
-pub returns-then-own-count : goal.returns-then-own-count
-returns-then-own-count c = relates_none c.args.symbols.now c.args.one.now c.args.left.now c.args.other.now c.args.right.now c.args.count c.args.number.now
-
-pub returns-in-None : goal.returns-in-None
-returns-in-None c = relates_none c.args.symbols.now c.args.one.now c.args.left.now c.args.other.now c.args.right.now c.args.count c.args.number.now

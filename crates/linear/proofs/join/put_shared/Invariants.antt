@@ -1,6 +1,0 @@
-use Rattle.linear.specs.Bounded.{numbered}
-use Rattle.linear.specs.Joined.{AreShared}
-use Rattle.linear.proofs.join.put_shared.Given as goal
-
-abbrev pub invariant-loop-at : goal.invariant-loop-at
-invariant-loop-at l = AreShared l.count l.own (numbered 0 l.bounds) l.others l.fn.facts l.facts

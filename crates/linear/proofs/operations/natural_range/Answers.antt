@@ -1,5 +1,0 @@
-use Rattle.linear.proofs.DivisionLemmas.{natural_quotients}
-use Rattle.linear.proofs.operations.natural_range.Goals as goal
-
-pub returns : goal.returns
-returns c = natural_quotients c.args.dividend.least c.args.dividend.greatest c.least_of_both.result c.greatest_of_both.result c.least_of_both.ensures c.greatest_of_both.ensures

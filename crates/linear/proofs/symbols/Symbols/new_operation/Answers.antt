@@ -1,5 +1,0 @@
-use Rattle.linear.specs.Held.{branches_of}
-use Rattle.linear.proofs.symbols.Symbols.new_operation.Goals as goal
-
-pub returns : goal.returns
-returns c = rw (← c.self.view_is) (c.in_ok-e.ensures c.self.inside.facts c.self.inside.apart (branches_of c.self.inside.branches))

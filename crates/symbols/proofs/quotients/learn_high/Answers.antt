@@ -1,0 +1,15 @@
+use Rattle.std.proofs.Common.{rules, FitsSigned}
+use Rattle.std.specs.Int.{w128}
+use Rattle.std.proofs.lemmas.Int.{to_z-of_z}
+use Rattle.std.proofs.lemmas.Result.{on_ok_weaker}
+use Rattle.symbols.proofs.QuotientLemmas.{learns_high}
+use Rattle.symbols.proofs.quotients.learn_high.Goals as goal
+
+pub returns-in-Some : goal.returns-in-Some
+returns-in-Some c =
+    let f : FitsSigned w128 c.room_above-room.result = search rules in
+    let i = rw (to_z-of_z w128 c.args.divisor c.ranges.divisor) at c.room_above-room.ensures in
+    let q = rw (to_z-of_z w128 c.room_above-room.result f) at c.number-bound.ensures in
+    let s = rw c.in-Some.is at c.in_ok-more.ensures in
+    on_ok_weaker c.learn.result (λ h. learns_high c.args.symbols.now c.learn.new.self c.args.dividend.now c.args.rest.now c.number-bound.result c.in-Some.fact c.args.divisor c.room_above-room.result i q s h)
+    c.learn.ensures

@@ -1,0 +1,34 @@
+-- Products and quotients that have a symbol.
+use Rattle.std.specs.Prelude.{◌≡◌, ℕ, ◌<◌, ℤ, ◌*ℤ◌, Bool, List, Option}
+use Rattle.evaluation.specs.Evaluation.{quotient}
+use Rattle.symbols.specs.declared.named.Named.{Named}
+use Rattle.linear.specs.Linear.{Linear, Valuation, number_at, IsBelow, IsFrom, IsUpTo}
+use Rattle.symbols.specs.Symbols.{Symbols, Operation, result, AreResults, OperationsBelow, IsValued, IsClosed, Gives}
+
+-- whatever numbers symbols stand for: an expression stands for the product or quotient of two
+abbrev pub GivesResult : Bool → Symbols → Symbols → Linear → Linear → Linear → Type 0
+GivesResult d k m l n e = (r : Valuation) → IsClosed k → IsValued r k → IsBelow k.next l → IsBelow k.next n → Gives k r (m, e) (result d (number_at r l) (number_at r n))
+
+-- .. where that lies in a range
+abbrev pub GivesInRange : Bool → Option ℤ → Option ℤ → Symbols → Symbols → Linear → Linear → Linear → Type 0
+GivesInRange d low high k m l n e =
+    (r : Valuation) → IsClosed k → IsValued r k → IsBelow k.next l → IsBelow k.next n → IsFrom low (result d (number_at r l) (number_at r n)) → IsUpTo high (result d (number_at r l) (number_at r n))
+    → Gives k r (m, e) (result d (number_at r l) (number_at r n))
+
+-- .. or for a multiple of one
+abbrev pub GivesMultiple : ℤ → Symbols → Symbols → Linear → Linear → Type 0
+GivesMultiple c k m l e = (r : Valuation) → IsClosed k → IsValued r k → IsBelow k.next l → Gives k r (m, e) (c *ℤ number_at r l)
+
+-- an operation is that of two expressions
+pub record IsOf (o : Named) (d : Bool) (l m : Linear) : Type 0 where
+  pub divides : o.divides ≡ d
+  pub left : (r : Valuation) → number_at r l ≡ number_at r o.left
+  pub right : (r : Valuation) → number_at r m ≡ number_at r o.right
+
+abbrev pub IsSymbolOf : Named → Bool → Linear → Linear → ℕ → Type 0
+IsSymbolOf o d l m x = IsOf o d l m × (x ≡ o.symbol)
+
+-- a symbol is that of an operation of two expressions
+pub record IsNamed (os : List Operation) (d : Bool) (l m : Linear) (x : ℕ) : Type 0 where
+  pub below : (n : ℕ) → OperationsBelow n os → x < n
+  pub value : (r : Valuation) → AreResults r os → r x ≡ result d (number_at r l) (number_at r m)
