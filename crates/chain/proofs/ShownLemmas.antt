@@ -73,7 +73,7 @@ submitted c n e tx at call reply =
     ∙ ap (λ (r : Reply). (after_call s (on.Submit tx) r).accepted) reply
 
 -- what is published stays so
-published_between : (c : Course) (n m : ℕ) → n ≤ m → IsMore (published_at (published (before_entry c n).entries)) (published_at (published (before_entry c m).entries))
+pub published_between : (c : Course) (n m : ℕ) → n ≤ m → IsMore (published_at (published (before_entry c n).entries)) (published_at (published (before_entry c m).entries))
 published_between c n m le script v h =
     let es = take m c.entries in
     let front : take n es ≡ take n c.entries = take_twice n m c.entries le in

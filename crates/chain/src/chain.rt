@@ -1,5 +1,5 @@
 //! The ledger of one thread.
-ghost use Rattle.std.specs.Prelude.{◌≡◌, ℕ, ◌++◌, ◌∷◌, [], All, IfOk, IfErr, OnErr, OnOk};
+ghost use Rattle.std.specs.Prelude.{◌≡◌, ℕ, ◌≤◌, ◌++◌, ◌∷◌, [], All, IfOk, IfErr, OnErr, OnOk};
 ghost use Rattle.ledger_laws.specs.Sound.{AreKeys, IsMore};
 ghost use Rattle.eutxo.specs.Judgement.{found};
 ghost use Rattle.ledger_spec.specs.Genesis.{SumsFit, RefusesGenesis};
@@ -272,7 +272,8 @@ impl Chain {
     ///
     /// They are legal, and what stands after them is what they say (`StandsAsTold`): the tick, the pool and what was
     /// accepted. What is published under an id is what a Publish call published, one contract with one currency; an id
-    /// is answered to be in use only where an earlier call published another contract or currency under it.
+    /// is answered to be in use only where an earlier call published another contract or currency under it. What is
+    /// published stays so: before any later entry, the same stands under its id.
     ///
     /// And whatever was called, this holds of what was accepted. Where no two different data that accepted transactions
     /// bring have one digest, the thread of each start output is exactly one run of the contract that was published
@@ -297,6 +298,8 @@ impl Chain {
         ensures begins { AreKeys self.now.genesis × SumsFit self.now.genesis }
         ensures stands { StandsAsTold self.now }
         ensures in_use { InUseByAnother self.now.entries }
+        ensures stays { (n m : ℕ) → n ≤ m →
+          IsMore (published_at (published (before_entry self.now n).entries)) (published_at (published (before_entry self.now m).entries)) }
         ensures fits { All TxFits (past_of (world self.now)).accepted }
         ensures first { FirstHalf self.now }
         ensures second { SecondHalf self.now }

@@ -3,7 +3,11 @@ use Rattle.std.specs.Prelude.{◌≡◌, ℕ, ◌+◌, ◌≤◌, ◌==◌, List
 use Rattle.ledger.specs.declared.call.Call.{Call}
 use Rattle.ledger.specs.declared.call.Reply.{Reply}
 use Rattle.ledger.specs.declared.call.Entry.{Entry}
+use Rattle.ledger_spec.specs.Calls.{reply_to}
+use Rattle.ledger_spec.specs.Legal.{IsLegal}
+use Rattle.ledger_spec.specs.Replay.{Course, world}
 use Rattle.hub.specs.declared.answer.Answer.{Answer}
+use Rattle.hub.specs.Session.{Opened}
 
 -- a seat: its number, and its answered calls in order
 pub record SeatRecord : Type 0 where
@@ -24,10 +28,18 @@ pub record ReceiptRecord : Type 0 where
 abbrev pub answer_of : Call → ReceiptRecord → Answer
 answer_of call r = record { place = r.entry; number = r.number; call = call; reply = r.reply }
 
--- TOLD: a call was answered: the seat's list has one answer more, the one that the receipt names, which is of this seat
-pub record WasTold (before : SeatRecord) (call : Call) (receipt : ReceiptRecord) (now : SeatRecord) : Type 0 where
+-- A REPLY OF ITS CALL: there was a legal history over what the session began with after which the table of calls gives this reply
+pub record IsReply (session : Opened) (call : Call) (reply : Reply) : Type 0 where
+  pub past : Course
+  pub start : (past.genesis ≡ session.genesis) × (past.first_tick ≡ session.first_tick)
+  pub legal : IsLegal past
+  pub told : reply ≡ reply_to (world past) call
+
+-- TOLD: a call was answered: the seat's list has one answer more, the one that the receipt names, which is of this seat; and the reply is of the call
+pub record WasTold (session : Opened) (before : SeatRecord) (call : Call) (receipt : ReceiptRecord) (now : SeatRecord) : Type 0 where
   pub answer : now ≡ seat_record before.number (before.answers ++ answer_of call receipt ∷ [])
   pub seat : receipt.seat ≡ before.number
+  pub reply : IsReply session call receipt.reply
 
 -- ---- in a history
 

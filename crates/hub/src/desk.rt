@@ -1,10 +1,10 @@
 //! What lies under the lock.
 ghost use Rattle.std.specs.Prelude.{◌≡◌, ◌<◌, ◌++◌, [], ◌∷◌, ℕ, length, IfOk, OnOk, OnErr};
 ghost use Rattle.ledger.specs.declared.call.Call.TheVariants as on;
-ghost use Rattle.ledger_spec.specs.Legal.{entry_of, with_entry};
+ghost use Rattle.ledger_spec.specs.Legal.{IsLegal, entry_of, with_entry};
 ghost use Rattle.ledger_spec.specs.Replay.{world};
 ghost use Rattle.ledger_spec.specs.Views.{pool_front};
-ghost use Rattle.hub.specs.Seats.{WasTold};
+ghost use Rattle.hub.specs.Seats.{IsReply, WasTold};
 
 use crate::answer::Answer;
 use crate::carried::Carried;
@@ -70,6 +70,13 @@ struct Made {
     told: Carried<Reply>,
 }
 
+// The chain's history is legal. It does nothing.
+fn is_legal(chain: &Chain)
+    ensures { IsLegal chain.now }
+{
+    let _ = chain.history();
+}
+
 // Makes the entry of one call, and writes it into the journal.
 fn enter<J: Session>(
     alloc: Global,
@@ -79,14 +86,18 @@ fn enter<J: Session>(
     call: Carried<Call>,
     cache: &[Checked<Published>],
 ) -> Result<Made, Memory>
-    requires { journal.old ≡ chain.old.entries }
+    requires journal { journal.old ≡ chain.old.entries }
+    requires start { (chain.old.genesis ≡ (J.session).genesis) × (chain.old.first_tick ≡ (J.session).first_tick) }
     ensures chain { OnOk result (chain.new ≡ with_entry chain.old (entry_of chain.old seat call)) }
     ensures journal { OnOk result (journal.new ≡ chain.new.entries) }
     ensures place { IfOk result (λ m. m.place ≡ length chain.old.entries) }
     ensures number { IfOk result (λ m. m.number ≡ (entry_of chain.old seat call).number) }
     ensures replies { IfOk result (λ m. (m.mine ≡ (entry_of chain.old seat call).reply) × (m.told ≡ (entry_of chain.old seat call).reply)) }
+    ensures reply { IfOk result (λ m. IsReply (J.session) call m.told) }
     ensures err { OnErr result ((chain.new ≡ chain.old) × (journal.new ≡ journal.old)) }
 {
+    // touch: the history is legal
+    is_legal(chain);
     let place = chain.entries().len();
     let (mine, told) = chain.step(alloc, seat, call.into_inner(), cache)?;
     let made = &chain.entries()[place];
@@ -129,7 +140,7 @@ impl<J: Session> Desk<J> {
         cache: &[Checked<Published>],
     ) -> Result<Receipt<J>, Memory>
         requires { kept ≡ call }
-        ensures told { IfOk result (λ r. WasTold seat.old call r seat.new) }
+        ensures told { IfOk result (λ r. WasTold (J.session) seat.old call r seat.new) }
         ensures err { OnErr result (seat.new ≡ seat.old) }
     {
         let Seat {
@@ -170,7 +181,7 @@ impl<J: Session> Desk<J> {
         checked: Carried<Checked<Published>>,
     ) -> Result<Receipt<J>, Memory>
         requires { call ≡ on.Submit checked.tx }
-        ensures told { IfOk result (λ r. WasTold seat.old (on.Submit checked.tx) r seat.new) }
+        ensures told { IfOk result (λ r. WasTold (J.session) seat.old (on.Submit checked.tx) r seat.new) }
         ensures err { OnErr result (seat.new ≡ seat.old) }
     {
         let Seat {

@@ -76,7 +76,7 @@ impl<J: Session> Hub<J> {
         seat: &mut Seat<J>,
         call: Call,
     ) -> Result<Receipt<J>, Memory>
-        ensures told { IfOk result (λ r. WasTold seat.old call r seat.new) }
+        ensures told { IfOk result (λ r. WasTold (J.session) seat.old call r seat.new) }
         ensures err { OnErr result (seat.new ≡ seat.old) }
     {
         let call = Carried::new(call);
@@ -93,7 +93,7 @@ impl<J: Session> Hub<J> {
         seat: &mut Seat<J>,
         checked: Checked<Published>,
     ) -> Result<Receipt<J>, Memory>
-        ensures told { IfOk result (λ r. WasTold seat.old (on.Submit checked.tx) r seat.new) }
+        ensures told { IfOk result (λ r. WasTold (J.session) seat.old (on.Submit checked.tx) r seat.new) }
         ensures err { OnErr result (seat.new ≡ seat.old) }
     {
         let checked = Carried::new(checked);
@@ -110,13 +110,13 @@ impl<J: Session> Hub<J> {
         rt: &R,
         alloc: Global,
         seat: &mut Seat<J>,
-        gate: &G,
-        workers: usize,
         k: u64,
+        workers: usize,
+        gate: &G,
     ) -> Result<Receipt<J>, Memory>
         requires some { 0 < workers }
         requires few { workers ≤ 16 }
-        ensures told { IfOk result (λ r. WasTold seat.old (on.Round k) r seat.new) }
+        ensures told { IfOk result (λ r. WasTold (J.session) seat.old (on.Round k) r seat.new) }
         ensures err { OnErr result (seat.new ≡ seat.old) }
     {
         let jobs = self.desk.lock(rt).front(alloc, k)?;

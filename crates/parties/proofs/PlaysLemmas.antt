@@ -14,12 +14,16 @@ use Rattle.ledger.specs.declared.call.Call.TheVariants as on
 use Rattle.ledger.specs.declared.call.Reply.{Reply}
 use Rattle.ledger.specs.declared.call.Reply.TheVariants as replies
 use Rattle.ledger.specs.declared.look.Look.{Look}
+use Rattle.builder_spec.specs.declared.fault.BuildFault.{BuildFault}
 use Rattle.plans.specs.declared.intent.Intent.TheVariants.{Step, Steps, Claim, Round, Advance}
 use Rattle.hub.specs.declared.answer.Answer.{Answer}
-use Rattle.hub.specs.Seats.{SeatRecord, ReceiptRecord, seat_record, answer_of, WasTold}
+use Rattle.hub.specs.Seats.{SeatRecord, ReceiptRecord, seat_record, answer_of, IsReply, WasTold}
+use Rattle.hub.specs.Session.{Opened}
+use Rattle.ledger_spec.specs.Replay.{world}
+use Rattle.ledger_spec.specs.Views.{look}
 use Rattle.parties.specs.Plays.{PlayedIntent, PlayedPlan, step_ask, claim_ask, step_made, steps_made, claim_made, offered_by, parts_of}
-use Rattle.parties.specs.Plays.{AreLooks, WereShown, LooksOrHandsIn, IsOf, IsOfPlan, AreOf, ArePlayed, IsWithin, added, receipt_of}
-use Rattle.parties.specs.PlaysSupport.{asks_of, by_first, replies_of, HandsIn, HasRoom, WasNoted, AtMostNoted, Went, WentNoted, WasShown}
+use Rattle.parties.specs.Plays.{AreLooks, WereShown, LooksOrHandsIn, IsOf, IsOfPlan, AreOf, AreOfPlan, IsWithin, added, receipt_of}
+use Rattle.parties.specs.PlaysSupport.{asks_of, by_first, replies_of, AreShown, ShowsALook, HandsIn, HasRoom, WasNoted, AtMostNoted, Went, WentNoted, WasShown}
 
 -- ---- whose call it is
 
@@ -30,11 +34,11 @@ shown_later asks looks earlier before h = (earlier ++ h.0, h.1, ap (λ (l : List
 -- what is of an intent is of it after more that was before
 of_later : (plan : PlayedPlan) (earlier before : List Answer) (call : Call) (intent : PlayedIntent) → IsOf plan before call intent → IsOf plan (earlier ++ before) call intent
 of_later plan earlier before call (Step thread inputs interval pooled) h =
-    elim h [ inl looks ↦ inl looks | inr hands ↦ inr (hands.0, shown_later (step_ask plan thread ∷ []) (hands.0 ∷ []) earlier before hands.1, hands.2) ]
+    elim h [ inl looks ↦ inl looks | inr hands ↦ inr (hands.0, hands.1, shown_later (step_ask plan thread ∷ []) (hands.0 ∷ []) earlier before hands.2, hands.3) ]
 of_later plan earlier before call (Steps steps interval pooled) h =
-    elim h [ inl looks ↦ inl looks | inr hands ↦ inr (hands.0, shown_later (map (λ (s : OutputRef × List Input). step_ask plan s.0) steps) hands.0 earlier before hands.1, hands.2) ]
+    elim h [ inl looks ↦ inl looks | inr hands ↦ inr (hands.0, hands.1, shown_later (map (λ (s : OutputRef × List Input). step_ask plan s.0) steps) hands.0 earlier before hands.2, hands.3) ]
 of_later plan earlier before call (Claim currency role interval) h =
-    elim h [ inl looks ↦ inl looks | inr hands ↦ inr (hands.0, shown_later (claim_ask plan currency role ∷ []) (hands.0 ∷ []) earlier before hands.1, hands.2) ]
+    elim h [ inl looks ↦ inl looks | inr hands ↦ inr (hands.0, hands.1, shown_later (claim_ask plan currency role ∷ []) (hands.0 ∷ []) earlier before hands.2, hands.3) ]
 of_later plan earlier before call (Round count workers) h = h
 of_later plan earlier before call (Advance tick) h = h
 
@@ -101,11 +105,11 @@ are_looks (ask ∷ asks) (look ∷ looks) (a ∷ answers) calls told =
     (call, reply, are_looks asks looks answers (ap (λ (l : List Call). drop 1 l) calls) (ap (λ (l : List Reply). drop 1 l) told))
 
 -- made of one look
-made_of_one : (ask : Ask) (hand_in : Tx → Call) (made : Look → Tx) (looks : List Look) (answers : List Answer) (tx : Tx) (call : Call) → AreLooks (ask ∷ []) looks answers → by_first made looks ≡ Some tx → call ≡ hand_in tx → LooksOrHandsIn ask hand_in made answers call
+made_of_one : (ask : Ask) (hand_in : Tx → Call) (made : Look → Result Tx BuildFault) (looks : List Look) (answers : List Answer) (tx : Tx) (call : Call) → AreLooks (ask ∷ []) looks answers → by_first made looks ≡ Some (Ok tx) → call ≡ hand_in tx → LooksOrHandsIn ask hand_in made answers call
 made_of_one ask hand_in made [] answers tx call are is called = absurd (cc)
 made_of_one ask hand_in made (look ∷ looks) [] tx call are is called = absurd are
 made_of_one ask hand_in made (look ∷ []) (a ∷ []) tx call are is called =
-    let whole : made look ≡ tx = cc in inr (look, ([], a ∷ [], refl, are), called ∙ ap hand_in (sym whole))
+    let whole : made look ≡ Ok tx = cc in inr (look, tx, ([], a ∷ [], refl, are), whole, called)
 made_of_one ask hand_in made (look ∷ []) (a ∷ b ∷ answers) tx call are is called = absurd are.2
 made_of_one ask hand_in made (look ∷ more ∷ looks) (a ∷ []) tx call are is called = absurd are.2
 made_of_one ask hand_in made (look ∷ more ∷ looks) (a ∷ b ∷ answers) tx call are is called = absurd are.2
@@ -117,8 +121,8 @@ hands plan (Step thread inputs interval pooled) answers shown call calls told h 
 hands plan (Steps steps interval pooled) answers shown call calls told h =
     let asks : List Ask = map (λ (s : OutputRef × List Input). step_ask plan s.0) steps in
     let made = h.made in
-    let whole : steps_made plan steps interval h.looks ≡ h.tx = cc in
-    inr (h.looks, ([], answers, refl, are_looks asks h.looks answers calls (told ∙ h.told)), h.call_is ∙ ap (λ (tx : Tx). if pooled then on.Enqueue tx else on.Submit tx) (sym whole))
+    let whole : steps_made plan steps interval h.looks ≡ Ok h.tx = cc in
+    inr (h.looks, h.tx, ([], answers, refl, are_looks asks h.looks answers calls (told ∙ h.told)), whole, h.call_is)
 hands plan (Claim currency role interval) answers shown call calls told h =
     made_of_one (claim_ask plan currency role) on.Submit (claim_made plan interval) h.looks answers h.tx call (are_looks (claim_ask plan currency role ∷ []) h.looks answers calls (told ∙ h.told)) h.made h.call_is
 hands plan (Round count workers) answers shown call calls told h =
@@ -144,14 +148,24 @@ within_one (Some n) old new a room is =
 
 -- ---- what was added
 
+-- a Look is answered by a look
+shows : (session : Opened) (call : Call) (reply : Reply) → IsReply session call reply → ShowsALook call reply
+shows session (on.Publish contract currency) reply is = tt
+shows session (on.Advance tick) reply is = tt
+shows session (on.Look ask) reply is = (look (world is.past) ask, is.told)
+shows session (on.Submit tx) reply is = tt
+shows session (on.Enqueue tx) reply is = tt
+shows session (on.Round count) reply is = tt
+
 -- a call that was told, with its receipt
-pub noted : (plan : PlayedPlan) (call : Call) (old new : SeatRecord) (r : ReceiptRecord) (before mid now : List ReceiptRecord) → WasTold old call r new → HasRoom plan.stop_after old → mid ≡ before → now ≡ mid ++ r ∷ [] → WasNoted plan call old new before now
-noted plan call old new r before mid now told room same more = record {
+pub noted : (session : Opened) (plan : PlayedPlan) (call : Call) (old new : SeatRecord) (r : ReceiptRecord) (before mid now : List ReceiptRecord) → WasTold session old call r new → HasRoom plan.stop_after old → mid ≡ before → now ≡ mid ++ r ∷ [] → WasNoted plan call old new before now
+noted session plan call old new r before mid now told room same more = record {
   answer = answer_of call r;
   call_is = refl;
   list = told.answer;
   receipts = more ∙ (ap (λ (l : List ReceiptRecord). l ++ r ∷ []) same ∙ ap (λ (n : ℕ). before ++ (record { entry = r.entry; seat = n; number = r.number; reply = r.reply } ∷ [])) told.seat);
   within = within_one plan.stop_after old new (answer_of call r) room told.answer;
+  shows = shows session call r.reply told.reply;
 }
 
 pub went_same : (plan : PlayedPlan) (old new : SeatRecord) → new ≡ old → Went plan old new
@@ -223,6 +237,8 @@ unfolding noted_same went_same
 shown_none plan seat receipts = record {
   gone = noted_same plan seat seat receipts receipts refl refl;
   calls = refl;
+  looks = [];
+  told = refl;
 }
 
 -- one look more
@@ -236,9 +252,18 @@ shown_more plan intent asks ask a b c rs ss ts has asked w one =
     ∙ (ap (λ (k : Call). map on.Look asks ++ k ∷ []) one.call_is
     ∙ sym (map-append on.Look asks (ask ∷ []))))
     in
+    let shown : (l : Look) × (one.answer.reply ≡ replies.Look l) = one.shows in
+    let told : map (λ (x : Answer). x.reply) (more ++ one.answer ∷ []) ≡ map replies.Look (w.looks ++ shown.0 ∷ []) =
+    map-append (λ (x : Answer). x.reply) more (one.answer ∷ [])
+    ∙ (ap (λ (l : List Reply). l ++ one.answer.reply ∷ []) w.told
+    ∙ (ap (λ (r : Reply). map replies.Look w.looks ++ r ∷ []) shown.1
+    ∙ sym (map-append replies.Look w.looks (shown.0 ∷ []))))
+    in
     record {
       gone = noted_more plan a b c rs ss ts w.gone (noted_one plan (on.Look ask) b c ss ts one (look_of_plan plan intent ask has asked));
       calls = calls;
+      looks = w.looks ++ shown.0 ∷ [];
+      told = told;
     }
 
 -- .. or none, since the party had stopped
@@ -255,6 +280,12 @@ pub lent_rest : (lent all : List ReceiptRecord) (at n : ℕ) → lent ≡ all �
 lent_rest lent all at n same here =
     take_all (length lent - at) (drop at lent) (omega (arith, length-drop at lent))
     ∙ (ap (λ (k : ℕ). drop k lent) here ∙ ap (λ (l : List ReceiptRecord). drop n l) same)
+
+-- what was asked to be shown is
+pub are_shown : (plan : PlayedPlan) (asks : List Ask) (a b : SeatRecord) (rs ss : List ReceiptRecord) → WasShown plan asks a b rs ss → AreShown (drop (length rs) ss)
+are_shown plan asks a b rs ss w =
+    let shown : drop (length rs) ss ≡ map (receipt_of a.number) w.gone.went.more = ap (λ (l : List ReceiptRecord). drop (length rs) l) w.gone.receipts ∙ drop-append_seam rs (map (receipt_of a.number) w.gone.went.more) in
+    (w.looks, ap replies_of shown ∙ (sym (replies_kept a.number w.gone.went.more) ∙ w.told))
 
 -- .. and what is handed in after them
 handed_one : (plan : PlayedPlan) (intent : PlayedIntent) (call : Call) (a b c : SeatRecord) (rs ss ts : List ReceiptRecord) → Contains plan.intents intent → WasShown plan (asks_of plan intent) a b rs ss → HandsIn plan intent (drop (length rs) ss) call → WasNoted plan call b c ss ts → WentNoted plan a c rs ts
@@ -293,13 +324,13 @@ handed plan intent call a b c rs ss ts has w next n =
 -- ---- looks and parts
 
 -- a list that has a first has it in front
-first_look : (looks : List Look) (look : Look) (made : Look → Tx) → slice_get looks 0 ≡ Some look → by_first made looks ≡ Some (made look)
+first_look : (looks : List Look) (look : Look) (made : Look → Result Tx BuildFault) → slice_get looks 0 ≡ Some look → by_first made looks ≡ Some (made look)
 first_look [] look made first =
     let none : 0 < 0 = slice_get_within [] 0 look first in absurd (omega (arith, none))
 first_look (x ∷ looks) look made first = ap (λ (l : Look). Some (made l)) (get_or_from_slice_get (x ∷ looks) 0 look x first)
 
-pub made_first : (looks : List Look) (look : Look) (made : Look → Tx) (tx : Tx) → slice_get looks 0 ≡ Some look → tx ≡ made look → by_first made looks ≡ Some tx
-made_first looks look made tx first is = first_look looks look made first ∙ ap Some (sym is)
+pub made_first : (looks : List Look) (look : Look) (made : Look → Result Tx BuildFault) (tx : Tx) → slice_get looks 0 ≡ Some look → made look ≡ Ok tx → by_first made looks ≡ Some (Ok tx)
+made_first looks look made tx first is = first_look looks look made first ∙ ap Some is
 
 pub offered_first : (looks : List Look) (look : Look) → slice_get looks 0 ≡ Some look → look.keys ≡ offered_by looks
 offered_first [] look first =
@@ -338,7 +369,7 @@ added_is plan old new w = ap (λ (s : SeatRecord). drop (length old.answers) s.a
 pub kept : (plan : PlayedPlan) (old new : SeatRecord) → Went plan old new → new ≡ seat_record old.number (old.answers ++ added old new)
 kept plan old new w = w.list ∙ ap (λ (l : List Answer). seat_record old.number (old.answers ++ l)) (sym (added_is plan old new w))
 
-pub played : (plan : PlayedPlan) (old new : SeatRecord) → Went plan old new → ArePlayed plan (added old new)
+pub played : (plan : PlayedPlan) (old new : SeatRecord) → Went plan old new → AreOfPlan plan (added old new)
 played plan old new w = subst (λ (l : List Answer). AreOf plan [] l) (sym (added_is plan old new w)) w.played
 
 pub receipts : (plan : PlayedPlan) (old new : SeatRecord) (now : List ReceiptRecord) → WentNoted plan old new [] now → now ≡ map (receipt_of old.number) (added old new)

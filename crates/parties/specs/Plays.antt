@@ -1,5 +1,5 @@
 -- What a party does with its seat.
-use Rattle.std.specs.Prelude.{◌≡◌, ℕ, ◌≤◌, ◌⊎◌, if◌then◌else◌, List, [], ◌∷◌, ◌++◌, map, length, drop, Option, Some, None}
+use Rattle.std.specs.Prelude.{◌≡◌, ℕ, ◌≤◌, ◌⊎◌, if◌then◌else◌, List, [], ◌∷◌, ◌++◌, map, length, drop, Option, Some, None, Result, Ok}
 use Rattle.std.specs.List.{Any}
 use Rattle.contract.specs.declared.input.Input.{Input}
 use Rattle.contract.specs.declared.interval.Interval.{Interval}
@@ -11,10 +11,12 @@ use Rattle.ledger.specs.declared.call.Call.TheVariants as on
 use Rattle.ledger.specs.declared.call.Reply.TheVariants as replies
 use Rattle.ledger.specs.declared.look.Look.{Look}
 use Rattle.ledger.specs.declared.look.Unspent.{Unspent}
-use Rattle.builder_spec.specs.Requests.{Part, request, steps_request, claim_request}
-use Rattle.builder_spec.specs.Parts.{layout_steps}
-use Rattle.builder_spec.specs.Steps.{layout_step}
-use Rattle.builder_spec.specs.Claims.{layout_claim}
+use Rattle.builder_spec.specs.declared.fault.BuildFault.{BuildFault}
+use Rattle.builder_spec.specs.Built.{build_answer}
+use Rattle.builder_spec.specs.Requests.{Part, StepRequest, request, StepsRequest, steps_request, ClaimRequest, claim_request}
+use Rattle.builder_spec.specs.Parts.{hinders_steps, layout_steps}
+use Rattle.builder_spec.specs.Steps.{hinders_step, layout_step}
+use Rattle.builder_spec.specs.Claims.{hinders_claim, layout_claim}
 use Rattle.plans.specs.declared.intent.Intent.{Intent}
 use Rattle.plans.specs.declared.intent.Intent.TheVariants.{Step, Steps, Claim, Round, Advance}
 use Rattle.plans.specs.declared.plan.Plan.{Plan}
@@ -29,7 +31,7 @@ PlayedIntent = Intent OutputRef (List ℕ)
 abbrev pub PlayedPlan : Type 0
 PlayedPlan = Plan OutputRef (List ℕ)
 
--- ---- what an intent asks for, and what is made of what it is shown
+-- ---- what an intent asks for, and what its builder answers on what it is shown: the layout of a request that nothing hinders, or what hinders it
 
 -- a step: its thread, and what is under the plan's keys
 abbrev pub step_ask : PlayedPlan → OutputRef → Ask
@@ -39,12 +41,15 @@ step_ask plan thread = record { thread = Some thread; keys = plan.keys; payouts 
 abbrev pub claim_ask : PlayedPlan → List ℕ → List ℕ → Ask
 claim_ask plan currency role = record { thread = None; keys = plan.keys; payouts = record { currency = currency; role = role } ∷ [] }
 
--- a step: the layout of a request for the shown thread, to which all shown key outputs are offered, in order; the plan's keys sign, and its change
--- address gets the change
-abbrev pub step_made : PlayedPlan → List Input → Interval → Look → Tx
-step_made plan inputs interval look = layout_step look (request interval inputs plan.keys look.keys plan.change)
+-- a step: a request for the shown thread, to which all shown key outputs are offered, in order; the plan's keys sign, and its change address gets the
+-- change
+abbrev pub step_request : PlayedPlan → List Input → Interval → Look → StepRequest
+step_request plan inputs interval look = request interval inputs plan.keys look.keys plan.change
 
--- steps of several threads: the layout of a request with a part for each, as its look shows it; offered are the key outputs of the first look
+abbrev pub step_made : PlayedPlan → List Input → Interval → Look → Result Tx BuildFault
+step_made plan inputs interval look = build_answer (hinders_step look (step_request plan inputs interval look)) (layout_step look (step_request plan inputs interval look))
+
+-- steps of several threads: a request with a part for each, as its look shows it; offered are the key outputs of the first look
 abbrev pub offered_by : List Look → List Unspent
 offered_by [] = []
 offered_by (look ∷ looks) = look.keys
@@ -54,12 +59,18 @@ parts_of [] looks = []
 parts_of (s ∷ ss) [] = []
 parts_of (s ∷ ss) (look ∷ looks) = record { look = look; inputs = s.1 } ∷ parts_of ss looks
 
-abbrev pub steps_made : PlayedPlan → List (OutputRef × List Input) → Interval → List Look → Tx
-steps_made plan steps interval looks = layout_steps (steps_request (parts_of steps looks) interval plan.keys (offered_by looks) plan.change)
+abbrev pub joint_request : PlayedPlan → List (OutputRef × List Input) → Interval → List Look → StepsRequest
+joint_request plan steps interval looks = steps_request (parts_of steps looks) interval plan.keys (offered_by looks) plan.change
 
--- a claim: the layout of a request for all shown payouts; they go to the change address, too
-abbrev pub claim_made : PlayedPlan → Interval → Look → Tx
-claim_made plan interval look = layout_claim (claim_request look.payouts interval plan.keys look.keys plan.change plan.change)
+abbrev pub steps_made : PlayedPlan → List (OutputRef × List Input) → Interval → List Look → Result Tx BuildFault
+steps_made plan steps interval looks = build_answer (hinders_steps (joint_request plan steps interval looks)) (layout_steps (joint_request plan steps interval looks))
+
+-- a claim: a request for all shown payouts; they go to the change address, too
+abbrev pub payout_request : PlayedPlan → Interval → Look → ClaimRequest
+payout_request plan interval look = claim_request look.payouts interval plan.keys look.keys plan.change plan.change
+
+abbrev pub claim_made : PlayedPlan → Interval → Look → Result Tx BuildFault
+claim_made plan interval look = build_answer (hinders_claim (payout_request plan interval look)) (layout_claim (payout_request plan interval look))
 
 -- ---- whose call it is, by the answers before it
 
@@ -73,14 +84,15 @@ AreLooks _ _ _ = ⊥
 abbrev pub WereShown : List Ask → List Look → List Answer → Type 0
 WereShown asks looks before = (earlier last : List Answer) × (before ≡ earlier ++ last) × AreLooks asks looks last
 
--- a call looks, or hands in what is made of the look that was shown just before
-abbrev pub LooksOrHandsIn : Ask → (Tx → Call) → (Look → Tx) → List Answer → Call → Type 0
-LooksOrHandsIn ask hand_in made before call = (call ≡ on.Look ask) ⊎ ((look : Look) × (WereShown (ask ∷ []) (look ∷ []) before) × (call ≡ hand_in (made look)))
+-- a call looks, or hands in what the builder makes of the look that was shown just before: nothing hinders that request
+abbrev pub LooksOrHandsIn : Ask → (Tx → Call) → (Look → Result Tx BuildFault) → List Answer → Call → Type 0
+LooksOrHandsIn ask hand_in made before call =
+    (call ≡ on.Look ask) ⊎ ((look : Look) × (tx : Tx) × (WereShown (ask ∷ []) (look ∷ []) before) × (made look ≡ Ok tx) × (call ≡ hand_in tx))
 
--- a call looks at one of several threads, or hands in what is made of the looks that were shown just before, one for each, in order
-abbrev pub LooksAllOrHandsIn : List Ask → (Tx → Call) → (List Look → Tx) → List Answer → Call → Type 0
+-- a call looks at one of several threads, or hands in what the builder makes of the looks that were shown just before, one for each, in order
+abbrev pub LooksAllOrHandsIn : List Ask → (Tx → Call) → (List Look → Result Tx BuildFault) → List Answer → Call → Type 0
 LooksAllOrHandsIn asks hand_in made before call =
-    Any (λ ask. call ≡ on.Look ask) asks ⊎ ((looks : List Look) × (WereShown asks looks before) × (call ≡ hand_in (made looks)))
+    Any (λ ask. call ≡ on.Look ask) asks ⊎ ((looks : List Look) × (tx : Tx) × (WereShown asks looks before) × (made looks ≡ Ok tx) × (call ≡ hand_in tx))
 
 -- OF AN INTENT: a call of the seat, by the answers before it
 abbrev pub IsOf : PlayedPlan → List Answer → Call → PlayedIntent → Type 0
@@ -100,9 +112,10 @@ abbrev pub AreOf : PlayedPlan → List Answer → List Answer → Type 0
 AreOf plan before [] = Unit {0}
 AreOf plan before (a ∷ rest) = IsOfPlan plan before a.call × AreOf plan (before ++ a ∷ []) rest
 
--- PLAYED: each of these answers is of the plan, and what was handed in was made of looks among them
-abbrev pub ArePlayed : PlayedPlan → List Answer → Type 0
-ArePlayed plan answers = AreOf plan [] answers
+-- OF THE PLAN: each of these answers is, and what was handed in was made of looks among them. In which order intents come, and whether each does, is left
+-- free
+abbrev pub AreOfPlan : PlayedPlan → List Answer → Type 0
+AreOfPlan plan answers = AreOf plan [] answers
 
 -- ---- a seat before and after
 

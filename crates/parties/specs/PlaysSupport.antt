@@ -1,5 +1,5 @@
 -- No reader needs this file: what holds while a party plays, the invariants behind the clauses.
-use Rattle.std.specs.Prelude.{◌≡◌, ℕ, ◌<◌, ◌⊎◌, if◌then◌else◌, List, [], ◌∷◌, ◌++◌, map, length, Option, Some, None}
+use Rattle.std.specs.Prelude.{◌≡◌, ℕ, ◌<◌, ◌⊎◌, if◌then◌else◌, List, [], ◌∷◌, ◌++◌, map, length, Option, Some, None, Result, Ok}
 use Rattle.eutxo_types.specs.declared.tx.Tx.{Tx}
 use Rattle.ledger.specs.declared.ask.Ask.{Ask}
 use Rattle.ledger.specs.declared.call.Call.{Call}
@@ -7,6 +7,7 @@ use Rattle.ledger.specs.declared.call.Call.TheVariants as on
 use Rattle.ledger.specs.declared.call.Reply.{Reply}
 use Rattle.ledger.specs.declared.call.Reply.TheVariants as replies
 use Rattle.ledger.specs.declared.look.Look.{Look}
+use Rattle.builder_spec.specs.declared.fault.BuildFault.{BuildFault}
 use Rattle.plans.specs.declared.intent.Intent.TheVariants.{Step, Steps, Claim, Round, Advance}
 use Rattle.hub.specs.declared.answer.Answer.{Answer}
 use Rattle.hub.specs.Seats.{SeatRecord, ReceiptRecord, seat_record}
@@ -22,13 +23,13 @@ asks_of plan (Claim currency role interval) = claim_ask plan currency role ∷ [
 asks_of plan (Round count workers) = []
 asks_of plan (Advance tick) = []
 
--- what is made of the first of some looks
-abbrev pub by_first : (Look → Tx) → List Look → Option Tx
+-- what the builder answers on the first of some looks
+abbrev pub by_first : (Look → Result Tx BuildFault) → List Look → Option (Result Tx BuildFault)
 by_first made [] = None
 by_first made (look ∷ looks) = Some (made look)
 
--- what is made of the looks
-abbrev pub made_of : PlayedPlan → PlayedIntent → List Look → Option Tx
+-- what it answers on the looks
+abbrev pub made_of : PlayedPlan → PlayedIntent → List Look → Option (Result Tx BuildFault)
 made_of plan (Step thread inputs interval pooled) looks = by_first (step_made plan inputs interval) looks
 made_of plan (Steps steps interval pooled) looks = Some (steps_made plan steps interval looks)
 made_of plan (Claim currency role interval) looks = by_first (claim_made plan interval) looks
@@ -47,12 +48,16 @@ handed (Advance tick) tx = on.Submit tx
 abbrev pub replies_of : List ReceiptRecord → List Reply
 replies_of receipts = map (λ r. r.reply) receipts
 
+-- these receipts show looks
+abbrev pub AreShown : List ReceiptRecord → Type 0
+AreShown receipts = (looks : List Look) × (replies_of receipts ≡ map replies.Look looks)
+
 -- a call hands in what is made of the looks that these receipts show
 pub record HandsIn (plan : PlayedPlan) (intent : PlayedIntent) (shown : List ReceiptRecord) (call : Call) : Type 0 where
   pub looks : List Look
   pub told : replies_of shown ≡ map replies.Look looks
   pub tx : Tx
-  pub made : made_of plan intent looks ≡ Some tx
+  pub made : made_of plan intent looks ≡ Some (Ok tx)
   pub call_is : call ≡ handed intent tx
 
 -- the call that an act makes
@@ -66,6 +71,11 @@ abbrev pub HasRoom : Option ℕ → SeatRecord → Type 0
 HasRoom None s = Unit {0}
 HasRoom (Some n) s = length s.answers < n
 
+-- where a call was a Look, its reply shows a look
+abbrev pub ShowsALook : Call → Reply → Type 0
+ShowsALook (on.Look ask) reply = (look : Look) × (reply ≡ replies.Look look)
+ShowsALook call reply = Unit {0}
+
 -- one call was answered, and its receipt kept
 pub record WasNoted (plan : PlayedPlan) (call : Call) (old new : SeatRecord) (before now : List ReceiptRecord) : Type 0 where
   pub answer : Answer
@@ -73,6 +83,7 @@ pub record WasNoted (plan : PlayedPlan) (call : Call) (old new : SeatRecord) (be
   pub list : new ≡ seat_record old.number (old.answers ++ answer ∷ [])
   pub receipts : now ≡ before ++ receipt_of old.number answer ∷ []
   pub within : IsWithin plan.stop_after old new
+  pub shows : ShowsALook call answer.reply
 
 -- .. or none, since the party had stopped
 abbrev pub AtMostNoted : PlayedPlan → Call → SeatRecord → SeatRecord → List ReceiptRecord → List ReceiptRecord → Type 0
@@ -94,3 +105,5 @@ pub record WentNoted (plan : PlayedPlan) (old new : SeatRecord) (before now : Li
 pub record WasShown (plan : PlayedPlan) (asks : List Ask) (old new : SeatRecord) (before now : List ReceiptRecord) : Type 0 where
   pub gone : WentNoted plan old new before now
   pub calls : map (λ (a : Answer). a.call) gone.went.more ≡ map on.Look asks
+  pub looks : List Look
+  pub told : map (λ (a : Answer). a.reply) gone.went.more ≡ map replies.Look looks

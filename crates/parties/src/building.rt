@@ -1,8 +1,8 @@
 //! What an intent asks for, and what is built of what it is shown.
-ghost use Rattle.std.specs.Prelude.{◌≡◌, map, Some, IfOk, IfSome};
+ghost use Rattle.std.specs.Prelude.{◌≡◌, map, Some, Ok, IfOk, IfSome};
 ghost use Rattle.ledger.specs.declared.call.Reply.TheVariants as replies;
 ghost use Rattle.parties.specs.Plays.{step_ask, claim_ask, step_made, steps_made, claim_made, offered_by, parts_of};
-ghost use Rattle.parties.specs.PlaysSupport.{asks_of, made_of, replies_of};
+ghost use Rattle.parties.specs.PlaysSupport.{AreShown, asks_of, made_of, replies_of};
 
 use builder::{
     Ask, BuildFault, Look, Part, PayoutLock, Unspent, build_claim, build_step, build_steps,
@@ -114,21 +114,22 @@ pub(crate) fn asks_of(
     }
 }
 
-/// The looks that receipts show, in order: nothing where one shows something else.
+/// The looks that receipts show, in order.
 pub(crate) fn looks_in<'a, J: Session>(
     alloc: Global,
     shown: &'a [Receipt<J>],
-) -> Result<Option<Vec<Shown<'a>>>, Memory>
-    ensures { IfOk result (λ some. IfSome some (λ looks. replies_of shown.now ≡ map replies.Look looks.items)) }
+) -> Result<Vec<Shown<'a>>, Memory>
+    requires { AreShown shown.now }
+    ensures { IfOk result (λ looks. replies_of shown.now ≡ map replies.Look looks.items) }
 {
     let mut looks = Vec::new(alloc);
     for receipt in shown {
         match receipt.reply() {
             Reply::Look(look) => looks.push(Shown { look })?,
-            _ => return Ok(None),
+            _ => unreachable!(),
         }
     }
-    Ok(Some(looks))
+    Ok(looks)
 }
 
 // ---- what is built
@@ -151,10 +152,10 @@ fn step_of(
     interval: Interval,
     look: &Look,
 ) -> Result<Option<Tx>, Memory>
-    ensures { IfOk result (λ made. IfSome made (λ tx. tx ≡ step_made plan.now inputs.now interval look.now)) }
+    ensures { IfOk result (λ made. IfSome made (λ tx. step_made plan.now inputs.now interval look.now ≡ Ok tx)) }
 {
     let change = &plan.change;
-    or_skipped(build_step(
+    let answer = build_step(
         alloc,
         look,
         interval,
@@ -162,7 +163,8 @@ fn step_of(
         plan.keys.as_slice(),
         look.keys.as_slice(),
         change,
-    ))
+    );
+    or_skipped(answer)
 }
 
 // The parts of steps of several threads, each as its look shows it.
@@ -203,7 +205,7 @@ fn steps_of(
     interval: Interval,
     looks: &[Shown<'_>],
 ) -> Result<Option<Tx>, Memory>
-    ensures { IfOk result (λ made. IfSome made (λ tx. tx ≡ steps_made plan.now steps.now interval looks.now)) }
+    ensures { IfOk result (λ made. IfSome made (λ tx. steps_made plan.now steps.now interval looks.now ≡ Ok tx)) }
 {
     let parts = parts_of(alloc, steps, looks)?;
     let offered = offered_by(looks);
@@ -223,7 +225,7 @@ fn claim_of(
     interval: Interval,
     look: &Look,
 ) -> Result<Option<Tx>, Memory>
-    ensures { IfOk result (λ made. IfSome made (λ tx. tx ≡ claim_made plan.now interval look.now)) }
+    ensures { IfOk result (λ made. IfSome made (λ tx. claim_made plan.now interval look.now ≡ Ok tx)) }
 {
     let payouts = look.payouts.as_slice();
     let to = &plan.change;
@@ -246,7 +248,7 @@ pub(crate) fn built(
     intent: &Intent<OutputRef, Bytes>,
     looks: &[Shown<'_>],
 ) -> Result<Option<Tx>, Memory>
-    ensures { IfOk result (λ made. IfSome made (λ tx. made_of plan.now intent.now looks.now ≡ Some tx)) }
+    ensures { IfOk result (λ made. IfSome made (λ tx. made_of plan.now intent.now looks.now ≡ Some (Ok tx))) }
 {
     match intent {
         Intent::Step {

@@ -45,7 +45,7 @@ impl<R: Threads + Wait + Sync, J: Session, W: Watch> Means<'_, R, J, W> {
 
     // Does one thing by the seat.
     pub(crate) fn act(&self, seat: &mut Seat<J>, act: Act) -> Result<Receipt<J>, Memory>
-        ensures told { IfOk result (λ r. WasTold seat.old (call_of act) r seat.new) }
+        ensures told { IfOk result (λ r. WasTold (J.session) seat.old (call_of act) r seat.new) }
         ensures err { OnErr result (seat.new ≡ seat.old) }
     {
         let receipt = match act {
@@ -53,7 +53,7 @@ impl<R: Threads + Wait + Sync, J: Session, W: Watch> Means<'_, R, J, W> {
             Act::Admit(checked) => self.hub.admit(self.rt, self.alloc, seat, checked)?,
             Act::Round { count, workers } => self
                 .hub
-                .round(self.rt, self.alloc, seat, &NoGate, inside(workers), count)?,
+                .round(self.rt, self.alloc, seat, count, inside(workers), &NoGate)?,
         };
         self.watch.answered(receipt.entry());
         Ok(receipt)

@@ -2,7 +2,7 @@
 ghost use Rattle.std.specs.Prelude.{◌≡◌, ◌++◌, map, IfOk, OnOk, OnErr};
 ghost use Rattle.std.specs.List.{Contains};
 ghost use Rattle.hub.specs.Seats.{seat_record};
-ghost use Rattle.parties.specs.Plays.{ArePlayed, IsWithin, added, receipt_of};
+ghost use Rattle.parties.specs.Plays.{AreOfPlan, IsWithin, added, receipt_of};
 ghost use Rattle.parties.specs.PlaysSupport.{Went, WentNoted};
 
 use crate::acts::Act;
@@ -104,7 +104,7 @@ impl Party {
         seat: &mut Seat<J>,
     ) -> Result<Vec<Receipt<J>>, Memory>
         ensures kept { seat.new ≡ seat_record seat.old.number (seat.old.answers ++ added seat.old seat.new) }
-        ensures played { ArePlayed self.now.plan (added seat.old seat.new) }
+        ensures played { AreOfPlan self.now.plan (added seat.old seat.new) }
         ensures stops { IsWithin self.now.plan.stop_after seat.old seat.new }
         ensures receipts { IfOk result (λ rs. rs.items ≡ map (receipt_of seat.old.number) (added seat.old seat.new)) }
     {
@@ -121,7 +121,7 @@ impl Party {
         watch: &W,
     ) -> Result<Vec<Receipt<J>>, Memory>
         ensures kept { seat.new ≡ seat_record seat.old.number (seat.old.answers ++ added seat.old seat.new) }
-        ensures played { ArePlayed self.now.plan (added seat.old seat.new) }
+        ensures played { AreOfPlan self.now.plan (added seat.old seat.new) }
         ensures stops { IsWithin self.now.plan.stop_after seat.old seat.new }
         ensures receipts { IfOk result (λ rs. rs.items ≡ map (receipt_of seat.old.number) (added seat.old seat.new)) }
     {

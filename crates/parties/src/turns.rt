@@ -3,7 +3,7 @@ ghost use Rattle.std.specs.Prelude.{◌≡◌, ◌≤◌, true, length, if◌the
 ghost use Rattle.std.specs.List.{Contains};
 ghost use Rattle.ledger.specs.declared.call.Call.TheVariants as on;
 ghost use Rattle.eutxo_types.specs.declared.tx.Tx.{Tx};
-ghost use Rattle.parties.specs.PlaysSupport.{asks_of, handed, HandsIn, call_of};
+ghost use Rattle.parties.specs.PlaysSupport.{AreShown, asks_of, handed, HandsIn, call_of};
 ghost use Rattle.parties.specs.PlaysSupport.{WasNoted, AtMostNoted, Went, WentNoted, WasShown};
 
 use crate::acts::Act;
@@ -66,11 +66,10 @@ fn next_of<J: Session>(
     intent: &Intent<OutputRef, Bytes>,
     shown: &[Receipt<J>],
 ) -> Result<Option<Act>, Memory>
+    requires { AreShown shown.now }
     ensures { IfOk result (λ next. IfSome next (λ act. HandsIn plan.now intent.now shown.now (call_of act))) }
 {
-    let Some(looks) = looks_in(alloc, shown)? else {
-        return Ok(None);
-    };
+    let looks = looks_in(alloc, shown)?;
     let Some(tx) = built(alloc, plan, intent, &looks)? else {
         return Ok(None);
     };

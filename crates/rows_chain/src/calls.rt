@@ -151,7 +151,7 @@ fn call_kind<J: Session, R: Threads + Wait + Sync>(
     source: OutputRef,
 ) -> Result<Receipt<J>, Memory> {
     if n % TURN == TURN - 1 {
-        hub.round(rt, alloc, seat, &NoGate, ROUND as usize, u64::from(ROUND))
+        hub.round(rt, alloc, seat, u64::from(ROUND), ROUND as usize, &NoGate)
     } else {
         hub.call(rt, alloc, seat, call_of(alloc, n, source)?)
     }

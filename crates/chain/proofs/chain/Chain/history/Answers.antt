@@ -1,5 +1,5 @@
 use Rattle.ledger_spec.specs.Replay.{Course}
-use Rattle.chain.proofs.ShownLemmas.{shows}
+use Rattle.chain.proofs.ShownLemmas.{published_between, shows}
 use Rattle.chain.proofs.chain.Chain.history.Goals as goal
 
 pub returns-clause-legal : goal.returns-clause-legal
@@ -19,6 +19,12 @@ returns-clause-in_use c =
     let s = c.self.inside in
     let course : Course = record { genesis = s.genesis; first_tick = s.first_tick; entries = s.entries.items } in
     rw (← c.self.view_is) (c.publications_are_entries.ensures.in_use course c.self.invariant.legal)
+
+pub returns-clause-stays : goal.returns-clause-stays
+returns-clause-stays c =
+    let s = c.self.inside in
+    let course : Course = record { genesis = s.genesis; first_tick = s.first_tick; entries = s.entries.items } in
+    rw (← c.self.view_is) (published_between course)
 
 pub returns-clause-fits : goal.returns-clause-fits
 returns-clause-fits c = rw (← c.self.view_is) c.self.invariant.present.fits
