@@ -1,1 +1,3 @@
+mod NamedLaws
 pub mod PlaceLaws
+mod ScenarioLaws

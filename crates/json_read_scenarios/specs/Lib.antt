@@ -1,3 +1,4 @@
+pub mod Named
 pub mod Names
 pub mod ReadsPlan
 pub mod ReadsScenario

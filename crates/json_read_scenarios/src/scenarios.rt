@@ -1,6 +1,8 @@
 //! Scenarios as JSON values and as texts.
+ghost use Rattle.std.specs.Prelude.{IfOk};
 ghost use Rattle.collections.specs.Answers.{Aside};
 ghost use Rattle.json_read_names.specs.ReadsText.{of_text};
+ghost use Rattle.json_read_scenarios.specs.Named.{NamesWhatItHas};
 ghost use Rattle.json_read_scenarios.specs.ReadsScenario as reads;
 
 use crate::contracts::contracts_from_json;
@@ -19,6 +21,7 @@ use std::alloc::Global;
 /// 2^63 - 1 calls, are `OutOfRange`. It takes n log n steps in what is read.
 pub fn scenario_from_json<J: JsonValue>(alloc: Global, json: &J) -> Result<Scenario, JsonFault>
     ensures reading { Aside JsonFault.Memory result (reads.scenario (J.json json.now)) }
+    ensures names { IfOk result NamesWhatItHas }
 {
     if !(has_three(json, "tick", "genesis", "contracts") && has_two(json, "threads", "plans")) {
         return Err(JsonFault::NoForm);
@@ -37,9 +40,11 @@ pub fn scenario_from_json<J: JsonValue>(alloc: Global, json: &J) -> Result<Scena
     })
 }
 
-/// Reads the text of a scenario.
+/// Reads the text of a scenario. Each thread of it names a contract that it has, each intent a thread or a contract, and it
+/// has at most 63 plans.
 pub fn read_scenario(alloc: Global, text: &[u8]) -> Result<Scenario, JsonFault>
     ensures reading { Aside JsonFault.Memory result (of_text reads.scenario text.now) }
+    ensures names { IfOk result NamesWhatItHas }
 {
     let mut scratch = Scratch::new(alloc);
     let json = json_of(alloc, text, &mut scratch)?;

@@ -6,7 +6,6 @@
 #![tactic(auto)]
 
 mod fault;
-mod fault_texts;
 mod lines;
 mod naming;
 mod playing;

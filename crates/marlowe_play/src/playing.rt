@@ -1,8 +1,9 @@
 //! A scenario, from text to text.
-ghost use Rattle.std.specs.Prelude.{◌≡◌};
+ghost use Rattle.std.specs.Prelude.{◌≡◌, IfOk};
 ghost use Rattle.json_read_names.specs.ReadsText.{of_text};
 ghost use Rattle.json_read_scenarios.specs.ReadsScenario as reads;
 ghost use Rattle.marlowe_play.specs.Faults.{IsRefused};
+ghost use Rattle.marlowe_play.specs.Played.{IsPlayed, TellsAHistory};
 
 use crate::fault::PlayFault;
 use crate::lines::played_text;
@@ -29,7 +30,8 @@ use std::thread::Threads;
 /// thread, so that the text is always the same; or at once, each in a thread of its own where one can be made.
 ///
 /// Refused is a text that is no scenario, and a scenario whose setup has a fault; else only a growth that was refused gives
-/// `Memory`. Whatever the parties are told is no fault.
+/// `Memory`. Whatever the parties are told is no fault. The lines are those of a legal history, which begins with the
+/// scenario's outputs at its tick; which calls the setup and the plans make of it is what docs/formats.md says.
 pub fn play<R: Threads + Wait + Sync>(
     rt: &R,
     alloc: Global,
@@ -37,6 +39,7 @@ pub fn play<R: Threads + Wait + Sync>(
     one: bool,
 ) -> Result<Vec<u8>, PlayFault>
     ensures unread { IsRefused (of_text reads.scenario text.now) result }
+    ensures played { IfOk result (λ lines. IsPlayed (of_text reads.scenario text.now) lines.items) }
 {
     play_watched(rt, alloc, text, one, &Unwatched)
 }
@@ -50,6 +53,7 @@ pub fn play_watched<R: Threads + Wait + Sync, W: Watch + Sync>(
     watch: &W,
 ) -> Result<Vec<u8>, PlayFault>
     ensures unread { IsRefused (of_text reads.scenario text.now) result }
+    ensures played { IfOk result (λ lines. IsPlayed (of_text reads.scenario text.now) lines.items) }
 {
     let scenario = read_scenario(alloc, text).map_err(PlayFault::of_scenario)?;
     let count = scenario.plans.len();
@@ -71,6 +75,7 @@ fn play_on<R: Threads + Wait + Sync, J: Session + Send + Sync, W: Watch + Sync>(
     watch: &W,
 ) -> Result<Vec<u8>, PlayFault>
     requires { opening ≡ J.session }
+    ensures { IfOk result (λ lines. TellsAHistory opening.genesis opening.first_tick lines.items) }
 {
     let (hub, mut seats) = opening.open::<J>(alloc)?;
     let stage = staged(rt, alloc, &hub, &mut seats, scenario, watch)?;

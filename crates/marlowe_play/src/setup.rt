@@ -1,5 +1,6 @@
 //! The setup of a play: the ledger's beginning, and the contracts that are published on it.
-ghost use Rattle.std.specs.Prelude.{◌≡◌, [], IfOk};
+ghost use Rattle.std.specs.Prelude.{◌≡◌, [], map, IfOk};
+ghost use Rattle.marlowe_play.specs.Played.{course, key_output};
 
 use crate::fault::PlayFault;
 use crate::watch::Watch;
@@ -23,7 +24,7 @@ pub(crate) fn refused(line: Result<String, Memory>) -> PlayFault {
 
 // A chain that begins with what the scenario's addresses have.
 pub(crate) fn first_chain(alloc: Global, genesis: &[Funds], tick: i64) -> Result<Chain, PlayFault>
-    ensures { IfOk result (λ chain. chain.entries ≡ []) }
+    ensures { IfOk result (λ chain. chain ≡ course (map key_output genesis.now) tick []) }
 {
     let outputs = key_outputs(alloc, genesis)?;
     match Chain::genesis(alloc, outputs, tick) {
@@ -33,7 +34,9 @@ pub(crate) fn first_chain(alloc: Global, genesis: &[Funds], tick: i64) -> Result
 }
 
 // An output under the key of each address.
-fn key_outputs(alloc: Global, genesis: &[Funds]) -> Result<Items<Output>, Memory> {
+fn key_outputs(alloc: Global, genesis: &[Funds]) -> Result<Items<Output>, Memory>
+    ensures { IfOk result (λ outputs. outputs ≡ map key_output genesis.now) }
+{
     let mut outputs = Items::new(alloc);
     for funds in genesis {
         outputs.push(Output {

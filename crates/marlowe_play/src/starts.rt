@@ -1,6 +1,5 @@
 //! The starts of a setup's threads.
 use crate::fault::PlayFault;
-use crate::fault_texts::{build_fault_text, tx_fault_text};
 use crate::setup::refused;
 use crate::watch::Watch;
 use builder::{Ask, BuildFault, Unspent, build_start};
@@ -11,6 +10,7 @@ use eutxo_types::{OutputRef, Tx};
 use hub::{Hub, Receipt, Seat, Session};
 use json_read_names::JsonFault;
 use plans::NamedThread;
+use play_lines::{build_fault_text, tx_fault_text};
 use roles::Published;
 use std::alloc::Global;
 use std::sync::Wait;

@@ -64,7 +64,7 @@ fn round<J: Session, R: Threads + Wait + Sync>(
     count: u64,
 ) -> Result<Vec<Receipt<J>>, Memory> {
     let mut receipts = Vec::new(alloc);
-    receipts.push(hub.round(rt, alloc, seat, meeting, 2, count)?)?;
+    receipts.push(hub.round(rt, alloc, seat, count, 2, meeting)?)?;
     Ok(receipts)
 }
 

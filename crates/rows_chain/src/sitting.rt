@@ -191,7 +191,7 @@ fn round<J: Session, R: Threads + Wait + Sync>(
     let (workers, count) = parts(rest)?;
     let seat = seat_at(seats, number(seat)?)?;
     let workers = workers_of(number(workers)?);
-    let receipt = hub.round(rt, alloc, seat, &NoGate, workers, number(count)?);
+    let receipt = hub.round(rt, alloc, seat, number(count)?, workers, &NoGate);
     told(alloc, desk, receipt)
 }
 

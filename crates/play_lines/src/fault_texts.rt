@@ -1,13 +1,19 @@
 //! Faults as they are printed: the name, and after a space the place, the party, the token or the name of the inner fault.
-use builder::BuildFault;
+ghost use Rattle.std.specs.Prelude.{◌≡◌, IfOk, string_bytes};
+ghost use Rattle.serde_json.specs.Written.{compact_text};
+ghost use Rattle.play_lines.specs.PlayLines.{at_place, beside, tx_fault_text, build_fault_text};
+
+use builder_spec::BuildFault;
 use collections::Memory;
 use eutxo_types::TxFault;
 use json_write_contracts::{Term, term_text};
 use marlowe_run::sem_fault_name;
 use std::alloc::Global;
 
-// The text of a transaction's fault.
-pub(crate) fn tx_fault_text(alloc: Global, fault: &TxFault) -> Result<String, Memory> {
+/// The text of a transaction's fault. Answers `Memory` only where a growth was refused.
+pub fn tx_fault_text(alloc: Global, fault: &TxFault) -> Result<String, Memory>
+    ensures { IfOk result (λ text. string_bytes text ≡ tx_fault_text fault.now) }
+{
     match fault {
         TxFault::NoInputs => String::from_str(alloc, "NoInputs"),
         TxFault::TooMany => String::from_str(alloc, "TooMany"),
@@ -31,8 +37,10 @@ pub(crate) fn tx_fault_text(alloc: Global, fault: &TxFault) -> Result<String, Me
     }
 }
 
-// The text of a builder's fault.
-pub(crate) fn build_fault_text(alloc: Global, fault: &BuildFault) -> Result<String, Memory> {
+/// The text of a builder's fault. Answers `Memory` only where a growth was refused.
+pub fn build_fault_text(alloc: Global, fault: &BuildFault) -> Result<String, Memory>
+    ensures { IfOk result (λ text. string_bytes text ≡ build_fault_text fault.now) }
+{
     match fault {
         BuildFault::NoThread => String::from_str(alloc, "NoThread"),
         BuildFault::Semantics(inner) => beside(alloc, "Semantics", sem_fault_name(*inner)),
@@ -45,15 +53,21 @@ pub(crate) fn build_fault_text(alloc: Global, fault: &BuildFault) -> Result<Stri
     }
 }
 
-fn at_place(alloc: Global, name: &str, place: u64) -> Result<String, Memory> {
+fn at_place(alloc: Global, name: &str, place: u64) -> Result<String, Memory>
+    ensures { IfOk result (λ text. string_bytes text ≡ at_place name.now place) }
+{
     format!(in alloc; "{name} {place}")
 }
 
-fn beside(alloc: Global, name: &str, inner: &str) -> Result<String, Memory> {
+fn beside(alloc: Global, name: &str, inner: &str) -> Result<String, Memory>
+    ensures { IfOk result (λ text. string_bytes text ≡ beside name.now inner.now) }
+{
     format!(in alloc; "{name} {inner}")
 }
 
-fn of_term<T: Term>(alloc: Global, name: &str, term: &T) -> Result<String, Memory> {
+fn of_term<T: Term>(alloc: Global, name: &str, term: &T) -> Result<String, Memory>
+    ensures { IfOk result (λ text. string_bytes text ≡ beside name.now (compact_text (T.json term.now))) }
+{
     let term = term_text(alloc, term)?;
-    format!(in alloc; "{name} {term}")
+    beside(alloc, name, term.as_str())
 }
