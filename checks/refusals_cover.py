@@ -58,7 +58,7 @@ def variants(name, crate):
 
 def call_answers():
     """What calls answer that refuses something, in the words of a play's lines."""
-    text = (TOP / "crates/marlowe_play/src/lines.rt").read_text()
+    text = (TOP / "crates/play_lines/src/entries.rt").read_text()
     code = text[text.index("fn print_reply"):text.index("// A ticket with its verdict")]
     told = [re.sub(r" *\{.*", "", each).strip() for each in re.findall(r'"([^"]+)"', code)]
     words = [f"round {each}" if each == "none" else each for each in told if each not in ("round", ",", "")]
