@@ -5,7 +5,7 @@ use chain::Entry;
 use collections::Memory;
 use eutxo::{Resolved, Scripts};
 use eutxo_types::{Output, OutputRef, Spend, Tx};
-use rows_text::{Known, RowFault, called, word_of_reference};
+use rows_text::{Known, RowFault, called, put_words, word_of_reference};
 use std::alloc::{AllocError, Global};
 
 /// A line for each entry: its place, its seat and number, the call, and the first line of the reply.
@@ -29,9 +29,11 @@ fn put_entry(
     entry: &Entry,
 ) -> Result<(), AllocError> {
     let call = word_of_call(&entry.call);
-    let reply = headline(alloc, known, &entry.reply)?;
-    let told = format!(in alloc; "\n {place} {}.{} {call} {reply}", entry.seat, entry.number)?;
-    lines.push_str(told.as_str())
+    put_words(
+        lines,
+        format!(in alloc; "\n {place} {}.{} {call} ", entry.seat, entry.number),
+    )?;
+    put_words(lines, headline(alloc, known, &entry.reply))
 }
 
 /// A line for each input with what is found, and one for each script that is found, in the order of their publishing. It is
@@ -64,9 +66,11 @@ pub fn put_found(
     outputs: &[Option<Output>],
 ) -> Result<(), AllocError> {
     for (input, output) in inputs.iter().zip(outputs) {
-        let reference = word_of_reference(alloc, &known.sent, &input.reference)?;
         lines.push_str("\n ")?;
-        lines.push_str(reference.as_str())?;
+        put_words(
+            lines,
+            word_of_reference(alloc, &known.sent, &input.reference),
+        )?;
         lines.push(' ')?;
         put_one_found(alloc, lines, known, &input.reference, output)?;
     }

@@ -10,8 +10,8 @@ use eutxo_types::{Datum, Instance, Spend, Tx, TxFault};
 use ledger::Look;
 use roles::Published;
 use rows_text::{
-    Known, RowFault, first, inputs_of, nothing, parts, refusal_line, replace, state_of, text,
-    word_of, word_of_reference,
+    Known, RowFault, both, first, inputs_of, nothing, parts, put_words, refusal_line, replace,
+    state_of, text, word_of, word_of_reference,
 };
 use std::alloc::{AllocError, Global};
 
@@ -137,8 +137,7 @@ fn step_of<'a>(
     let (change, inputs) = first(rest);
     match look {
         Some(look) => {
-            let change = text(alloc, change)?;
-            let inputs = inputs_of(alloc, known, inputs)?;
+            let (change, inputs) = both(text(alloc, change), inputs_of(alloc, known, inputs))?;
             Ok(StepRequest {
                 look,
                 inputs,
@@ -165,8 +164,7 @@ fn start_of<'a>(alloc: Global, known: &'a Known, rest: &str) -> Result<StartRequ
     let (name, rest) = parts(rest)?;
     let (state, change) = parts(rest)?;
     let published = known.by_name(name)?.published();
-    let change = text(alloc, change)?;
-    let state = state_of(alloc, known, state)?;
+    let (change, state) = both(text(alloc, change), state_of(alloc, known, state))?;
     Ok(StartRequest {
         published,
         state,
@@ -177,8 +175,7 @@ fn start_of<'a>(alloc: Global, known: &'a Known, rest: &str) -> Result<StartRequ
 // From `TO CHANGE`.
 fn claim_of(alloc: Global, rest: &str) -> Result<ClaimRequest, RowFault> {
     let (to, change) = parts(rest)?;
-    let to = text(alloc, to)?;
-    let change = text(alloc, change)?;
+    let (to, change) = both(text(alloc, to), text(alloc, change))?;
     Ok(ClaimRequest { to, change })
 }
 
@@ -248,9 +245,11 @@ fn put_inputs(
     inputs: &[Spend],
 ) -> Result<(), AllocError> {
     for input in inputs {
-        let reference = word_of_reference(alloc, &known.sent, &input.reference)?;
         lines.push(' ')?;
-        lines.push_str(reference.as_str())?;
+        put_words(
+            lines,
+            word_of_reference(alloc, &known.sent, &input.reference),
+        )?;
     }
     Ok(())
 }

@@ -14,7 +14,6 @@ use std::alloc::Global;
 
 /// What is written so far: the outputs to begin with, a transaction, what is handed in to build one, what has a name, the last
 /// look, parts, and checks at hand.
-#[derive(Drop)]
 pub struct Desk {
     pub genesis: Items<Output>,
     pub tx: Tx,
@@ -23,6 +22,21 @@ pub struct Desk {
     pub look: Option<Look>,
     pub parts: Vec<WrittenPart>,
     pub checks: Vec<Checked<Published>>,
+}
+
+// Dropped once: the drop is written, not derived.
+impl Drop for Desk {
+    fn drop(self) {
+        let Desk {
+            genesis: _,
+            tx: _,
+            handed: _,
+            known: _,
+            look: _,
+            parts: _,
+            checks: _,
+        } = self;
+    }
 }
 
 /// A desk with nothing on it. Takes no memory.

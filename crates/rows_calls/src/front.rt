@@ -4,7 +4,7 @@ use crate::asked::{put_found, put_scripts};
 use collections::Memory;
 use eutxo::{Checked, Resolved, Validator};
 use eutxo_types::{Tx, tx_id};
-use rows_text::{Known, RowFault, called, keep_check, word_of_id};
+use rows_text::{Known, RowFault, called, keep_check, put_words, word_of_id};
 use std::alloc::{AllocError, Global};
 
 /// How many of the pending transactions come first, and for each its name, then a line for each input with what is found, and
@@ -42,9 +42,8 @@ fn put_job<V>(
 
 fn put_name(alloc: Global, lines: &mut String, known: &Known, tx: &Tx) -> Result<(), AllocError> {
     let id = tx_id(alloc, tx)?;
-    let name = word_of_id(alloc, &known.sent, &id)?;
     lines.push_str("\n ")?;
-    lines.push_str(name.as_str())
+    put_words(lines, word_of_id(alloc, &known.sent, &id))
 }
 
 /// Checks these transactions with what is found of each, and keeps the checks at hand: how many, and a line for each with its

@@ -16,11 +16,11 @@ mod replies;
 mod session;
 mod shown;
 mod started;
-mod taken;
+mod taking;
 
 pub use asked::history_lines;
 pub use desk::Desk;
 pub use played::{finish, name_written};
 pub use replies::put_reply;
 pub use session::Session;
-pub use taken::{Calls, taken};
+pub use taking::{Calls, taken};

@@ -6,10 +6,19 @@ use rows_text::{Known, RowFault, first, number, output_of, parts, put, reference
 use std::alloc::Global;
 
 /// What is offered, and the payouts that are claimed.
-#[derive(Drop)]
 pub struct Handed {
     pub offered: Items<Unspent>,
     pub claimed: Items<Unspent>,
+}
+
+// Dropped once: the drop is written, not derived.
+impl Drop for Handed {
+    fn drop(self) {
+        let Handed {
+            offered: _,
+            claimed: _,
+        } = self;
+    }
 }
 
 impl Handed {

@@ -7,10 +7,16 @@ use rows_text::{Known, RowFault, inputs_of};
 use std::alloc::Global;
 
 /// A part that is written: a look that shows a thread, and the inputs that it is given.
-#[derive(Drop)]
 pub struct WrittenPart {
     look: Look,
     inputs: Items<Input>,
+}
+
+// Dropped once: the drop is written, not derived.
+impl Drop for WrittenPart {
+    fn drop(self) {
+        let WrittenPart { look: _, inputs: _ } = self;
+    }
 }
 
 /// Puts a part behind the others, from `INPUT ..`: the thread of the last look.

@@ -1,14 +1,14 @@
 //! Calls.
 use crate::desk::Desk;
-use crate::taken::Calls;
+use crate::taking::Calls;
 use chain::Call;
 use collections::{Bytes, Items, TryClone};
 use contract::Contract;
 use contract_json::read_contract;
 use ledger::{Ask, PayoutLock};
 use rows_text::{
-    Known, RowFault, Sent, bytes, first, named_of, nested, nothing, number, parts, put, put_in,
-    reference_of, replace, sent_of, take_back, text, wide,
+    Known, RowFault, Sent, both, bytes, first, named_of, nested, nothing, number, parts, put,
+    put_in, reference_of, replace, sent_of, take_back, text, wide,
 };
 use std::alloc::Global;
 
@@ -168,7 +168,6 @@ fn put_wish(
 
 fn payout_lock(alloc: Global, word: &str) -> Result<PayoutLock, RowFault> {
     let (currency, role) = word.split_once('.').ok_or(RowFault::NoSuchRow)?;
-    let currency = bytes(alloc, currency)?;
-    let role = text(alloc, role)?;
+    let (currency, role) = both(bytes(alloc, currency), text(alloc, role))?;
     Ok(PayoutLock { currency, role })
 }

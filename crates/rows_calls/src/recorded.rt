@@ -4,7 +4,7 @@ use chain::StepRecord;
 use collections::{Items, Memory};
 use contract::{Input, Payment, Warning};
 use contract_json::fitting_to_json;
-use rows_text::{RowFault, called};
+use rows_text::{RowFault, called, put_words};
 use std::alloc::{AllocError, Global};
 
 /// What was recorded of a step. Dropped once: who owns it is generic in it, so that no proof walks through its drop.
@@ -28,27 +28,32 @@ pub fn steps_lines<T: Recorded>(
 impl Recorded for StepRecord {
     fn put(&self, alloc: Global, lines: &mut String) -> Result<(), AllocError> {
         let (from, to) = (self.interval.from, self.interval.to);
-        let head = format!(in alloc; "\n from {from} to {to} number {}", self.number.0)?;
-        lines.push_str(head.as_str())?;
+        put_words(
+            lines,
+            format!(in alloc; "\n from {from} to {to} number {}", self.number.0),
+        )?;
         put_inputs(alloc, lines, self.inputs.as_slice())?;
         put_warnings(alloc, lines, self.warnings.as_slice())?;
         put_payments(alloc, lines, self.payments.as_slice())?;
-        let state = state_word(alloc, &self.state)?;
-        put_line(lines, "state", state.as_str())
+        put_line(lines, "state", state_word(alloc, &self.state))
     }
 }
 
-fn put_line(lines: &mut String, sort: &str, word: &str) -> Result<(), AllocError> {
+fn put_line(
+    lines: &mut String,
+    sort: &str,
+    words: Result<String, AllocError>,
+) -> Result<(), AllocError> {
+    let words = words?;
     lines.push_str("\n ")?;
     lines.push_str(sort)?;
     lines.push(' ')?;
-    lines.push_str(word)
+    lines.push_str(words.as_str())
 }
 
 fn put_inputs(alloc: Global, lines: &mut String, inputs: &[Input]) -> Result<(), AllocError> {
     for input in inputs {
-        let word = input_words(alloc, input)?;
-        put_line(lines, "input", word.as_str())?;
+        put_line(lines, "input", input_words(alloc, input))?;
     }
     Ok(())
 }
@@ -63,16 +68,22 @@ fn input_words(alloc: Global, input: &Input) -> Result<String, AllocError> {
 
 fn put_warnings(alloc: Global, lines: &mut String, warnings: &[Warning]) -> Result<(), AllocError> {
     for warning in warnings {
-        let word = fitting_to_json(alloc, warning)?.to_string(alloc)?;
-        put_line(lines, "warning", word.as_str())?;
+        put_line(lines, "warning", warning_words(alloc, warning))?;
     }
     Ok(())
 }
 
+fn warning_words(alloc: Global, warning: &Warning) -> Result<String, AllocError> {
+    fitting_to_json(alloc, warning)?.to_string(alloc)
+}
+
+fn payment_words(alloc: Global, payment: &Payment) -> Result<String, AllocError> {
+    fitting_to_json(alloc, payment)?.to_string(alloc)
+}
+
 fn put_payments(alloc: Global, lines: &mut String, payments: &[Payment]) -> Result<(), AllocError> {
     for payment in payments {
-        let word = fitting_to_json(alloc, payment)?.to_string(alloc)?;
-        put_line(lines, "payment", word.as_str())?;
+        put_line(lines, "payment", payment_words(alloc, payment))?;
     }
     Ok(())
 }

@@ -3,7 +3,9 @@ use crate::shown::put_look;
 use chain::{Call, Reply, Ticketed};
 use collections::{Memory, TryClone};
 use ledger::Look;
-use rows_text::{Known, RowFault, called, refusal_line, replace, verdict_line, word_of_id};
+use rows_text::{
+    Known, RowFault, called, put_words, refusal_line, replace, verdict_line, word_of_id,
+};
 use std::alloc::{AllocError, Global};
 
 /// What is printed. Dropped once: who owns it is generic in it, so that no proof walks through its drop.
@@ -96,9 +98,8 @@ fn round_line(alloc: Global, places: &[Ticketed]) -> Result<String, AllocError> 
 }
 
 fn put_place(alloc: Global, line: &mut String, place: &Ticketed) -> Result<(), AllocError> {
-    let verdict = verdict_line(alloc, &place.verdict)?;
-    let told = format!(in alloc; "{} {verdict}", place.ticket)?;
-    line.push_str(told.as_str())
+    put_words(line, format!(in alloc; "{} ", place.ticket))?;
+    put_words(line, verdict_line(alloc, &place.verdict))
 }
 
 /// The word for a call.

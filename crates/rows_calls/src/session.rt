@@ -6,7 +6,7 @@ use crate::front::{front_lines, keep_checks};
 use crate::recorded::steps_lines;
 use crate::replies::reply_lines;
 use crate::started::started;
-use crate::taken::{Calls, taken};
+use crate::taking::{Calls, taken};
 use chain::{Call, Chain};
 use collections::Items;
 use rows_text::{
@@ -16,10 +16,16 @@ use std::alloc::Global;
 use std::mem;
 
 /// A chain, once it is begun, and what is written for it.
-#[derive(Drop)]
 pub struct Session {
     pub chain: Option<Chain>,
     pub desk: Desk,
+}
+
+// Dropped once: the drop is written, not derived.
+impl Drop for Session {
+    fn drop(self) {
+        let Session { chain: _, desk: _ } = self;
+    }
 }
 
 impl Session {

@@ -4,7 +4,7 @@ use contract::State;
 use contract_json::fitting_to_json;
 use eutxo_types::{Datum, Lock, Output, OutputRef};
 use ledger::{Look, ThreadOutput, Unspent};
-use rows_text::{Known, put_amounts, word_of_reference};
+use rows_text::{Known, put_amounts, put_words, word_of_reference};
 use std::alloc::{AllocError, Global};
 
 /// Puts a line for each output that a look shows at the end.
@@ -37,9 +37,11 @@ fn put_thread(
                 &thread.output,
                 datum,
             )?;
-            let script = known.word_of_script(alloc, &thread.published.get().id)?;
             lines.push_str("\n published ")?;
-            lines.push_str(script.as_str())
+            put_words(
+                lines,
+                known.word_of_script(alloc, &thread.published.get().id),
+            )
         }
         None => lines.push_str("\n no thread"),
     }
@@ -73,9 +75,8 @@ fn put_one(
     output: &Output,
     datum: Option<&Datum>,
 ) -> Result<(), AllocError> {
-    let reference = word_of_reference(alloc, &known.sent, reference)?;
     line.push(' ')?;
-    line.push_str(reference.as_str())?;
+    put_words(line, word_of_reference(alloc, &known.sent, reference))?;
     line.push(' ')?;
     put_output(alloc, line, known, output, datum)
 }
@@ -88,46 +89,53 @@ pub fn put_output(
     output: &Output,
     datum: Option<&Datum>,
 ) -> Result<(), AllocError> {
-    let lock = lock_words(alloc, known, &output.lock, datum)?;
-    line.push_str(lock.as_str())?;
+    put_lock(alloc, line, known, &output.lock, datum)?;
     put_amounts(alloc, line, &output.amount)
 }
 
-fn lock_words(
+fn put_lock(
     alloc: Global,
+    line: &mut String,
     known: &Known,
     lock: &Lock,
     datum: Option<&Datum>,
-) -> Result<String, AllocError> {
+) -> Result<(), AllocError> {
     match lock {
-        Lock::Key(address) => format!(in alloc; "key {}", address.as_str()),
+        Lock::Key(address) => {
+            line.push_str("key ")?;
+            line.push_str(address.as_str())
+        }
         Lock::Payout { currency, role } => {
-            let currency = hex::encode(alloc, currency.as_slice())?;
-            format!(in alloc; "payout {currency} {}", role.as_str())
+            line.push_str("payout ")?;
+            put_words(line, hex::encode(alloc, currency.as_slice()))?;
+            line.push(' ')?;
+            line.push_str(role.as_str())
         }
         Lock::Contract {
             script,
             datum: digest,
-        } => contract_words(alloc, known, script, digest, datum),
+        } => put_contract(alloc, line, known, script, digest, datum),
     }
 }
 
-fn contract_words(
+fn put_contract(
     alloc: Global,
+    line: &mut String,
     known: &Known,
     script: &[u8; 32],
     digest: &[u8; 32],
     datum: Option<&Datum>,
-) -> Result<String, AllocError> {
-    let script = known.word_of_script(alloc, script)?;
+) -> Result<(), AllocError> {
+    line.push_str("contract ")?;
+    put_words(line, known.word_of_script(alloc, script))?;
     match datum {
         Some(datum) => {
-            let state = state_word(alloc, &datum.state)?;
-            format!(in alloc; "contract {script} {} {state}", datum.cont.0)
+            put_words(line, format!(in alloc; " {} ", datum.cont.0))?;
+            put_words(line, state_word(alloc, &datum.state))
         }
         None => {
-            let digest = hex::encode(alloc, digest.as_slice())?;
-            format!(in alloc; "contract {script} {digest}")
+            line.push(' ')?;
+            put_words(line, hex::encode(alloc, digest.as_slice()))
         }
     }
 }

@@ -97,7 +97,6 @@
 #![tactic(auto)]
 
 mod calls;
-mod lines;
 mod meeting;
 mod party;
 mod payments;
@@ -106,7 +105,6 @@ mod seats;
 mod sitting;
 mod workers;
 
-use crate::lines::Rows;
 use crate::row::seats_of;
 use crate::sitting::play_at;
 use crate::workers::{answer, is_of_workers};
@@ -114,7 +112,7 @@ use chain::{Chain, GenesisFault};
 use collections::Items;
 use hub::Opening;
 use rows_calls::Session;
-use rows_text::{RowFault, first, number, parts, put_answer, text_beside};
+use rows_text::{Report, RowFault, first, number, parts, put_answer, text_beside};
 use std::alloc::Global;
 use std::marker::Brand;
 use std::process::ExitCode;
@@ -140,40 +138,63 @@ fn print_files<R: Env + Files + Clock + Print + AllocGlobal + Threads + Wait + S
     let mut as_written = true;
     for path in words.iter().skip(1) {
         let text = fs::read_to_string(rt, path.as_str())?;
-        let mut rows = Rows::new(rt.alloc(), path.as_str(), text.as_str());
-        take_all(rt, &mut rows)?;
-        rt.write_all(rows.report.text())?;
-        as_written = as_written && rows.report.is_as_written();
+        let mut report = Report::new(rt.alloc(), path.as_str(), text.as_str());
+        take_all(rt, &mut report, text.as_str())?;
+        report.finish(rt.alloc())?;
+        rt.write_all(report.text())?;
+        as_written = as_written && report.is_as_written();
     }
     Ok(as_written)
 }
 
+// The lines for a hub are put by until the one that closes it.
 fn take_all<R: Files + Clock + AllocGlobal + Threads + Wait + Sync>(
     rt: &R,
-    rows: &mut Rows<'_>,
+    report: &mut Report<'_>,
+    text: &str,
 ) -> io::Result<()> {
     let mut session = Session::new(rt.alloc());
-    while let Some(line) = rows.next(rt.alloc())? {
-        let (word, rest) = first(line);
-        match word {
-            "use" => take_file(rt, &mut session, rows, rest)?,
-            "hub" => play_hub(rt, &mut session, rows, rest)?,
-            _ => take_line(rt, &mut session, rows, line)?,
+    let mut at_hub = Vec::new(rt.alloc());
+    for line in text.lines() {
+        if !at_hub.is_empty() || line.starts_with("hub ") {
+            at_hub.push(line)?;
+        } else if report.take(rt.alloc(), line)? {
+            take_row(rt, &mut session, report, line)?;
+        }
+        if line == "close" && !at_hub.is_empty() {
+            play_hub(rt, &mut session, report, &at_hub)?;
+            at_hub.clear();
         }
     }
-    Ok(rows.report.finish(rt.alloc())?)
+    if at_hub.is_empty() {
+        Ok(())
+    } else {
+        Err(io::Error::from(io::ErrorKind::Other))
+    }
+}
+
+fn take_row<R: Files + Clock + AllocGlobal + Threads + Wait + Sync>(
+    rt: &R,
+    session: &mut Session,
+    report: &mut Report<'_>,
+    line: &str,
+) -> io::Result<()> {
+    match line.strip_prefix("use ") {
+        Some(name) => take_file(rt, session, report, name),
+        None => take_line(rt, session, report, line),
+    }
 }
 
 // The lines of the file of that name.
 fn take_file<R: Files + Clock + AllocGlobal + Threads + Wait + Sync>(
     rt: &R,
     session: &mut Session,
-    rows: &mut Rows<'_>,
+    report: &mut Report<'_>,
     name: &str,
 ) -> io::Result<()> {
-    let text = text_beside(rt, &rows.report, name)?;
+    let text = text_beside(rt, report, name)?;
     for line in text.lines() {
-        take_line(rt, session, rows, line)?;
+        take_line(rt, session, report, line)?;
     }
     Ok(())
 }
@@ -182,13 +203,13 @@ fn take_file<R: Files + Clock + AllocGlobal + Threads + Wait + Sync>(
 fn take_line<R: Clock + AllocGlobal + Threads + Wait + Sync>(
     rt: &R,
     session: &mut Session,
-    rows: &mut Rows<'_>,
+    report: &mut Report<'_>,
     line: &str,
 ) -> io::Result<()> {
     let answer = answer_to(rt, session, line);
-    if put_answer(&mut rows.report, answer)? {
+    if put_answer(report, answer)? {
         let again = answer_to(rt, session, line);
-        put_answer(&mut rows.report, again)?;
+        put_answer(report, again)?;
     }
     Ok(())
 }
@@ -206,26 +227,29 @@ fn answer_to<R: Clock + AllocGlobal + Threads + Wait + Sync>(
     }
 }
 
-// From `SEATS TICK`: begins a chain with what is written, and plays the lines below at a hub.
+// Begins a chain with what is written, and plays lines at a hub, of which the first has `hub SEATS TICK`.
 fn play_hub<R: AllocGlobal + Threads + Wait + Sync>(
     rt: &R,
     session: &mut Session,
-    rows: &mut Rows<'_>,
-    rest: &str,
+    report: &mut Report<'_>,
+    lines: &[&str],
 ) -> io::Result<()> {
-    match opening_of(rt.alloc(), session, rest) {
+    let first = lines.first().copied().unwrap_or("");
+    report.take(rt.alloc(), first)?;
+    match opening_of(rt.alloc(), session, first) {
         Ok(opening) => {
-            rows.report.come(b"begun")?;
-            play_at::<Brand, R>(rt, rt.alloc(), opening, &mut session.desk, rows)
+            report.come(b"begun")?;
+            play_at::<Brand, R>(rt, rt.alloc(), opening, &mut session.desk, report, lines)
         }
         Err(fault) => {
-            put_answer(&mut rows.report, Err(fault))?;
+            put_answer(report, Err(fault))?;
             Ok(())
         }
     }
 }
 
-fn opening_of(alloc: Global, session: &mut Session, rest: &str) -> Result<Opening, RowFault> {
+fn opening_of(alloc: Global, session: &mut Session, line: &str) -> Result<Opening, RowFault> {
+    let (_word, rest) = parts(line)?;
     let (seats, tick) = parts(rest)?;
     let seats = seats_of(number(seats)?);
     let tick = number(tick)?;

@@ -2,7 +2,6 @@
 ghost use Rattle.std.specs.Prelude.{◌≡◌, ◌<◌, ◌≤◌};
 
 use crate::calls::Work;
-use crate::lines::Rows;
 use crate::meeting::Meeting;
 use crate::party::stepper;
 use crate::row::workers_of;
@@ -16,7 +15,7 @@ use parallel_check::NoGate;
 use roles::Published;
 use rows_calls::{Calls, Desk, finish, history_lines, name_written, put_reply, taken};
 use rows_text::{
-    Known, RowFault, called, first, in_bytes, number, parts, put_answer, reference_of,
+    Known, Report, RowFault, called, first, in_bytes, number, parts, put_answer, reference_of,
 };
 use std::alloc::Global;
 use std::io;
@@ -70,25 +69,24 @@ fn told<J: Session>(
     put_reply(alloc, &desk.known, &mut desk.look, receipt.reply())
 }
 
-/// Opens a hub, plays lines at it until one that closes it, and prints what stands in its history then.
+/// Opens a hub, plays all lines at it but the first, of which the last closes it, and prints what stands in its history then.
 pub fn play_at<J: Session + Send + Sync, R: Threads + Wait + Sync>(
     rt: &R,
     alloc: Global,
     opening: Opening,
     desk: &mut Desk,
-    rows: &mut Rows<'_>,
+    report: &mut Report<'_>,
+    lines: &[&str],
 ) -> io::Result<()>
     requires { opening ≡ J.session }
 {
     let (hub, mut seats) = opening.open::<J>(alloc)?;
-    while let Some(line) = rows.next(alloc)? {
-        if line == "close" {
-            break;
+    for line in lines.iter().skip(1) {
+        if report.take(alloc, line)? && *line != "close" {
+            take_line(rt, alloc, &hub, &mut seats, desk, report, line)?;
         }
-        take_line(rt, alloc, &hub, &mut seats, desk, rows, line)?;
     }
-    let history = closed(alloc, hub, seats, &desk.known);
-    put_answer(&mut rows.report, in_bytes(history))?;
+    put_answer(report, in_bytes(closed(alloc, hub, seats, &desk.known)))?;
     Ok(())
 }
 
@@ -113,13 +111,13 @@ fn take_line<J: Session + Send + Sync, R: Threads + Wait + Sync>(
     hub: &Hub<J>,
     seats: &mut Vec<Seat<J>>,
     desk: &mut Desk,
-    rows: &mut Rows<'_>,
+    report: &mut Report<'_>,
     line: &str,
 ) -> io::Result<()> {
     let answer = answer(rt, alloc, hub, seats, desk, line);
-    if put_answer(&mut rows.report, in_bytes(answer))? {
+    if put_answer(report, in_bytes(answer))? {
         let again = self::answer(rt, alloc, hub, seats, desk, line);
-        put_answer(&mut rows.report, in_bytes(again))?;
+        put_answer(report, in_bytes(again))?;
     }
     Ok(())
 }

@@ -3,7 +3,7 @@ ghost use Rattle.std.specs.Prelude.{IsTrue};
 ghost use Rattle.bundle.specs.Bundles.{AllPositive};
 
 use crate::fault::RowFault;
-use crate::words::{bytes, number, text};
+use crate::words::{both, bytes, number, put_in, put_words, text};
 use bundle::Bundle;
 use collections::Entries;
 use names::Token;
@@ -31,8 +31,8 @@ fn entries_of(alloc: Global, words: &str) -> Result<Vec<Entry>, RowFault> {
     let mut entries = Vec::new(alloc);
     let mut words = words.split_whitespace();
     while let Some(token) = words.next() {
-        let amount = number(words.next().unwrap_or(""))?;
-        entries.push((token_of(alloc, token)?, amount))?;
+        let amount = number(words.next().unwrap_or(""));
+        put_in(&mut entries, both(token_of(alloc, token), amount))?;
     }
     Ok(entries)
 }
@@ -43,8 +43,7 @@ pub fn token_of(alloc: Global, word: &str) -> Result<Token, RowFault> {
         "ada" => ("", ""),
         _ => word.split_once('.').ok_or(RowFault::NoSuchRow)?,
     };
-    let symbol = bytes(alloc, symbol)?;
-    let name = text(alloc, name)?;
+    let (symbol, name) = both(bytes(alloc, symbol), text(alloc, name))?;
     Ok(Token { symbol, name })
 }
 
@@ -74,9 +73,9 @@ pub fn put_amounts(alloc: Global, line: &mut String, bundle: &Bundle) -> Result<
 }
 
 fn put_entry(alloc: Global, line: &mut String, entry: &Entry) -> Result<(), AllocError> {
-    let word = word_of(alloc, &entry.0)?;
-    let told = format!(in alloc; " {word} {}", entry.1)?;
-    line.push_str(told.as_str())
+    line.push(' ')?;
+    put_words(line, word_of(alloc, &entry.0))?;
+    put_words(line, format!(in alloc; " {}", entry.1))
 }
 
 /// The word for a token: `ada` or `SYMBOL.NAME`.

@@ -7,10 +7,16 @@ use eutxo_types::{Datum, OutputRef};
 use std::alloc::{AllocError, Global};
 
 /// A text, under the name that the rows give it.
-#[derive(Drop)]
 pub struct NamedText {
     name: String,
     text: String,
+}
+
+// Dropped once: the drop is written, not derived.
+impl Drop for NamedText {
+    fn drop(self) {
+        let NamedText { name: _, text: _ } = self;
+    }
 }
 
 /// A text under a name, from `NAME TEXT`.
@@ -23,11 +29,21 @@ pub fn named_text_of(alloc: Global, rest: &str) -> Result<NamedText, RowFault> {
 }
 
 /// What the lines before have named.
-#[derive(Drop)]
 pub struct Known {
     pub texts: Vec<NamedText>,
     pub published: Vec<Named>,
     pub sent: Vec<Sent>,
+}
+
+// Dropped once: the drop is written, not derived.
+impl Drop for Known {
+    fn drop(self) {
+        let Known {
+            texts: _,
+            published: _,
+            sent: _,
+        } = self;
+    }
 }
 
 impl Known {

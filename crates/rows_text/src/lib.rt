@@ -70,4 +70,6 @@ pub use references::{Sent, reference_of, sent_of, word_of_id, word_of_reference}
 pub use report::Report;
 pub use spends::{inputs_of, put_keys};
 pub use verdicts::{refusal_line, verdict_line};
-pub use words::{bytes, first, number, parts, put, put_in, replace, take_back, text};
+pub use words::{
+    both, bytes, first, number, parts, put, put_in, put_words, replace, take_back, text,
+};

@@ -3,7 +3,7 @@ use crate::amounts::bundle_of;
 use crate::datums::datum_of;
 use crate::fault::RowFault;
 use crate::known::Known;
-use crate::words::{bytes, first, id, number, parts, text};
+use crate::words::{both, bytes, first, id, number, parts, text};
 use contract::State;
 use contract_json::read_state;
 use eutxo_types::{Cont, Datum, Lock, Output, datum_hash};
@@ -51,8 +51,7 @@ fn key(alloc: Global, rest: &str) -> Result<Output, RowFault> {
 fn payout(alloc: Global, rest: &str) -> Result<Output, RowFault> {
     let (currency, rest) = parts(rest)?;
     let (role, amounts) = first(rest);
-    let currency = bytes(alloc, currency)?;
-    let role = text(alloc, role)?;
+    let (currency, role) = both(bytes(alloc, currency), text(alloc, role))?;
     locked(alloc, Lock::Payout { currency, role }, amounts)
 }
 
@@ -77,11 +76,8 @@ fn at_datum(
         script,
         datum: digest,
     };
-    let output = locked(alloc, lock, amounts)?;
-    Ok(Written {
-        output,
-        datum: Some(datum),
-    })
+    let (output, datum) = both(locked(alloc, lock, amounts), Ok(Some(datum)))?;
+    Ok(Written { output, datum })
 }
 
 // The number of a continuation, or the root's.
@@ -113,6 +109,6 @@ pub fn state_of(alloc: Global, known: &Known, word: &str) -> Result<State, RowFa
 
 /// An output of a lock, from `TOKEN AMOUNT ..`.
 pub fn locked(alloc: Global, lock: Lock, amounts: &str) -> Result<Output, RowFault> {
-    let amount = bundle_of(alloc, amounts)?;
+    let (lock, amount) = both(Ok(lock), bundle_of(alloc, amounts))?;
     Ok(Output { lock, amount })
 }

@@ -13,10 +13,19 @@ use std::alloc::Global;
 use std::sync::Arc;
 
 /// A published contract, under the name that the rows give it.
-#[derive(Drop)]
 pub struct Named {
     name: String,
     published: Shared<Published>,
+}
+
+// Dropped once: the drop is written, not derived.
+impl Drop for Named {
+    fn drop(self) {
+        let Named {
+            name: _,
+            published: _,
+        } = self;
+    }
 }
 
 impl Named {
@@ -52,11 +61,19 @@ pub fn named_of(alloc: Global, known: &Known, rest: &str) -> Result<Named, RowFa
     let (currency, contract) = parts(rest)?;
     let contract = known.text_of(contract)?;
     let currency = bytes(alloc, currency)?;
-    let published = published_of(alloc, read_contract(alloc, contract.as_bytes()), currency)?;
-    Ok(Named {
-        name: String::from_str(alloc, name)?,
-        published: Shared::new(Arc::new(alloc, published)?),
-    })
+    let published = published_of(alloc, read_contract(alloc, contract.as_bytes()), currency);
+    let published = shared_of(alloc, published)?;
+    let name = String::from_str(alloc, name)?;
+    Ok(Named { name, published })
+}
+
+// It is generic in what is shared, so that no proof walks through its drop.
+fn shared_of<P: Drop>(
+    alloc: Global,
+    published: Result<P, RowFault>,
+) -> Result<Shared<P>, RowFault> {
+    let published = Arc::new(alloc, published?)?;
+    Ok(Shared::new(published))
 }
 
 // What can be published. Dropped once: who owns it is generic in it, so that no proof walks through its drop.

@@ -6,11 +6,21 @@ use eutxo_types::{Datum, OutputRef, Tx, tx_id};
 use std::alloc::{AllocError, Global};
 
 /// A transaction with its id, under the name that the rows give it.
-#[derive(Drop)]
 pub struct Sent {
     name: String,
     id: [u8; 32],
     tx: Tx,
+}
+
+// Dropped once: the drop is written, not derived.
+impl Drop for Sent {
+    fn drop(self) {
+        let Sent {
+            name: _,
+            id: _,
+            tx: _,
+        } = self;
+    }
 }
 
 impl Sent {
@@ -26,11 +36,9 @@ impl Sent {
 /// A transaction under a name.
 pub fn sent_of(alloc: Global, name: &str, tx: &Tx) -> Result<Sent, RowFault> {
     let id = tx_id(alloc, tx)?;
-    Ok(Sent {
-        name: String::from_str(alloc, name)?,
-        id,
-        tx: tx.try_clone()?,
-    })
+    let name = String::from_str(alloc, name)?;
+    let tx = tx.try_clone()?;
+    Ok(Sent { name, id, tx })
 }
 
 /// The datum with which one of these transactions made an output, if one did.

@@ -3,7 +3,7 @@ use crate::amounts::token_of;
 use crate::fault::RowFault;
 use crate::known::Known;
 use crate::references::reference_of;
-use crate::words::{first, number, parts, put, text};
+use crate::words::{both, first, number, parts, put, text};
 use collections::Items;
 use contract::{Input, Party};
 use contract_json::read_input;
@@ -68,10 +68,9 @@ fn deposit_of(alloc: Global, rest: &str) -> Result<Input, RowFault> {
     let (party, rest) = rest.split_once(':').ok_or(RowFault::NoSuchRow)?;
     let (account, amount) = rest.split_once(':').ok_or(RowFault::NoSuchRow)?;
     let amount = number(amount)?;
-    let party = Party::Address(text(alloc, party)?);
-    let account = Party::Address(text(alloc, account)?);
-    let ada = token_of(alloc, "ada")?;
-    Ok(Input::Deposit(account, party, ada, amount))
+    let parties = both(text(alloc, party), text(alloc, account));
+    let ((party, account), ada) = both(parties, token_of(alloc, "ada"))?;
+    Ok(Input::Deposit(Party::Address(account), Party::Address(party), ada, amount))
 }
 
 /// Puts so many inputs behind the others, which give nothing: the first outputs that the ledger began with.

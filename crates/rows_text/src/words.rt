@@ -2,7 +2,7 @@
 use crate::fault::RowFault;
 use collections::{Bytes, Items, Text};
 use hex::FromHex;
-use std::alloc::Global;
+use std::alloc::{AllocError, Global};
 use std::mem;
 use std::str::FromStr;
 
@@ -40,6 +40,22 @@ pub fn bytes(alloc: Global, word: &str) -> Result<Bytes, RowFault> {
 /// The id of a transaction or of a script that a word spells in hexadecimal.
 pub fn id(word: &str) -> Result<[u8; 32], RowFault> {
     Ok(<[u8; 32] as FromHex>::from_hex(word)?)
+}
+
+/// Both, where both were read. It is generic in them, so that no proof walks through their drop.
+pub fn both<A: Drop, B: Drop>(
+    a: Result<A, RowFault>,
+    b: Result<B, RowFault>,
+) -> Result<(A, B), RowFault> {
+    let a = a?;
+    let b = b?;
+    Ok((a, b))
+}
+
+/// Puts words at the end of a line. So who puts them owns none.
+pub fn put_words(line: &mut String, words: Result<String, AllocError>) -> Result<(), AllocError> {
+    let words = words?;
+    line.push_str(words.as_str())
 }
 
 /// Puts what was read behind the others. It is generic in it, so that no proof walks through its drop.

@@ -20,13 +20,25 @@ use std::mem;
 
 /// What is written so far: a transaction, what its inputs find, what is published, what is found instead of it, and the checks
 /// at hand.
-#[derive(Drop)]
 pub struct Desk {
     tx: Tx,
     finds: Items<Option<Output>>,
     known: Known,
     others: Vec<Named>,
     checks: Vec<Checked<Published>>,
+}
+
+// Dropped once: the drop is written, not derived.
+impl Drop for Desk {
+    fn drop(self) {
+        let Desk {
+            tx: _,
+            finds: _,
+            known: _,
+            others: _,
+            checks: _,
+        } = self;
+    }
 }
 
 impl<R: AllocGlobal> Answers<R> for Desk {
