@@ -1,8 +1,8 @@
 -- What is printed for each task.
 use Rattle.std.specs.Prelude.{◌≡◌, ◌⊎◌, ℕ, true, false, List, [], ◌∷◌, ◌++◌, Option, Some, None, Result, Ok, Err, codes}
 use Rattle.clap.specs.Words.{Row, Text}
-use Rattle.json_read_names.specs.ReadsText.{of_text}
-use Rattle.json_read_scenarios.specs.ReadsScenario as reads
+use Rattle.json_read_names.specs.Parts.{Reading}
+use Rattle.plans.specs.declared.scenario.Scenario.{Scenario}
 use Rattle.marlowe_run.specs.declared.fault.RunFault.{RunFault}
 use Rattle.marlowe_run.specs.declared.table_fault.TableFault.{TableFault}
 use Rattle.marlowe_run.specs.Refusals.{run_refusal, table_refusal}
@@ -11,7 +11,7 @@ use Rattle.marlowe_analyse.specs.Printed.{IsClear, TellsSo, is_read}
 use Rattle.marlowe_play.specs.Faults.{play_refusal_text, scenario_fault}
 use Rattle.marlowe_cli.specs.declared.task.Task.{Task}
 use Rattle.marlowe_cli.specs.declared.task.Task.TheVariants.{Analyse}
-use Rattle.marlowe_commands.specs.Streams.{Streams, on_output, on_errors, IsTextOr}
+use Rattle.marlowe_commands.specs.Streams.{Streams, on_output, on_errors}
 
 -- a refusal: a line on standard error, with status 1
 abbrev pub refused : List ℕ → Streams
@@ -34,11 +34,9 @@ PrintsAnalysis reader contract state streams =
     ⊎ ((fault : RunFault) × (is_read contract state ≡ Err fault) × (streams ≡ refused (run_refusal fault)))
 
 -- a text that is no scenario is refused by its fault
-abbrev pub PrintsPlay : List ℕ → Streams → Type 0
-PrintsPlay scenario streams = elim (of_text reads.scenario scenario) as (λ _. Type 0) [
-  | Ok read ↦ IsTextOr 1 streams
-  | Err fault ↦ streams ≡ refused (play_refusal_text (scenario_fault fault))
-]
+abbrev pub PrintsRead : Reading Scenario → Streams → Type 0
+PrintsRead (Ok read) streams = Unit {0}
+PrintsRead (Err fault) streams = streams ≡ refused (play_refusal_text (scenario_fault fault))
 
 -- a task is an analysis
 abbrev pub IsAnalysis : Task → Type 0

@@ -1,9 +1,11 @@
 //! The tasks of the program, from texts to what is printed.
 ghost use Rattle.std.specs.Prelude.{IfOk, option_map};
+ghost use Rattle.json_read_names.specs.ReadsText.{of_text};
+ghost use Rattle.json_read_scenarios.specs.ReadsScenario as reads;
 ghost use Rattle.marlowe_run.specs.Run.{run_text};
 ghost use Rattle.marlowe_run.specs.TableText.{table_text};
 ghost use Rattle.marlowe_commands.specs.Streams.{streams_of, IsOnOneStream, IsTextOr};
-ghost use Rattle.marlowe_commands.specs.Tasks.{PrintsRun, PrintsTable, PrintsAnalysis, PrintsPlay};
+ghost use Rattle.marlowe_commands.specs.Tasks.{PrintsRun, PrintsTable, PrintsAnalysis, PrintsRead};
 
 use crate::printed::Printed;
 use collections::Memory;
@@ -45,6 +47,7 @@ pub fn table_printed(alloc: Global, contract: &[u8]) -> Result<Printed, Memory>
 
 /// What is printed for the analysis of a contract from a state: the analysis, with status 0 where the contract never warns and stays
 /// within 128 bits, and 3 where there is an alarm; or the line of its refusal.
+#[tactic(auto, using(crate::proofs::TaskLemmas::clear_printed, crate::proofs::TaskLemmas::alarms_printed))]
 pub fn analysis_printed(
     alloc: Global,
     contract: &[u8],
@@ -56,8 +59,11 @@ pub fn analysis_printed(
 {
     match analyse_text(alloc, contract, state, reader) {
         Ok(Analysed { text, is_clear }) => {
-            let status = if is_clear { 0 } else { 3 };
-            Ok(Printed::on_output(alloc, text, status))
+            if is_clear {
+                Ok(Printed::on_output(alloc, text, 0))
+            } else {
+                Ok(Printed::on_output(alloc, text, 3))
+            }
         }
         Err(RunFault::Memory) => Err(AllocError),
         Err(fault) => Printed::refusal(alloc, refusal(alloc, &Fault::Run(fault))?),
@@ -66,13 +72,14 @@ pub fn analysis_printed(
 
 /// What is printed for a play, while somebody is told how far it is: its lines, with status 0, or the line of its refusal. `one` plan is
 /// played after another, or all at once.
+#[tactic(auto, using(crate::proofs::TaskLemmas::play_printed, crate::proofs::TaskLemmas::play_refused))]
 pub fn play_printed<R: AllocGlobal + Threads + Wait + Sync, W: Watch + Sync>(
     rt: &R,
     watch: &W,
     scenario: &[u8],
     one: bool,
 ) -> Result<Printed, Memory>
-    ensures told { IfOk result (λ printed. PrintsPlay scenario.now (streams_of printed)) }
+    ensures told { IfOk result (λ printed. PrintsRead (of_text reads.scenario scenario.now) (streams_of printed)) }
     ensures stream { IfOk result (λ printed. IsTextOr 1 (streams_of printed)) }
 {
     let alloc = rt.alloc();

@@ -6,7 +6,7 @@ use crate::numbers::{constant_row, large_row};
 use crate::on_tables::run_row;
 use crate::sorts::{Asked, sort_row};
 use crate::spellings::{put_row, spell_row};
-use crate::states::start_row;
+use crate::starts::start_row;
 use crate::tables::table_row;
 use crate::texts::text_row;
 use rows_given::Given;

@@ -53,7 +53,7 @@ mod on_tables;
 mod scenarios;
 mod sorts;
 mod spellings;
-mod states;
+mod starts;
 mod tables;
 mod texts;
 
