@@ -1,5 +1,5 @@
 -- How what a party does adds up.
-use Rattle.std.proofs.Common.{◌≡◌, inl, inr, ℕ, suc, ◌+◌, ◌-◌, ◌<◌, ◌≤◌, List, [], ◌∷◌, ◌++◌, length, map, take, drop, get_or, Option, Some, None, refl, sym, ap, ◌∙◌, subst, arith, append_assoc, length-drop}
+use Rattle.std.proofs.Common.{◌≡◌, inl, inr, ℕ, zero, suc, ◌+◌, ◌-◌, ◌<◌, ◌≤◌, List, [], ◌∷◌, ◌++◌, length, map, take, drop, get_or, Option, Some, None, refl, sym, ap, ◌∙◌, subst, arith, append_assoc, length-drop}
 use Rattle.std.proofs.lemmas.List.{append-nil, length-append, map-append, drop_more, drop_all, take_all}
 use Rattle.std.proofs.lemmas.Option.{get_or_from_slice_get, slice_get-get_or, slice_get_within}
 use Rattle.std.proofs.Math.Seq.{drop-append_seam}
@@ -34,11 +34,11 @@ shown_later asks looks earlier before h = (earlier ++ h.0, h.1, ap (λ (l : List
 -- what is of an intent is of it after more that was before
 of_later : (plan : PlayedPlan) (earlier before : List Answer) (call : Call) (intent : PlayedIntent) → IsOf plan before call intent → IsOf plan (earlier ++ before) call intent
 of_later plan earlier before call (Step thread inputs interval pooled) h =
-    elim h [ inl looks ↦ inl looks | inr hands ↦ inr (hands.0, hands.1, shown_later (step_ask plan thread ∷ []) (hands.0 ∷ []) earlier before hands.2, hands.3) ]
+    elim h [ inl looks ↦ inl looks | inr hands ↦ inr (hands.0, hands.1, shown_later (step_ask plan thread ∷ []) (hands.0 ∷ []) earlier before hands.2, hands.3, hands.4) ]
 of_later plan earlier before call (Steps steps interval pooled) h =
-    elim h [ inl looks ↦ inl looks | inr hands ↦ inr (hands.0, hands.1, shown_later (map (λ (s : OutputRef × List Input). step_ask plan s.0) steps) hands.0 earlier before hands.2, hands.3) ]
+    elim h [ inl looks ↦ inl looks | inr hands ↦ inr (hands.0, hands.1, shown_later (map (λ (s : OutputRef × List Input). step_ask plan s.0) steps) hands.0 earlier before hands.2, hands.3, hands.4) ]
 of_later plan earlier before call (Claim currency role interval) h =
-    elim h [ inl looks ↦ inl looks | inr hands ↦ inr (hands.0, hands.1, shown_later (claim_ask plan currency role ∷ []) (hands.0 ∷ []) earlier before hands.2, hands.3) ]
+    elim h [ inl looks ↦ inl looks | inr hands ↦ inr (hands.0, hands.1, shown_later (claim_ask plan currency role ∷ []) (hands.0 ∷ []) earlier before hands.2, hands.3, hands.4) ]
 of_later plan earlier before call (Round count workers) h = h
 of_later plan earlier before call (Advance tick) h = h
 
@@ -322,6 +322,13 @@ handed plan intent call a b c rs ss ts has w next n =
     elim n [ inl none ↦ noted_more plan a b c rs ss ts w.gone (noted_same plan b c ss ts none.0 none.1) | inr one ↦ handed_one plan intent call a b c rs ss ts has w next one ]
 
 -- ---- looks and parts
+
+-- each of the receipts shows a look
+pub is_a_look : (rs : List ReceiptRecord) (looks : List Look) (i : ℕ) (r : ReceiptRecord) → replies_of rs ≡ map replies.Look looks → i < length rs → get_or rs i r ≡ r → (look : Look) × (r.reply ≡ replies.Look look)
+is_a_look [] looks i r told here is = absurd (omega (arith, here))
+is_a_look (x ∷ rs) [] i r told here is = absurd (cc)
+is_a_look (x ∷ rs) (l ∷ looks) zero r told here is = (l, ap (λ (y : ReceiptRecord). y.reply) (sym is) ∙ ap (λ (ls : List Reply). get_or ls 0 x.reply) told)
+is_a_look (x ∷ rs) (l ∷ looks) (suc i) r told here is = is_a_look rs looks i r (ap (λ (ls : List Reply). drop 1 ls) told) (omega (arith, here)) is
 
 -- a list that has a first has it in front
 first_look : (looks : List Look) (look : Look) (made : Look → Result Tx BuildFault) → slice_get looks 0 ≡ Some look → by_first made looks ≡ Some (made look)

@@ -1,8 +1,9 @@
-use Rattle.std.proofs.Common.{arith, ◌≡◌, ℕ, ◌-◌, IfSome, List, length, take, drop, Option, subst}
+use Rattle.std.proofs.Common.{arith, ◌≡◌, ℕ, ◌-◌, IfSome, List, length, take, drop, Option, sym, subst}
 use Rattle.hub.specs.Seats.{ReceiptRecord}
 use Rattle.parties.specs.declared.acts.Act.{Act}
-use Rattle.parties.specs.PlaysSupport.{HandsIn, call_of, Went}
-use Rattle.parties.proofs.PlaysLemmas.{went_same, went_more, lent_rest, handed, on_err_always}
+use Rattle.parties.specs.PlaysSupport.{AreShown, HandsIn, call_of, Went}
+use Rattle.parties.proofs.PlaysLemmas.{are_shown, went_same, went_more, lent_rest, handed, on_err_always}
+use Rattle.parties.specs.PlaysSupport.{asks_of}
 use Rattle.parties.proofs.turns.turn.Goals as goal
 
 pub returns-in_err-next-clause-err : goal.returns-in_err-next-clause-err
@@ -12,6 +13,16 @@ pub returns-in_err-noted-in-Some-clause-err : goal.returns-in_err-noted-in-Some-
 returns-in_err-noted-in-Some-clause-err g c =
     let plan = c.args.means.now.plan.now in
     on_err_always _ (Went plan c.args.seat.now c.noted.new.seat) (went_more plan c.args.seat.now c.look_at_all.new.seat c.noted.new.seat c.in_ok-all.ensures.ok.went (went_same plan c.look_at_all.new.seat c.noted.new.seat c.in_err-noted-in-Some.ensures.err))
+
+-- all that was asked is shown
+pub next_of-requires : goal.next_of-requires
+next_of-requires g c =
+    let plan = c.args.means.now.plan.now in
+    let lent : List ReceiptRecord = c.as_slice.result.now in
+    let at : ℕ = c.len-before.result in
+    let here : at ≡ length c.args.receipts.now.items = omega (arith, c.len-before.ensures, c.args.receipts.now.ok.0) in
+    let rest = lent_rest lent c.look_at_all.new.receipts.items at (length c.args.receipts.now.items) c.as_slice.ensures.value here in
+    subst AreShown (sym rest) (are_shown plan (asks_of plan c.args.intent.now) c.args.seat.now c.look_at_all.new.seat c.args.receipts.now.items c.look_at_all.new.receipts.items (c.in_ok-all.ensures.all c.if-not-all.false))
 
 -- what is handed in was made of the looks of this turn
 pub returns-in_ok-noted-in-Some-clause-ok : goal.returns-in_ok-noted-in-Some-clause-ok
