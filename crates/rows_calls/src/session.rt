@@ -122,6 +122,19 @@ fn asked(
             steps_lines(alloc, chain.steps_of(alloc, &start))
         }
         "resolve" => resolved_lines(alloc, &desk.known, &desk.tx, chain.resolve(alloc, &desk.tx)),
+        _ => judged(alloc, chain, desk, word, rest),
+    }
+}
+
+// What is printed for a question that judges, or is of what a round would judge.
+fn judged(
+    alloc: Global,
+    chain: &Chain,
+    desk: &mut Desk,
+    word: &str,
+    rest: &str,
+) -> Result<String, RowFault> {
+    match word {
         "check" => keep_check(
             alloc,
             &mut desk.checks,
