@@ -299,7 +299,7 @@ impl Chain {
         ensures stands { StandsAsTold self.now }
         ensures in_use { InUseByAnother self.now.entries }
         ensures stays { (n m : ℕ) → n ≤ m →
-          IsMore (published_at (published (before_entry self.now n).entries)) (published_at (published (before_entry self.now m).entries)) }
+            IsMore (published_at (published (before_entry self.now n).entries)) (published_at (published (before_entry self.now m).entries)) }
         ensures fits { All TxFits (past_of (world self.now)).accepted }
         ensures first { FirstHalf self.now }
         ensures second { SecondHalf self.now }

@@ -1,15 +1,17 @@
--- What was read is a scenario, so none was refused.
-use Rattle.std.proofs.Common.{◌≡◌, sym, ◌∙◌, ap, subst, Bool, true, false, Result, Ok, Err}
-use Rattle.std.specs.Prelude.{is_ok}
-use Rattle.collections.specs.Answers.{Aside}
-use Rattle.json_read_names.specs.declared.fault.JsonFault.{JsonFault}
-use Rattle.json_read_names.specs.declared.fault.JsonFault.TheVariants as json
+-- What is printed of a scenario that was read.
+use Rattle.std.proofs.Common.{◌≡◌, ℕ, ℤ, List, map, sym, ◌∙◌, ap, subst, Result, Ok, Err}
+use Rattle.std.specs.Prelude.{IfOk}
 use Rattle.json_read_names.specs.Parts.{Reading}
 use Rattle.plans.specs.declared.scenario.Scenario.{Scenario}
-use Rattle.marlowe_play.specs.declared.fault.PlayFault.{PlayFault}
-use Rattle.marlowe_play.specs.Faults.{IsRefused}
+use Rattle.eutxo_types.specs.declared.output.Output.{Output}
+use Rattle.marlowe_play.specs.Played.{key_output, TellsAHistory, IsPlayed}
 
-pub was_read : {X : Type 0} (reading : Reading Scenario) (read : Result Scenario JsonFault) (told : Result Scenario PlayFault) (s : Scenario) (result : Result X PlayFault) → Aside json.Memory read reading → is_ok told ≡ is_ok read → told ≡ Ok s →
-    IsRefused reading result
-was_read reading (Ok x) told s result h v m = subst (λ (r : Reading Scenario). IsRefused r result) (sym h) tt
-was_read reading (Err fault) told s result h v m = let e : true ≡ false = ap is_ok (sym m) ∙ v in cc
+-- what holds of a text that was printed implies more
+pub ok_more : {X F : Type 0} (P Q : X → Type 0) (r : Result X F) → ((x : X) → P x → Q x) → IfOk r P → IfOk r Q
+ok_more P Q (Ok x) more h = more x h
+ok_more P Q (Err fault) more h = tt
+
+-- a history over what the scenario says is told of the scenario
+pub was_told : (reading : Reading Scenario) (s : Scenario) (genesis : List Output) (tick : ℤ) (text : List ℕ) → reading ≡ Ok s → genesis ≡ map key_output s.genesis → tick ≡ s.tick → TellsAHistory genesis tick text → IsPlayed reading text
+was_told reading s genesis tick text is first at told =
+    subst (λ (r : Reading Scenario). IsPlayed r text) (sym is) (subst (λ (os : List Output). TellsAHistory os s.tick text) first (subst (λ (t : ℤ). TellsAHistory genesis t text) at told))

@@ -55,7 +55,10 @@ pub fn play_watched<R: Threads + Wait + Sync, W: Watch + Sync>(
     ensures unread { IsRefused (of_text reads.scenario text.now) result }
     ensures played { IfOk result (λ lines. IsPlayed (of_text reads.scenario text.now) lines.items) }
 {
-    let scenario = read_scenario(alloc, text).map_err(PlayFault::of_scenario)?;
+    let scenario = match read_scenario(alloc, text) {
+        Ok(scenario) => scenario,
+        Err(fault) => return Err(PlayFault::of_scenario(fault)),
+    };
     let count = scenario.plans.len();
     if 63 < count {
         return Err(PlayFault::Scenario(JsonFault::NoForm));
