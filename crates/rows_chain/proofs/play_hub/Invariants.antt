@@ -1,4 +1,4 @@
-use Rattle.rows_chain.proofs.main.play_hub.Given as goal
+use Rattle.rows_chain.proofs.play_hub.Given as goal
 
 -- the session is what the opening made
 abbrev pub ghosts-play_at : goal.ghosts-play_at
