@@ -9,6 +9,10 @@ use Rattle.marlowe_cli.specs.declared.task.Task.TheVariants.{Run, Table, Analyse
 abbrev pub given : Text → Rule
 given name = record (new_rule name) { required = true }
 
+-- a flag `--name`, which may be left out
+abbrev pub flag : Text → Rule
+flag name = record (new_rule name) { long = Some name; action = Some SetTrue }
+
 -- `run CONTRACT STATE TX`
 abbrev pub run_command : App
 run_command = with_rule (with_rule (with_rule (new_app (codes "run")) (given (codes "CONTRACT"))) (given (codes "STATE"))) (given (codes "TX"))
@@ -17,25 +21,13 @@ run_command = with_rule (with_rule (with_rule (new_app (codes "run")) (given (co
 abbrev pub table_command : App
 table_command = with_rule (new_app (codes "table")) (given (codes "CONTRACT"))
 
--- `--json`, which may be left out
-abbrev pub json_flag : Rule
-json_flag = record (new_rule (codes "json")) { long = Some (codes "json"); action = Some SetTrue }
-
--- `--no-runs`, which may be left out
-abbrev pub no_runs_flag : Rule
-no_runs_flag = record (new_rule (codes "no-runs")) { long = Some (codes "no-runs"); action = Some SetTrue }
-
 -- `analyse CONTRACT [STATE] [--json] [--no-runs]`
 abbrev pub analyse_command : App
-analyse_command = with_rule (with_rule (with_rule (with_rule (new_app (codes "analyse")) (given (codes "CONTRACT"))) (new_rule (codes "STATE"))) json_flag) no_runs_flag
-
--- `--one`, which may be left out
-abbrev pub one_flag : Rule
-one_flag = record (new_rule (codes "one")) { long = Some (codes "one"); action = Some SetTrue }
+analyse_command = with_rule (with_rule (with_rule (with_rule (new_app (codes "analyse")) (given (codes "CONTRACT"))) (new_rule (codes "STATE"))) (flag (codes "json"))) (flag (codes "no-runs"))
 
 -- `play SCENARIO [--one]`
 abbrev pub play_command : App
-play_command = with_rule (with_rule (new_app (codes "play")) (given (codes "SCENARIO"))) one_flag
+play_command = with_rule (with_rule (new_app (codes "play")) (given (codes "SCENARIO"))) (flag (codes "one"))
 
 -- the program without its commands: it has a version and needs a command
 abbrev pub program : App

@@ -1,4 +1,4 @@
-use Rattle.std.proofs.Common.{◌≡◌, ◌∙◌, rules, refl, sym, codes}
+use Rattle.std.proofs.Common.{rules, refl, codes}
 use Rattle.clap.specs.Words.{found_of}
 use Rattle.marlowe_cli.proofs.LineLemmas.{word_given, flag_given}
 use Rattle.marlowe_cli.proofs.task.play_of.Goals as goal

@@ -7,22 +7,16 @@ use Rattle.marlowe_cli.proofs.task.run_command.Goals as goal
 
 pub returns-clause-shape : goal.returns-clause-shape
 returns-clause-shape c =
-    let contract_is : rule_of c.help-contract.result ≡ given (codes "CONTRACT") = search rules in
-    let state_is : rule_of c.help-state.result ≡ given (codes "STATE") = search rules in
-    let transaction_is : rule_of c.help-transaction.result ≡ given (codes "TX") = search rules in
+    let state_is : rule_of c.given-state.result ≡ given (codes "STATE") = search rules in
+    let transaction_is : rule_of c.given-transaction.result ≡ given (codes "TX") = search rules in
     let run_is : app_of c.about-run.result ≡ new_app (codes "run") = search rules in
-    IfOk-weaker c.arg-3.result _ _
-    (λ r adds.
-    adds.shape (search rules)
-    ∙ ap₂ with_rule (c.in_ok-arg-2.ensures.shape (search rules) ∙ ap₂ with_rule (c.in_ok-arg.ensures.shape (search rules) ∙ ap₂ with_rule run_is contract_is) state_is) transaction_is)
-    c.arg-3.ensures
+    let with_contract = c.in_ok-run.ensures.shape c.contract.ensures.own ∙ ap₂ with_rule run_is c.contract.ensures.shape in
+    let with_state = c.in_ok-run-2.ensures.shape c.given-state.ensures.own ∙ ap₂ with_rule with_contract state_is in
+    IfOk-weaker c.arg-3.result _ _ (λ r adds. adds.shape c.given-transaction.ensures.own ∙ ap₂ with_rule with_state transaction_is) c.arg-3.ensures
 
 pub returns-clause-own : goal.returns-clause-own
 returns-clause-own c =
-    let contract_is : c.help-contract.result.global ≡ false = search rules in
-    let state_is : c.help-state.result.global ≡ false = search rules in
-    let transaction_is : c.help-transaction.result.global ≡ false = search rules in
     let run_is : (out-Command c.about-run.result).has_globals ≡ false = search rules in
-    IfOk-weaker c.arg-3.result _ _
-    (λ r adds. adds.globals ∙ ap₂ ◌||◌ (c.in_ok-arg-2.ensures.globals ∙ ap₂ ◌||◌ (c.in_ok-arg.ensures.globals ∙ ap₂ ◌||◌ run_is contract_is) state_is) transaction_is)
-    c.arg-3.ensures
+    let with_contract = c.in_ok-run.ensures.globals ∙ ap₂ ◌||◌ run_is c.contract.ensures.own in
+    let with_state = c.in_ok-run-2.ensures.globals ∙ ap₂ ◌||◌ with_contract c.given-state.ensures.own in
+    IfOk-weaker c.arg-3.result _ _ (λ r adds. adds.globals ∙ ap₂ ◌||◌ with_state c.given-transaction.ensures.own) c.arg-3.ensures
