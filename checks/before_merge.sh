@@ -1,9 +1,10 @@
 #!/bin/sh
 # Runs what a merge wants beside `rt ci`, and prints a line for each: what it is, and `ok` or what it said.
 #
-# Needs    nothing built, but for the last two, which need the program: (cd crates/marlowe && rt run -- --version).
-# Usage    checks/before_merge.sh             all of them; the last two are left out where the program isn't built
-# Expect   `ok` on each line and status 0; some seconds without the program.
+# Needs    nothing built, but for the last three: (cd crates/marlowe && rt run -- --version) for two of them, and for what checks at hand spare
+#          (cd crates/rows_chain && rt run -- data/hub.txt data/common.txt) and `cc`.
+# Usage    checks/before_merge.sh             all of them; the last three are left out where what they need isn't there
+# Expect   `ok` on each line and status 0; some seconds without the programs.
 # Else     below a line what that check said, and status 1.
 cd "$(dirname "$0")/.." || exit 2
 failed=0
@@ -29,5 +30,10 @@ if [ -x crates/marlowe/out/marlowe ]; then
   try checks/commands.py
 else
   echo "examples/check.sh, checks/commands.py: left out, since the program isn't built"
+fi
+if [ -x crates/rows_chain/out/rows_chain ] && command -v cc > /dev/null; then
+  try checks/refused_memory.py spared
+else
+  echo "checks/refused_memory.py spared: left out, since rows_chain isn't built, or there is no cc"
 fi
 exit $failed

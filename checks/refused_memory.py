@@ -8,13 +8,15 @@ prints `memory`, and then what the same line answers when it is taken once more.
 more: else a refused call has changed something. Where a row's own words are refused memory, the program ends with status 2 and prints nothing.
 A party that is refused looks once more: the entries of looks are left out where its history is compared.
 
+What checks at hand spare: a call that has one makes fewer requests than one that has none. `checks/before_merge.sh` runs this part.
+
 Of the built program `marlowe` each request is refused alone, and then with all that come after it.
 
 Needs    (cd crates/rows_chain && rt run -- data/hub.txt data/common.txt) and (cd crates/marlowe && rt run -- --version); `cc` and glibc on Linux.
-Usage    checks/refused_memory.py [calls] [marlowe]    both, or the one that is named
-         checks/refused_memory.py --table ..           the same, as the table of checks/README.md
+Usage    checks/refused_memory.py [calls] [spared] [marlowe]    all three, or those that are named; `spared` takes some seconds
+         checks/refused_memory.py --table ..                    the same, as the table of checks/README.md
 Expect   for each kind of row how often it was refused memory, how often a row's own words were, and how often all came as with ample memory; the same of
-         `marlowe`; then that the checks at hand spare requests, and status 0; a few minutes.
+         `marlowe`; and that the checks at hand spare requests, and status 0; a few minutes.
 Else     for each run that ends otherwise n and what came; each kind of row that was never refused; or `not fewer` where a check at hand spares nothing; then
          status 1.
 """
@@ -285,7 +287,7 @@ def command_lines():
 
 def main():
     words = sys.argv[1:]
-    wanted = [it for it in words if it != "--table"] or ["calls", "marlowe"]
+    wanted = [it for it in words if it != "--table"] or ["calls", "spared", "marlowe"]
     shown = "| {} | {} | {} |" if "--table" in words else "{}: {} {}"
     wrong = []
     with tempfile.TemporaryDirectory() as folder, ThreadPoolExecutor(os.cpu_count()) as pool:
@@ -300,6 +302,7 @@ def main():
                 print(shown.format(kind, count, ""))
             print(shown.format("a row's own words", own, ""))
             print(shown.format("as with ample memory", "", answered), flush=True)
+        if "spared" in wanted:
             counts = {}
             for name, last in LASTS.items():
                 counts[name], faults = of_last(pool, library, folder, *last)
