@@ -31,8 +31,8 @@ from growth import PROGRAM
 
 HERE = os.path.dirname(os.path.abspath(__file__))
 ROWS = os.path.join(HERE, "..", "crates", "rows_*", "data", "**", "*.txt")
-# What a worker keeps while it looks, and the seconds after which a text is given up.
-KEPT, LONGEST_SECONDS = 400, 20
+# The seconds after which a text is given up.
+LONGEST_SECONDS = 20
 COMPARISONS = ("ge_than", "gt", "lt", "le_than", "equal_to")
 NUMBERS = [0, 1, 2, 3, 5, 7, 10, 99, 100, 1000, 10**6, 2**31, 2**62, 2**63 - 1, -1, -2, -7, -100, -(10**6), -(2**62)]
 
@@ -167,7 +167,7 @@ def worker(asked):
             if seconds is None:
                 return
             kept[text] = seconds * SECOND / most_instructions(len(text))
-            if len(kept) > KEPT:
+            if len(kept) > options.keep:
                 del kept[min(kept, key=kept.get)]
 
         for text in sorted(set(first_texts(options.longest)), key=len)[number::options.workers]:
