@@ -98,7 +98,7 @@ fn with_copies<R: TryClone + Drop>(reply: R) -> Result<Answered<R>, Memory>
     })
 }
 
-// What a call is answered. Where memory is refused the index may have grown.
+// What a call is answered, in copies. Where memory is refused for these the index has grown.
 fn answer_in_copies(
     alloc: Global,
     kept: &Kept<'_>,
@@ -106,6 +106,7 @@ fn answer_in_copies(
     call: &Call,
 ) -> Result<Answered<Reply>, Memory>
     requires tied { IsIndexOf index.old.present (world kept.now) }
+    requires settled { index.old.settled ≡ index.old.present }
     ensures reply { IfOk result (λ r. r.reply ≡ reply_to (world kept.now) call.now) }
     ensures mine { IfOk result (λ r. r.copies.0 ≡ reply_to (world kept.now) call.now) }
     ensures told { IfOk result (λ r. r.copies.1 ≡ reply_to (world kept.now) call.now) }

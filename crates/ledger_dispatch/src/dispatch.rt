@@ -1,5 +1,5 @@
 //! What a call is answered.
-ghost use Rattle.std.specs.Prelude.{◌≡◌, ◌≤◌, ◌⊎◌, IfOk, IfErr, OnOk, Ok, Err, None, length, take, is_none};
+ghost use Rattle.std.specs.Prelude.{◌≡◌, ◌≤◌, ◌⊎◌, IfOk, IfErr, OnOk, OnErr, Ok, Err, None, length, take, is_none};
 ghost use Rattle.compiler.specs.declared.fault.CompileFault.TheVariants as faults;
 ghost use Rattle.eutxo_types.specs.Fitting.{TxFits};
 ghost use Rattle.eutxo_types.specs.Ids.{id_of};
@@ -286,15 +286,9 @@ fn look(alloc: Global, kept: &Kept<'_>, index: &Index, ask: &Ask) -> Result<Repl
 
 // ---- a call
 
-/// What a call is answered after what stands, by the table of calls (`reply_to`). What a ledger keeps is lent. The
-/// index beside it, which is of what stands, is brought on: after the call it is of what stands then (`world_with`).
-/// The rest of what the call changes whoever keeps the entries reads off call and reply. It costs what the call asks,
-/// and goes over no entries. Answers `Memory` only where a growth was refused.
-///
-/// A refusal may leave the index grown: a Round that runs out of memory at a later place has added what its first
-/// places accepted. But what it was settled at stays as it was. So whoever called cuts it back to that after a refusal,
-/// and else settles it once the entry stands.
-pub fn answer(
+// What a call is answered. A refusal may leave the index grown: a Round that runs out of memory at a later place has added
+// what its first places accepted. But what it was settled at stays as it was.
+fn answer_or_grow(
     alloc: Global,
     kept: &Kept<'_>,
     index: &mut Index,
@@ -312,5 +306,32 @@ pub fn answer(
         Call::Submit(tx) => submit(alloc, kept, index, tx),
         Call::Enqueue(_) => Ok(enqueue(kept)),
         Call::Round(count) => Ok(Reply::Round(round(alloc, kept, index, *count)?)),
+    }
+}
+
+/// What a call is answered after what stands, by the table of calls (`reply_to`). What a ledger keeps is lent. The
+/// index beside it, which is of what stands and settled there, is brought on: after the call it is of what stands then
+/// (`world_with`), and whoever called settles it once the entry stands. The rest of what the call changes whoever keeps
+/// the entries reads off call and reply. It costs what the call asks, and goes over no entries. Answers `Memory` only
+/// where a growth was refused: then the index is cut back, so nothing is changed.
+pub fn answer(
+    alloc: Global,
+    kept: &Kept<'_>,
+    index: &mut Index,
+    call: &Call,
+) -> Result<Reply, Memory>
+    requires tied { IsIndexOf index.old.present (world kept.now) }
+    requires settled { index.old.settled ≡ index.old.present }
+    ensures reply { IfOk result (λ reply. reply ≡ reply_to (world kept.now) call.now) }
+    ensures tied { OnOk result (IsIndexOf index.new.present (world_with (world kept.now) call.now)) }
+    ensures settled { index.new.settled ≡ index.old.settled }
+    ensures err { OnErr result (index.new ≡ index.old) }
+{
+    match answer_or_grow(alloc, kept, index, call) {
+        Ok(reply) => Ok(reply),
+        Err(refused) => {
+            index.cut();
+            Err(refused)
+        }
     }
 }

@@ -2,8 +2,7 @@
 //!
 //! The table of calls (`Calls` of `ledger_spec`) gives the reply of each call from what stands after a history, and
 //! nothing else: `answer` finds it in what a ledger keeps (`Kept`), which is lent, and in the index beside it, to which
-//! it adds what the call accepts and publishes. Where memory is refused the index may have grown, and whoever called
-//! cuts it back. `resolution` and `front` answer what is asked without an entry: what is found of what a transaction
+//! it adds what the call accepts and publishes. Where memory is refused it cuts the index back. `resolution` and `front` answer what is asked without an entry: what is found of what a transaction
 //! names, and the same for the first of the pending transactions.
 #![tactic(auto)]
 

@@ -4,7 +4,7 @@ use Rattle.ledger.specs.declared.call.Call.{Call}
 use Rattle.ledger_spec.specs.Replay.{world}
 use Rattle.ledger_kept.specs.Kept.{IsIndexOf, world_with}
 use Rattle.ledger_dispatch.proofs.TiedLemmas.{advanced, submitted, enqueued, rounded}
-use Rattle.ledger_dispatch.proofs.dispatch.answer.Goals as goal
+use Rattle.ledger_dispatch.proofs.dispatch.answer_or_grow.Goals as goal
 
 pub returns-in-Publish-clause-tied : goal.returns-in-Publish-clause-tied
 returns-in-Publish-clause-tied c =
