@@ -8,3 +8,4 @@ pub mod EnoughLemmas
 pub mod RoleTokenLemmas
 pub mod MeetLemmas
 pub mod MissingLemmas
+mod PutLemmas

@@ -1,7 +1,8 @@
 //! Amounts of tokens that are wanted.
-ghost use Rattle.std.specs.Prelude.{◌≡◌, ◌++◌, pos, ◌<ℤ◌, ◌≤ℤ◌, ◌^◌, map, IfOk, OnOk};
+ghost use Rattle.std.specs.Prelude.{◌≡◌, ◌++◌, pos, ◌<ℤ◌, ◌≤ℤ◌, ◌^◌, map, IfOk, OnOk, OnErr};
 ghost use Rattle.bundle.specs.Bundles.{amount_of};
 ghost use Rattle.states.specs.States.{AllPositive};
+ghost use Rattle.contract_bytes.specs.Writing.{AppendsFront};
 ghost use Rattle.builder_spec.specs.Starts.{accounts_of};
 ghost use Rattle.builder_spec.specs.Steps.{deposit_of, deposits};
 ghost use Rattle.coin_selection.specs.MissingSupport.{Adds};
@@ -59,9 +60,10 @@ fn deposit_of(input: &Input) -> Option<Amount<'_>>
     }
 }
 
-/// Puts what inputs deposit, in order, behind others.
+/// Puts what inputs deposit, in order, behind others. On a refusal the first of it may stand there.
 pub fn put_deposits<'a>(amounts: &mut Vec<Amount<'a>>, inputs: &'a [Input]) -> Result<(), Memory>
-    ensures { OnOk result (amounts.new.items ≡ amounts.old.items ++ deposits inputs.now) }
+    ensures deposits { OnOk result (amounts.new.items ≡ amounts.old.items ++ deposits inputs.now) }
+    ensures err { OnErr result (AppendsFront (deposits inputs.now) amounts.old.items amounts.new.items) }
 {
     for input in inputs {
         if let Some(amount) = deposit_of(input) {

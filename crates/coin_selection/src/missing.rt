@@ -1,6 +1,6 @@
 //! What is still missing of each token: a map in the order of tokens that shrinks as amounts are counted against it.
 ghost use Rattle.std.specs.Prelude.{◌≡◌, ◌↔◌, pos, int_le, ◌<ℤ◌, ◌≤ℤ◌, ◌+ℤ◌, ◌^◌};
-ghost use Rattle.std.specs.Prelude.{Some, None, false, option_copied, option_map, is_some, IsTrue, OnOk};
+ghost use Rattle.std.specs.Prelude.{Some, None, false, option_copied, option_map, is_some, IsTrue, OnOk, OnErr};
 ghost use Rattle.std.specs.BTreeMap as map;
 ghost use Rattle.std.specs.Option.{MatchOption, IfSome, unwrap_or};
 ghost use Rattle.std.specs.FinMap.{get};
@@ -54,11 +54,12 @@ impl Missing {
         }
     }
 
-    /// So much more of a token is needed. It takes logarithmic time.
+    /// So much more of a token is needed. A refusal changes nothing. It takes logarithmic time.
     pub fn add(&mut self, token: &Token, amount: i128) -> Result<(), Memory>
         requires positive { pos 0 <ℤ amount }
         requires room { (amount_of self.old token.now +ℤ amount) ≤ℤ pos (2 ^ 200) }
-        ensures { OnOk result (Adds self.old self.new token.now amount) }
+        ensures adds { OnOk result (Adds self.old self.new token.now amount) }
+        ensures err { OnErr result ((t : AToken) → get self.new t ≡ get self.old t) }
     {
         if change(&mut self.left, token, amount) {
             Ok(())
@@ -67,9 +68,10 @@ impl Missing {
         }
     }
 
-    /// One of a token is needed, where none of it is. It takes logarithmic time.
+    /// One of a token is needed, where none of it is. A refusal changes nothing. It takes logarithmic time.
     pub fn add_one(&mut self, token: Token) -> Result<(), Memory>
-        ensures { OnOk result (ChangesOne (get self.old) (get self.new) token (λ _. or_one (get self.old token))) }
+        ensures one { OnOk result (ChangesOne (get self.old) (get self.new) token (λ _. or_one (get self.old token))) }
+        ensures err { OnErr result ((t : AToken) → get self.new t ≡ get self.old t) }
     {
         if self.left.contains_key(&token) {
             return Ok(());
@@ -80,7 +82,8 @@ impl Missing {
     // So much of a token is needed, of which none was.
     fn put(&mut self, token: Token, amount: i128) -> Result<(), Memory>
         requires { InRange amount }
-        ensures { OnOk result (ChangesOne (get self.old) (get self.new) token (λ _. Some amount)) }
+        ensures so_much { OnOk result (ChangesOne (get self.old) (get self.new) token (λ _. Some amount)) }
+        ensures err { OnErr result ((t : AToken) → get self.new t ≡ get self.old t) }
     {
         let mut sum = WideSum::zero();
         sum.add(amount);

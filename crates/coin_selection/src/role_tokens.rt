@@ -1,7 +1,9 @@
 //! Tokens of roles.
-ghost use Rattle.std.specs.Prelude.{◌≡◌, ◌++◌, IfOk, OnOk};
+ghost use Rattle.std.specs.Prelude.{◌≡◌, [], ◌∷◌, ◌++◌, IfOk, OnOk, OnErr};
+ghost use Rattle.std.specs.Option.{option_to_list};
 ghost use Rattle.roles.specs.Steps.{role_token};
 ghost use Rattle.builder_spec.specs.Steps.{token_of, roles_of};
+ghost use Rattle.contract_bytes.specs.Writing.{AppendsFront};
 
 use collections::{Bytes, Memory, Text, TryClone};
 use contract::{Input, Party};
@@ -61,18 +63,28 @@ fn token_of<'a>(currency: &'a Bytes, party: &'a Party) -> Option<RoleToken<'a>>
     }
 }
 
-/// Puts the tokens of the roles that inputs need, in order, behind others.
+// The token of the role that an input needs.
+fn role_of<'a>(currency: &'a Bytes, input: &'a Input) -> Option<RoleToken<'a>>
+    ensures { option_to_list result ≡ roles_of currency.now (input.now ∷ []) }
+{
+    match actor(input) {
+        Some(party) => token_of(currency, party),
+        None => None,
+    }
+}
+
+/// Puts the tokens of the roles that inputs need, in order, behind others. On a refusal the first of them may stand
+/// there.
 pub fn put_roles<'a>(
     roles: &mut Vec<RoleToken<'a>>,
     currency: &'a Bytes,
     inputs: &'a [Input],
 ) -> Result<(), Memory>
-    ensures { OnOk result (roles.new.items ≡ roles.old.items ++ roles_of currency.now inputs.now) }
+    ensures roles { OnOk result (roles.new.items ≡ roles.old.items ++ roles_of currency.now inputs.now) }
+    ensures err { OnErr result (AppendsFront (roles_of currency.now inputs.now) roles.old.items roles.new.items) }
 {
     for input in inputs {
-        if let Some(party) = actor(input)
-            && let Some(role) = token_of(currency, party)
-        {
+        if let Some(role) = role_of(currency, input) {
             roles.push(role)?;
         }
     }

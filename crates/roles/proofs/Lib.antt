@@ -2,6 +2,7 @@ pub mod LeftLemmas
 pub mod SumsLemmas
 pub mod OutputLemmas
 pub mod OwedLaws
+pub mod PutLaws
 pub mod PublicationsLemmas
 mod DueLemmas
 mod WorkedLemmas

@@ -1,6 +1,7 @@
 //! The outputs that a step owes: the one in which the contract goes on, and those that are due for its payments. Here
 //! they are made, for who builds a step, and told from others, for who judges one, by the same definitions.
-ghost use Rattle.std.specs.Prelude.{◌≡◌, ◌+◌, ◌++◌, ◌<ℤ◌, ◌↔◌, pos, ℕ, List, length, IsTrue, IfOk, OnOk, drop, option_copied};
+ghost use Rattle.std.specs.Prelude.{◌≡◌, ◌+◌, ◌++◌, ◌<ℤ◌, ◌↔◌, pos, ℕ, List, length, IsTrue, IfOk, OnOk, OnErr, drop, option_copied};
+ghost use Rattle.contract_bytes.specs.Writing.{AppendsFront};
 ghost use Rattle.roles.specs.Sums.{sums_of};
 ghost use Rattle.roles.specs.Steps.{same_output, same_datum, is_instance, holds_just, continuation, goes_on_in, lock_for, owed_output, due_to, due_outputs, first_unpaid};
 
@@ -156,14 +157,15 @@ fn due_to(payment: &Payment) -> Option<&Party>
     }
 }
 
-/// Puts the outputs that are due for payments behind others.
+/// Puts the outputs that are due for payments, in order, behind others. On a refusal the first of them may stand there.
 pub fn put_due(
     alloc: Global,
     outputs: &mut Items<Output>,
     currency: &Bytes,
     payments: &[Payment],
 ) -> Result<(), Memory>
-    ensures { OnOk result (outputs.new ≡ outputs.old ++ due_outputs currency.now payments.now) }
+    ensures due { OnOk result (outputs.new ≡ outputs.old ++ due_outputs currency.now payments.now) }
+    ensures err { OnErr result (AppendsFront (due_outputs currency.now payments.now) outputs.old outputs.new) }
 {
     for payment in payments {
         if let Some(party) = due_to(payment) {

@@ -13,7 +13,7 @@ loop-step-preserved c =
     let old = c.loop-step.roles.items in
     let rest = all_roles (drop (i + 1) ss) in
     ap (λ ts. ts ++ rest)
-    (c.in_ok-put_roles.ensures
+    (c.in_ok-put_roles.ensures.roles
     ∙ ap (λ (p : Published). old ++ roles_of p.currency c.step.inside.inputs.now) c.published.ensures
     ∙ ap (λ (x : Stepped). old ++ roles_of s.thread.shown.published.currency x.inputs) c.step.view_is)
     ∙ append_assoc old (roles_of s.thread.shown.published.currency s.inputs) rest

@@ -1,6 +1,7 @@
-use Rattle.std.proofs.Common.{◌≡◌, ◌++◌, drop}
+use Rattle.std.proofs.Common.{drop}
+use Rattle.roles.proofs.PutLaws.{IsPut}
 use Rattle.builder_spec.specs.Steps.{deposits}
 use Rattle.coin_selection.proofs.amounts.put_deposits.Given as goal
 
 abbrev pub invariant-loop-input : goal.invariant-loop-input
-invariant-loop-input l = l.amounts.items ++ deposits (drop l.input-index l.inputs) ≡ l.fn.amounts.items ++ deposits l.inputs
+invariant-loop-input l = IsPut (deposits l.inputs) (deposits (drop l.input-index l.inputs)) l.fn.amounts.items l.amounts.items

@@ -10,4 +10,4 @@ loop-i-preserved c = λ ns s.
     let i = c.loop-i.i in
     let at = back rs i c.index-roles-i.result (omega (arith, c.loop-i-test.true)) (omega (arith, c.loop-i.auto.i)) c.index-roles-i.is in
     subst (λ qs. IsMissing (required_amount qs ns) c.add_one.new.self) (ap (λ r. r ∷ drop i rs) c.in_ok-to_token.ensures ∙ sym at)
-    (add_role c.loop-i.missing c.add_one.new.self (drop i rs) ns c.in_ok-to_token.field-0 (c.loop-i.invariant ns s) c.in_ok-add_one.ensures)
+    (add_role c.loop-i.missing c.add_one.new.self (drop i rs) ns c.in_ok-to_token.field-0 (c.loop-i.invariant ns s) c.in_ok-add_one.ensures.one)

@@ -1,18 +1,19 @@
-use Rattle.std.proofs.Common.{◌+ℤ◌, Some, refl, sym, subst, arith}
+use Rattle.std.proofs.Common.{◌+ℤ◌, Some, refl, sym, ◌∙◌, subst, arith}
 use Rattle.std.proofs.lemmas.Int.{ints}
+use Rattle.std.proofs.lemmas.Result.{on_err_weaker}
 use Rattle.std.specs.Option.{IfSome}
 use Rattle.std.specs.FinMap.{from_entries}
 use Rattle.names.specs.Orders.{token_cmp}
 use Rattle.bundle.specs.Bundles.{amount_of}
 use Rattle.coin_selection.specs.MissingSupport.{InRange}
-use Rattle.coin_selection.proofs.MissingLemmas.{more, first, unchanged, in_range, set_in_range, more_in_range, on_ok, by_amount}
+use Rattle.coin_selection.proofs.MissingLemmas.{more, first, unchanged, in_range, set_in_range, more_in_range, on_ok, on_err, by_amount}
 use Rattle.coin_selection.proofs.missing.Missing.add.Goals as goal
 
 pub change-requires : goal.change-requires
 change-requires c = in_range c.self.inside.left.entries c.self.invariant c.args.token.now
 
-pub returns-then-change : goal.returns-then-change
-returns-then-change c =
+pub returns-then-change-clause-adds : goal.returns-then-change-clause-adds
+returns-then-change-clause-adds c =
     more c.self.inside.left.entries c.change.new.left.entries c.args.self.now c.args.token.now c.args.amount c.self.view_is (sym c.if-change.ensures.there) (by_amount c.self.inside.left.entries c.change.new.left.entries c.args.token.now _ c.args.amount c.if-change.ensures.changed (omega (arith, ints)))
 
 pub invariant_of-self : goal.invariant_of-self
@@ -29,12 +30,27 @@ invariant_of-self-else-change c t =
     (sym (unchanged c.self.inside.left.entries c.change.new.left.entries v c.args.token.now c.args.amount refl (sym c.if-change.ensures.there) (by_amount c.self.inside.left.entries c.change.new.left.entries c.args.token.now _ c.args.amount c.if-change.ensures.changed (omega (arith, ints))) t))
     (c.self.invariant t)
 
-pub returns-in_ok-try_clone : goal.returns-in_ok-try_clone
-returns-in_ok-try_clone c =
+pub returns-in_ok-try_clone-clause-adds : goal.returns-in_ok-try_clone-clause-adds
+returns-in_ok-try_clone-clause-adds c =
     let m = c.self.inside.left.entries in
     let n = c.change.new.left.entries in
     let k = c.args.token.now in
     on_ok c.put.result
     (λ h. first m n c.args.self.now c.put.new.self k c.in_ok-try_clone.field-0 c.args.amount _ c.self.view_is (sym c.if-change.ensures.there)
     (by_amount m n k _ c.args.amount c.if-change.ensures.changed (omega (arith, ints))) c.in_ok-try_clone.ensures (omega (arith, ints)) h)
-    c.put.ensures
+    c.put.ensures.so_much
+
+pub returns-in_err-try_clone-clause-err : goal.returns-in_err-try_clone-clause-err
+returns-in_err-try_clone-clause-err c =
+    on_err c.from_residual.result
+    (unchanged c.self.inside.left.entries c.change.new.left.entries c.args.self.now c.args.token.now c.args.amount c.self.view_is (sym c.if-change.ensures.there)
+    (by_amount c.self.inside.left.entries c.change.new.left.entries c.args.token.now _ c.args.amount c.if-change.ensures.changed (omega (arith, ints))))
+
+pub returns-in_ok-try_clone-clause-err : goal.returns-in_ok-try_clone-clause-err
+returns-in_ok-try_clone-clause-err c =
+    on_err_weaker c.put.result
+    (λ same t.
+    same t
+    ∙ unchanged c.self.inside.left.entries c.change.new.left.entries c.args.self.now c.args.token.now c.args.amount c.self.view_is (sym c.if-change.ensures.there)
+    (by_amount c.self.inside.left.entries c.change.new.left.entries c.args.token.now _ c.args.amount c.if-change.ensures.changed (omega (arith, ints))) t)
+    c.put.ensures.err
