@@ -18,7 +18,8 @@ use Rattle.eutxo.specs.Faults.{or_else}
 use Rattle.roles.specs.declared.published.Published.{Published}
 use Rattle.ledger.specs.declared.look.Unspent.{Unspent}
 use Rattle.roles.specs.Steps.{marlowe}
-use Rattle.builder_laws.specs.Accepting.{contents, Passes, Admits}
+use Rattle.builder_laws.specs.Accepting.{contents, Passes}
+use Rattle.ledger_spec.specs.Open.{Admits}
 use Rattle.builder_laws.proofs.TestLemmas.{Nowhere, both, by_recursion, all_everywhere, no_fault, none_of, if_not}
 use Rattle.builder_laws.proofs.NamedLemmas.{refs}
 use Rattle.builder_laws.proofs.PairLemmas.{names}

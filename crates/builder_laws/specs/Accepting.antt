@@ -1,8 +1,7 @@
 -- When the layout of a request is accepted.
-use Rattle.std.specs.Prelude.{◌≡◌, ◌≤ℤ◌, true, false, List, ◌++◌, map, All, Option, Some, None, is_some}
+use Rattle.std.specs.Prelude.{◌≡◌, true, List, ◌++◌, map, Option, Some, None, is_some}
 use Rattle.eutxo_types.specs.declared.output.Output.{Output}
 use Rattle.eutxo_types.specs.declared.tx.Tx.{Tx}
-use Rattle.eutxo_types.specs.Ids.{id_of}
 use Rattle.eutxo.specs.declared.resolved.Resolved.{Resolved}
 use Rattle.eutxo.specs.Found.{script_at, whole}
 use Rattle.eutxo.specs.Judgement.{Moment, judge}
@@ -16,6 +15,7 @@ use Rattle.builder_spec.specs.Steps.{Thread, Stepped, look_thread, step_spent, h
 use Rattle.builder_spec.specs.Starts.{start_front, hinders_start, layout_start}
 use Rattle.builder_spec.specs.Claims.{claim_front, hinders_claim, layout_claim}
 use Rattle.roles.specs.Steps.{marlowe}
+use Rattle.ledger_spec.specs.Open.{Admits}
 
 -- ---- on what was handed in
 
@@ -47,17 +47,6 @@ abbrev pub ClaimsPass : Type 0
 ClaimsPass = (r : ClaimRequest) (found : Resolved Published) → hinders_claim r ≡ None → found.outputs ≡ contents (r.payouts ++ claim_front r) → Passes (layout_claim r) found
 
 -- ---- on a ledger
-
--- at a moment these outputs are unspent, with the contents that were handed in
-abbrev pub AreUnspent : {V : Type 0} → Moment V → List Unspent → Type 0
-AreUnspent m us = All (λ u. m.unspent u.reference ≡ Some u.output) us
-
--- what a transaction spends is unspent as it was handed in, its id is unused, and the tick lies in its interval
-pub record Admits {V : Type 0} (m : Moment V) (spent : List Unspent) (tx : Tx) : Type 0 where
-  pub unspent : AreUnspent m spent
-  pub unused : m.is_used (id_of tx) ≡ false
-  pub from : tx.interval.from ≤ℤ m.tick
-  pub to : m.tick ≤ℤ tx.interval.to
 
 -- A STEP THAT NOTHING HINDERS IS ACCEPTED at every such moment at which the thread's script is published as the look shows it
 abbrev pub StepsAreAccepted : Type 0

@@ -19,13 +19,12 @@ use Rattle.ledger_laws.proofs.ReferenceLaws.{maker, unspent_so}
 use Rattle.builder_spec.specs.Closings.{closing}
 use Rattle.builder_spec.specs.Steps.{Thread, thread_of, look_thread}
 use Rattle.builder_laws.specs.AfterLast.{AnyoneCloses}
-use Rattle.builder_laws.specs.AfterPasts.{StepsAreAcceptedAfter}
 use Rattle.builder_laws.specs.ShownThreads.{IsShown, ShownThreadsAreCurrent}
-use Rattle.ledger_spec.specs.Headline.{AnyoneClosesShown}
+use Rattle.ledger_spec.specs.Headline.{AcceptsBuilt, Accepts, IsOpenAfter, AnyoneClosesShown}
 use Rattle.ledger_spec.specs.Replay.{Course, world, past_of, published, published_at}
 use Rattle.ledger_spec.specs.Views.{thread_shown, look}
 use Rattle.ledger_spec.proofs.PublishingLaws.{found_under}
-use Rattle.chain.proofs.HeadlineLemmas.{IsSoundCourse, accepts_steps, shown_so}
+use Rattle.chain.proofs.HeadlineLemmas.{IsSoundCourse, shown_so}
 
 all_at : {A : Type 0} (P : A → Type 0) (xs : List A) (n : ℕ) (x : A) → All P xs → slice_get xs n ≡ Some x → P x
 all_at P xs n x h at = subst P (get_or_from_slice_get xs n x x at) (All-get_or P xs n x (slice_get_within xs n x at) h)
@@ -57,12 +56,12 @@ module _ (current : ShownThreadsAreCurrent) (c : Course) (kept : IsSoundCourse c
           let same : x ≡ e = same_some x e (sym (current known past (look (world c) ask) t kept.tables (found_under (published c.entries)) kept.sound k s) ∙ h) in
           subst (λ (y : Thread). IsShown known past y.shown) same s
 
-  pub closes_shown : AnyoneCloses → StepsAreAcceptedAfter → AnyoneClosesShown c
-  closes_shown law accepted ask e i signers change shown reached order late =
+  pub closes_shown : AnyoneCloses → AcceptsBuilt (published_at (world c).published) (IsOpenAfter c) (Accepts c) → AnyoneClosesShown c
+  closes_shown law built ask e i signers change shown reached order late =
       let s = look_shows ask e shown in
       let is : is_contract e.shown.output.lock ≡ true = is_contract_so e.shown.output.lock _ s.contract in
       let named : known e.shown.published.id ≡ Some e.shown.published = ap known (found_under (published c.entries) s.lock.script e.shown.published s.named) ∙ s.named in
       record {
         outcome = law (look (world c) ask) e i signers change shown (output_fits past kept.sound.keys kept.fits e.shown.reference e.shown.output s.unspent is) reached order late;
-        accepted = λ clear free. accepts_steps accepted c kept (look (world c) ask) (closing i signers change) e shown clear named free;
+        accepted = λ clear free. built.steps (look (world c) ask) (closing i signers change) e shown clear named free;
       }

@@ -1,4 +1,4 @@
--- A look shows where a thread ends; where digests tell data apart, its run stands there.
+-- A look shows where a thread ends, at the state in which its last transaction left it.
 use Rattle.std.proofs.Common.{◌≡◌, ℕ, List, refl, sym, ◌∙◌, ap, subst, Option, Some, None, ◌⊎◌, inl, inr}
 use Rattle.std.specs.Option.{option_map}
 use Rattle.eutxo_types.specs.declared.output.Output.{Output}
@@ -8,14 +8,14 @@ use Rattle.eutxo.specs.Laws.{FoundIsEnough}
 use Rattle.roles.specs.declared.published.Published.{Published}
 use Rattle.roles.specs.Steps.{marlowe}
 use Rattle.ledger.specs.declared.ask.Ask.{Ask}
-use Rattle.ledger_laws.specs.Laws.{DigestsTell, ThreadsAreRuns, ThreadsEndWithRuns, ContractsAreOfTables, EndsAreUnspent}
+use Rattle.ledger_laws.specs.Laws.{ThreadsAreRuns, ThreadsEndWithRuns, ContractsAreOfTables, EndsAreUnspent}
 use Rattle.ledger_laws.specs.Past.{Past, unspent_at}
-use Rattle.ledger_laws.specs.Threads.{thread, thread_end, IsMade, IsStart, StartsThread, Member, Run, Carries, contract_after, state_after}
+use Rattle.ledger_laws.specs.Threads.{thread, thread_end, IsMade, IsStart, StartsThread, Member, Carries, contract_after, state_after}
 use Rattle.ledger_laws.proofs.PartLaws.{script_so}
 use Rattle.ledger_laws.proofs.PlainLaws.{same_some}
 use Rattle.builder_spec.specs.Steps.{Thread, thread_terms, thread_of, look_thread}
 use Rattle.builder_laws.specs.ShownThreads.{ShownThreadsAreCurrent}
-use Rattle.ledger_spec.specs.Headline.{ShowsWhereRunsStand, ShowsWhatIsNotOver}
+use Rattle.ledger_spec.specs.Headline.{ShowsWhereThreadsStand, ShowsWhatIsNotOver}
 use Rattle.ledger_spec.specs.Replay.{Course, World, world, past_of, published, published_at}
 use Rattle.ledger_spec.specs.Views.{EachStartIsTold, end_of, made_datum, object_under, thread_output_at, thread_shown, look}
 use Rattle.ledger_spec.proofs.InstanceLaws.{made_instance}
@@ -37,11 +37,11 @@ record EndStands (known : List ℕ → Option Published) (past : Past) (q : Outp
 abbrev thread_at : (known : List ℕ → Option Published) (past : Past) (q : OutputRef) → EndStands known past q → Thread
 thread_at known past q s = record { shown = record { reference = q; output = s.output; datum = s.instance.datum; published = s.object }; datum = s.instance.datum }
 
--- a thread that is shown stands where a run of the thread stands
-abbrev StandsWithItsRun : World → OutputRef → Instance → Thread → Type 0
-StandsWithItsRun w r i e =
-    (published_at w.published i.script ≡ Some e.shown.published)
-    × ((run : List Member) → Run ((thread_terms e).tree e.shown.published.root) i.datum.state run → Carries (published_at w.published) (past_of w) (thread_terms e) i.script (thread marlowe (published_at w.published) (past_of w) r) run →
+-- a thread that is shown stands where its last transaction left it
+abbrev Stands : World → OutputRef → Instance → Thread → Type 0
+Stands w r i e =
+    (published_at w.published i.script ≡ Some e.shown.published) × ((m : Instance) × IsMade (past_of w) e.shown.reference m × (m.datum ≡ e.datum))
+    × ((run : List Member) → Carries (published_at w.published) (past_of w) (thread_terms e) i.script (thread marlowe (published_at w.published) (past_of w) r) run →
     ((thread_terms e).tree e.datum.cont ≡ contract_after ((thread_terms e).tree e.shown.published.root) run) × (e.datum.state ≡ state_after i.datum.state run))
 
 module _ (run_law : ThreadsAreRuns) (end_law : ThreadsEndWithRuns) (table_law : ContractsAreOfTables) (unspent_law : EndsAreUnspent marlowe) (enough : FoundIsEnough marlowe) (told : EachStartIsTold) (current : ShownThreadsAreCurrent) (c : Course) (kept : IsSoundCourse c) where
@@ -74,19 +74,18 @@ module _ (run_law : ThreadsAreRuns) (end_law : ThreadsEndWithRuns) (table_law : 
       by None h = inl refl
       by (Some q) h = let s = end_stands r q start h in inr (thread_at known past q s, shown_end ask r q a ((told known past r).0 start ∙ h) s)
 
-  -- where digests tell data apart, its datum stands where a run of the thread stands
-  stands_with_run : DigestsTell past → (r : OutputRef) (i : Instance) → IsStart past r i → (q : OutputRef) → thread_end marlowe known past r ≡ Some q → (s : EndStands known past q) → StandsWithItsRun (world c) r i (thread_at known past q s)
-  stands_with_run apart r i start q h s =
-      let a = run_law known past kept.tables apart kept.sound r i start in
-      let end = end_law known past kept.tables apart kept.sound r i start in
-      let script : s.instance.script ≡ i.script = (end a.0 a.1 a.2.0 a.2.1.0 a.2.1.1 q s.instance h s.made).0 in
+  end_left : (r : OutputRef) (i : Instance) → IsStart past r i → (q : OutputRef) → thread_end marlowe known past r ≡ Some q → (s : EndStands known past q) → Stands (world c) r i (thread_at known past q s)
+  end_left r i start q h s =
+      let a = run_law known past kept.tables kept.sound r i start in
+      let end = end_law known past kept.tables kept.sound r i start in
+      let script : s.instance.script ≡ i.script = (end a.0 a.1 (a.2).carried.0 (a.2).carried.1 q s.instance h s.made).0 in
       let named : known i.script ≡ Some s.object = ap known (sym script) ∙ s.named in
-      (named, λ run g k. let z = end s.object named run g k q s.instance h s.made in (z.1, z.2))
+      (named, (s.instance, s.made, refl), λ run k. let z = end s.object named run k q s.instance h s.made in (z.1, z.2))
 
-  pub shows_where_runs_stand : ShowsWhereRunsStand c
-  shows_where_runs_stand apart ask r i e a start shown = by (thread_end marlowe known past r) refl
+  pub shows_where_threads_stand : ShowsWhereThreadsStand c
+  shows_where_threads_stand ask r i e a start shown = by (thread_end marlowe known past r) refl
     where
-      by : (z : Option OutputRef) → thread_end marlowe known past r ≡ z → StandsWithItsRun (world c) r i e
+      by : (z : Option OutputRef) → thread_end marlowe known past r ≡ z → Stands (world c) r i e
       by None h =
           let over : end_of known past r ≡ None = (told known past r).0 (i, start) ∙ h in
           let none : look_thread (look (world c) ask) ≡ None =
@@ -96,4 +95,4 @@ module _ (run_law : ThreadsAreRuns) (end_law : ThreadsEndWithRuns) (table_law : 
       by (Some q) h =
           let s = end_stands r q (i, start) h in
           let same : thread_at known past q s ≡ e = same_some (thread_at known past q s) e (sym (shown_end ask r q a ((told known past r).0 (i, start) ∙ h) s) ∙ shown) in
-          subst (λ (x : Thread). StandsWithItsRun (world c) r i x) same (stands_with_run apart r i start q h s)
+          subst (λ (x : Thread). Stands (world c) r i x) same (end_left r i start q h s)

@@ -1,30 +1,40 @@
 -- Layouts are accepted, and a thread that is shown stands.
-use Rattle.std.proofs.Common.{◌≡◌, List, refl, ap, subst, Option, Some, None, All}
+use Rattle.std.proofs.Common.{◌≡◌, ℕ, zero, suc, ℤ, List, [], ◌∷◌, refl, sym, ◌∙◌, ap, subst, take, Option, Some, None, All}
+use Rattle.std.specs.List.{slice_get}
 use Rattle.std.specs.Option.{option_map}
+use Rattle.eutxo_types.specs.declared.fault.TxFault.{TxFault}
 use Rattle.eutxo_types.specs.declared.lock.Lock.{Lock}
 use Rattle.eutxo_types.specs.declared.lock.Lock.TheVariants.{Key, Payout, Contract}
 use Rattle.eutxo_types.specs.declared.output.Output.{Output}
 use Rattle.eutxo_types.specs.declared.output_ref.OutputRef.{OutputRef}
+use Rattle.eutxo_types.specs.declared.tx.Tx.{Tx}
 use Rattle.eutxo_types.specs.Fitting.{TxFits}
 use Rattle.eutxo_types.specs.Parts.{script_in, contract_in, Instance}
+use Rattle.eutxo.specs.Judgement.{Moment}
+use Rattle.eutxo.specs.Local.{verdict_of}
 use Rattle.roles.specs.declared.published.Published.{Published}
 use Rattle.roles.specs.Steps.{marlowe}
+use Rattle.ledger.specs.declared.call.Reply.{Reply}
+use Rattle.ledger.specs.declared.call.Reply.TheVariants as answer
+use Rattle.ledger.specs.declared.call.Ticketed.{Ticketed}
 use Rattle.ledger.specs.declared.look.ThreadOutput.{ThreadOutput}
 use Rattle.ledger_laws.specs.Laws.{AreTables}
+use Rattle.ledger_laws.proofs.PlainLaws.{same_some}
 use Rattle.ledger_laws.specs.Past.{Past, unspent_at}
 use Rattle.ledger_laws.specs.Sound.{IsSound}
-use Rattle.builder_spec.specs.Parts.{layout_steps}
+use Rattle.builder_spec.specs.Parts.{ArePublished, layout_steps}
 use Rattle.builder_spec.specs.Steps.{layout_step}
 use Rattle.builder_spec.specs.Starts.{layout_start}
 use Rattle.builder_spec.specs.Claims.{layout_claim}
+use Rattle.builder_laws.specs.Accepting.{StepsAreAccepted, PartsAreAccepted, StartsAreAccepted, ClaimsAreAccepted}
 use Rattle.builder_laws.specs.AfterPasts.{StepsAreAcceptedAfter, PartsAreAcceptedAfter, StartsAreAcceptedAfter, ClaimsAreAcceptedAfter}
 use Rattle.builder_laws.specs.ShownThreads.{IsShown, ShownThreadsAreCurrent}
-use Rattle.ledger_spec.specs.Replay.{Course, World, world, past_of, published, published_at}
+use Rattle.ledger_spec.specs.Replay.{Course, Pending, pending_entry, World, world, past_of, published, published_at, moment_of}
 use Rattle.ledger_spec.specs.Views.{instance_at, thread_output, object_under, thread_output_in, thread_output_at, end_of, thread_shown, look}
-use Rattle.ledger_spec.specs.Calls.{submit_reply}
+use Rattle.ledger_spec.specs.Calls.{fault_on, submit_reply, with_accepted_unless, round_verdicts, after_places}
 use Rattle.ledger_spec.proofs.InstanceLaws.{instance_made}
 use Rattle.ledger_spec.proofs.PublishingLaws.{found_under}
-use Rattle.ledger_spec.specs.Headline.{AcceptsSteps, AcceptsParts, AcceptsStarts, AcceptsClaims, ShowsCurrentThreads}
+use Rattle.ledger_spec.specs.Headline.{AcceptsBuilt, Accepts, IsOpenAfter, AcceptsPlace, IsOpenAtPlace, ShowsCurrentThreads}
 
 -- what a course accepted is sound and fits its spelling, and what it published are tables
 pub record IsSoundCourse (c : Course) : Type 0 where
@@ -32,19 +42,72 @@ pub record IsSoundCourse (c : Course) : Type 0 where
   pub tables : AreTables (published_at (published c.entries))
   pub fits : All TxFits (past_of (world c)).accepted
 
--- ---- what is built
+-- ---- what is built, by a Submit
 
-pub accepts_steps : StepsAreAcceptedAfter → (c : Course) → IsSoundCourse c → AcceptsSteps c
-accepts_steps law c kept look r e shown clear script is = ap (submit_reply (layout_step look r)) (law look r e (published_at (world c).published) (past_of (world c)) (world c).replay.tick shown clear script (record { fits = is.0; accepted = kept.fits }) is.1)
+pub accepts_built : StepsAreAcceptedAfter → PartsAreAcceptedAfter → StartsAreAcceptedAfter → ClaimsAreAcceptedAfter → (c : Course) → IsSoundCourse c → AcceptsBuilt (published_at (world c).published) (IsOpenAfter c) (Accepts c)
+accepts_built steps parts starts claims c kept = record {
+  steps = λ look r e shown clear script is. ap (submit_reply (layout_step look r)) (steps look r e named past tick shown clear script (record { fits = is.0; accepted = kept.fits }) is.1);
+  parts = λ r ss shown clear scripts is. ap (submit_reply (layout_steps r)) (parts r ss named past tick shown clear scripts (record { fits = is.0; accepted = kept.fits }) is.1);
+  starts = λ r clear script is. ap (submit_reply (layout_start r)) (starts r named past tick clear script (record { fits = is.0; accepted = kept.fits }) is.1);
+  claims = λ r clear is. ap (submit_reply (layout_claim r)) (claims r named past tick clear (record { fits = is.0; accepted = kept.fits }) is.1);
+}
+  where
+    named : List ℕ → Option Published
+    named = published_at (world c).published
 
-pub accepts_parts : PartsAreAcceptedAfter → (c : Course) → IsSoundCourse c → AcceptsParts c
-accepts_parts law c kept r ss shown clear scripts is = ap (submit_reply (layout_steps r)) (law r ss (published_at (world c).published) (past_of (world c)) (world c).replay.tick shown clear scripts (record { fits = is.0; accepted = kept.fits }) is.1)
+    past : Past
+    past = past_of (world c)
 
-pub accepts_starts : StartsAreAcceptedAfter → (c : Course) → IsSoundCourse c → AcceptsStarts c
-accepts_starts law c kept r clear script is = ap (submit_reply (layout_start r)) (law r (published_at (world c).published) (past_of (world c)) (world c).replay.tick clear script (record { fits = is.0; accepted = kept.fits }) is.1)
+    tick : ℤ
+    tick = (world c).replay.tick
 
-pub accepts_claims : ClaimsAreAcceptedAfter → (c : Course) → IsSoundCourse c → AcceptsClaims c
-accepts_claims law c kept r clear is = ap (submit_reply (layout_claim r)) (law r (published_at (world c).published) (past_of (world c)) (world c).replay.tick clear (record { fits = is.0; accepted = kept.fits }) is.1)
+-- ---- at the places of a Round
+
+-- the places of a round publish nothing
+same_published : (w : World) (tx : Tx) (f : Option TxFault) → (with_accepted_unless w tx f).published ≡ w.published
+same_published w tx None = refl
+same_published w tx (Some f) = refl
+
+places_publish_nothing : (w : World) (ps : List Pending) → (after_places w ps).published ≡ w.published
+places_publish_nothing w [] = refl
+places_publish_nothing w (p ∷ ps) = places_publish_nothing (with_accepted_unless w p.1 (fault_on w p.1)) ps ∙ same_published w p.1 (fault_on w p.1)
+
+-- each is judged behind those before it
+verdict_there : (w : World) (ps : List Pending) (k n : ℕ) (p : Pending) (v : Ticketed) → slice_get ps n ≡ Some p → slice_get (round_verdicts w (take k ps)) n ≡ Some v →
+    v.verdict ≡ verdict_of (fault_on (after_places w (take n ps)) p.1)
+verdict_there w [] k n p v at told = cc
+verdict_there w (q ∷ ps) zero n p v at told = cc
+verdict_there w (q ∷ ps) (suc k) zero p v at told =
+    ap (λ (x : Ticketed). x.verdict) (sym (same_some _ v told)) ∙ ap (λ (x : Pending). verdict_of (fault_on w x.1)) (same_some q p at)
+verdict_there w (q ∷ ps) (suc k) (suc n) p v at told = verdict_there (with_accepted_unless w q.1 (fault_on w q.1)) ps k n p v at told
+
+same_round : (us vs : List Ticketed) → (let r : Reply = answer.Round us in r) ≡ answer.Round vs → us ≡ vs
+same_round us vs h = cc
+
+-- what stands where a Round judges its n-th place
+abbrev at_place : Course → ℕ → World
+at_place c n = after_places (world c) (take n (world c).replay.pending)
+
+accepts_there : (c : Course) (n t : ℕ) (tx : Tx) → slice_get (world c).replay.pending n ≡ Some (pending_entry t tx) → fault_on (at_place c n) tx ≡ None → AcceptsPlace c n
+accepts_there c n t tx waits free k vs v reply told =
+    verdict_there (world c) (world c).replay.pending k n (pending_entry t tx) v waits (ap (λ (us : List Ticketed). slice_get us n) (same_round _ vs reply) ∙ told) ∙ ap verdict_of free
+
+pub accepts_places : StepsAreAccepted → PartsAreAccepted → StartsAreAccepted → ClaimsAreAccepted → (c : Course) (n : ℕ) → AcceptsBuilt (published_at (world c).published) (IsOpenAtPlace c n) (λ tx. AcceptsPlace c n)
+accepts_places steps parts starts claims c n = record {
+  steps = λ look r e shown clear script is. accepts_there c n is.0 (layout_step look r) is.1 (steps look r e m shown clear (there e.shown.published.id e.shown.published script) is.2);
+  parts = λ r ss shown clear scripts is. accepts_there c n is.0 (layout_steps r) is.1 (parts r ss m shown clear (subst (λ (ps : List Published). ArePublished (published_at ps) ss) (sym still) scripts) is.2);
+  starts = λ r clear script is. accepts_there c n is.0 (layout_start r) is.1 (starts r m clear (there r.published.id r.published script) is.2);
+  claims = λ r clear is. accepts_there c n is.0 (layout_claim r) is.1 (claims r m clear is.2);
+}
+  where
+    m : Moment Published
+    m = moment_of (at_place c n)
+
+    still : (at_place c n).published ≡ (world c).published
+    still = places_publish_nothing (world c) (take n (world c).replay.pending)
+
+    there : (id : List ℕ) (p : Published) → published_at (world c).published id ≡ Some p → m.published id ≡ Some p
+    there id p h = ap (λ (ps : List Published). published_at ps id) still ∙ h
 
 -- ---- what is shown
 

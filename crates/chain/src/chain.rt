@@ -205,8 +205,9 @@ impl Chain {
     ///
     /// So a Submit of what a builder answers to a request that nothing hinders (`builder`) is accepted, whatever other
     /// entries there are: where what it spends is unspent as it was handed in, no accepted transaction of other bytes
-    /// has its id, the tick lies in its interval and its script is published as the request has it. A Look shows each
-    /// thread that isn't over, and none but one that stands, at its end. From the last timeout on anyone closes a
+    /// has its id, the tick lies in its interval and its script is published as the request has it. So is each place of
+    /// a Round, where it is open when that place is judged. A Look shows each thread that isn't over, and none but one
+    /// that stands, at its end, in its current state. From the last timeout on anyone closes a
     /// thread that a Look shows, without inputs and offers, in an interval that ends neither before its start nor
     /// before the minimum time: the parties are paid all that the thread's output held, and what is built is accepted
     /// like any step, unless a number leaves 128 bits or nothing is left to do. The change of a step is what its front
@@ -276,11 +277,14 @@ impl Chain {
     /// is answered to be in use only where an earlier call published another contract or currency under it. What is
     /// published stays so: before any later entry, the same stands under its id.
     ///
-    /// And whatever was called, this holds of what was accepted. Where no two different data that accepted transactions
-    /// bring have one digest, the thread of each start output is exactly one run of the contract that was published
-    /// under its script, and where the thread has an end, its datum says where that run stands, and so does a Look that
-    /// shows the thread. Nothing else needs that of digests. Every input that spends a contract output stands on
-    /// exactly one thread; a contract output is spent by a step alone, and a step spends one. Each party that a step's
+    /// And whatever was called, this holds of what was accepted. The thread of each start output is exactly one run of
+    /// the contract that was published under its script: each member is what the transaction function gives from the
+    /// datum that its transaction brings for the output that it spends, and where the thread has an end, its datum says
+    /// where the last member left it. That each member goes on from where the one before ended needs that the thread's
+    /// transactions bring what was made, as they do where no two different data that accepted transactions bring have
+    /// one digest. Nothing else needs that of digests. Every input that spends a contract output stands on exactly one
+    /// thread; a contract output is spent by a step alone, and a step spends one. One output never serves two
+    /// contracts. Each party that a step's
     /// inputs need is authorised: an address among the signers, or a role whose token a key input's output holds. Each
     /// unspent contract output is the end of exactly one thread, and each thread's end is an unspent contract output.
     /// Such an output holds just the sums of its accounts, and stands at a number of the table that was published under
@@ -290,8 +294,8 @@ impl Chain {
     ///
     /// What is built of a request that nothing hinders is accepted now where it is open, as `step` says. All of this
     /// held before each entry too (`throughout`): a Look in the middle of the history showed each thread that wasn't
-    /// over, under that premise where its run stood, and what was built of it was accepted where it was open at its
-    /// Submit. And a Look that comes after an accepted Submit shows what that made, where it asks for it and nothing
+    /// over, in its current state, and what was built of it was accepted where it was open at its Submit, or at its
+    /// place of a Round. And a Look that comes after an accepted Submit shows what that made, where it asks for it and nothing
     /// that was accepted between the two spent it.
     pub fn history(&self) -> &[Entry]
         ensures all { result.now ≡ self.now.entries }
@@ -336,11 +340,11 @@ impl Chain {
         front(alloc, &self.kept(&[]), &self.index, count)
     }
 
-    /// The records of the thread that starts at an output, in order: the thread's one run (`history`), with as many
-    /// records as the thread has transactions; each record's number stands for what remained, in the table that
-    /// is published under the thread's script. So it is where no two different data that accepted transactions bring
-    /// have one digest; else the records may end early. Where no thread starts there are none. Answers `Memory` only
-    /// where a growth was refused.
+    /// The records of the thread that starts at an output, in order, as many as the thread has transactions: each says
+    /// what the transaction function gave from the datum that its transaction brought for the output that it spent, and
+    /// its number stands for what remained, in the table that is published under the thread's script: for Close exactly
+    /// where the thread is over. They are the thread's one run (`history`) where it brings what was made. Where no
+    /// thread starts there are none. Answers `Memory` only where a growth was refused.
     pub fn steps_of(
         &self,
         alloc: Global,

@@ -9,7 +9,7 @@ use builder_laws::{
 use eutxo::found_is_enough;
 use ledger_laws::{
     accepting_is_sound, contracts_are_funded, contracts_end_threads, names_are_single,
-    outputs_are_spent_once, parties_are_authorised, publishing_is_sound, starting_is_sound,
+    outputs_are_spent_once, outputs_serve_one_contract, parties_are_authorised, publishing_is_sound, starting_is_sound,
     steps_stand_on_threads, threads_are_runs, tokens_are_preserved,
 };
 use ledger_spec::{publications_are_entries, starts_are_told};
@@ -34,6 +34,7 @@ pub fn both_halves_hold_of_legal_histories()
     sums_are_of_each_token();
     names_are_single::<Published>();
     outputs_are_spent_once::<Published>();
+    outputs_serve_one_contract::<Published>();
     tokens_are_preserved::<Published>();
     steps_are_accepted();
     parts_are_accepted();

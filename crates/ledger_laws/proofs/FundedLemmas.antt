@@ -35,12 +35,12 @@ use Rattle.ledger_laws.proofs.FlowLemmas.{goes_from}
 use Rattle.ledger_laws.proofs.MadeLaws.{made_of, each_tells, made_unspent}
 use Rattle.ledger_laws.proofs.LaidOutLemmas.{datum_after, stepped_so, continues_so, led_so}
 
--- a start is at the root, and holds the sums of its accounts
-pub started : (p : Published) (d : Datum) (o : Output) → starts_from p.root d o.amount ≡ true → (p.root ≡ d.cont) × (o.amount ≡ sums_of d.state)
+-- a start is at the root, holds the sums of its accounts, and has neither choices nor bound values
+pub started : (p : Published) (d : Datum) (o : Output) → starts_from p.root d o.amount ≡ true → (p.root ≡ d.cont) × (o.amount ≡ sums_of d.state) × (is_fresh d.state ≡ true)
 started p d o h =
     let a = and_true (same_cont p.root d.cont && is_fresh d.state) (same_amounts o.amount (sums_of d.state)) h in
     let b = and_true (same_cont p.root d.cont) (is_fresh d.state) a.0 in
-    (ap (λ (n : ℕ). let k : Cont = record { 0 = n } in k) (eqb-true p.root.0 d.cont.0 b.0), (same_by_decides bundles.the_row.coded o.amount (sums_of d.state)).0 a.1)
+    (ap (λ (n : ℕ). let k : Cont = record { 0 = n } in k) (eqb-true p.root.0 d.cont.0 b.0), (same_by_decides bundles.the_row.coded o.amount (sums_of d.state)).0 a.1, b.1)
 
 -- what holds of a contract output: it holds the sums of its accounts, at a number of what was published
 record Stands (p : Published) (o : Output) (c : Instance) : Type 0 where
@@ -50,7 +50,7 @@ record Stands (p : Published) (o : Output) (c : Instance) : Type 0 where
 module _ (enough : FoundIsEnough marlowe) (named : List ℕ → Option Published) (past : Past) (sound : IsSound marlowe named past) where
   -- of a transaction that steps nothing it is a start
   pub starting_at : (n : ℕ) (tx : Tx) → slice_get past.accepted n ≡ Some tx → steps tx ≡ false → (k : ℕ) (o : Output) (c : Instance) → slice_get tx.outputs k ≡ Some o → contract_at tx k ≡ Some c →
-      (p : Published) → named c.script ≡ Some p → (p.root ≡ c.datum.cont) × (o.amount ≡ sums_of c.datum.state)
+      (p : Published) → named c.script ≡ Some p → (p.root ≡ c.datum.cont) × (o.amount ≡ sums_of c.datum.state) × (is_fresh c.datum.state ≡ true)
   starting_at n tx at bare k o c out make p is =
       let s = spent_at marlowe enough named past sound n tx at in
       let none = none_steps (unspent_at (before past n)) tx.inputs s.ys tx.datums s.pairs s.kinds bare in

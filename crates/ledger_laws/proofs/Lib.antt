@@ -8,6 +8,7 @@ pub mod FreshLemmas
 pub mod SteppingLemmas
 pub mod FindingLemmas
 pub mod AcceptedLaws
+pub mod BroughtLemmas
 pub mod MadeLaws
 pub mod SpineLaws
 pub mod KernelLemmas
@@ -22,5 +23,6 @@ mod SingleLemmas
 pub mod LaidOutLemmas
 pub mod FundedLemmas
 pub mod RunLemmas
+pub mod ApartLemmas
 pub mod AuthorisedLemmas
 pub mod WorkedLemmas

@@ -131,13 +131,13 @@ pub record ReadStep (ys : List (Spend × Output)) (ds : List Datum) (y : Spend �
   pub brought : slice_get ds place ≡ Some datum
 
 -- the digests that are held where an input finds this
-abbrev held_with : Option ContractLock → List (Spend × Output) → List (List ℕ) → List (List ℕ)
+abbrev pub held_with : Option ContractLock → List (Spend × Output) → List (List ℕ) → List (List ℕ)
 held_with l ys hs = (digest_in l ++ digests_in (map (λ x. x.1) ys)) ++ hs
 
-first_told : (d : Datum) (ds : List Datum) (h : List ℕ) (hs : List (List ℕ)) → map datum_hash (d ∷ ds) ≡ h ∷ hs → (datum_hash d ≡ h) × (map datum_hash ds ≡ hs)
+pub first_told : (d : Datum) (ds : List Datum) (h : List ℕ) (hs : List (List ℕ)) → map datum_hash (d ∷ ds) ≡ h ∷ hs → (datum_hash d ≡ h) × (map datum_hash ds ≡ hs)
 first_told d ds h hs e = (cc, cc)
 
-none_told : (h : List ℕ) (hs : List (List ℕ)) → (let l : List (List ℕ) = [] in l) ≡ h ∷ hs → ⊥
+pub none_told : (h : List ℕ) (hs : List (List ℕ)) → (let l : List (List ℕ) = [] in l) ≡ h ∷ hs → ⊥
 none_told h hs e = cc
 
 -- where the data have the digests that are held, that is so

@@ -1,4 +1,4 @@
--- The thread of each start output is exactly one run.
+-- The thread of each start output is exactly one run, where it brings what was made.
 use Rattle.std.proofs.Common.{◌≡◌, ℕ, suc, Bool, true, false, List, [], ◌∷◌, refl, sym, ◌∙◌, ap, subst, Option, Some, None, Result, Ok, drop}
 use Rattle.std.specs.Prelude.{if◌then◌else◌}
 use Rattle.std.specs.List.{slice_get}
@@ -6,33 +6,33 @@ use Rattle.contract.specs.declared.fault.SemFault.{SemFault}
 use Rattle.contract.specs.declared.interval.Interval.{Interval}
 use Rattle.contract.specs.declared.input.Input.{Input}
 use Rattle.states.specs.States.{StateMaps}
-use Rattle.contract.specs.Tree.{ContractTree, close}
+use Rattle.contract.specs.Tree.{ContractTree, close, pay, if_obs, when, let_be, assert}
 use Rattle.semantics.specs.Walk.{Standing, standing, Walk, answer_of}
 use Rattle.semantics.specs.Computed.{computed}
 use Rattle.semantics.specs.Laws.{TurnsLead}
 use Rattle.machine.specs.declared.datum.Datum.{Datum}
 use Rattle.eutxo_types.specs.declared.output_ref.OutputRef.{OutputRef}
+use Rattle.eutxo_types.specs.declared.output_ref.OutputRef.TheVariants.{Made}
 use Rattle.eutxo_types.specs.declared.tx.Tx.{Tx}
-use Rattle.eutxo_types.specs.Digests.{datum_hash}
+use Rattle.eutxo_types.specs.Ids.{id_of}
 use Rattle.eutxo.specs.Laws.{FoundIsEnough}
 use Rattle.eutxo.specs.Asked.{Stepping}
 use Rattle.eutxo.specs.Blocks.{answer_by, step_asked, continues, stands_from, fault_in}
 use Rattle.eutxo.specs.Faults.{first_of}
 use Rattle.roles.specs.declared.published.Published.{Published}
 use Rattle.roles.specs.Terms.{Terms, terms_of}
-use Rattle.eutxo_types.specs.Parts.{inputs_of, Instance, lock_of, contract_at, given_to}
+use Rattle.eutxo_types.specs.Parts.{Instance, lock_of, contract_at, given_to}
 use Rattle.ledger_laws.specs.Past.{Past, is_input_of}
 use Rattle.ledger_laws.specs.Sound.{IsSound}
-use Rattle.ledger_laws.specs.Threads.{Link, Effect, Member, Gives, Run, contract_after, state_after, blocks_of, next_in, next_of, spine_by, ends_by, thread, LaidOut, Carries, IsMade, IsStart}
+use Rattle.ledger_laws.specs.Threads.{Link, Effect, Member, Gives, Run, contract_after, state_after, blocks_of, next_in, next_of, spine_by, ends_by, thread, brought_to, brought_by, LaidOut, Carries, IsMade, IsStart}
 use Rattle.table.specs.Flat.{is_close}
-use Rattle.roles.specs.Steps.{walk_of, marlowe}
-use Rattle.ledger_laws.specs.Laws.{AreTables, DigestsTell, EachIsARun, ThreadsAreRuns, EndsWithItsRun, ThreadsEndWithRuns}
+use Rattle.roles.specs.Steps.{is_fresh, walk_of, marlowe}
+use Rattle.ledger_laws.specs.Laws.{AreTables, DigestsTell, DigestsTellWhatWasMade, EachIsARun, ThreadsAreRuns, EndsWithItsRun, ThreadsEndWithRuns}
 use Rattle.ledger_laws.proofs.PlainLaws.{same_some, head_at}
-use Rattle.ledger_laws.proofs.PartLaws.{is_contract_so, script_so, under_so, brought_so}
-use Rattle.ledger_laws.proofs.PairedLemmas.{step_with}
-use Rattle.ledger_laws.proofs.FindingLemmas.{BlockOf}
-use Rattle.ledger_laws.proofs.SpineLaws.{next_there}
-use Rattle.ledger_laws.proofs.AcceptedLaws.{spent_at, tells_at, made_published, named_input, read_at, block_at}
+use Rattle.ledger_laws.proofs.PartLaws.{script_so, under_so, brought_so}
+use Rattle.ledger_laws.proofs.SpineLaws.{member_stood, next_there}
+use Rattle.ledger_laws.proofs.AcceptedLaws.{spent_at, tells_at, made_published, block_at}
+use Rattle.ledger_laws.proofs.BroughtLemmas.{step_for, brought_at}
 use Rattle.ledger_laws.proofs.MadeLaws.{made_output, made_once}
 use Rattle.ledger_laws.proofs.LaidOutLemmas.{effect_of, datum_after, rules_after, Stepped, stepped_so, goes_on, led_so, laid_so}
 use Rattle.ledger_laws.proofs.FundedLemmas.{starting_at}
@@ -58,24 +58,39 @@ one_outcome c s x y i j g h =
     let ends = ends_same (answer_of (computed x.interval s c x.inputs)) y.outcome.state x.outcome.state y.outcome.contract x.outcome.contract (sym (ap (λ (w : Walk). answer_of w) e) ∙ h.0) g.0 in
     same_effect y.outcome x.outcome (sym h.1 ∙ ap (λ (w : Walk). w.warnings) e ∙ g.1) (sym h.2 ∙ ap (λ (w : Walk). w.payments) e ∙ g.2) ends.0 ends.1
 
-one_run : (named : List ℕ → Option Published) (past : Past) (t : Terms) (script : List ℕ) (ls : List Link) (c : ContractTree) (s : StateMaps) (a b : List Member) →
-    Run c s a → Carries named past t script ls a → Run c s b → Carries named past t script ls b → b ≡ a
-one_run named past t script [] c s [] [] ra ka rb kb = refl
-one_run named past t script [] c s [] (y ∷ b) ra ka rb kb = absurd kb
-one_run named past t script [] c s (x ∷ a) b ra ka rb kb = absurd ka
-one_run named past t script (l ∷ ls) c s [] b ra ka rb kb = absurd ka
-one_run named past t script (l ∷ ls) c s (x ∷ a) [] ra ka rb kb = absurd kb
-one_run named past t script (l ∷ ls) c s (x ∷ a) (y ∷ b) ra ka rb kb =
+-- what a thread carries is determined
+one_carried : (named : List ℕ → Option Published) (past : Past) (t : Terms) (script : List ℕ) (ls : List Link) (a b : List Member) → Carries named past t script ls a → Carries named past t script ls b → b ≡ a
+one_carried named past t script [] [] [] ka kb = refl
+one_carried named past t script [] [] (y ∷ b) ka kb = absurd kb
+one_carried named past t script [] (x ∷ a) b ka kb = absurd ka
+one_carried named past t script (l ∷ ls) [] b ka kb = absurd ka
+one_carried named past t script (l ∷ ls) (x ∷ a) [] ka kb = absurd kb
+one_carried named past t script (l ∷ ls) (x ∷ a) (y ∷ b) ka kb =
     let i : y.interval ≡ x.interval = sym kb.0.interval ∙ ka.0.interval in
     let j : y.inputs ≡ x.inputs = same_some y.inputs x.inputs (sym kb.0.inputs ∙ ka.0.inputs) in
-    let e : y.outcome ≡ x.outcome = one_outcome c s x y i j ra.0 rb.0 in
-    let u : b ≡ a = one_run named past t script ls x.outcome.contract x.outcome.state a b ra.1 ka.1 (subst (λ (f : Effect). Run f.contract f.state b) e rb.1) kb.1 in
+    let d : kb.0.datum ≡ ka.0.datum = same_some kb.0.datum ka.0.datum (sym kb.0.brought ∙ ka.0.brought) in
+    let e : y.outcome ≡ x.outcome = one_outcome (t.tree ka.0.datum.cont) ka.0.datum.state x y i j ka.0.gives (subst (λ (z : Datum). Gives (t.tree z.cont) z.state y) d kb.0.gives) in
+    let u : b ≡ a = one_carried named past t script ls a b ka.1 kb.1 in
     let h : y ≡ x = same_member y x i j e in
     cc
 
+-- ---- the premise on digests
+
+-- each of these transactions brings what was made
+abbrev Bring : Past → List Link → Type 0
+Bring past ls = (n : ℕ) (l : Link) (c : Instance) → slice_get ls n ≡ Some l → IsMade past l.spends c → brought_by l ≡ Some c.datum
+
+is_close_so : (c : ContractTree) → is_close c ≡ true → c ≡ close
+is_close_so close h = refl
+is_close_so (pay account to token value next) h = cc
+is_close_so (if_obs test one other) h = cc
+is_close_so (when cases timeout next) h = cc
+is_close_so (let_be id value next) h = cc
+is_close_so (assert test next) h = cc
+
 -- ---- a thread
 
-module _ (turns : TurnsLead) (enough : FoundIsEnough marlowe) (named : List ℕ → Option Published) (past : Past) (tables : AreTables named) (apart : DigestsTell past) (sound : IsSound marlowe named past) where
+module _ (turns : TurnsLead) (enough : FoundIsEnough marlowe) (named : List ℕ → Option Published) (past : Past) (tables : AreTables named) (sound : IsSound marlowe named past) where
   module _ (script : List ℕ) (p : Published) (is : named script ≡ Some p) where
     abbrev t : Terms
     t = terms_of p
@@ -88,11 +103,14 @@ module _ (turns : TurnsLead) (enough : FoundIsEnough marlowe) (named : List ℕ 
     Points None c s = Unit {0}
     Points (Some r) c s = (d : Datum) × IsMade past r (at_datum d) × (t.tree d.cont ≡ c) × (d.state ≡ s)
 
-    -- what a transaction that spends the contract does: a member of a run from it, laid out in its block, after which the thread stands
-    -- where the member ends
-    record Acts (tx : Tx) (r : OutputRef) (d : Datum) : Type 0 where
+    -- what a transaction that spends the contract does: a member from the datum that it brings for it, laid out in its block, after which the thread
+    -- stands where the member ends
+    record Acts (tx : Tx) (r : OutputRef) : Type 0 where
       pub member : Member
-      pub gives : Gives (t.tree d.cont) d.state member
+      pub datum : Datum
+      pub brought : brought_to r tx.inputs tx.datums ≡ Some datum
+      pub has : t.has datum.cont ≡ true
+      pub gives : Gives (t.tree datum.cont) datum.state member
       pub interval : tx.interval ≡ member.interval
       pub given : given_to r tx.inputs ≡ Some member.inputs
       pub from : ℕ
@@ -100,49 +118,56 @@ module _ (turns : TurnsLead) (enough : FoundIsEnough marlowe) (named : List ℕ 
       pub lays : LaidOut t script member.outcome from tx
       pub points : Points (next_of marlowe named past r tx) member.outcome.contract member.outcome.state
       pub gone : member.outcome.contract ≡ close → next_of marlowe named past r tx ≡ None
+      pub ended : next_of marlowe named past r tx ≡ None → member.outcome.contract ≡ close
 
-    -- a datum that is brought with the digest of the one that the maker brought is that one
-    same_datum : (n : ℕ) (tx : Tx) → slice_get past.accepted n ≡ Some tx → (r : OutputRef) (d : Datum) → IsMade past r (at_datum d) → (k : ℕ) (e : Datum) → slice_get tx.datums k ≡ Some e →
-        datum_hash e ≡ datum_hash d → e ≡ d
-    same_datum n tx at r d made k e there h = let m = brought_so made.tx made.index (at_datum d) made.contract in apart n made.number k m.0 tx made.tx e d at made.accepted there m.1 h
+    -- in the first output of its block goes on what isn't over
+    on_so : (s : Stepping) → (z : Stepped t s) → first_of (rules_after t s (z.at).state false) ≡ None → s.script ≡ script → contract_at s.tx s.«from» ≡ Some (at_datum (datum_after t s (z.at).state))
+    on_so s z h of = (goes_on t s z.tells (z.at).state h).0 ∙ ap (λ (id : List ℕ). Some (let c : Instance = record { script = id; datum = datum_after t s (z.at).state } in c)) of
 
     -- where the thread stands after a step that is taken
-    goes_so : (n : ℕ) (tx : Tx) → slice_get past.accepted n ≡ Some tx → (s : Stepping) → s.tx ≡ tx → s.script ≡ script → (z : Stepped t s) → (b : Bool) → first_of (rules_after t s (z.at).state b) ≡ None →
-        Points (next_in tx (if b then None else Some s.«from»)) (z.at).contract (z.at).state
-    goes_so n tx at s same of z true h = tt
-    goes_so n tx at s same of z false h =
+    goes_so : (n : ℕ) (s : Stepping) → slice_get past.accepted n ≡ Some s.tx → s.script ≡ script → (z : Stepped t s) → (b : Bool) → first_of (rules_after t s (z.at).state b) ≡ None →
+        Points (next_in s.tx (if b then None else Some s.«from»)) (z.at).contract (z.at).state
+    goes_so n s at of z true h = tt
+    goes_so n s at of z false h =
         let d = datum_after t s (z.at).state in
-        let g : contract_at tx s.«from» ≡ Some (at_datum d) = ap (λ (y : Tx). contract_at y s.«from») (sym same) ∙ (goes_on t s z.tells (z.at).state h).0 ∙ ap (λ (id : List ℕ). Some (let c : Instance = record { script = id; datum = d } in c)) of in
-        subst (λ (y : Option OutputRef). Points y (z.at).contract (z.at).state) (sym (next_there tx (Some s.«from») s.«from» (at_datum d) refl g))
-        (d, record { number = n; tx = tx; accepted = at; index = s.«from»; name = refl; contract = g }, (led_so turns t (tables script p is) s z).1, refl)
+        let g = on_so s z h of in
+        subst (λ (y : Option OutputRef). Points y (z.at).contract (z.at).state) (sym (next_there s.tx (Some s.«from») s.«from» (at_datum d) refl g))
+        (d, record { number = n; tx = s.tx; accepted = at; index = s.«from»; name = refl; contract = g }, (led_so turns t (tables script p is) s z).1, refl)
 
-    acts : (n : ℕ) (tx : Tx) (r : OutputRef) (d : Datum) → slice_get past.accepted n ≡ Some tx → is_input_of r tx ≡ true → IsMade past r (at_datum d) → Acts tx r d
+    -- where it goes on in no output it is over
+    over_so : (s : Stepping) → s.script ≡ script → (z : Stepped t s) → (b : Bool) → is_close (z.at).contract ≡ b → first_of (rules_after t s (z.at).state b) ≡ None →
+        next_in s.tx (if b then None else Some s.«from») ≡ None → (z.at).contract ≡ close
+    over_so s of z true e h none = is_close_so (z.at).contract e
+    over_so s of z false e h none =
+        let f : (let o : Option OutputRef = None in o) ≡ Some (Made (id_of s.tx) s.«from») = sym none ∙ next_there s.tx (Some s.«from») s.«from» (at_datum (datum_after t s (z.at).state)) refl (on_so s z h of) in
+        cc
+
+    acts : (n : ℕ) (tx : Tx) (r : OutputRef) (d : Datum) → slice_get past.accepted n ≡ Some tx → is_input_of r tx ≡ true → IsMade past r (at_datum d) → Acts tx r
     acts n tx r d at named_r made =
         let lock = lock_of (at_datum d) in
         let o = made_output marlowe enough named past sound r (at_datum d) made in
-        let k = named_input marlowe enough named past sound n tx at r o.0 named_r o.1 (is_contract_so (o.0).lock lock o.2) in
-        let x = k.0.input in
+        let k = brought_at marlowe enough named past sound n tx at r o.0 lock named_r o.1 o.2 in
         let ys = (spent_at marlowe enough named past sound n tx at).ys in
-        let read = read_at marlowe enough named past sound n k.0.index tx x o.0 lock at k.1 o.2 in
-        let same = same_datum n tx at r d made read.place read.datum read.brought read.digest in
-        let b : BlockOf marlowe named tx ys (blocks_of marlowe named past tx) (step_with lock x d) =
-        subst (λ (e : Datum). BlockOf marlowe named tx ys (blocks_of marlowe named past tx) (step_with lock x e)) same (block_at marlowe enough named past sound n tx at read.number (step_with lock x read.datum) read.step) in
-        let s : Stepping = step_asked tx ys b.«from» (step_with lock x d) in
+        let b = block_at marlowe enough named past sound n tx at k.number (step_for r lock k.datum k.inputs) k.step in
+        let s : Stepping = step_asked tx ys b.«from» (step_for r lock k.datum k.inputs) in
         let z = stepped_so t s (tells_at marlowe enough named past sound n tx at) (ap (λ (v : Option Published). fault_in (answer_by marlowe v s)) (sym is) ∙ b.passes) in
         let closed = is_close (z.at).contract in
         let goes : next_of marlowe named past r tx ≡ next_in tx (if closed then None else Some b.«from») =
-        ap (λ (q : OutputRef). next_of marlowe named past q tx) (sym k.0.name)
-        ∙ ap (next_in tx) (b.goes ∙ ap (λ (v : Option Published). continues b.«from» (answer_by marlowe v s)) is ∙ z.goes) in
+        ap (next_in tx) (b.goes ∙ ap (λ (v : Option Published). continues b.«from» (answer_by marlowe v s)) is ∙ z.goes) in
         record {
-          member = record { interval = tx.interval; inputs = inputs_of x.redeemer; outcome = effect_of (walk_of t s) (z.at).state (z.at).contract };
+          member = record { interval = tx.interval; inputs = k.inputs; outcome = effect_of (walk_of t s) (z.at).state (z.at).contract };
+          datum = k.datum;
+          brought = k.brought;
+          has = z.has;
           gives = (z.answer, refl, refl);
           interval = refl;
-          given = k.0.given;
+          given = k.given;
           «from» = b.«from»;
-          block = ap (stands_from (blocks_of marlowe named past tx)) (sym k.0.name) ∙ b.stands;
+          block = b.stands;
           lays = laid_so turns t (tables script p is) s z;
-          points = subst (λ (y : Option OutputRef). Points y (z.at).contract (z.at).state) (sym goes) (goes_so n tx at s refl refl z closed z.rules);
+          points = subst (λ (y : Option OutputRef). Points y (z.at).contract (z.at).state) (sym goes) (goes_so n s at refl z closed z.rules);
           gone = λ e. goes ∙ ap (λ (c : ContractTree). next_in tx (if is_close c then None else Some b.«from»)) e;
+          ended = λ none. over_so s refl z closed refl z.rules (sym goes ∙ none);
         }
 
     abbrev next : OutputRef → Tx → Option OutputRef
@@ -152,16 +177,16 @@ module _ (turns : TurnsLead) (enough : FoundIsEnough marlowe) (named : List ℕ 
     none_after None txs h = refl
     none_after (Some r) txs h = cc
 
-    -- links are a run from here, and the thread ends where the run does
+    -- links carry these members, which are a run from here where the links bring what was made; and the thread ends where the last of them does
     record Runs (z : Option OutputRef) (ls : List Link) (c : ContractTree) (s : StateMaps) : Type 0 where
       pub run : List Member
-      pub runs : Run c s run
       pub carried : Carries named past t script ls run
+      pub runs : Bring past ls → Run c s run
       pub ended : Points (ends_by next z ls) (contract_after c run) (state_after s run)
 
     run_from : (n : ℕ) (txs : List Tx) → drop n past.accepted ≡ txs → (z : Option OutputRef) (c : ContractTree) (s : StateMaps) → Points z c s → Runs z (spine_by next z txs) c s
-    run_from n txs cut None c s at = record { run = []; runs = tt; carried = tt; ended = tt }
-    run_from n [] cut (Some r) c s at = record { run = []; runs = tt; carried = tt; ended = at }
+    run_from n txs cut None c s at = record { run = []; carried = tt; runs = λ bring. tt; ended = tt }
+    run_from n [] cut (Some r) c s at = record { run = []; carried = tt; runs = λ bring. tt; ended = at }
     run_from n (tx ∷ txs) cut (Some r) c s at = by (is_input_of r tx) refl (run_from (suc n) txs here.1)
       where
         here : (slice_get past.accepted n ≡ Some tx) × (drop (suc n) past.accepted ≡ txs)
@@ -174,33 +199,62 @@ module _ (turns : TurnsLead) (enough : FoundIsEnough marlowe) (named : List ℕ 
             let a = acts n tx r at.0 here.0 e at.1 in
             let x = a.member in
             let y = go (next r tx) x.outcome.contract x.outcome.state a.points in
+            let first : Link = record { spends = r; tx = tx } in
             record {
               run = x ∷ y.run;
-              runs = (subst (λ (k : ContractTree). Gives k s x) at.2 (subst (λ (k : StateMaps). Gives (t.tree at.0.cont) k x) at.3 a.gives), y.runs);
-              carried = (record { interval = a.interval; inputs = a.given; «from» = a.«from»; block = a.block; outputs = a.lays; over = λ closed. none_after (next r tx) txs (a.gone closed); gone = a.gone }, y.carried);
+              carried = (
+                record {
+                  interval = a.interval;
+                  inputs = a.given;
+                  datum = a.datum;
+                  brought = a.brought;
+                  has = a.has;
+                  gives = a.gives;
+                  «from» = a.«from»;
+                  block = a.block;
+                  outputs = a.lays;
+                  over = λ closed. none_after (next r tx) txs (a.gone closed);
+                  gone = a.gone;
+                  ended = a.ended;
+                },
+                y.carried,
+              );
+              runs = λ bring.
+                  let same : a.datum ≡ at.0 = same_some a.datum at.0 (sym a.brought ∙ bring 0 first (at_datum at.0) refl at.1) in
+                  let gives : Gives (t.tree at.0.cont) at.0.state x = subst (λ (d : Datum). Gives (t.tree d.cont) d.state x) same a.gives in
+                  (subst (λ (k : ContractTree). Gives k s x) at.2 (subst (λ (k : StateMaps). Gives (t.tree at.0.cont) k x) at.3 gives), y.runs (λ i l d there made. bring (suc i) l d there made));
               ended = y.ended;
             }
 
     -- a start is at the root
-    one_thread : (r : OutputRef) (d : Datum) → IsStart past r (at_datum d) → Runs (Some r) (thread marlowe named past r) (t.tree t.root) d.state
+    one_thread : (r : OutputRef) (d : Datum) → IsStart past r (at_datum d) → Runs (Some r) (thread marlowe named past r) (t.tree t.root) d.state × (d.cont ≡ t.root) × (is_fresh d.state ≡ true)
     one_thread r d start =
         let m = start.made in
         let o = under_so m.tx m.index (at_datum d) m.contract in
-        let root = (starting_at enough named past sound m.number m.tx m.accepted start.bare m.index o.0 (at_datum d) o.1 m.contract p is).0 in
-        run_from 0 past.accepted refl (Some r) (t.tree t.root) d.state (d, m, ap t.tree (sym root), refl)
+        let first = starting_at enough named past sound m.number m.tx m.accepted start.bare m.index o.0 (at_datum d) o.1 m.contract p is in
+        (run_from 0 past.accepted refl (Some r) (t.tree t.root) d.state (d, m, ap t.tree (sym first.0), refl), sym first.0, first.2)
 
   pub each_is_a_run : EachIsARun named past
   each_is_a_run r c start =
       let m = start.made in
       let o = under_so m.tx m.index c m.contract in
       let p = made_published marlowe enough named past sound m.number m.tx m.accepted m.index o.0 c.script o.1 (script_so (o.0).lock o.2 o.3 ∙ ap (λ (id : List ℕ). Some id) o.4) in
-      let a = one_thread c.script p.0 p.1 r c.datum start in
-      (p.0, p.1, (a.run, (a.runs, a.carried), λ b h. one_run named past (terms_of p.0) c.script (thread marlowe named past r) ((terms_of p.0).tree (p.0).root) c.datum.state a.run b a.runs a.carried h.0 h.1))
+      let one = one_thread c.script p.0 p.1 r c.datum start in
+      let a = one.0 in (
+        p.0,
+        p.1,
+        record {
+          root = one.1;
+          fresh = one.2;
+          carried = (a.run, a.carried, λ b h. one_carried named past (terms_of p.0) c.script (thread marlowe named past r) a.run b a.carried h);
+          run = a.runs;
+        },
+      )
 
   pub ends_with_its_run : EndsWithItsRun named past
-  ends_with_its_run r c start p is run runs carried q e end made =
-      let a = one_thread c.script p is r c.datum start in
-      let same : a.run ≡ run = one_run named past (terms_of p) c.script (thread marlowe named past r) ((terms_of p).tree p.root) c.datum.state run a.run runs carried a.runs a.carried in
+  ends_with_its_run r c start p is run carried q e end made =
+      let a = (one_thread c.script p is r c.datum start).0 in
+      let same : a.run ≡ run = one_carried named past (terms_of p) c.script (thread marlowe named past r) run a.run carried a.carried in
       let points : Points c.script p is (Some q) (contract_after ((terms_of p).tree p.root) run) (state_after c.datum.state run) =
       subst (λ (l : List Member). Points c.script p is (Some q) (contract_after ((terms_of p).tree p.root) l) (state_after c.datum.state l)) same
       (subst (λ (z : Option OutputRef). Points c.script p is z (contract_after ((terms_of p).tree p.root) a.run) (state_after c.datum.state a.run)) end a.ended) in
@@ -208,7 +262,18 @@ module _ (turns : TurnsLead) (enough : FoundIsEnough marlowe) (named : List ℕ 
       (ap (λ (z : Instance). z.script) it, ap (λ (z : Instance). (terms_of p).tree z.datum.cont) it ∙ points.2, ap (λ (z : Instance). z.datum.state) it ∙ points.3)
 
 pub threads_are_runs : TurnsLead → FoundIsEnough marlowe → ThreadsAreRuns
-threads_are_runs turns enough named past tables apart sound = each_is_a_run turns enough named past tables apart sound
+threads_are_runs turns enough named past tables sound = each_is_a_run turns enough named past tables sound
 
 pub threads_end_with_runs : TurnsLead → FoundIsEnough marlowe → ThreadsEndWithRuns
-threads_end_with_runs turns enough named past tables apart sound = ends_with_its_run turns enough named past tables apart sound
+threads_end_with_runs turns enough named past tables sound = ends_with_its_run turns enough named past tables sound
+
+-- ---- where digests tell data apart
+
+-- a datum that is brought with the digest of the one that the maker brought is that one
+pub digests_tell_what_was_made : FoundIsEnough marlowe → DigestsTellWhatWasMade
+digests_tell_what_was_made enough named past sound apart r n l c there made =
+    let w = member_stood (next_of marlowe named past) (Some r) past.accepted n l.spends l.tx there in
+    let o = made_output marlowe enough named past sound l.spends c made in
+    let k = brought_at marlowe enough named past sound w.number l.tx w.at l.spends o.0 (lock_of c) w.named o.1 o.2 in
+    let m = brought_so made.tx made.index c made.contract in
+    k.brought ∙ ap (λ (d : Datum). Some d) (apart w.number made.number k.place m.0 l.tx made.tx k.datum c.datum w.at made.accepted k.there m.1 k.digest)

@@ -1,7 +1,8 @@
 -- What holds of every sound past, however a ledger came by it.
-use Rattle.std.specs.Prelude.{◌≡◌, ℕ, ℤ, true, List, [], map, slice_get, All, Option, Some, None}
+use Rattle.std.specs.Prelude.{◌≡◌, ℕ, ◌+◌, ◌<◌, ◌≤◌, ℤ, true, List, [], map, slice_get, All, Option, Some, None}
 use Rattle.std.specs.List.{filter_map}
 use Rattle.names.specs.declared.token.Token.{Token}
+use Rattle.contract.specs.Tree.{ContractTree}
 use Rattle.bundle.specs.Totals.{total_of}
 use Rattle.machine.specs.declared.datum.Datum.{Datum}
 use Rattle.eutxo_types.specs.declared.output.Output.{Output}
@@ -9,6 +10,7 @@ use Rattle.eutxo_types.specs.declared.output_ref.OutputRef.{OutputRef}
 use Rattle.eutxo_types.specs.declared.spend.Spend.{Spend}
 use Rattle.eutxo_types.specs.declared.tx.Tx.{Tx}
 use Rattle.eutxo.specs.Asked.{Judges}
+use Rattle.eutxo.specs.Blocks.{Block, size}
 use Rattle.eutxo.specs.Found.{with_outputs}
 use Rattle.eutxo.specs.Judgement.{judge}
 use Rattle.eutxo_types.specs.Digests.{datum_hash}
@@ -16,10 +18,10 @@ use Rattle.eutxo_types.specs.Ids.{id_of}
 use Rattle.eutxo_types.specs.Parts.{is_contract, ContractLock, contract_in, is_step, inputs_of, Instance, lock_of}
 use Rattle.roles.specs.declared.published.Published.{Published}
 use Rattle.roles.specs.Terms.{IsTable, terms_of}
-use Rattle.roles.specs.Steps.{actor, authorised, marlowe}
+use Rattle.roles.specs.Steps.{actor, authorised, is_fresh, marlowe}
 use Rattle.roles.specs.Sums.{sums_of}
 use Rattle.ledger_laws.specs.Past.{Past, before, after, created, unspent, unspent_at}
-use Rattle.ledger_laws.specs.Threads.{next_of, thread, thread_end, IsMade, IsStart, StartsThread, Member, Run, contract_after, state_after, Carries}
+use Rattle.ledger_laws.specs.Threads.{blocks_of, next_of, thread, thread_end, IsMade, IsStart, StartsThread, BringsWhatWasMade, Member, Run, contract_after, state_after, Carries}
 use Rattle.ledger_laws.specs.Sound.{moment, AreKeys, IsSound, IsMore}
 
 -- one, and no other
@@ -92,6 +94,15 @@ ThreadsStay {V} j =
     (published later : List ℕ → Option V) (past : Past) → IsMore published later → IsSound j published past →
     (n : ℕ) (tx : Tx) → slice_get past.accepted n ≡ Some tx → NextStays j published later past tx
 
+-- ONE OUTPUT NEVER SERVES TWO CONTRACTS: of two blocks of a transaction the outputs of the earlier, its payments among them, all stand before the
+-- first of the later
+abbrev pub BlocksAreApart : {V : Type 0} → Judges V → (List ℕ → Option V) → Past → Type 0
+BlocksAreApart j named past =
+    (tx : Tx) (n m : ℕ) (a b : Block) → slice_get (blocks_of j named past tx) n ≡ Some a → slice_get (blocks_of j named past tx) m ≡ Some b → n < m → a.from + size a.answer ≤ b.from
+
+abbrev pub OutputsServeOneContract : {V : Type 0} → Judges V → Type 0
+OutputsServeOneContract {V} j = (published : List ℕ → Option V) (past : Past) → BlocksAreApart j published past
+
 -- of each token the unspent outputs hold together what the first outputs held
 abbrev pub IsPreserved : Past → Type 0
 IsPreserved past = (t : Token) → total_of (λ e. e.1.amount) t (unspent past) ≡ total_of (λ o. o.amount) t past.genesis
@@ -144,27 +155,36 @@ DigestsTell past =
     (n m i k : ℕ) (s t : Tx) (d e : Datum) → slice_get past.accepted n ≡ Some s → slice_get past.accepted m ≡ Some t →
     slice_get s.datums i ≡ Some d → slice_get t.datums k ≡ Some e → datum_hash d ≡ datum_hash e → d ≡ e
 
--- THE THREAD OF EACH START OUTPUT IS EXACTLY ONE RUN of the contract that was published under its script, from the state in
--- the datum that the start's transaction brought
+-- so each transaction of a thread brings, for the output that it spends, the datum that the output's maker brought
+abbrev pub DigestsTellWhatWasMade : Type 0
+DigestsTellWhatWasMade = (published : List ℕ → Option Published) (past : Past) → IsSound marlowe published past → DigestsTell past → (r : OutputRef) → BringsWhatWasMade marlowe published past r
+
+-- the thread of a start output is exactly one run: it starts at the root of what is published, without choices and bound values, and carries one list of
+-- members. Where it brings what was made, that is a run of the contract, from the state in the start's datum
+pub record IsOneRun (named : List ℕ → Option Published) (past : Past) (r : OutputRef) (c : Instance) (p : Published) (contract : ContractTree) : Type 0 where
+  pub root : c.datum.cont ≡ p.root
+  pub fresh : is_fresh c.datum.state ≡ true
+  pub carried : ExactlyOne (λ run. Carries named past (terms_of p) c.script (thread marlowe named past r) run)
+  pub run : BringsWhatWasMade marlowe named past r → Run contract c.datum.state carried.0
+
+-- THE THREAD OF EACH START OUTPUT IS EXACTLY ONE RUN of the contract that was published under its script
 abbrev pub EachIsARun : (List ℕ → Option Published) → Past → Type 0
-EachIsARun published past =
-    (r : OutputRef) (c : Instance) → IsStart past r c →
-    (p : Published) × (published c.script ≡ Some p) × ExactlyOne (λ run. Run ((terms_of p).tree p.root) c.datum.state run × Carries published past (terms_of p) c.script (thread marlowe published past r) run)
+EachIsARun published past = (r : OutputRef) (c : Instance) → IsStart past r c → (p : Published) × (published c.script ≡ Some p) × IsOneRun published past r c p ((terms_of p).tree p.root)
 
 abbrev pub ThreadsAreRuns : Type 0
-ThreadsAreRuns = (published : List ℕ → Option Published) (past : Past) → AreTables published → DigestsTell past → IsSound marlowe published past → EachIsARun published past
+ThreadsAreRuns = (published : List ℕ → Option Published) (past : Past) → AreTables published → IsSound marlowe published past → EachIsARun published past
 
--- and where the thread has an end, that is where the run stands: of the thread's script, at a number that stands for what
--- remains, in the run's state
+-- and where the thread has an end, that is where its last member left it, and where nobody stepped it the start: of the thread's script, at a number that
+-- stands for what remains, in the state that is left. This needs no premise on digests
 abbrev pub EndsWithItsRun : (List ℕ → Option Published) → Past → Type 0
 EndsWithItsRun published past =
     (r : OutputRef) (c : Instance) → IsStart past r c → (p : Published) → published c.script ≡ Some p →
-    (run : List Member) → Run ((terms_of p).tree p.root) c.datum.state run → Carries published past (terms_of p) c.script (thread marlowe published past r) run →
+    (run : List Member) → Carries published past (terms_of p) c.script (thread marlowe published past r) run →
     (q : OutputRef) (e : Instance) → thread_end marlowe published past r ≡ Some q → IsMade past q e →
     (e.script ≡ c.script) × ((terms_of p).tree e.datum.cont ≡ contract_after ((terms_of p).tree p.root) run) × (e.datum.state ≡ state_after c.datum.state run)
 
 abbrev pub ThreadsEndWithRuns : Type 0
-ThreadsEndWithRuns = (published : List ℕ → Option Published) (past : Past) → AreTables published → DigestsTell past → IsSound marlowe published past → EndsWithItsRun published past
+ThreadsEndWithRuns = (published : List ℕ → Option Published) (past : Past) → AreTables published → IsSound marlowe published past → EndsWithItsRun published past
 
 -- each unspent contract output holds exactly the sums of its accounts
 abbrev pub AreFunded : Past → Type 0

@@ -1,6 +1,6 @@
 -- Threads of contracts in a list of accepted transactions, of which one may step several; runs of a contract; and what it means that a
 -- thread carries a run.
-use Rattle.std.specs.Prelude.{◌≡◌, ℕ, ◌+◌, true, false, if◌then◌else◌, List, [], ◌∷◌, ◌++◌, map, slice_get, Option, Some, None, option_map, Ok}
+use Rattle.std.specs.Prelude.{◌≡◌, ℕ, ◌+◌, true, false, if◌then◌else◌, List, [], ◌∷◌, ◌++◌, map, drop, slice_get, Option, Some, None, option_map, Ok}
 use Rattle.contract.specs.declared.interval.Interval.{Interval}
 use Rattle.contract.specs.declared.input.Input.{Input}
 use Rattle.contract.specs.declared.payment.Payment.{Payment}
@@ -14,9 +14,10 @@ use Rattle.machine.specs.declared.datum.Datum.{Datum}
 use Rattle.eutxo_types.specs.declared.output.Output.{Output}
 use Rattle.eutxo_types.specs.declared.output_ref.OutputRef.{OutputRef}
 use Rattle.eutxo_types.specs.declared.output_ref.OutputRef.TheVariants.{Made}
+use Rattle.eutxo_types.specs.declared.spend.Spend.{Spend}
 use Rattle.eutxo_types.specs.declared.tx.Tx.{Tx}
 use Rattle.eutxo_types.specs.Ids.{id_of}
-use Rattle.eutxo_types.specs.Parts.{Instance, contract_at, given_to, steps, outputs_from}
+use Rattle.eutxo_types.specs.Parts.{Instance, same_ref, is_step, contract_at, given_to, steps, outputs_from}
 use Rattle.eutxo.specs.Asked.{Judges}
 use Rattle.eutxo.specs.Blocks.{Block, blocks_on, goes_on_at, stands_from}
 use Rattle.eutxo.specs.Found.{with_outputs}
@@ -82,6 +83,21 @@ thread j named past r = spine_by (next_of j named past) (Some r) past.accepted
 abbrev pub thread_end : {V : Type 0} → Judges V → (List ℕ → Option V) → Past → OutputRef → Option OutputRef
 thread_end j named past r = ends_by (next_of j named past) (Some r) (thread j named past r)
 
+-- ---- what is brought
+
+-- the datum that is brought for the output that a reference names: the data are for the inputs that step, in order
+abbrev pub brought_to : OutputRef → List Spend → List Datum → Option Datum
+brought_to r [] ds = None
+brought_to r (x ∷ xs) ds = if same_ref x.reference r then slice_get ds 0 else brought_to r xs (if is_step x.redeemer then drop 1 ds else ds)
+
+-- the one that a transaction of a thread brings for the output that it spends
+abbrev pub brought_by : Link → Option Datum
+brought_by l = brought_to l.spends l.tx.inputs l.tx.datums
+
+-- THE PREMISE ON DIGESTS, of one thread: that is the datum that the output's maker brought
+abbrev pub BringsWhatWasMade : {V : Type 0} → Judges V → (List ℕ → Option V) → Past → OutputRef → Type 0
+BringsWhatWasMade j named past r = (n : ℕ) (l : Link) (c : Instance) → slice_get (thread j named past r) n ≡ Some l → IsMade past l.spends c → brought_by l ≡ Some c.datum
+
 -- ---- runs
 
 -- what a transaction of a contract leaves: warnings, payments, state and remaining contract
@@ -137,16 +153,23 @@ LaidOutAfter t script e c i tx = (there : Cont) × (t.has there ≡ true) × (t.
 abbrev pub LaidOut : Terms → List ℕ → Effect → ℕ → Tx → Type 0
 LaidOut t script e i tx = LaidOutAfter t script e e.contract i tx
 
--- a transaction of a thread and a member of a run agree: by the block of the input that spends the thread's output
+-- a transaction of a thread and a member of a run agree: the member's outcome is the transaction function's from the datum that is brought for the
+-- thread's output, at a number of the table, and it is laid out in the block of the input that spends this
 pub record CarriesOne (named : List ℕ → Option Published) (past : Past) (t : Terms) (script : List ℕ) (l : Link) (later : List Link) (x : Member) : Type 0 where
   pub interval : l.tx.interval ≡ x.interval
   pub inputs : given_to l.spends l.tx.inputs ≡ Some x.inputs
+  pub datum : Datum
+  pub brought : brought_by l ≡ Some datum
+  pub has : t.has datum.cont ≡ true
+  pub gives : Gives (t.tree datum.cont) datum.state x
   pub from : ℕ
   pub block : stands_from (blocks_of marlowe named past l.tx) l.spends ≡ Some from
   pub outputs : LaidOut t script x.outcome from l.tx
   -- where the contract is Close, the thread is over: nothing follows, and no output goes on
   pub over : x.outcome.contract ≡ close → later ≡ []
   pub gone : x.outcome.contract ≡ close → next_of marlowe named past l.spends l.tx ≡ None
+  -- and only there
+  pub ended : next_of marlowe named past l.spends l.tx ≡ None → x.outcome.contract ≡ close
 
 -- thread and run agree place by place
 abbrev pub Carries : (List ℕ → Option Published) → Past → Terms → List ℕ → List Link → List Member → Type 0

@@ -1,6 +1,6 @@
 //! Laws of every ledger, whatever its scripts.
 ghost use Rattle.ledger_laws.specs.Worked.{NobodyCame, TwoSteps, NoneAfterTheEnd, GivenByName, OneMoves};
-ghost use Rattle.ledger_laws.specs.Laws.{StepsStandOnThreads, StepsSpendContracts, StepsNameContracts, ContractsEndThreads, EndsAreUnspent, ThreadsStay, TokensArePreserved, OutputsAreSpentOnce, NamesAreSingle, StartIsSound, AfterIsSound, LaterIsSound};
+ghost use Rattle.ledger_laws.specs.Laws.{StepsStandOnThreads, StepsSpendContracts, StepsNameContracts, ContractsEndThreads, EndsAreUnspent, ThreadsStay, OutputsServeOneContract, TokensArePreserved, OutputsAreSpentOnce, NamesAreSingle, StartIsSound, AfterIsSound, LaterIsSound};
 
 use eutxo::{Validator, blocks_tell_contracts_apart, found_is_enough, sums_are_preserved};
 
@@ -34,6 +34,12 @@ pub fn threads_stay<V: Validator>()
     found_is_enough::<V>();
     blocks_tell_contracts_apart::<V>();
 }
+
+/// One output never serves two contracts: the blocks of a transaction's outputs, one for each contract that it steps with
+/// the payments that are due, stand one behind the other.
+pub fn outputs_serve_one_contract<V: Validator>()
+    ensures { OutputsServeOneContract V.judges }
+{}
 
 /// Of each token the unspent outputs hold together what the first outputs held. The sums are unbounded.
 pub fn tokens_are_preserved<V: Validator>()

@@ -8,7 +8,7 @@ mod threads;
 
 pub use ledger::{
     accepting_is_sound, contracts_end_threads, names_are_single, outputs_are_spent_once,
-    publishing_is_sound, starting_is_sound, steps_stand_on_threads, threads_stay,
-    tokens_are_preserved, worked_threads,
+    outputs_serve_one_contract, publishing_is_sound, starting_is_sound, steps_stand_on_threads,
+    threads_stay, tokens_are_preserved, worked_threads,
 };
 pub use threads::{contracts_are_funded, parties_are_authorised, threads_are_runs};

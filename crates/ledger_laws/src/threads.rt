@@ -1,18 +1,21 @@
 //! Laws of Marlowe's contracts.
-ghost use Rattle.ledger_laws.specs.Laws.{ThreadsAreRuns, ThreadsEndWithRuns, ContractsAreFunded, ContractsAreOfTables, PartiesAreAuthorised};
+ghost use Rattle.ledger_laws.specs.Laws.{ThreadsAreRuns, ThreadsEndWithRuns, DigestsTellWhatWasMade, ContractsAreFunded, ContractsAreOfTables, PartiesAreAuthorised};
 
 use eutxo::{blocks_tell_contracts_apart, found_is_enough};
 use roles::Published;
 use semantics::turns_lead_to_the_remaining_contract;
 
-/// The thread of each start output is exactly one run of the contract that was published under its
-/// script, from the state in the start's datum: input for input, with the same warnings, payments, states
-/// and remaining contracts (Marlowe specification version 3, "Compute transaction"). Where the thread has
-/// an end, its datum says where that run stands. The premise: no two different data that accepted
-/// transactions bring have one digest.
+/// The thread of each start output carries exactly one list of members, on the contract that was published under its
+/// script: input for input, with the warnings, payments, states and remaining contracts that the transaction function
+/// gives (Marlowe specification version 3, "Compute transaction") from the datum that each transaction brings for the
+/// output that it spends. It starts at the contract's root, without choices and bound values. Where the thread has an
+/// end, its datum says where the last member left it. And where each transaction brings the datum that the output's
+/// maker brought, the members are a run of the contract, from the state in the start's datum: so it is where no two
+/// different data that accepted transactions bring have one digest.
 pub fn threads_are_runs()
     ensures run { ThreadsAreRuns }
     ensures end { ThreadsEndWithRuns }
+    ensures digests { DigestsTellWhatWasMade }
 {
     found_is_enough::<Published>();
     turns_lead_to_the_remaining_contract();

@@ -55,6 +55,11 @@ abbrev pub round_verdicts : World → List Pending → List Ticketed
 round_verdicts w [] = []
 round_verdicts w (p ∷ ps) = record { ticket = p.0; verdict = verdict_of (fault_on w p.1) } ∷ round_verdicts (with_accepted_unless w p.1 (fault_on w p.1)) ps
 
+-- what stands where the place behind these is judged
+abbrev pub after_places : World → List Pending → World
+after_places w [] = w
+after_places w (p ∷ ps) = after_places (with_accepted_unless w p.1 (fault_on w p.1)) ps
+
 abbrev pub advance_reply : ℤ → ℤ → Reply
 advance_reply now t = if int_le now t then answer.Advanced else answer.Backward
 

@@ -1,8 +1,9 @@
 -- What a transaction finds on a ledger where it is accepted.
-use Rattle.std.specs.Prelude.{◌≡◌, ℕ, ℤ, ◌≤ℤ◌, List, slice_get, All, Some}
+use Rattle.std.specs.Prelude.{◌≡◌, ℕ, ℤ, ◌≤ℤ◌, false, List, slice_get, All, Some}
 use Rattle.eutxo_types.specs.declared.tx.Tx.{Tx}
 use Rattle.eutxo_types.specs.Ids.{id_of}
 use Rattle.eutxo_types.specs.Spelling.{tx_bytes}
+use Rattle.eutxo.specs.Judgement.{Moment}
 use Rattle.ledger.specs.declared.look.Unspent.{Unspent}
 use Rattle.ledger_laws.specs.Past.{Past, unspent_at}
 
@@ -16,3 +17,14 @@ pub record IsOpen (past : Past) (tick : ℤ) (spent : List Unspent) (tx : Tx) : 
   pub alone : IsAlone past tx
   pub from : tx.interval.from ≤ℤ tick
   pub to : tick ≤ℤ tx.interval.to
+
+-- at a moment these outputs are unspent, with the contents that were handed in
+abbrev pub AreUnspent : {V : Type 0} → Moment V → List Unspent → Type 0
+AreUnspent m us = All (λ u. m.unspent u.reference ≡ Some u.output) us
+
+-- what a transaction spends is unspent as it was handed in, its id is unused, and the tick lies in its interval
+pub record Admits {V : Type 0} (m : Moment V) (spent : List Unspent) (tx : Tx) : Type 0 where
+  pub unspent : AreUnspent m spent
+  pub unused : m.is_used (id_of tx) ≡ false
+  pub from : tx.interval.from ≤ℤ m.tick
+  pub to : m.tick ≤ℤ tx.interval.to

@@ -1,5 +1,6 @@
 mod LookLemmas
 mod LinkLemmas
 mod StartLemmas
+mod BroughtLemmas
 mod NextRecordLemmas
 mod RecordsLemmas

@@ -1,17 +1,20 @@
 -- One more record of a thread.
-use Rattle.std.proofs.Common.{◌≡◌, ℕ, zero, suc, ◌+◌, ◌-◌, ◌<◌, Bool, true, false, List, [], ◌∷◌, ◌++◌, refl, sym, ◌∙◌, ap, subst, arith, append_assoc, map, drop, length, get_or, length-append, Option, Some, None, ◌⊎◌, inl, inr, Result, Ok}
+use Rattle.std.proofs.Common.{◌≡◌, ℕ, zero, suc, ◌+◌, ◌<◌, ◌≤◌, Bool, true, false, List, [], ◌∷◌, ◌++◌, refl, sym, ◌∙◌, ap, subst, arith, append_assoc, append-nil, map, drop, length, get_or, length-append, Option, Some, None, ◌⊎◌, inl, inr, Result, Ok}
 use Rattle.std.specs.Prelude.{if◌then◌else◌}
 use Rattle.std.specs.List.{All, slice_get}
+use Rattle.std.proofs.Math.ListN.{drop_of_length-le}
 use Rattle.std.proofs.lemmas.List.{at_drop_more, map-append}
 use Rattle.std.proofs.lemmas.List.Elements.{All-append}
 use Rattle.std.proofs.lemmas.Option.{slice_get_read}
 use Rattle.std.specs.Option.{unwrap_or, option_map}
 use Rattle.contract.specs.declared.fault.SemFault.{SemFault}
+use Rattle.contract.specs.declared.interval.Interval.{Interval}
 use Rattle.contract.specs.declared.input.Input.{Input}
 use Rattle.contract.specs.Tree.{ContractTree, close}
 use Rattle.semantics.specs.Walk.{Standing, Walk, standing, answer_of}
 use Rattle.semantics.specs.Computed.{computed}
 use Rattle.nodes.specs.declared.cont.Cont.{Cont}
+use Rattle.machine.specs.declared.datum.Datum.{Datum}
 use Rattle.eutxo_types.specs.declared.output_ref.OutputRef.{OutputRef}
 use Rattle.eutxo_types.specs.declared.output_ref.OutputRef.TheVariants.{Made}
 use Rattle.eutxo_types.specs.Ids.{id_of}
@@ -23,70 +26,42 @@ use Rattle.roles.specs.declared.published.Published.{Published}
 use Rattle.roles.specs.Steps.{marlowe}
 use Rattle.roles.specs.Terms.{Terms}
 use Rattle.ledger_laws.specs.Past.{Past}
-use Rattle.ledger_laws.specs.Threads.{blocks_of, next_in, next_of, Link, Member, Run, LaidOutAfter, Carries}
+use Rattle.ledger_laws.specs.Threads.{blocks_of, next_in, next_of, Link, brought_by, Member, Gives, LaidOutAfter, Carries}
 use Rattle.ledger_laws.proofs.PlainLaws.{same_some}
 use Rattle.ledger_spec.specs.declared.step_record.StepRecord.{StepRecord}
 use Rattle.ledger_spec.specs.Records.{member_of, HoldsNumber, HoldNumbers}
-use Rattle.ledger_views.specs.RecordsSupport.{Point, stands_after, left_by, given, instance_next, number_after, IsStepOf, IsRunOf, Goes}
-
--- ---- where a thread stands
-
-at_end : {A : Type 0} (xs : List A) (x : A) → slice_get (xs ++ x ∷ []) (length xs) ≡ Some x
-at_end [] x = refl
-at_end (y ∷ xs) x = at_end xs x
-
-less_one : (n : ℕ) → (n + 1) - 1 ≡ n
-less_one n = omega arith
-
-stands_at : (p : Point) (xs : List StepRecord) (x : StepRecord) → stands_after p (xs ++ x ∷ []) ≡ (x.number, x.state)
-stands_at p xs x = ap (left_by p) (ap (λ (n : ℕ). slice_get (xs ++ x ∷ []) n) (ap (λ (n : ℕ). n - 1) (length-append xs (x ∷ [])) ∙ less_one (length xs)) ∙ at_end xs x)
+use Rattle.ledger_views.specs.RecordsSupport.{given, instance_next, number_after, IsStepOf, IsAStep, Goes}
 
 -- ---- a walk
 
 module _ (named : List ℕ → Option Published) (past : Past) where
   -- the next member of what is left
-  record Next (t : Terms) (p : Point) (script : List ℕ) (next : Option OutputRef) (l : Link) (left : List Link) (run : List Member) : Type 0 where
+  record Next (t : Terms) (script : List ℕ) (next : Option OutputRef) (l : Link) (left : List Link) (run : List Member) : Type 0 where
     pub first : Member
     pub later : List Member
     pub is : run ≡ first ∷ later
-    pub step : IsStepOf named past t p next l first
-    pub runs : Run first.outcome.contract first.outcome.state later
+    pub step : IsStepOf named past t next l first
     pub carried : Carries named past t script left later
 
-  next_member : (t : Terms) (p : Point) (script : List ℕ) (next : Option OutputRef) (l : Link) (left : List Link) (run : List Member) → next_of marlowe named past l.spends l.tx ≡ next → IsRunOf named past t p script (l ∷ left) run → Next t p script next l left run
-  next_member t p script next l left [] on h = absurd h.carried
-  next_member t p script next l left (x ∷ xs) on h =
-      let here = h.carried.0 in
-      record {
-        first = x;
-        later = xs;
-        is = refl;
-        step = record { script = script; interval = here.interval; inputs = here.inputs; gives = h.runs.0; «from» = here.from; block = here.block; outputs = here.outputs; gone = here.gone; on = on };
-        runs = h.runs.1;
-        carried = h.carried.1;
-      }
+  next_member : (t : Terms) (script : List ℕ) (next : Option OutputRef) (l : Link) (left : List Link) (run : List Member) → next_of marlowe named past l.spends l.tx ≡ next → Carries named past t script (l ∷ left) run → Next t script next l left run
+  next_member t script next l left [] on h = absurd h
+  next_member t script next l left (x ∷ xs) on h = record { first = x; later = xs; is = refl; step = record { script = script; later = left; carried = h.0; on = on }; carried = h.1 }
 
-  step_there : (t : Terms) (p : Point) (script : List ℕ) (next : Option OutputRef) (ls : List Link) (xs : List StepRecord) (l : Link) (left : List Link) → next_of marlowe named past l.spends l.tx ≡ next → Goes named past t p script ls xs (l ∷ left) →
-      (x : Member) × IsStepOf named past t (stands_after p xs) next l x
-  step_there t p script next ls xs l left on g = let n = next_member t (stands_after p xs) script next l left g.rest on g.here in (n.first, n.step)
+  step_there : (t : Terms) (script : List ℕ) (next : Option OutputRef) (ls : List Link) (xs : List StepRecord) (l : Link) (left : List Link) → next_of marlowe named past l.spends l.tx ≡ next → Goes named past t script ls xs (l ∷ left) →
+      (x : Member) × IsStepOf named past t next l x
+  step_there t script next ls xs l left on g = let n = next_member t script next l left g.rest on g.here in (n.first, n.step)
 
-  goes_on : (t : Terms) (p : Point) (script : List ℕ) (next : Option OutputRef) (ls : List Link) (xs : List StepRecord) (l : Link) (left : List Link) (r : StepRecord) → next_of marlowe named past l.spends l.tx ≡ next → Goes named past t p script ls xs (l ∷ left) →
-      ((x : Member) → IsStepOf named past t (stands_after p xs) next l x → member_of t r ≡ x) → Goes named past t p script ls (xs ++ r ∷ []) left
-  goes_on t p script next ls xs l left r on g tells =
-      let n = next_member t (stands_after p xs) script next l left g.rest on g.here in
+  goes_on : (t : Terms) (script : List ℕ) (next : Option OutputRef) (ls : List Link) (xs : List StepRecord) (l : Link) (left : List Link) (r : StepRecord) → next_of marlowe named past l.spends l.tx ≡ next → Goes named past t script ls xs (l ∷ left) →
+      ((x : Member) → IsStepOf named past t next l x → member_of t r ≡ x) → Goes named past t script ls (xs ++ r ∷ []) left
+  goes_on t script next ls xs l left r on g tells =
+      let n = next_member t script next l left g.rest on g.here in
       let e : member_of t r ≡ n.first = tells n.first n.step in
       let all : map (member_of t) xs ++ g.rest ≡ map (member_of t) (xs ++ r ∷ []) ++ n.later =
       ap (λ (m : List Member). map (member_of t) xs ++ m) n.is
       ∙ ap (λ (m : Member). map (member_of t) xs ++ m ∷ n.later) (sym e)
       ∙ sym (append_assoc (map (member_of t) xs) (member_of t r ∷ []) n.later)
       ∙ ap (λ (m : List Member). m ++ n.later) (sym (map-append (member_of t) xs (r ∷ []))) in
-      record {
-        rest = n.later;
-        whole = subst (λ (m : List Member). IsRunOf named past t p script ls m) all g.whole;
-        here =
-            subst (λ (q : Point). IsRunOf named past t q script left n.later) (sym (stands_at p xs r))
-            (record { runs = subst (λ (m : Member). Run m.outcome.contract m.outcome.state n.later) (sym e) n.runs; carried = n.carried });
-      }
+      record { rest = n.later; whole = subst (λ (m : List Member). Carries named past t script ls m) all g.whole; here = n.carried }
 
 -- ---- the next of these transactions
 
@@ -94,35 +69,24 @@ next_left : (ls : List Link) (i : ℕ) (l : Link) → i < length ls → l ≡ ge
 next_left ls i l h e = at_drop_more (λ m. m) ls i l h ∙ ap (λ (x : Link). x ∷ drop (i + 1) ls) (sym e)
 
 module _ (named : List ℕ → Option Published) (past : Past) where
-  pub step_next : (t : Terms) (p q : Point) (script : List ℕ) (next : Option OutputRef) (ls : List Link) (xs : List StepRecord) (i : ℕ) (l : Link) → i < length ls → l ≡ get_or ls i l → q ≡ stands_after p xs → next_of marlowe named past l.spends l.tx ≡ next →
-      Goes named past t p script ls xs (drop i ls) → (x : Member) × IsStepOf named past t q next l x
-  step_next t p q script next ls xs i l h e is on g =
-      subst (λ (r : Point). (x : Member) × IsStepOf named past t r next l x) (sym is)
-      (step_there named past t p script next ls xs l (drop (i + 1) ls) on (subst (λ (m : List Link). Goes named past t p script ls xs m) (next_left ls i l h e) g))
+  pub step_next : (t : Terms) (script : List ℕ) (next : Option OutputRef) (ls : List Link) (xs : List StepRecord) (i : ℕ) (l : Link) → i < length ls → l ≡ get_or ls i l → next_of marlowe named past l.spends l.tx ≡ next →
+      Goes named past t script ls xs (drop i ls) → (x : Member) × IsStepOf named past t next l x
+  step_next t script next ls xs i l h e on g = step_there named past t script next ls xs l (drop (i + 1) ls) on (subst (λ (m : List Link). Goes named past t script ls xs m) (next_left ls i l h e) g)
 
-  pub goes_next : (t : Terms) (p q : Point) (script : List ℕ) (next : Option OutputRef) (ls : List Link) (xs more : List StepRecord) (i : ℕ) (l : Link) (r : StepRecord) → i < length ls → l ≡ get_or ls i l →
-      q ≡ stands_after p xs → next_of marlowe named past l.spends l.tx ≡ next → Goes named past t p script ls xs (drop i ls) → ((x : Member) → IsStepOf named past t q next l x → member_of t r ≡ x) → more ≡ xs ++ r ∷ [] →
-      Goes named past t p script ls more (drop (i + 1) ls)
-  goes_next t p q script next ls xs more i l r h e is on g tells added =
-      subst (λ (m : List StepRecord). Goes named past t p script ls m (drop (i + 1) ls)) (sym added)
-      (goes_on named past t p script next ls xs l (drop (i + 1) ls) r on (subst (λ (m : List Link). Goes named past t p script ls xs m) (next_left ls i l h e) g)
-      (subst (λ (a : Point). (x : Member) → IsStepOf named past t a next l x → member_of t r ≡ x) is tells))
+  pub goes_next : (t : Terms) (script : List ℕ) (next : Option OutputRef) (ls : List Link) (xs more : List StepRecord) (i : ℕ) (l : Link) (r : StepRecord) → i < length ls → l ≡ get_or ls i l →
+      next_of marlowe named past l.spends l.tx ≡ next → Goes named past t script ls xs (drop i ls) → ((x : Member) → IsStepOf named past t next l x → member_of t r ≡ x) → more ≡ xs ++ r ∷ [] →
+      Goes named past t script ls more (drop (i + 1) ls)
+  goes_next t script next ls xs more i l r h e on g tells added =
+      subst (λ (m : List StepRecord). Goes named past t script ls m (drop (i + 1) ls)) (sym added)
+      (goes_on named past t script next ls xs l (drop (i + 1) ls) r on (subst (λ (m : List Link). Goes named past t script ls xs m) (next_left ls i l h e) g) tells)
 
-  -- the record that is found tells what each of them tells
-  pub told_by : (t : Terms) (q : Point) (next : Option OutputRef) (l : Link) (found : Option StepRecord) (r : StepRecord) → found ≡ Some r →
-      ((x : Member) → IsStepOf named past t q next l x → (s : StepRecord) × (found ≡ Some s) × (member_of t s ≡ x)) → (x : Member) → IsStepOf named past t q next l x → member_of t r ≡ x
-  told_by t q next l found r h tells x step = let p = tells x step in ap (member_of t) (same_some r p.0 (sym h ∙ p.1)) ∙ p.2
+-- where no links are left, the records are what they carry
+all_carried : (named : List ℕ → Option Published) (past : Past) (t : Terms) (script : List ℕ) (ls : List Link) (ms rest : List Member) → Carries named past t script [] rest → Carries named past t script ls (ms ++ rest) → Carries named past t script ls ms
+all_carried named past t script ls ms [] h k = subst (λ (m : List Member). Carries named past t script ls m) (append-nil ms) k
+all_carried named past t script ls ms (x ∷ xs) h k = absurd h
 
-  -- and one is found
-  pub none_missing : (t : Terms) (q : Point) (next : Option OutputRef) (l : Link) (found : Option StepRecord) → found ≡ None →
-      ((x : Member) → IsStepOf named past t q next l x → (s : StepRecord) × (found ≡ Some s) × (member_of t s ≡ x)) → (x : Member) × IsStepOf named past t q next l x → ⊥
-  none_missing t q next l found h tells x =
-      let s = tells x.0 x.1 in
-      let f : (let o : Option StepRecord = None in o) ≡ Some s.0 = sym h ∙ s.1 in
-      cc
-
-pub has_next : (t : Terms) (p : Point) (xs more : List StepRecord) (r : StepRecord) → more ≡ xs ++ r ∷ [] → t.has r.number ≡ true → t.has (stands_after p more).0 ≡ true
-has_next t p xs more r added h = ap (λ (m : List StepRecord). t.has (stands_after p m).0) added ∙ ap (λ (q : Point). t.has q.0) (stands_at p xs r) ∙ h
+pub none_left : (named : List ℕ → Option Published) (past : Past) (t : Terms) (script : List ℕ) (ls : List Link) (xs : List StepRecord) (i : ℕ) → length ls ≤ i → Goes named past t script ls xs (drop i ls) → Carries named past t script ls (map (member_of t) xs)
+none_left named past t script ls xs i h g = all_carried named past t script ls (map (member_of t) xs) g.rest (subst (λ (m : List Link). Carries named past t script m g.rest) (drop_of_length-le ls h) g.here) g.whole
 
 all_one : {A : Type 0} (P : A → Type 0) (x : A) → P x → All P (x ∷ [])
 all_one P x h zero d l = h
@@ -180,27 +144,27 @@ module _ (named : List ℕ → Option Published) (past : Past) where
   )
 
   -- its number is one of the table's, and stands for what remains
-  goes_at : (t : Terms) (p : Point) (next : Option OutputRef) (l : Link) (x : Member) (place : Cont) → IsStepOf named past t p next l x → t.has place ≡ true → t.tree place ≡ x.outcome.contract → numbered t x l next place
-  goes_at t p next l x place step has is = by (goes_on_at (blocks_of marlowe named past l.tx) l.spends) refl
+  goes_at : (t : Terms) (next : Option OutputRef) (l : Link) (x : Member) (place : Cont) → IsStepOf named past t next l x → t.has place ≡ true → t.tree place ≡ x.outcome.contract → numbered t x l next place
+  goes_at t next l x place step has is = by (goes_on_at (blocks_of marlowe named past l.tx) l.spends) refl
     where
-      on : (i : ℕ) (d : Instance) (c : ContractTree) → x.outcome.contract ≡ c → LaidOutAfter t step.script x.outcome c step.from l.tx → step.from ≡ i → contract_at l.tx i ≡ Some d → next ≡ Some (Made (id_of l.tx) i) → numbered t x l next place
+      on : (i : ℕ) (d : Instance) (c : ContractTree) → x.outcome.contract ≡ c → LaidOutAfter t step.script x.outcome c (step.carried).from l.tx → (step.carried).from ≡ i → contract_at l.tx i ≡ Some d → next ≡ Some (Made (id_of l.tx) i) → numbered t x l next place
       on i d close e laid at made goes =
-          let none = sym step.on ∙ step.gone e in
+          let none = sym step.on ∙ (step.carried).gone e in
           let f : (let o : Option OutputRef = None in o) ≡ Some (Made (id_of l.tx) i) = sym none ∙ goes in
           cc
       on i d c e laid at made goes =
           let there = ap (λ (q : Option OutputRef). instance_next l.tx q) goes ∙ ap (contract_at l.tx) (sym at) ∙ laid.3 in
           (ap (λ (o : Option Instance). t.has (number_after o place)) there ∙ laid.1, ap (λ (o : Option Instance). t.tree (number_after o place)) there ∙ laid.2 ∙ sym e)
 
-      made_in : (i : ℕ) (o : Option Instance) → contract_at l.tx i ≡ o → step.from ≡ i → next ≡ next_in l.tx (Some i) → numbered t x l next place
+      made_in : (i : ℕ) (o : Option Instance) → contract_at l.tx i ≡ o → (step.carried).from ≡ i → next ≡ next_in l.tx (Some i) → numbered t x l next place
       made_in i None made at goes = nowhere t x l next place (goes ∙ ap (option_map (λ (c : Instance). Made (id_of l.tx) i)) made) has is
-      made_in i (Some d) made at goes = on i d x.outcome.contract refl step.outputs at made (goes ∙ ap (option_map (λ (c : Instance). Made (id_of l.tx) i)) made)
+      made_in i (Some d) made at goes = on i d x.outcome.contract refl (step.carried).outputs at made (goes ∙ ap (option_map (λ (c : Instance). Made (id_of l.tx) i)) made)
 
       by : (g : Option ℕ) → goes_on_at (blocks_of marlowe named past l.tx) l.spends ≡ g → numbered t x l next place
       by None h = nowhere t x l next place (sym step.on ∙ ap (next_in l.tx) h) has is
       by (Some i) h =
           made_in i (contract_at l.tx i) refl
-          (same_some step.from i (sym step.block ∙ goes_stands (blocks_of marlowe named past l.tx) l.spends i h)) (sym step.on ∙ ap (next_in l.tx) h)
+          (same_some (step.carried).from i (sym (step.carried).block ∙ goes_stands (blocks_of marlowe named past l.tx) l.spends i h)) (sym step.on ∙ ap (next_in l.tx) h)
 
   -- the number that is read there is held there
   pub held_so : (next : Option OutputRef) (l : Link) (r : StepRecord) (place : Cont) → next_of marlowe named past l.spends l.tx ≡ next → r.number ≡ number_after (instance_next l.tx next) place → HoldsNumber named past l r
@@ -211,19 +175,41 @@ module _ (named : List ℕ → Option Published) (past : Past) where
 same_standing : (a b : Standing) → ◌≡◌ {A = Result Standing SemFault} (Ok a) (Ok b) → a ≡ b
 same_standing a b h = cc
 
--- the record of a step tells its member
-pub record_so : (named : List ℕ → Option Published) (past : Past) (t : Terms) (p : Point) (next : Option OutputRef) (l : Link) (x : Member) (r : StepRecord) (inputs : List Input) (place : Cont) → IsStepOf named past t p next l x → r.interval ≡ l.tx.interval →
-    r.inputs ≡ given l.spends l.tx.inputs → inputs ≡ r.inputs → answer_of (computed r.interval p.1 (t.tree p.0) inputs) ≡ Ok (standing r.state (t.tree place)) →
-    r.warnings ≡ (computed r.interval p.1 (t.tree p.0) inputs).warnings → r.payments ≡ (computed r.interval p.1 (t.tree p.0) inputs).payments → t.has place ≡ true →
-    r.number ≡ number_after (instance_next l.tx next) place → (t.has r.number ≡ true) × (member_of t r ≡ x)
-record_so named past t p next l x r inputs place step interval given_here copied answer warnings payments has number =
-    let ticks : r.interval ≡ x.interval = interval ∙ step.interval in
-    let same : r.inputs ≡ x.inputs = given_here ∙ ap (λ (o : Option (List Input)). unwrap_or o []) step.inputs in
-    let walk : computed r.interval p.1 (t.tree p.0) inputs ≡ computed x.interval p.1 (t.tree p.0) x.inputs = λ i. computed (ticks i) p.1 (t.tree p.0) ((copied ∙ same) i) in
-    let end : standing r.state (t.tree place) ≡ standing x.outcome.state x.outcome.contract = same_standing _ _ (sym answer ∙ ap answer_of walk ∙ step.gives.0) in
-    let at = goes_at named past t p next l x place step has (ap (λ (s : Standing). s.contract) end) in
-    let state : r.state ≡ x.outcome.state = ap (λ (s : Standing). s.state) end in
-    let warned : r.warnings ≡ x.outcome.warnings = warnings ∙ ap (λ (w : Walk). w.warnings) walk ∙ step.gives.1 in
-    let paid : r.payments ≡ x.outcome.payments = payments ∙ ap (λ (w : Walk). w.payments) walk ∙ step.gives.2 in
-    let tree : t.tree r.number ≡ x.outcome.contract = ap t.tree number ∙ at.1 in
-    (ap t.has number ∙ at.0, λ i. record { interval = ticks i; inputs = same i; outcome = record { warnings = warned i; payments = paid i; state = state i; contract = tree i } })
+-- from the datum that is brought the transaction function gives the member
+module _ (named : List ℕ → Option Published) (past : Past) (t : Terms) (d : Datum) (next : Option OutputRef) (l : Link) (x : Member) (step : IsStepOf named past t next l x) (brought : brought_by l ≡ Some d) where
+  gives : Gives (t.tree d.cont) d.state x
+  gives = let c = step.carried in subst (λ (z : Datum). Gives (t.tree z.cont) z.state x) (same_some c.datum d (sym c.brought ∙ brought)) c.gives
+
+  pub has_so : t.has d.cont ≡ true
+  has_so = let c = step.carried in ap (λ (z : Datum). t.has z.cont) (sym (same_some c.datum d (sym c.brought ∙ brought))) ∙ c.has
+
+  module _ (interval : Interval) (inputs : List Input) (ticks : interval ≡ l.tx.interval) (are : inputs ≡ given l.spends l.tx.inputs) where
+    given_so : inputs ≡ x.inputs
+    given_so = are ∙ ap (λ (o : Option (List Input)). unwrap_or o []) (step.carried).inputs
+
+    walk : computed interval d.state (t.tree d.cont) inputs ≡ computed x.interval d.state (t.tree d.cont) x.inputs
+    walk = λ i. computed ((ticks ∙ (step.carried).interval) i) d.state (t.tree d.cont) (given_so i)
+
+    pub answer_so : answer_of (computed interval d.state (t.tree d.cont) inputs) ≡ Ok (standing x.outcome.state x.outcome.contract)
+    answer_so = ap answer_of walk ∙ gives.0
+
+    -- and its record tells it
+    pub record_so : (r : StepRecord) (place : Cont) → r.interval ≡ interval → r.inputs ≡ inputs → answer_of (computed interval d.state (t.tree d.cont) inputs) ≡ Ok (standing r.state (t.tree place)) →
+        r.warnings ≡ (computed interval d.state (t.tree d.cont) inputs).warnings → r.payments ≡ (computed interval d.state (t.tree d.cont) inputs).payments → t.has place ≡ true →
+        r.number ≡ number_after (instance_next l.tx next) place → (t.has r.number ≡ true) × (member_of t r ≡ x)
+    record_so r place r_ticks r_inputs answer warnings payments has number =
+        let when : r.interval ≡ x.interval = r_ticks ∙ ticks ∙ (step.carried).interval in
+        let same : r.inputs ≡ x.inputs = r_inputs ∙ given_so in
+        let end : standing r.state (t.tree place) ≡ standing x.outcome.state x.outcome.contract = same_standing _ _ (sym answer ∙ answer_so) in
+        let at = goes_at named past t next l x place step has (ap (λ (s : Standing). s.contract) end) in
+        let state : r.state ≡ x.outcome.state = ap (λ (s : Standing). s.state) end in
+        let warned : r.warnings ≡ x.outcome.warnings = warnings ∙ ap (λ (w : Walk). w.warnings) walk ∙ gives.1 in
+        let paid : r.payments ≡ x.outcome.payments = payments ∙ ap (λ (w : Walk). w.payments) walk ∙ gives.2 in
+        let tree : t.tree r.number ≡ x.outcome.contract = ap t.tree number ∙ at.1 in
+        (ap t.has number ∙ at.0, λ i. record { interval = when i; inputs = same i; outcome = record { warnings = warned i; payments = paid i; state = state i; contract = tree i } })
+
+-- a transaction of a thread brings a datum for the output that it spends
+pub brings_one : (t : Terms) (next : Option OutputRef) (l : Link) → IsAStep t next l → brought_by l ≡ None → ⊥
+brings_one t next l s none =
+    let f : (let o : Option Datum = None in o) ≡ Some ((s.3).carried).datum = sym none ∙ ((s.3).carried).brought in
+    cc

@@ -15,7 +15,7 @@ use Rattle.eutxo_types.specs.Ids.{id_of}
 use Rattle.eutxo_types.specs.Parts.{Instance, same_bytes}
 use Rattle.roles.specs.Steps.{marlowe}
 use Rattle.ledger_laws.specs.Past.{Past}
-use Rattle.ledger_laws.specs.Laws.{NamesAreSingle, DigestsTell}
+use Rattle.ledger_laws.specs.Laws.{NamesAreSingle}
 use Rattle.ledger_laws.specs.Threads.{IsMade, IsStart}
 use Rattle.ledger_laws.proofs.PlainLaws.{not_both, same_some}
 use Rattle.ledger_laws.proofs.ReferenceLaws.{itself}
@@ -88,15 +88,15 @@ module _ (singles : NamesAreSingle marlowe) (alike : StartsAlike) (present : Con
       by true e k = let s = start_told past r e in subst (IsStart past r) (same_some s.0 c (sym (named r s.0 s.1.made) ∙ k)) s.1
       by false e k = cc
 
-  pub of_start : (r : OutputRef) (c : Instance) (xs : List StepRecord) → start_at present past.accepted r ≡ Some c → (DigestsTell past → TellTheRun (published_at w.published) past r c xs) →
+  pub of_start : (r : OutputRef) (c : Instance) (xs : List StepRecord) → start_at present past.accepted r ≡ Some c → TellTheRun (published_at w.published) past r c xs →
       AreSteps (published_at w.published) past r xs
   of_start r c xs h told = record {
-    thread = λ apart other z. subst (λ (e : Instance). TellTheRun (published_at w.published) past r e xs) (same_some c other (sym h ∙ start_known r other z)) (told apart);
+    thread = λ other z. subst (λ (e : Instance). TellTheRun (published_at w.published) past r e xs) (same_some c other (sym h ∙ start_known r other z)) told;
     none = λ no. absurd (no (c, start_so r c h));
   }
 
   pub of_none : (r : OutputRef) → start_at present past.accepted r ≡ None → AreSteps (published_at w.published) past r []
   of_none r h = record {
-    thread = λ apart c s. let f : (let q : Option Instance = None in q) ≡ Some c = sym h ∙ start_known r c s in cc;
+    thread = λ c s. let f : (let q : Option Instance = None in q) ≡ Some c = sym h ∙ start_known r c s in cc;
     none = λ no. refl;
   }

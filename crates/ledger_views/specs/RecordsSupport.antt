@@ -1,21 +1,18 @@
 -- No reader needs this file: walks along a thread, which lead to what the records say.
-use Rattle.std.specs.Prelude.{◌≡◌, ℕ, ◌-◌, if◌then◌else◌, List, [], ◌∷◌, ◌++◌, map, length, position, slice_get, Option, Some, None}
+use Rattle.std.specs.Prelude.{◌≡◌, ℕ, if◌then◌else◌, List, [], ◌∷◌, ◌++◌, map, position, slice_get, Option, Some, None}
 use Rattle.std.specs.Option.{unwrap_or}
 use Rattle.contract.specs.declared.input.Input.{Input}
-use Rattle.contract.specs.Tree.{close}
-use Rattle.states.specs.States.{StateMaps}
 use Rattle.nodes.specs.declared.cont.Cont.{Cont}
 use Rattle.eutxo_types.specs.declared.output_ref.OutputRef.{OutputRef}
 use Rattle.eutxo_types.specs.declared.output_ref.OutputRef.TheVariants.{Genesis, Made}
 use Rattle.eutxo_types.specs.declared.spend.Spend.{Spend}
 use Rattle.eutxo_types.specs.declared.tx.Tx.{Tx}
 use Rattle.eutxo_types.specs.Parts.{Instance, same_bytes, contract_at, given_to}
-use Rattle.eutxo.specs.Blocks.{stands_from}
 use Rattle.roles.specs.declared.published.Published.{Published}
 use Rattle.roles.specs.Steps.{marlowe}
 use Rattle.roles.specs.Terms.{Terms}
 use Rattle.ledger_laws.specs.Past.{Past}
-use Rattle.ledger_laws.specs.Threads.{blocks_of, Link, Member, next_of, Gives, Run, LaidOut, Carries}
+use Rattle.ledger_laws.specs.Threads.{Link, Member, next_of, CarriesOne, Carries}
 use Rattle.ledger_spec.specs.declared.step_record.StepRecord.{StepRecord}
 use Rattle.ledger_spec.specs.Records.{member_of}
 use Rattle.chain_index.specs.Contents.{Contents, is_among}
@@ -46,21 +43,6 @@ start_at c txs r = if is_among c.starts r then contract_named c.used txs r else 
 abbrev pub given : OutputRef → List Spend → List Input
 given r xs = unwrap_or (given_to r xs) []
 
--- where a thread stands: at a number, in a state
-abbrev pub Point : Type 0
-Point = Cont × StateMaps
-
-abbrev pub point : Cont → StateMaps → Point
-point k s = (k, s)
-
-abbrev pub left_by : Point → Option StepRecord → Point
-left_by p None = p
-left_by p (Some x) = (x.number, x.state)
-
--- where it stands after these records
-abbrev pub stands_after : Point → List StepRecord → Point
-stands_after p xs = left_by p (slice_get xs (length xs - 1))
-
 -- where a thread goes on after a transaction of it: at the output that the next one spends, or where the thread ends
 abbrev pub goes_to : List Link → Option OutputRef → Option OutputRef
 goes_to [] end = end
@@ -82,28 +64,23 @@ abbrev pub number_after : Option Instance → Cont → Cont
 number_after None place = place
 number_after (Some i) place = i.datum.cont
 
--- what a transaction of a thread gives from here, how its outputs are laid out, and where it goes on
-pub record IsStepOf (named : List ℕ → Option Published) (past : Past) (t : Terms) (p : Point) (next : Option OutputRef) (l : Link) (x : Member) : Type 0 where
+-- what a transaction of some thread carries, and where it goes on
+pub record IsStepOf (named : List ℕ → Option Published) (past : Past) (t : Terms) (next : Option OutputRef) (l : Link) (x : Member) : Type 0 where
   pub script : List ℕ
-  pub interval : l.tx.interval ≡ x.interval
-  pub inputs : given_to l.spends l.tx.inputs ≡ Some x.inputs
-  pub gives : Gives (t.tree p.0) p.1 x
-  pub from : ℕ
-  pub block : stands_from (blocks_of marlowe named past l.tx) l.spends ≡ Some from
-  pub outputs : LaidOut t script x.outcome from l.tx
-  -- where the contract is Close, no output goes on
-  pub gone : x.outcome.contract ≡ close → next_of marlowe named past l.spends l.tx ≡ None
+  pub later : List Link
+  pub carried : CarriesOne named past t script l later x
   pub on : next_of marlowe named past l.spends l.tx ≡ next
 
--- ---- a thread
+-- a thread carries one there
+abbrev pub IsAStep : Terms → Option OutputRef → Link → Type 0
+IsAStep t next l = (named : List ℕ → Option Published) × (past : Past) × (x : Member) × IsStepOf named past t next l x
 
--- these links carry this run
-pub record IsRunOf (named : List ℕ → Option Published) (past : Past) (t : Terms) (p : Point) (script : List ℕ) (ls : List Link) (run : List Member) : Type 0 where
-  pub runs : Run (t.tree p.0) p.1 run
-  pub carried : Carries named past t script ls run
+-- these are the links of some thread, which carries members and ends here
+abbrev pub IsAThread : Terms → List ℕ → List Link → Option OutputRef → Type 0
+IsAThread t script ls end = (named : List ℕ → Option Published) × (past : Past) × Leads (next_of marlowe named past) ls end × ((run : List Member) × Carries named past t script ls run)
 
 -- of the links these are left, after these records
-pub record Goes (named : List ℕ → Option Published) (past : Past) (t : Terms) (p : Point) (script : List ℕ) (ls : List Link) (xs : List StepRecord) (left : List Link) : Type 0 where
+pub record Goes (named : List ℕ → Option Published) (past : Past) (t : Terms) (script : List ℕ) (ls : List Link) (xs : List StepRecord) (left : List Link) : Type 0 where
   pub rest : List Member
-  pub whole : IsRunOf named past t p script ls (map (member_of t) xs ++ rest)
-  pub here : IsRunOf named past t (stands_after p xs) script left rest
+  pub whole : Carries named past t script ls (map (member_of t) xs ++ rest)
+  pub here : Carries named past t script left rest

@@ -1,24 +1,23 @@
 //! The records of a thread.
-ghost use Rattle.std.specs.Prelude.{◌≡◌, ◌<◌, ◌+◌, ℕ, true, All, List, Option, Some, IfOk, map, drop, length};
+ghost use Rattle.std.specs.Prelude.{◌≡◌, ◌<◌, ◌+◌, ℕ, true, All, List, Option, Some, IfOk, map, drop, length, option_copied};
 ghost use Rattle.roles.specs.declared.published.Published.{Published as Object};
 ghost use Rattle.roles.specs.Steps.{marlowe};
 ghost use Rattle.roles.specs.Terms.{terms_of};
-ghost use Rattle.ledger_laws.specs.Laws.{AreTables, DigestsTell};
+ghost use Rattle.ledger_laws.specs.Laws.{AreTables};
 ghost use Rattle.ledger_laws.specs.Past.{Past};
-ghost use Rattle.ledger_laws.specs.Threads.{IsStart, Member, next_of};
+ghost use Rattle.ledger_laws.specs.Threads.{brought_to, brought_by, IsStart, Member, Carries, next_of};
 ghost use Rattle.ledger_spec.specs.declared.step_record.StepRecord.{StepRecord as ARecord};
 ghost use Rattle.ledger_spec.specs.Replay.{past_of, published_at, world};
 ghost use Rattle.ledger_spec.specs.Records.{member_of, HoldsNumber, TellTheRun, AreSteps, HoldNumbers};
 ghost use Rattle.ledger_kept.specs.Kept.{IsIndexOf};
-ghost use Rattle.ledger_views.specs.RecordsSupport.{goes_to, Leads, given, point, stands_after, instance_next, number_after};
-ghost use Rattle.ledger_views.specs.RecordsSupport.{IsStepOf, IsRunOf};
+ghost use Rattle.ledger_views.specs.RecordsSupport.{goes_to, Leads, given, instance_next, number_after, IsStepOf, IsAStep, IsAThread};
 
 use crate::links::{ThreadLink, thread};
 use crate::start::start_at;
 use chain_index::{Index, index_follows_threads};
 use collections::{Items, Memory, TryClone};
-use contract::{Input, SemFault, State};
-use eutxo_types::{Cont, Instance, OutputRef, Spend, Tx};
+use contract::{Input, SemFault};
+use eutxo_types::{Cont, Datum, Instance, OutputRef, Spend, Tx};
 use ledger_kept::Kept;
 use ledger_laws::{names_are_single, threads_are_runs};
 use ledger_spec::StepRecord;
@@ -50,14 +49,20 @@ fn copies_of(alloc: Global, inputs: &[Input]) -> Result<Items<Input>, Memory>
     Ok(copies)
 }
 
-// Where a thread stands after these records, which starts at a root in a state.
-fn stands_after<'a>(root: Cont, first: &'a State, records: &'a [StepRecord]) -> (Cont, &'a State)
-    ensures { point result.0 result.1.now ≡ stands_after (point root first.now) records.now }
+// The datum that is brought for the output that a reference names.
+fn brought_to<'a>(reference: &OutputRef, inputs: &[Spend], datums: &'a [Datum]) -> Option<&'a Datum>
+    ensures { option_copied result ≡ brought_to reference.now inputs.now datums.now }
 {
-    match records.last() {
-        Some(last) => (last.number, &last.state),
-        None => (root, first),
+    let mut steps = 0;
+    for x in inputs {
+        if x.reference.is_same(*reference) {
+            return datums.get(steps);
+        }
+        if x.redeemer.is_step() {
+            steps += 1;
+        }
     }
+    None
 }
 
 // The contract that a transaction makes in the output in which a thread goes on.
@@ -90,49 +95,70 @@ fn number_after(tx: &Tx, next: Option<OutputRef>, place: Cont) -> Cont
     }
 }
 
-// The record of one transaction of a thread, which stands at this number, in this state, and goes on in this output.
-// None where the contract makes no such step from there: then the transaction brought another datum, with the digest of
-// the one that was made.
-fn recorded(
+// The record of one transaction of a thread, which brings this datum for the output that it spends, and after which the
+// thread goes on in this output.
+fn recorded_from(
     alloc: Global,
     published: &Published,
-    at: (Cont, &State),
+    datum: &Datum,
     link: &ThreadLink<'_>,
     next: Option<OutputRef>,
-) -> Result<Option<StepRecord>, Memory>
-    requires { (terms_of published.now).has at.0 ≡ true }
-    ensures record { IfOk result (λ found. (named : List ℕ → Option Object) (past : Past) (x : Member) →
-        IsStepOf named past (terms_of published.now) (point at.entry.0 at.entry.1.now) next link.now x →
-        (r : ARecord) × (found ≡ Some r) × (member_of (terms_of published.now) r ≡ x)) }
-    ensures number { IfOk result (λ found. (r : ARecord) → found ≡ Some r →
-        (terms_of published.now).has r.number ≡ true) }
-    ensures held { IfOk result (λ found. (named : List ℕ → Option Object) (past : Past) (r : ARecord) →
-        next_of marlowe named past link.now.spends link.now.tx ≡ next → found ≡ Some r →
-        HoldsNumber named past link.now r) }
+) -> Result<StepRecord, Memory>
+    requires brought { brought_by link.now ≡ Some datum.now }
+    requires step { IsAStep (terms_of published.now) next link.now }
+    ensures record { IfOk result (λ r. (named : List ℕ → Option Object) (past : Past) (x : Member) →
+        IsStepOf named past (terms_of published.now) next link.now x → member_of (terms_of published.now) r ≡ x) }
+    ensures number { IfOk result (λ r. (terms_of published.now).has r.number ≡ true) }
+    ensures held { IfOk result (λ r. (named : List ℕ → Option Object) (past : Past) →
+        next_of marlowe named past link.now.spends link.now.tx ≡ next → HoldsNumber named past link.now r) }
 {
     let tx = link.tx();
-    let (number, state) = at;
     let inputs = copies_of(alloc, given(link.spends(), tx.inputs.as_slice()))?;
     let table = &published.table;
     // touch: turns lead to a number
     table.turns_lead();
-    match table.compute(alloc, &number, state, tx.interval, inputs.as_slice()) {
+    match table.compute(
+        alloc,
+        &datum.cont,
+        &datum.state,
+        tx.interval,
+        inputs.as_slice(),
+    ) {
         Ok(outcome) => {
             let number = number_after(tx, next, outcome.place);
-            if !table.contains(number) {
-                return Ok(None);
-            }
-            Ok(Some(StepRecord {
+            Ok(StepRecord {
                 interval: tx.interval,
                 inputs,
                 warnings: outcome.warnings,
                 payments: outcome.payments,
                 state: outcome.state,
                 number,
-            }))
+            })
         }
         Err(SemFault::Memory) => Err(AllocError),
-        Err(_) => Ok(None),
+        Err(_) => unreachable!(),
+    }
+}
+
+// The record of one transaction of a thread, after which the thread goes on in this output: what the contract does from
+// the datum that the transaction brings for the output that it spends.
+fn recorded(
+    alloc: Global,
+    published: &Published,
+    link: &ThreadLink<'_>,
+    next: Option<OutputRef>,
+) -> Result<StepRecord, Memory>
+    requires { IsAStep (terms_of published.now) next link.now }
+    ensures record { IfOk result (λ r. (named : List ℕ → Option Object) (past : Past) (x : Member) →
+        IsStepOf named past (terms_of published.now) next link.now x → member_of (terms_of published.now) r ≡ x) }
+    ensures number { IfOk result (λ r. (terms_of published.now).has r.number ≡ true) }
+    ensures held { IfOk result (λ r. (named : List ℕ → Option Object) (past : Past) →
+        next_of marlowe named past link.now.spends link.now.tx ≡ next → HoldsNumber named past link.now r) }
+{
+    let tx = link.tx();
+    match brought_to(link.spends(), tx.inputs.as_slice(), tx.datums.as_slice()) {
+        Some(datum) => recorded_from(alloc, published, datum, link, next),
+        None => unreachable!(),
     }
 }
 
@@ -150,8 +176,7 @@ fn goes_to(links: &[ThreadLink<'_>], i: usize, end: Option<OutputRef>) -> Option
     }
 }
 
-// The records of the transactions of a thread that ends here, up to the first that the contract doesn't make from where
-// it stands.
+// The records of the transactions of a thread that ends here.
 fn records_of(
     alloc: Global,
     published: &Published,
@@ -159,26 +184,20 @@ fn records_of(
     links: &[ThreadLink<'_>],
     end: Option<OutputRef>,
 ) -> Result<Items<StepRecord>, Memory>
-    requires root { (terms_of published.now).has published.now.root ≡ true }
-    ensures run { IfOk result (λ xs. (named : List ℕ → Option Object) (past : Past) (run : List Member) →
+    requires { IsAThread (terms_of published.now) start.now.script links.now end }
+    ensures carried { IfOk result (λ xs. (named : List ℕ → Option Object) (past : Past) (run : List Member) →
         Leads (next_of marlowe named past) links.now end →
-        IsRunOf named past (terms_of published.now) (point published.now.root start.now.datum.state)
-        start.now.script links.now run →
-        IsRunOf named past (terms_of published.now) (point published.now.root start.now.datum.state)
-        start.now.script links.now (map (member_of (terms_of published.now)) xs)) }
+        Carries named past (terms_of published.now) start.now.script links.now run →
+        Carries named past (terms_of published.now) start.now.script links.now (map (member_of (terms_of published.now)) xs)) }
     ensures numbers { IfOk result (λ xs. All (λ x. (terms_of published.now).has x.number ≡ true) xs) }
     ensures held { IfOk result (λ xs. (named : List ℕ → Option Object) (past : Past) →
         Leads (next_of marlowe named past) links.now end → HoldNumbers named past links.now xs) }
 {
     let mut records = Items::new(alloc);
     for (i, link) in links.iter().enumerate() {
-        let at = stands_after(published.root, &start.datum.state, records.as_slice());
         let next = goes_to(links, i, end);
-        let found = recorded(alloc, published, at, link, next)?;
-        match found {
-            Some(record) => records.push(record)?,
-            None => return Ok(records),
-        }
+        let record = recorded(alloc, published, link, next)?;
+        records.push(record)?;
     }
     Ok(records)
 }
@@ -194,10 +213,10 @@ fn steps_from(
     requires tied { IsIndexOf index.now.present (world kept.now) }
     requires tables { AreTables (published_at (world kept.now).published) }
     requires start { IsStart (past_of (world kept.now)) reference.now start.now }
-    ensures { IfOk result (λ xs. DigestsTell (past_of (world kept.now)) →
+    ensures { IfOk result (λ xs.
         TellTheRun (published_at (world kept.now).published) (past_of (world kept.now)) reference.now start.now xs) }
 {
-    // touch: the thread is a run, where digests tell data apart, and ends where the index says
+    // touch: the thread carries one list of members, and ends where the index says
     threads_are_runs();
     index_follows_threads();
     match index.published_at(start.script) {
@@ -206,14 +225,15 @@ fn steps_from(
             let end = index.end_of(reference);
             records_of(alloc, object.get(), start, &links, end)
         }
-        None => Ok(Items::new(alloc)),
+        None => unreachable!(),
     }
 }
 
-/// The records of the thread that starts at an output, in order: the thread's one run, with as many records as the
-/// thread has transactions, where no two different data that accepted transactions bring have one digest. Where two
-/// have, the records may end early. Where no thread starts there are none. Each record costs three look-ups and one
-/// step that is computed anew, however long the history is. Answers `Memory` only where a growth was refused.
+/// The records of the thread that starts at an output, in order, as many as the thread has transactions. Each says what
+/// the transaction function gives from the datum that its transaction brought for the output that it spent, by which its
+/// script judged it. They are the thread's one run where that is always the datum that the output's maker brought. Where
+/// no thread starts there are none. Each record costs three look-ups and one step that is computed anew, however long
+/// the history is. Answers `Memory` only where a growth was refused.
 pub fn steps_of(
     alloc: Global,
     kept: &Kept<'_>,

@@ -160,7 +160,7 @@ stepped c seat start inputs signers change tx reply second b fits h =
       clear = clear.0;
       accepted =
           λ alone. h ∙ after_look c seat (thread_ask start) tx ∙ ap (λ (x : Tx). reply_to (world c) (on.Submit x)) clear.1
-          ∙ second.steps l r t.0 t.1 clear.0 (there c start t.0 t.1).named (opened c start inputs signers change t.0 t.1 (subst (λ (x : Tx). TxFits x) clear.1 fits) alone);
+          ∙ (second.built).steps l r t.0 t.1 clear.0 (there c start t.0 t.1).named (opened c start inputs signers change t.0 t.1 (subst (λ (x : Tx). TxFits x) clear.1 fits) alone);
     }
 
 pub after_stepped : (c new : Course) (seat : ℕ) (start : OutputRef) (r : StepRequest) (tx : Tx) → build_answer (hinders_step (thread_look c start) r) (layout_step (thread_look c start) r) ≡ Ok tx →
@@ -195,7 +195,7 @@ claimed c payouts signers offered to tx reply second b fits h =
       clear = clear.0;
       accepted =
           λ unspent alone. h ∙ ap (λ (x : Tx). reply_to (world c) (on.Submit x)) clear.1
-          ∙ second.claims r clear.0 (subst (λ (x : Tx). TxFits x) clear.1 fits, record { unspent = unspent; alone = alone; from = ≤ℤ_refl (world c).replay.tick; to = ≤ℤ_refl (world c).replay.tick });
+          ∙ (second.built).claims r clear.0 (subst (λ (x : Tx). TxFits x) clear.1 fits, record { unspent = unspent; alone = alone; from = ≤ℤ_refl (world c).replay.tick; to = ≤ℤ_refl (world c).replay.tick });
     }
 
 pub after_claimed : (c new : Course) (seat : ℕ) (r : ClaimRequest) (tx : Tx) → build_answer (hinders_claim r) (layout_claim r) ≡ Ok tx → new ≡ called c seat (on.Submit tx) → new ≡ after_claim c seat r

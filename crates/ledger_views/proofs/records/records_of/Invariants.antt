@@ -4,17 +4,15 @@ use Rattle.roles.specs.declared.published.Published.{Published}
 use Rattle.roles.specs.Steps.{marlowe}
 use Rattle.roles.specs.Terms.{terms_of}
 use Rattle.ledger_laws.specs.Past.{Past}
-use Rattle.ledger_laws.specs.Threads.{Member, next_of}
+use Rattle.ledger_laws.specs.Threads.{Member, next_of, Carries}
 use Rattle.ledger_spec.specs.Records.{HoldNumbers}
-use Rattle.ledger_views.specs.RecordsSupport.{Leads, point, stands_after, IsRunOf, Goes}
+use Rattle.ledger_views.specs.RecordsSupport.{Leads, Goes}
 use Rattle.ledger_views.proofs.records.records_of.Given as goal
 
 abbrev pub invariant-loop-i : goal.invariant-loop-i
 invariant-loop-i l = record {
   goes : (named : List ℕ → Option Published) (past : Past) (run : List Member) → Leads (next_of marlowe named past) l.links l.end →
-      IsRunOf named past (terms_of l.published) (point l.published.root l.start.datum.state) l.start.script l.links run →
-      Goes named past (terms_of l.published) (point l.published.root l.start.datum.state) l.start.script l.links l.records (drop l.i l.links);
-  has : (terms_of l.published).has (stands_after (point l.published.root l.start.datum.state) l.records).0 ≡ true;
+      Carries named past (terms_of l.published) l.start.script l.links run → Goes named past (terms_of l.published) l.start.script l.links l.records (drop l.i l.links);
   numbers : All (λ x. (terms_of l.published).has x.number ≡ true) l.records;
   count : length l.records ≡ l.i;
   held : (named : List ℕ → Option Published) (past : Past) → Leads (next_of marlowe named past) l.links l.end → HoldNumbers named past l.links l.records;
