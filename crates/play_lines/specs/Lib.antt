@@ -1,1 +1,2 @@
 pub mod PlayLines
+pub mod Worked

@@ -6,7 +6,9 @@ mod entries;
 mod fault_texts;
 mod text;
 mod threads;
+mod worked;
 
 pub use fault_texts::{build_fault_text, tx_fault_text};
 pub use text::played_lines;
 pub use threads::ThreadLine;
+pub use worked::worked_lines;
