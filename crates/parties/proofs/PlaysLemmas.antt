@@ -3,8 +3,10 @@ use Rattle.std.proofs.Common.{◌≡◌, inl, inr, ℕ, zero, suc, ◌+◌, ◌-
 use Rattle.std.proofs.lemmas.List.{append-nil, length-append, map-append, drop_more, drop_all, take_all}
 use Rattle.std.proofs.lemmas.Option.{get_or_from_slice_get, slice_get-get_or, slice_get_within}
 use Rattle.std.proofs.Math.Seq.{drop-append_seam}
-use Rattle.std.specs.Prelude.{ℤ, Result, Ok, Err, OnErr, if◌then◌else◌, slice_get}
-use Rattle.std.specs.List.{Contains}
+use Rattle.std.proofs.lemmas.List.Elements.{All-nil, All-cons, All-append}
+use Rattle.std.specs.Prelude.{◌≢◌, ℤ, Result, Ok, Err, OnErr, IfSome, if◌then◌else◌, slice_get, option_to_list}
+use Rattle.std.specs.List.{All, Contains}
+use Rattle.collections.specs.Answers.{Aside}
 use Rattle.contract.specs.declared.input.Input.{Input}
 use Rattle.eutxo_types.specs.declared.output_ref.OutputRef.{OutputRef}
 use Rattle.eutxo_types.specs.declared.tx.Tx.{Tx}
@@ -15,6 +17,7 @@ use Rattle.ledger.specs.declared.call.Reply.{Reply}
 use Rattle.ledger.specs.declared.call.Reply.TheVariants as replies
 use Rattle.ledger.specs.declared.look.Look.{Look}
 use Rattle.builder_spec.specs.declared.fault.BuildFault.{BuildFault}
+use Rattle.builder_spec.specs.declared.fault.BuildFault.TheVariants as causes
 use Rattle.plans.specs.declared.intent.Intent.TheVariants.{Step, Steps, Claim, Round, Advance}
 use Rattle.hub.specs.declared.answer.Answer.{Answer}
 use Rattle.hub.specs.Seats.{SeatRecord, ReceiptRecord, seat_record, answer_of, IsReply, WasTold}
@@ -23,7 +26,9 @@ use Rattle.ledger_spec.specs.Replay.{world}
 use Rattle.ledger_spec.specs.Views.{look}
 use Rattle.parties.specs.Plays.{PlayedIntent, PlayedPlan, step_ask, claim_ask, step_made, steps_made, claim_made, offered_by, parts_of}
 use Rattle.parties.specs.Plays.{AreLooks, WereShown, LooksOrHandsIn, IsOf, IsOfPlan, AreOf, AreOfPlan, IsWithin, added, receipt_of}
-use Rattle.parties.specs.PlaysSupport.{asks_of, by_first, replies_of, AreShown, ShowsALook, HandsIn, HasRoom, WasNoted, AtMostNoted, Went, WentNoted, WasShown}
+use Rattle.parties.specs.Plays.{asks_of, by_first, made_of, IsLeftOut}
+use Rattle.parties.specs.declared.left_out.LeftOut.{LeftOut}
+use Rattle.parties.specs.PlaysSupport.{LeavesOut, replies_of, AreShown, ShowsALook, HandsIn, HasRoom, WasNoted, AtMostNoted, Went, WentNoted, WasShown}
 
 -- ---- whose call it is
 
@@ -382,7 +387,89 @@ played plan old new w = subst (λ (l : List Answer). AreOf plan [] l) (sym (adde
 pub receipts : (plan : PlayedPlan) (old new : SeatRecord) (now : List ReceiptRecord) → WentNoted plan old new [] now → now ≡ map (receipt_of old.number) (added old new)
 receipts plan old new now w = w.receipts ∙ ap (λ (l : List Answer). map (receipt_of old.number) l) (sym (added_is plan old new w.went))
 
+-- ---- what is left out
+
+-- a receipt keeps the place
+places_kept : (seat : ℕ) (answers : List Answer) → map (λ (r : ReceiptRecord). r.entry) (map (receipt_of seat) answers) ≡ map (λ (a : Answer). a.place) answers
+places_kept seat [] = refl
+places_kept seat (a ∷ answers) = ap (λ (l : List ℕ). a.place ∷ l) (places_kept seat answers)
+
+-- an intent that is left out by all that was shown
+pub left_by_looks : (plan : PlayedPlan) (place : ℕ) (intent : PlayedIntent) (fault : BuildFault) (l : LeftOut) (a b : SeatRecord) (rs ss shown : List ReceiptRecord) → slice_get plan.intents place ≡ Some intent → WasShown plan (asks_of plan intent) a b rs ss → shown ≡ drop (length rs) ss → LeavesOut plan intent shown fault → l.intent ≡ place → l.looks.items ≡ map (λ (r : ReceiptRecord). r.entry) shown → l.fault ≡ fault → IsLeftOut plan (added a b) l
+left_by_looks plan place intent fault l a b rs ss shown at w are out here places is =
+    let more = w.gone.went.more in
+    let kept : shown ≡ map (receipt_of a.number) more = are ∙ (ap (λ (l : List ReceiptRecord). drop (length rs) l) w.gone.receipts ∙ drop-append_seam rs (map (receipt_of a.number) more)) in
+    record {
+      intent = intent;
+      at = ap (λ (n : ℕ). slice_get plan.intents n) here ∙ at;
+      earlier = [];
+      shown = more;
+      later = [];
+      among = added_is plan a b w.gone.went ∙ sym (append-nil more);
+      looks = out.looks;
+      are = are_looks (asks_of plan intent) out.looks more w.calls (replies_kept a.number more ∙ (ap replies_of (sym kept) ∙ out.told));
+      places = places ∙ (ap (map (λ (r : ReceiptRecord). r.entry)) kept ∙ places_kept a.number more);
+      refused = out.made ∙ ap (λ (f : BuildFault). Some (Err f)) (sym is);
+    }
+
+-- it is left out as well where more was answered before
+pub left_later : (plan : PlayedPlan) (before answers all : List Answer) (l : LeftOut) → all ≡ before ++ answers → IsLeftOut plan answers l → IsLeftOut plan all l
+left_later plan before answers all l is h = record {
+  intent = h.intent;
+  at = h.at;
+  earlier = before ++ h.earlier;
+  shown = h.shown;
+  later = h.later;
+  among = is ∙ (ap (λ (l : List Answer). before ++ l) h.among ∙ sym (append_assoc before h.earlier (h.shown ++ h.later)));
+  looks = h.looks;
+  are = h.are;
+  places = h.places;
+  refused = h.refused;
+}
+
+-- .. and where more is answered then
+pub left_still : (plan : PlayedPlan) (answers more all : List Answer) (l : LeftOut) → all ≡ answers ++ more → IsLeftOut plan answers l → IsLeftOut plan all l
+left_still plan answers more all l is h = record {
+  intent = h.intent;
+  at = h.at;
+  earlier = h.earlier;
+  shown = h.shown;
+  later = h.later ++ more;
+  among = is ∙ (ap (λ (l : List Answer). l ++ more) h.among ∙ (append_assoc h.earlier (h.shown ++ h.later) more ∙ ap (λ (l : List Answer). h.earlier ++ l) (append_assoc h.shown h.later more)));
+  looks = h.looks;
+  are = h.are;
+  places = h.places;
+  refused = h.refused;
+}
+
+-- what is added by one after another
+pub added_more : (plan : PlayedPlan) (a b c : SeatRecord) → Went plan a b → Went plan b c → added a c ≡ added a b ++ added b c
+unfolding went_more
+added_more plan a b c x y =
+    let both : added a c ≡ x.more ++ y.more = added_is plan a c (went_more plan a b c x y) in
+    both ∙ (ap (λ (l : List Answer). l ++ y.more) (sym (added_is plan a b x)) ∙ ap (λ (l : List Answer). added a b ++ l) (sym (added_is plan b c y)))
+
+-- all that was left out, and what is left out of the next
+pub all_left : (plan : PlayedPlan) (a b c : SeatRecord) (ls : List LeftOut) (told : Option LeftOut) → Went plan a b → Went plan b c → All (IsLeftOut plan (added a b)) ls → IfSome told (IsLeftOut plan (added b c)) → All (IsLeftOut plan (added a c)) (ls ++ option_to_list told)
+all_left plan a b c ls told x y all one =
+    let both = added_more plan a b c x y in
+    All-append (IsLeftOut plan (added a c)) ls (option_to_list told) (λ k d here. left_still plan (added a b) (added b c) (added a c) _ both (all k d here)) (of told one)
+  where
+    of : (told : Option LeftOut) → IfSome told (IsLeftOut plan (added b c)) → All (IsLeftOut plan (added a c)) (option_to_list told)
+    of None h = All-nil (IsLeftOut plan (added a c))
+    of (Some l) h = All-cons (IsLeftOut plan (added a c)) l [] (left_later plan (added a b) (added b c) (added a c) l (added_more plan a b c x y) h) (All-nil (IsLeftOut plan (added a c)))
+
 -- ---- answers
+
+-- what holds of something that is there implies more
+pub some_more : {X : Type 0} (P Q : X → Type 0) (o : Option X) → ((x : X) → P x → Q x) → IfSome o P → IfSome o Q
+some_more P Q (Some x) more h = more x h
+some_more P Q None more h = tt
+
+-- an answer that isn't refused memory is the one that is said
+pub aside_is : (built answer : Result Tx BuildFault) → Aside causes.Memory built answer → built ≢ Err causes.Memory → answer ≡ built
+aside_is (Ok tx) answer h whole = h
+aside_is (Err fault) answer h whole = h (λ is. whole (ap Err is))
 
 -- what holds anyway holds where there is an error
 pub on_err_always : {T E : Type 0} (r : Result T E) (P : Type 0) → P → OnErr r P

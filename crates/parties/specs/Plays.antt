@@ -1,5 +1,5 @@
 -- What a party does with its seat.
-use Rattle.std.specs.Prelude.{◌≡◌, ℕ, ◌≤◌, ◌⊎◌, if◌then◌else◌, List, [], ◌∷◌, ◌++◌, map, length, drop, Option, Some, None, Result, Ok}
+use Rattle.std.specs.Prelude.{◌≡◌, ℕ, ◌≤◌, ◌⊎◌, if◌then◌else◌, List, [], ◌∷◌, ◌++◌, map, length, drop, slice_get, Option, Some, None, Result, Ok, Err}
 use Rattle.std.specs.List.{Any}
 use Rattle.contract.specs.declared.input.Input.{Input}
 use Rattle.contract.specs.declared.interval.Interval.{Interval}
@@ -22,6 +22,7 @@ use Rattle.plans.specs.declared.intent.Intent.TheVariants.{Step, Steps, Claim, R
 use Rattle.plans.specs.declared.plan.Plan.{Plan}
 use Rattle.hub.specs.declared.answer.Answer.{Answer}
 use Rattle.hub.specs.Seats.{SeatRecord, ReceiptRecord}
+use Rattle.parties.specs.declared.left_out.LeftOut.{LeftOut}
 
 -- ---- what is played: a thread is named by its start output, a contract by its currency
 
@@ -72,6 +73,27 @@ payout_request plan interval look = claim_request look.payouts interval plan.key
 abbrev pub claim_made : PlayedPlan → Interval → Look → Result Tx BuildFault
 claim_made plan interval look = build_answer (hinders_claim (payout_request plan interval look)) (layout_claim (payout_request plan interval look))
 
+-- what an intent asks to be shown, in order: one look, or one for each of several threads
+abbrev pub asks_of : PlayedPlan → PlayedIntent → List Ask
+asks_of plan (Step thread inputs interval pooled) = step_ask plan thread ∷ []
+asks_of plan (Steps steps interval pooled) = map (λ s. step_ask plan s.0) steps
+asks_of plan (Claim currency role interval) = claim_ask plan currency role ∷ []
+asks_of plan (Round count workers) = []
+asks_of plan (Advance tick) = []
+
+-- what the builder answers on the first of some looks
+abbrev pub by_first : (Look → Result Tx BuildFault) → List Look → Option (Result Tx BuildFault)
+by_first made [] = None
+by_first made (look ∷ looks) = Some (made look)
+
+-- what it answers on the looks
+abbrev pub made_of : PlayedPlan → PlayedIntent → List Look → Option (Result Tx BuildFault)
+made_of plan (Step thread inputs interval pooled) looks = by_first (step_made plan inputs interval) looks
+made_of plan (Steps steps interval pooled) looks = Some (steps_made plan steps interval looks)
+made_of plan (Claim currency role interval) looks = by_first (claim_made plan interval) looks
+made_of plan (Round count workers) looks = None
+made_of plan (Advance tick) looks = None
+
 -- ---- whose call it is, by the answers before it
 
 -- these answers show the looks that were asked for
@@ -116,6 +138,21 @@ AreOf plan before (a ∷ rest) = IsOfPlan plan before a.call × AreOf plan (befo
 -- free
 abbrev pub AreOfPlan : PlayedPlan → List Answer → Type 0
 AreOfPlan plan answers = AreOf plan [] answers
+
+-- ---- what is left out
+
+-- LEFT OUT: an intent of the plan, whose builder refuses it by looks that were shown to its asks; they stand at these places, and this hinders its request
+pub record IsLeftOut (plan : PlayedPlan) (answers : List Answer) (l : LeftOut) : Type 0 where
+  pub intent : PlayedIntent
+  pub at : slice_get plan.intents l.intent ≡ Some intent
+  pub earlier : List Answer
+  pub shown : List Answer
+  pub later : List Answer
+  pub among : answers ≡ earlier ++ (shown ++ later)
+  pub looks : List Look
+  pub are : AreLooks (asks_of plan intent) looks shown
+  pub places : l.looks.items ≡ map (λ (a : Answer). a.place) shown
+  pub refused : made_of plan intent looks ≡ Some (Err l.fault)
 
 -- ---- a seat before and after
 

@@ -1,5 +1,5 @@
 -- No reader needs this file: what holds while a party plays, the invariants behind the clauses.
-use Rattle.std.specs.Prelude.{◌≡◌, ℕ, ◌<◌, ◌⊎◌, if◌then◌else◌, List, [], ◌∷◌, ◌++◌, map, length, Option, Some, None, Result, Ok}
+use Rattle.std.specs.Prelude.{◌≡◌, ℕ, ◌<◌, ◌⊎◌, if◌then◌else◌, List, [], ◌∷◌, ◌++◌, map, length, Option, Some, None, Ok, Err}
 use Rattle.eutxo_types.specs.declared.tx.Tx.{Tx}
 use Rattle.ledger.specs.declared.ask.Ask.{Ask}
 use Rattle.ledger.specs.declared.call.Call.{Call}
@@ -13,28 +13,7 @@ use Rattle.hub.specs.declared.answer.Answer.{Answer}
 use Rattle.hub.specs.Seats.{SeatRecord, ReceiptRecord, seat_record}
 use Rattle.parties.specs.declared.acts.Act.{Act}
 use Rattle.parties.specs.declared.acts.Act.TheVariants as acts
-use Rattle.parties.specs.Plays.{PlayedIntent, PlayedPlan, step_ask, claim_ask, step_made, steps_made, claim_made, AreOf, IsWithin, receipt_of}
-
--- what an intent asks to be shown, in order: one look, or one for each of several threads
-abbrev pub asks_of : PlayedPlan → PlayedIntent → List Ask
-asks_of plan (Step thread inputs interval pooled) = step_ask plan thread ∷ []
-asks_of plan (Steps steps interval pooled) = map (λ s. step_ask plan s.0) steps
-asks_of plan (Claim currency role interval) = claim_ask plan currency role ∷ []
-asks_of plan (Round count workers) = []
-asks_of plan (Advance tick) = []
-
--- what the builder answers on the first of some looks
-abbrev pub by_first : (Look → Result Tx BuildFault) → List Look → Option (Result Tx BuildFault)
-by_first made [] = None
-by_first made (look ∷ looks) = Some (made look)
-
--- what it answers on the looks
-abbrev pub made_of : PlayedPlan → PlayedIntent → List Look → Option (Result Tx BuildFault)
-made_of plan (Step thread inputs interval pooled) looks = by_first (step_made plan inputs interval) looks
-made_of plan (Steps steps interval pooled) looks = Some (steps_made plan steps interval looks)
-made_of plan (Claim currency role interval) looks = by_first (claim_made plan interval) looks
-made_of plan (Round count workers) looks = None
-made_of plan (Advance tick) looks = None
+use Rattle.parties.specs.Plays.{PlayedIntent, PlayedPlan, made_of, AreOf, IsWithin, receipt_of}
 
 -- how it is handed in
 abbrev pub handed : PlayedIntent → Tx → Call
@@ -59,6 +38,12 @@ pub record HandsIn (plan : PlayedPlan) (intent : PlayedIntent) (shown : List Rec
   pub tx : Tx
   pub made : made_of plan intent looks ≡ Some (Ok tx)
   pub call_is : call ≡ handed intent tx
+
+-- nothing is handed in: the builder refuses the intent by the looks that these receipts show
+pub record LeavesOut (plan : PlayedPlan) (intent : PlayedIntent) (shown : List ReceiptRecord) (fault : BuildFault) : Type 0 where
+  pub looks : List Look
+  pub told : replies_of shown ≡ map replies.Look looks
+  pub made : made_of plan intent looks ≡ Some (Err fault)
 
 -- the call that an act makes
 abbrev pub call_of : Act → Call

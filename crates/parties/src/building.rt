@@ -1,8 +1,8 @@
 //! What an intent asks for, and what is built of what it is shown.
-ghost use Rattle.std.specs.Prelude.{◌≡◌, map, Some, Ok, IfOk, IfSome};
+ghost use Rattle.std.specs.Prelude.{◌≡◌, ◌≢◌, map, Err, IfOk};
 ghost use Rattle.ledger.specs.declared.call.Reply.TheVariants as replies;
-ghost use Rattle.parties.specs.Plays.{step_ask, claim_ask, step_made, steps_made, claim_made, offered_by, parts_of};
-ghost use Rattle.parties.specs.PlaysSupport.{AreShown, asks_of, made_of, replies_of};
+ghost use Rattle.parties.specs.Plays.{step_ask, claim_ask, step_made, steps_made, claim_made, offered_by, parts_of, asks_of, made_of};
+ghost use Rattle.parties.specs.PlaysSupport.{AreShown, replies_of};
 
 use builder::{
     Ask, BuildFault, Look, Part, PayoutLock, Unspent, build_claim, build_step, build_steps,
@@ -134,14 +134,15 @@ pub(crate) fn looks_in<'a, J: Session>(
 
 // ---- what is built
 
-// A builder's answer: nothing where it refuses for another cause than memory.
-fn or_skipped(built: Result<Tx, BuildFault>) -> Result<Option<Tx>, Memory>
-    ensures { IfOk result (λ made. IfSome made (λ tx. built ≡ Ok tx)) }
+// A builder's answer, unless it was refused memory.
+fn or_memory(built: Result<Tx, BuildFault>) -> Result<Result<Tx, BuildFault>, Memory>
+    ensures is { IfOk result (λ made. made ≡ built) }
+    ensures whole { IfOk result (λ made. made ≢ Err BuildFault.Memory) }
 {
     match built {
-        Ok(tx) => Ok(Some(tx)),
+        Ok(tx) => Ok(Ok(tx)),
         Err(BuildFault::Memory) => Err(AllocError),
-        Err(_) => Ok(None),
+        Err(fault) => Ok(Err(fault)),
     }
 }
 
@@ -151,8 +152,8 @@ fn step_of(
     inputs: &[Input],
     interval: Interval,
     look: &Look,
-) -> Result<Option<Tx>, Memory>
-    ensures { IfOk result (λ made. IfSome made (λ tx. step_made plan.now inputs.now interval look.now ≡ Ok tx)) }
+) -> Result<Result<Tx, BuildFault>, Memory>
+    ensures { IfOk result (λ made. step_made plan.now inputs.now interval look.now ≡ made) }
 {
     let change = &plan.change;
     let answer = build_step(
@@ -164,7 +165,7 @@ fn step_of(
         look.keys.as_slice(),
         change,
     );
-    or_skipped(answer)
+    or_memory(answer)
 }
 
 // The parts of steps of several threads, each as its look shows it.
@@ -204,12 +205,12 @@ fn steps_of(
     steps: &[(OutputRef, Items<Input>)],
     interval: Interval,
     looks: &[Shown<'_>],
-) -> Result<Option<Tx>, Memory>
-    ensures { IfOk result (λ made. IfSome made (λ tx. steps_made plan.now steps.now interval looks.now ≡ Ok tx)) }
+) -> Result<Result<Tx, BuildFault>, Memory>
+    ensures { IfOk result (λ made. steps_made plan.now steps.now interval looks.now ≡ made) }
 {
     let parts = parts_of(alloc, steps, looks)?;
     let offered = offered_by(looks);
-    or_skipped(build_steps(
+    or_memory(build_steps(
         alloc,
         &parts,
         interval,
@@ -224,12 +225,12 @@ fn claim_of(
     plan: &Plan<OutputRef, Bytes>,
     interval: Interval,
     look: &Look,
-) -> Result<Option<Tx>, Memory>
-    ensures { IfOk result (λ made. IfSome made (λ tx. claim_made plan.now interval look.now ≡ Ok tx)) }
+) -> Result<Result<Tx, BuildFault>, Memory>
+    ensures { IfOk result (λ made. claim_made plan.now interval look.now ≡ made) }
 {
     let payouts = look.payouts.as_slice();
     let to = &plan.change;
-    or_skipped(build_claim(
+    or_memory(build_claim(
         alloc,
         payouts,
         interval,
@@ -240,15 +241,15 @@ fn claim_of(
     ))
 }
 
-/// The transaction of an intent by what its looks show; nothing where the builder refuses it for another cause than
-/// memory.
+/// What the builder answers to an intent by what its looks show, unless it was refused memory; nothing where it asks for no
+/// look.
 pub(crate) fn built(
     alloc: Global,
     plan: &Plan<OutputRef, Bytes>,
     intent: &Intent<OutputRef, Bytes>,
     looks: &[Shown<'_>],
-) -> Result<Option<Tx>, Memory>
-    ensures { IfOk result (λ made. IfSome made (λ tx. made_of plan.now intent.now looks.now ≡ Some (Ok tx))) }
+) -> Result<Option<Result<Tx, BuildFault>>, Memory>
+    ensures { IfOk result (λ made. made_of plan.now intent.now looks.now ≡ made) }
 {
     match intent {
         Intent::Step {
@@ -256,16 +257,25 @@ pub(crate) fn built(
             interval,
             ..
         } => match looks.first() {
-            Some(shown) => step_of(alloc, plan, inputs.as_slice(), *interval, shown.look),
+            Some(shown) => {
+                let made = step_of(alloc, plan, inputs.as_slice(), *interval, shown.look)?;
+                Ok(Some(made))
+            }
             None => Ok(None),
         },
         Intent::Steps {
             steps,
             interval,
             ..
-        } => steps_of(alloc, plan, steps.as_slice(), *interval, looks),
+        } => {
+            let made = steps_of(alloc, plan, steps.as_slice(), *interval, looks)?;
+            Ok(Some(made))
+        }
         Intent::Claim { interval, .. } => match looks.first() {
-            Some(shown) => claim_of(alloc, plan, *interval, shown.look),
+            Some(shown) => {
+                let made = claim_of(alloc, plan, *interval, shown.look)?;
+                Ok(Some(made))
+            }
             None => Ok(None),
         },
         Intent::Round { .. } => Ok(None),

@@ -4,16 +4,18 @@
 //! For a step, for steps of several threads at once or for a claim it looks, builds on what it was shown, checks
 //! without the lock, and hands in; where another was faster, it begins again. Each call that it adds to its seat's
 //! list is of its plan, what it hands in is the layout of an intent's request by the looks just before it, and it
-//! keeps the receipts (`specs/Plays.antt`). docs/threads.md explains it.
+//! keeps the receipts, and what hindered each intent that it left out (`specs/Plays.antt`). docs/threads.md explains it.
 #![tactic(auto)]
 
 mod acts;
 mod building;
+mod left_out;
 mod means;
 mod party;
 mod turns;
 mod watch;
 
+pub use left_out::LeftOut;
 pub use party::Party;
 pub use plans::{Intent, Plan};
 pub use watch::{NoWatch, Watch};

@@ -22,6 +22,8 @@ pub(crate) struct Means<'a, R, J: Session, W> {
     pub(crate) hub: &'a Hub<J>,
     pub(crate) plan: &'a Plan<OutputRef, Bytes>,
     pub(crate) watch: &'a W,
+    // Whether it tells what it leaves out.
+    pub(crate) tells: bool,
 }
 
 // Brought inside what a round takes: 1 to 16.

@@ -1,11 +1,12 @@
 //! Parties.
-ghost use Rattle.std.specs.Prelude.{◌≡◌, ◌++◌, map, IfOk, OnOk, OnErr};
-ghost use Rattle.std.specs.List.{Contains};
+ghost use Rattle.std.specs.Prelude.{◌≡◌, ◌++◌, map, slice_get, option_to_list, Some, IfOk, IfSome, OnOk, OnErr};
+ghost use Rattle.std.specs.List.{All, Contains};
 ghost use Rattle.hub.specs.Seats.{seat_record};
-ghost use Rattle.parties.specs.Plays.{AreOfPlan, IsWithin, added, receipt_of};
+ghost use Rattle.parties.specs.Plays.{AreOfPlan, IsLeftOut, IsWithin, added, receipt_of};
 ghost use Rattle.parties.specs.PlaysSupport.{Went, WentNoted};
 
 use crate::acts::Act;
+use crate::left_out::LeftOut;
 use crate::means::Means;
 use crate::turns::{noted, turns};
 use crate::watch::{NoWatch, Watch};
@@ -30,34 +31,47 @@ impl Drop for Party {
     }
 }
 
-// Does what one intent of the plan says.
+// Does what the intent at a place of the plan says: what was left out.
 fn perform<R: Threads + Wait + Sync, J: Session, W: Watch>(
     means: &Means<'_, R, J, W>,
+    place: usize,
     intent: &Intent<OutputRef, Bytes>,
     seat: &mut Seat<J>,
     receipts: &mut Vec<Receipt<J>>,
-) -> Result<(), Memory>
-    requires { Contains means.now.plan.now.intents intent.now }
+) -> Result<Option<LeftOut>, Memory>
+    requires has { Contains means.now.plan.now.intents intent.now }
+    requires at { slice_get means.now.plan.now.intents place ≡ Some intent.now }
     ensures ok { OnOk result (WentNoted means.now.plan.now seat.old seat.new receipts.old.items receipts.new.items) }
+    ensures left { IfOk result (λ told. IfSome told (IsLeftOut means.now.plan.now (added seat.old seat.new))) }
     ensures err { OnErr result (Went means.now.plan.now seat.old seat.new) }
 {
     match intent {
-        Intent::Step { .. } => turns(means, intent, seat, receipts),
-        Intent::Steps { .. } => turns(means, intent, seat, receipts),
-        Intent::Claim { .. } => turns(means, intent, seat, receipts),
+        Intent::Step { .. } => turns(means, place, intent, seat, receipts),
+        Intent::Steps { .. } => turns(means, place, intent, seat, receipts),
+        Intent::Claim { .. } => turns(means, place, intent, seat, receipts),
         Intent::Round { count, workers } => {
             let act = Act::Round {
                 count: *count,
                 workers: *workers,
             };
             noted(means, act, seat, receipts)?;
-            Ok(())
+            Ok(None)
         }
         Intent::Advance(tick) => {
             noted(means, Act::Call(Call::Advance(*tick)), seat, receipts)?;
-            Ok(())
+            Ok(None)
         }
     }
+}
+
+// Puts what was left out, if anything was, behind what was before.
+fn keep(left: &mut Vec<LeftOut>, told: Option<LeftOut>) -> Result<(), Memory>
+    ensures { OnOk result (left.new.items ≡ left.old.items ++ option_to_list told) }
+{
+    if let Some(told) = told {
+        left.push(told)?;
+    }
+    Ok(())
 }
 
 // Does what all intents of the plan say, one after another.
@@ -65,14 +79,17 @@ fn perform_all<R: Threads + Wait + Sync, J: Session, W: Watch>(
     means: &Means<'_, R, J, W>,
     seat: &mut Seat<J>,
     receipts: &mut Vec<Receipt<J>>,
-) -> Result<(), Memory>
+) -> Result<Vec<LeftOut>, Memory>
     ensures ok { OnOk result (WentNoted means.now.plan.now seat.old seat.new receipts.old.items receipts.new.items) }
+    ensures left { IfOk result (λ left. All (IsLeftOut means.now.plan.now (added seat.old seat.new)) left.items) }
     ensures err { OnErr result (Went means.now.plan.now seat.old seat.new) }
 {
-    for intent in means.plan.intents.as_slice() {
-        perform(means, intent, seat, receipts)?;
+    let mut left = Vec::new(means.alloc);
+    for (place, intent) in means.plan.intents.as_slice().iter().enumerate() {
+        let told = perform(means, place, intent, seat, receipts)?;
+        keep(&mut left, told)?;
     }
-    Ok(())
+    Ok(left)
 }
 
 impl Party {
@@ -108,10 +125,12 @@ impl Party {
         ensures stops { IsWithin self.now.plan.stop_after seat.old seat.new }
         ensures receipts { IfOk result (λ rs. rs.items ≡ map (receipt_of seat.old.number) (added seat.old seat.new)) }
     {
-        self.run_watched(rt, alloc, hub, seat, &NoWatch)
+        let (receipts, _) = self.played(rt, alloc, hub, seat, &NoWatch, false)?;
+        Ok(receipts)
     }
 
-    /// The same, with a watch that is called after each answered call.
+    /// The same, with a watch that is called after each answered call, and with what it left out beside the receipts: each
+    /// intent that its builder refused for another cause than memory, with the looks by which it did, and with the cause.
     pub fn run_watched<R: Threads + Wait + Sync, J: Session, W: Watch>(
         &self,
         rt: &R,
@@ -119,11 +138,31 @@ impl Party {
         hub: &Hub<J>,
         seat: &mut Seat<J>,
         watch: &W,
-    ) -> Result<Vec<Receipt<J>>, Memory>
+    ) -> Result<(Vec<Receipt<J>>, Vec<LeftOut>), Memory>
         ensures kept { seat.new ≡ seat_record seat.old.number (seat.old.answers ++ added seat.old seat.new) }
         ensures played { AreOfPlan self.now.plan (added seat.old seat.new) }
         ensures stops { IsWithin self.now.plan.stop_after seat.old seat.new }
-        ensures receipts { IfOk result (λ rs. rs.items ≡ map (receipt_of seat.old.number) (added seat.old seat.new)) }
+        ensures receipts { IfOk result (λ told. told.0.items ≡ map (receipt_of seat.old.number) (added seat.old seat.new)) }
+        ensures left { IfOk result (λ told. All (IsLeftOut self.now.plan (added seat.old seat.new)) told.1.items) }
+    {
+        self.played(rt, alloc, hub, seat, watch, true)
+    }
+
+    // Goes through the plan, and tells what it leaves out if it is to.
+    fn played<R: Threads + Wait + Sync, J: Session, W: Watch>(
+        &self,
+        rt: &R,
+        alloc: Global,
+        hub: &Hub<J>,
+        seat: &mut Seat<J>,
+        watch: &W,
+        tells: bool,
+    ) -> Result<(Vec<Receipt<J>>, Vec<LeftOut>), Memory>
+        ensures kept { seat.new ≡ seat_record seat.old.number (seat.old.answers ++ added seat.old seat.new) }
+        ensures played { AreOfPlan self.now.plan (added seat.old seat.new) }
+        ensures stops { IsWithin self.now.plan.stop_after seat.old seat.new }
+        ensures receipts { IfOk result (λ told. told.0.items ≡ map (receipt_of seat.old.number) (added seat.old seat.new)) }
+        ensures left { IfOk result (λ told. All (IsLeftOut self.now.plan (added seat.old seat.new)) told.1.items) }
     {
         let means = Means {
             rt,
@@ -131,9 +170,10 @@ impl Party {
             hub,
             plan: &self.plan,
             watch,
+            tells,
         };
         let mut receipts = Vec::new(alloc);
-        perform_all(&means, seat, &mut receipts)?;
-        Ok(receipts)
+        let left = perform_all(&means, seat, &mut receipts)?;
+        Ok((receipts, left))
     }
 }

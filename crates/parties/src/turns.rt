@@ -1,15 +1,18 @@
 //! Turns: to look, to build on it, and to hand it in.
-ghost use Rattle.std.specs.Prelude.{◌≡◌, ◌≤◌, true, length, if◌then◌else◌, IfOk, IfSome, OnOk, OnErr};
+ghost use Rattle.std.specs.Prelude.{◌≡◌, ◌≤◌, true, length, map, slice_get, Some, if◌then◌else◌, IfOk, IfSome, MatchResult, OnOk, OnErr};
 ghost use Rattle.std.specs.List.{Contains};
 ghost use Rattle.ledger.specs.declared.call.Call.TheVariants as on;
 ghost use Rattle.eutxo_types.specs.declared.tx.Tx.{Tx};
-ghost use Rattle.parties.specs.PlaysSupport.{AreShown, asks_of, handed, HandsIn, call_of};
+ghost use Rattle.parties.specs.Plays.{IsLeftOut, added, asks_of};
+ghost use Rattle.parties.specs.PlaysSupport.{AreShown, handed, HandsIn, LeavesOut, call_of};
 ghost use Rattle.parties.specs.PlaysSupport.{WasNoted, AtMostNoted, Went, WentNoted, WasShown};
 
 use crate::acts::Act;
 use crate::building::{Shown, asks_of, built, checked, looks_in};
+use crate::left_out::{LeftOut, left_out};
 use crate::means::Means;
 use crate::watch::Watch;
+use builder::BuildFault;
 use chain::{Call, Reply};
 use collections::{Bytes, Memory, TryClone};
 use eutxo_types::{OutputRef, Tx, TxFault};
@@ -59,22 +62,26 @@ fn act_of(
     }
 }
 
-// What a party does with what it was shown for an intent: nothing where the builder refuses it.
+// What a party does with what it was shown for an intent, or what hinders that.
 fn next_of<J: Session>(
     alloc: Global,
     plan: &Plan<OutputRef, Bytes>,
     intent: &Intent<OutputRef, Bytes>,
     shown: &[Receipt<J>],
-) -> Result<Option<Act>, Memory>
+) -> Result<Option<Result<Act, BuildFault>>, Memory>
     requires { AreShown shown.now }
-    ensures { IfOk result (λ next. IfSome next (λ act. HandsIn plan.now intent.now shown.now (call_of act))) }
+    ensures { IfOk result (λ next. IfSome next (λ made. MatchResult made
+        (λ act. HandsIn plan.now intent.now shown.now (call_of act)) (LeavesOut plan.now intent.now shown.now))) }
 {
     let looks = looks_in(alloc, shown)?;
-    let Some(tx) = built(alloc, plan, intent, &looks)? else {
-        return Ok(None);
-    };
-    let act = act_of(alloc, intent, &looks, tx)?;
-    Ok(Some(act))
+    match built(alloc, plan, intent, &looks)? {
+        Some(Ok(tx)) => {
+            let act = act_of(alloc, intent, &looks, tx)?;
+            Ok(Some(Ok(act)))
+        }
+        Some(Err(fault)) => Ok(Some(Err(fault))),
+        None => Ok(None),
+    }
 }
 
 /// Does one thing, unless the party has stopped, and keeps its receipt. Whether it did.
@@ -124,53 +131,79 @@ fn look_at_all<R: Threads + Wait + Sync, J: Session, W: Watch>(
     Ok(true)
 }
 
-// One turn of an intent: it looks at all that is asked for, builds on what it is shown, and hands that in. Whether
-// another was faster.
+// What is told of an intent that is left out, where it is to be told.
+fn told_out<R: Threads + Wait + Sync, J: Session, W: Watch>(
+    means: &Means<'_, R, J, W>,
+    place: usize,
+    shown: &[Receipt<J>],
+    fault: BuildFault,
+) -> Result<Option<LeftOut>, Memory>
+    ensures { IfOk result (λ told. IfSome told (λ left.
+        (left.intent ≡ place) × (left.looks.items ≡ map (λ r. r.entry) shown.now) × (left.fault ≡ fault))) }
+{
+    if means.tells {
+        let left = left_out(means.alloc, place, shown, fault)?;
+        Ok(Some(left))
+    } else {
+        Ok(None)
+    }
+}
+
+// One turn of the intent at a place of the plan: it looks at all that is asked for, builds on what it is shown, and hands that
+// in. Whether another was faster; else what was left out.
 fn turn<R: Threads + Wait + Sync, J: Session, W: Watch>(
     means: &Means<'_, R, J, W>,
+    place: usize,
     intent: &Intent<OutputRef, Bytes>,
     seat: &mut Seat<J>,
     receipts: &mut Vec<Receipt<J>>,
-) -> Result<bool, Memory>
-    requires { Contains means.now.plan.now.intents intent.now }
+) -> Result<(bool, Option<LeftOut>), Memory>
+    requires has { Contains means.now.plan.now.intents intent.now }
+    requires at { slice_get means.now.plan.now.intents place ≡ Some intent.now }
     ensures ok { OnOk result (WentNoted means.now.plan.now seat.old seat.new receipts.old.items receipts.new.items) }
+    ensures left { IfOk result (λ turned. IfSome turned.1 (IsLeftOut means.now.plan.now (added seat.old seat.new))) }
     ensures err { OnErr result (Went means.now.plan.now seat.old seat.new) }
 {
     let before = receipts.len();
     let all = look_at_all(means, intent, seat, receipts)?;
     if !all {
-        return Ok(false);
+        return Ok((false, None));
     }
-    let next = next_of(
-        means.alloc,
-        means.plan,
-        intent,
-        &receipts.as_slice()[before..],
-    )?;
+    let shown = &receipts.as_slice()[before..];
+    let next = next_of(means.alloc, means.plan, intent, shown)?;
     match next {
-        Some(act) => {
+        Some(Ok(act)) => {
             noted(means, act, seat, receipts)?;
-            Ok(is_overtaken(receipts.as_slice()))
+            Ok((is_overtaken(receipts.as_slice()), None))
         }
-        None => Ok(false),
+        Some(Err(fault)) => {
+            let left = told_out(means, place, shown, fault)?;
+            Ok((false, left))
+        }
+        None => Ok((false, None)),
     }
 }
 
-/// The turns of an intent that asks to be shown something: another one as long as others are faster, up to 17.
+/// The turns of the intent at a place of the plan, which asks to be shown something: another one as long as others are faster,
+/// up to 17. What was left out.
 pub(crate) fn turns<R: Threads + Wait + Sync, J: Session, W: Watch>(
     means: &Means<'_, R, J, W>,
+    place: usize,
     intent: &Intent<OutputRef, Bytes>,
     seat: &mut Seat<J>,
     receipts: &mut Vec<Receipt<J>>,
-) -> Result<(), Memory>
-    requires { Contains means.now.plan.now.intents intent.now }
+) -> Result<Option<LeftOut>, Memory>
+    requires has { Contains means.now.plan.now.intents intent.now }
+    requires at { slice_get means.now.plan.now.intents place ≡ Some intent.now }
     ensures ok { OnOk result (WentNoted means.now.plan.now seat.old seat.new receipts.old.items receipts.new.items) }
+    ensures left { IfOk result (λ told. IfSome told (IsLeftOut means.now.plan.now (added seat.old seat.new))) }
     ensures err { OnErr result (Went means.now.plan.now seat.old seat.new) }
 {
     for _ in 0..TURNS {
-        if !turn(means, intent, seat, receipts)? {
-            return Ok(());
+        let (again, left) = turn(means, place, intent, seat, receipts)?;
+        if !again {
+            return Ok(left);
         }
     }
-    Ok(())
+    Ok(None)
 }

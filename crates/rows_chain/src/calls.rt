@@ -45,10 +45,10 @@ pub fn call_all<J: Session, R: Threads + Wait + Sync>(
         (Work::RoundAndLook(count), 0) => round(rt, alloc, hub, seat, meeting, count),
         (Work::RoundAndLook(_), 1) => look(rt, alloc, hub, seat, meeting),
         (Work::Overtake(thread, None), 1) => {
-            stepper(alloc, "p", &[thread])?.run_watched(rt, alloc, hub, seat, meeting)
+            step_watched(rt, alloc, hub, seat, &[thread], meeting)
         }
         (Work::Overtake(thread, Some(other)), 1) => {
-            stepper(alloc, "p", &[thread, other])?.run_watched(rt, alloc, hub, seat, meeting)
+            step_watched(rt, alloc, hub, seat, &[thread, other], meeting)
         }
         (Work::Overtake(thread, _), 2) => overtake(rt, alloc, hub, seat, thread, meeting),
         _ => Ok(Vec::new(alloc)),
@@ -79,6 +79,19 @@ fn look<J: Session, R: Wait>(
     meeting.await_first();
     receipts.push(hub.call(rt, alloc, seat, Call::Look(ask(alloc)?))?)?;
     meeting.second_comes();
+    Ok(receipts)
+}
+
+fn step_watched<J: Session, R: Threads + Wait + Sync>(
+    rt: &R,
+    alloc: Global,
+    hub: &Hub<J>,
+    seat: &mut Seat<J>,
+    threads: &[OutputRef],
+    meeting: &Meeting,
+) -> Result<Vec<Receipt<J>>, Memory> {
+    let party = stepper(alloc, "p", threads)?;
+    let (receipts, _) = party.run_watched(rt, alloc, hub, seat, meeting)?;
     Ok(receipts)
 }
 

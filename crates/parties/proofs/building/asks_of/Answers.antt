@@ -3,7 +3,7 @@ use Rattle.contract.specs.declared.input.Input.{Input}
 use Rattle.eutxo_types.specs.declared.output_ref.OutputRef.{OutputRef}
 use Rattle.ledger.specs.declared.ask.Ask.{Ask}
 use Rattle.parties.specs.Plays.{PlayedIntent, step_ask}
-use Rattle.parties.specs.PlaysSupport.{asks_of}
+use Rattle.parties.specs.Plays.{asks_of}
 use Rattle.parties.proofs.building.asks_of.Goals as goal
 
 pub returns-in-Steps : goal.returns-in-Steps
