@@ -13,9 +13,14 @@ abbrev pub scenario_fault : JsonFault → PlayFault
 scenario_fault json.Memory = Memory
 scenario_fault fault = Scenario fault
 
--- a text that is no scenario isn't played: its fault is told, want of memory aside
+-- whether a fault is one of the text
+abbrev pub IsOfText : PlayFault → Type 0
+IsOfText (Scenario fault) = Unit {0}
+IsOfText fault = ⊥
+
+-- a text that is no scenario isn't played: its fault is told, want of memory aside; of a scenario no fault of the text is
 abbrev pub IsRefused : {X : Type 0} → Reading ScenarioRead → Result X PlayFault → Type 0
-IsRefused (Ok scenario) result = Unit {0}
+IsRefused (Ok scenario) result = MatchResult result (λ text. Unit {0}) (λ told. IsOfText told → ⊥)
 IsRefused (Err fault) result = MatchResult result (λ text. ⊥) (λ told. told ≢ Memory → told ≡ scenario_fault fault)
 
 -- the line of a fault

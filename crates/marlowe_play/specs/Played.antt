@@ -1,31 +1,55 @@
 -- What is printed of a play that came to its end.
-use Rattle.std.specs.Prelude.{◌≡◌, ℕ, ℤ, List, map, Ok, Err}
+use Rattle.std.specs.Prelude.{◌≡◌, ℕ, ◌-◌, Bool, false, ◌&&◌, List, ◌∷◌, map, length, slice_get, Option, Some, None, Ok, Err}
+use Rattle.std.specs.List.{AllZip}
 use Rattle.json_read_names.specs.Parts.{Reading}
-use Rattle.plans.specs.declared.scenario.Funds.{Funds}
+use Rattle.plans.specs.declared.plan.Plan.{Plan}
 use Rattle.plans.specs.declared.scenario.Scenario.{Scenario as ScenarioRead}
-use Rattle.eutxo_types.specs.declared.lock.Lock.TheVariants.{Key}
-use Rattle.eutxo_types.specs.declared.output.Output.{Output}
+use Rattle.table.specs.Along.{has_cont}
+use Rattle.table.specs.Flat.{cont_tree, is_close}
+use Rattle.eutxo_types.specs.declared.output_ref.OutputRef.{OutputRef}
+use Rattle.roles.specs.declared.published.Published.{Published}
 use Rattle.ledger.specs.declared.call.Entry.{Entry}
+use Rattle.ledger_spec.specs.declared.step_record.StepRecord.{StepRecord}
 use Rattle.ledger_spec.specs.Legal.{IsLegal}
-use Rattle.ledger_spec.specs.Replay.{Course}
+use Rattle.ledger_spec.specs.Records.{AreSteps}
+use Rattle.ledger_spec.specs.Replay.{Course, past_of, published, published_at, world}
+use Rattle.hub.specs.Seats.{SeatRecord, AreHeard, answered}
+use Rattle.parties.specs.Plays.{AreOfPlan}
 use Rattle.play_lines.specs.PlayLines.{ThreadLine, played_lines}
+use Rattle.play_setup.specs.SetUp.{Begun, IsSetUp, course, currencies, key_output, plan_on, start_output}
 
--- an output under the key of an address
-abbrev pub key_output : Funds → Output
-key_output f = record { lock = Key f.address; amount = f.amount }
+-- a seat's answers are of a plan, whose threads and contracts are named as the setup made them
+abbrev pub PlaysPlan : ScenarioRead → List Begun → Plan ℕ ℕ → SeatRecord → Type 0
+PlaysPlan s begun plan seat = AreOfPlan (plan_on (currencies s.contracts) (map start_output begun) plan) seat.answers
 
--- a history that began with these outputs, at this tick
-abbrev pub course : List Output → ℤ → List Entry → Course
-course genesis tick entries = record { genesis = genesis; first_tick = tick; entries = entries }
+-- whether a record's number is one of the table that stands for Close
+abbrev pub leaves_close : Published → Option StepRecord → Bool
+leaves_close object None = false
+leaves_close object (Some x) = has_cont object.table x.number && is_close (cont_tree object.table x.number.0)
 
--- A HISTORY TOLD: the text is the lines of a legal history that began so, and of some threads
-pub record TellsAHistory (genesis : List Output) (tick : ℤ) (text : List ℕ) : Type 0 where
+-- a thread's line: its name, how many records its steps have, and whether the last of them left Close
+pub record IsThreadLine (c : Course) (name : List ℕ) (object : Published) (start : OutputRef) (line : ThreadLine) : Type 0 where
+  pub records : List StepRecord
+  pub are : AreSteps (published_at (published c.entries)) (past_of (world c)) start records
+  pub line_is : line ≡ record { name = name; steps = length records; closed = leaves_close object (slice_get records (length records - 1)) }
+
+-- A PLAY TOLD: the text is the lines of a legal history over the scenario's first outputs and its tick. Its entries are those that its seats were told of
+-- and no others: the first seat set the scenario up, and behind it each plan has one that made its calls. The threads are those that were started, in order
+pub record TellsAPlay (s : ScenarioRead) (text : List ℕ) : Type 0 where
   pub entries : List Entry
-  pub legal : IsLegal (course genesis tick entries)
+  pub legal : IsLegal (course (map key_output s.genesis) s.tick entries)
+  pub first : SeatRecord
+  pub parties : List SeatRecord
+  pub heard : AreHeard entries (first ∷ parties)
+  pub whole : length entries ≡ answered (first ∷ parties)
+  pub begun : List Begun
+  pub set_up : IsSetUp s begun first.answers
+  pub played : AllZip (PlaysPlan s begun) s.plans parties
   pub threads : List ThreadLine
+  pub each : AllZip (λ (b : Begun) (line : ThreadLine). IsThreadLine (course (map key_output s.genesis) s.tick entries) b.thread.name b.object (start_output b) line) begun threads
   pub lines : text ≡ played_lines entries threads
 
--- what is printed of a scenario tells a history over its first outputs and its tick; of a text that is none, nothing is
+-- what is printed of a scenario tells a play of it; of a text that is none, nothing is
 abbrev pub IsPlayed : Reading ScenarioRead → List ℕ → Type 0
-IsPlayed (Ok s) text = TellsAHistory (map key_output s.genesis) s.tick text
+IsPlayed (Ok s) text = TellsAPlay s text
 IsPlayed (Err fault) text = ⊥

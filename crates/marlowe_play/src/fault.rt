@@ -1,9 +1,10 @@
 //! Why a scenario isn't played.
 ghost use Rattle.std.specs.Prelude.{◌≡◌};
-ghost use Rattle.marlowe_play.specs.Faults.{scenario_fault};
+ghost use Rattle.marlowe_play.specs.Faults.{IsOfText, scenario_fault};
 ghost use Rattle.marlowe_play.specs.declared.fault.PlayFault.TheVariants as playing;
 
 use json_read_names::JsonFault;
+use play_setup::SetupFault;
 use std::alloc::{AllocError, AllocFailed};
 use thiserror::Error;
 
@@ -47,5 +48,16 @@ impl<T: Drop> From<AllocFailed<T>> for PlayFault {
 
     fn from(_error: AllocFailed<T>) -> PlayFault {
         PlayFault::Memory
+    }
+}
+
+impl From<SetupFault> for PlayFault {
+    ghost from_gives = { λ _ fault. IsOfText fault → ⊥ };
+
+    fn from(fault: SetupFault) -> PlayFault {
+        match fault {
+            SetupFault::Refused(line) => PlayFault::Setup(line),
+            SetupFault::Memory => PlayFault::Memory,
+        }
     }
 }

@@ -7,12 +7,8 @@
 
 mod fault;
 mod lines;
-mod naming;
 mod playing;
 mod refusal_line;
-mod setup;
-mod stage;
-mod starts;
 mod turns;
 mod watch;
 

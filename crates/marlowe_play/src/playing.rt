@@ -1,23 +1,22 @@
 //! A scenario, from text to text.
-ghost use Rattle.std.specs.Prelude.{◌≡◌, IfOk};
+ghost use Rattle.std.specs.Prelude.{◌≡◌, ◌+◌, length, map, IfErr, IfOk};
+ghost use Rattle.hub.specs.Seats.{AreNumbered, answered};
 ghost use Rattle.json_read_names.specs.ReadsText.{of_text};
+ghost use Rattle.json_read_scenarios.specs.Named.{NamesWhatItHas};
 ghost use Rattle.json_read_scenarios.specs.ReadsScenario as reads;
-ghost use Rattle.marlowe_play.specs.Faults.{IsRefused};
-ghost use Rattle.marlowe_play.specs.Played.{IsPlayed, TellsAHistory};
+ghost use Rattle.marlowe_play.specs.Faults.{IsOfText, IsRefused};
+ghost use Rattle.marlowe_play.specs.Played.{IsPlayed, TellsAPlay};
+ghost use Rattle.marlowe_play.specs.PlayedSupport.{WerePlayed};
+ghost use Rattle.play_setup.specs.SetUp.{key_output, object_of};
 
 use crate::fault::PlayFault;
 use crate::lines::played_text;
-use crate::naming::plan_on;
-use crate::setup::{first_chain, publish_all};
-use crate::stage::Stage;
-use crate::starts::start_all;
-use crate::turns::{Turn, at_once, in_turn};
-use crate::watch::{Unwatched, Watch};
-use hub::{Hub, Opening, Seat, SeatAtHub, Session};
-use json_read_names::JsonFault;
+use crate::turns::{play_turns, seats_of, take_first, turns_of};
+use crate::watch::{Told, Unwatched, Watch};
+use hub::{Hub, Opening, Seat, Session};
 use json_read_scenarios::read_scenario;
-use parties::Party;
 use plans::Scenario;
+use play_setup::{Stage, first_chain, set_up};
 use std::alloc::Global;
 use std::marker::Brand;
 use std::sync::Wait;
@@ -31,7 +30,7 @@ use std::thread::Threads;
 ///
 /// Refused is a text that is no scenario, and a scenario whose setup has a fault; else only a growth that was refused gives
 /// `Memory`. Whatever the parties are told is no fault. The lines are those of a legal history, which begins with the
-/// scenario's outputs at its tick; which calls the setup and the plans make of it is what docs/formats.md says.
+/// scenario's outputs at its tick: it has the calls of the setup, in order, and calls of each plan (`specs/Played.antt`).
 pub fn play<R: Threads + Wait + Sync>(
     rt: &R,
     alloc: Global,
@@ -59,12 +58,8 @@ pub fn play_watched<R: Threads + Wait + Sync, W: Watch + Sync>(
         Ok(scenario) => scenario,
         Err(fault) => return Err(PlayFault::of_scenario(fault)),
     };
-    let count = scenario.plans.len();
-    if 63 < count {
-        return Err(PlayFault::Scenario(JsonFault::NoForm));
-    }
     let chain = first_chain(alloc, scenario.genesis.as_slice(), scenario.tick)?;
-    let opening = Opening::new(chain, count as u64 + 1);
+    let opening = Opening::new(chain, scenario.plans.len() as u64 + 1);
     play_on::<R, Brand, W>(rt, alloc, opening, &scenario, one, watch)
 }
 
@@ -77,80 +72,44 @@ fn play_on<R: Threads + Wait + Sync, J: Session + Send + Sync, W: Watch + Sync>(
     one: bool,
     watch: &W,
 ) -> Result<Vec<u8>, PlayFault>
-    requires { opening ≡ J.session }
-    ensures { IfOk result (λ lines. TellsAHistory opening.genesis opening.first_tick lines.items) }
+    requires session { opening ≡ J.session }
+    requires genesis { opening.genesis ≡ map key_output scenario.now.genesis }
+    requires tick { opening.first_tick ≡ scenario.now.tick }
+    requires seats { opening.seats ≡ length scenario.now.plans + 1 }
+    requires names { NamesWhatItHas scenario.now }
+    ensures told { IfErr result (λ fault. IsOfText fault → ⊥) }
+    ensures played { IfOk result (λ lines. TellsAPlay scenario.now lines.items) }
 {
-    let (hub, mut seats) = opening.open::<J>(alloc)?;
-    let stage = staged(rt, alloc, &hub, &mut seats, scenario, watch)?;
-    let seats = play_all(rt, alloc, &hub, seats, &stage, one, watch)?;
-    if !hub.are_all(&seats) {
-        return Err(PlayFault::Memory);
-    }
+    let (hub, seats) = opening.open::<J>(alloc)?;
+    let (stage, seats) = play_all(rt, alloc, &hub, seats, scenario, one, watch)?;
     let closed = hub.close(seats);
-    Ok(played_text(alloc, closed.chain(), &stage)?)
+    let text = played_text(alloc, closed.chain(), scenario.threads.as_slice(), &stage)?;
+    Ok(text)
 }
 
-// Sets the ledger up by the first seat.
-fn staged<'s, R: Wait, J: Session, W: Watch>(
-    rt: &R,
-    alloc: Global,
-    hub: &Hub<J>,
-    seats: &mut Vec<Seat<J>>,
-    scenario: &'s Scenario,
-    watch: &W,
-) -> Result<Stage<'s>, PlayFault> {
-    let Some(seat) = seats.first_mut() else {
-        return Err(PlayFault::Memory);
-    };
-    let contracts = publish_all(rt, alloc, hub, seat, watch, scenario.contracts.as_slice())?;
-    let starts = start_all(
-        rt,
-        alloc,
-        hub,
-        seat,
-        watch,
-        contracts.as_slice(),
-        scenario.threads.as_slice(),
-    )?;
-    Ok(Stage {
-        scenario,
-        contracts,
-        starts,
-    })
-}
-
-// Has all plans played, each by a party with a seat of its own: all seats, in order.
+// Sets the scenario up by the first seat, and has each plan played by a party with one of the others: what was set up, and all
+// seats, in order.
 fn play_all<R: Threads + Wait + Sync, J: Session + Send + Sync, W: Watch + Sync>(
     rt: &R,
     alloc: Global,
     hub: &Hub<J>,
-    seats: Vec<Seat<J>>,
-    stage: &Stage<'_>,
+    mut seats: Vec<Seat<J>>,
+    scenario: &Scenario,
     one: bool,
     watch: &W,
-) -> Result<Vec<Seat<J>>, PlayFault> {
-    let mut all = Vec::new(alloc);
-    let mut turns = Vec::new(alloc);
-    let mut plans = stage.scenario.plans.as_slice().iter();
-    for seat in seats {
-        if seat.number() == 0 {
-            all.push(seat)?;
-        } else if let Some(plan) = plans.next() {
-            let plan = plan_on(alloc, stage, plan)?;
-            turns.push(Turn {
-                party: Party { plan },
-                place: SeatAtHub { hub, seat },
-            })?;
-        }
-    }
-    let ended = if one {
-        in_turn(rt, alloc, watch, turns)?
-    } else {
-        at_once(rt, alloc, watch, turns)?
-    };
-    for (seat, done) in ended {
-        done?;
-        all.push(seat)?;
-    }
-    Ok(all)
+) -> Result<(Stage, Vec<Seat<J>>), PlayFault>
+    requires names { NamesWhatItHas scenario.now }
+    requires seats { length seats.items ≡ length scenario.now.plans + 1 }
+    requires numbers { AreNumbered 0 seats.items }
+    requires answers { answered seats.items ≡ 0 }
+    ensures told { IfErr result (λ fault. IsOfText fault → ⊥) }
+    ensures contracts { IfOk result (λ r. r.0.contracts.items ≡ map object_of scenario.now.contracts) }
+    ensures seats { IfOk result (λ r. WerePlayed scenario.now r.0.starts.items r.1.items) }
+{
+    let mut first = take_first(&mut seats);
+    let stage = set_up(rt, alloc, hub, &mut first, &Told { watch }, scenario)?;
+    let turns = turns_of(alloc, hub, scenario, &stage.starts, seats)?;
+    let ended = play_turns(rt, alloc, watch, turns, one)?;
+    let seats = seats_of(alloc, first, ended)?;
+    Ok((stage, seats))
 }

@@ -1,24 +1,45 @@
-use Rattle.std.proofs.Common.{◌≡◌, ◌∙◌, ℤ, List, sym, ap, ap₂, subst}
-use Rattle.eutxo_types.specs.declared.output.Output.{Output}
+use Rattle.std.proofs.Common.{◌≡◌, ◌∙◌, ℕ, ◌<◌, List, length, map, sym, ap, subst}
+use Rattle.std.proofs.lemmas.List.{length-map}
+use Rattle.std.specs.List.{All}
+use Rattle.eutxo_types.specs.declared.output_ref.OutputRef.{OutputRef}
+use Rattle.roles.specs.declared.published.Published.{Published}
+use Rattle.plans.specs.declared.scenario.NamedThread.{NamedThread}
+use Rattle.plans.specs.declared.scenario.Scenario.{Scenario}
 use Rattle.hub.specs.Session.{Opened}
-use Rattle.ledger_spec.specs.Legal.{IsLegal}
 use Rattle.ledger_spec.specs.Replay.{Course}
 use Rattle.play_lines.specs.PlayLines.{played_lines}
-use Rattle.marlowe_play.specs.Played.{course}
+use Rattle.play_setup.specs.SetUp.{object_of}
+use Rattle.marlowe_play.specs.PlayedSupport.{AreLines}
+use Rattle.marlowe_play.proofs.PlayingLemmas.{how_many, told_of}
 use Rattle.marlowe_play.proofs.playing.play_on.Goals as goal
 
--- the closed hub's history began as the opening says
-pub returns : goal.returns
-returns g c =
+-- all seats are back
+pub close-closed-requires-clause-all : goal.close-closed-requires-clause-all
+close-closed-requires-clause-all g c =
+    how_many c.args.scenario.now c.in_ok-stage.stage.starts.items c.in_ok-stage.seats.items c.in_ok-stage.ensures.seats ∙ (sym c.requires.seats ∙ ap (λ (o : Opened). o.seats) c.requires.session)
+
+-- each thread names a contract that was published
+pub played_text-requires-clause-contracts : goal.played_text-requires-clause-contracts
+played_text-requires-clause-contracts g c =
+    let s : Scenario = c.args.scenario.now in
+    let objects : List Published = c.in_ok-stage.stage.contracts.items in
+    let long : length objects ≡ length s.contracts = ap (λ (l : List Published). length l) c.in_ok-stage.ensures.contracts ∙ length-map s.contracts object_of in
+    let named = subst (λ (n : ℕ). All (λ (t : NamedThread). t.contract < n) s.threads) (sym long) c.requires.names.threads in
+    subst (λ (ts : List NamedThread). All (λ (t : NamedThread). t.contract < length objects) ts) (sym c.as_slice.ensures) named
+
+-- the closed hub's history, as it is printed
+pub returns-clause-played : goal.returns-clause-played
+returns-clause-played g c =
+    let s : Scenario = c.args.scenario.now in
     let closed : Course = c.close-closed.result in
-    let told = c.in_ok-played_text.ensures in
+    let objects : List Published = c.in_ok-stage.stage.contracts.items in
+    let outputs : List OutputRef = c.in_ok-stage.stage.starts.items in
+    let seats = c.in_ok-stage.seats.items in
     let start = c.close-closed.ensures.start in
-    let genesis : closed.genesis ≡ c.args.opening.genesis = start.0 ∙ ap (λ (o : Opened). o.genesis) (sym c.requires) in
-    let tick : closed.first_tick ≡ c.args.opening.first_tick = start.1 ∙ ap (λ (o : Opened). o.first_tick) (sym c.requires) in
-    let same : closed ≡ course c.args.opening.genesis c.args.opening.first_tick closed.entries = ap₂ (λ (os : List Output) (t : ℤ). course os t closed.entries) genesis tick in
-    record {
-      entries = closed.entries;
-      legal = subst IsLegal same c.close-closed.ensures.legal;
-      threads = told.0;
-      lines = told.1 ∙ ap (λ (k : Course). played_lines k.entries told.0) c.chain.ensures;
-    }
+    let first = start.0 ∙ (ap (λ (o : Opened). o.genesis) (sym c.requires.session) ∙ c.requires.genesis) in
+    let at = start.1 ∙ (ap (λ (o : Opened). o.first_tick) (sym c.requires.session) ∙ c.requires.tick) in
+    let told = c.in_ok-text.ensures in
+    let is = told.1 ∙ ap (λ (k : Course). played_lines k.entries told.0) c.chain.ensures in
+    let lines = subst (λ (k : Course). AreLines k objects c.as_slice.result.now outputs told.0) c.chain.ensures told.2 in
+    let threads = subst (λ (ts : List NamedThread). AreLines closed objects ts outputs told.0) c.as_slice.ensures lines in
+    told_of s closed objects outputs seats told.0 c.in_ok-text.text.items c.in_ok-stage.ensures.contracts first at c.close-closed.ensures.legal c.close-closed.ensures.heard c.close-closed.ensures.count c.in_ok-stage.ensures.seats threads is

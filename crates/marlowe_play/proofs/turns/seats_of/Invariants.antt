@@ -1,0 +1,5 @@
+use Rattle.std.proofs.Common.{◌≡◌, ◌∷◌, map}
+use Rattle.marlowe_play.proofs.turns.seats_of.Given as goal
+
+abbrev pub invariant-loop-seat : goal.invariant-loop-seat
+invariant-loop-seat g l = l.seats.items ≡ l.fn.first ∷ map (λ end. end.0) l.yielded

@@ -1,0 +1,34 @@
+-- No reader needs this file: what holds while a scenario is played, the invariants behind the clauses.
+use Rattle.std.specs.Prelude.{◌≡◌, ℕ, List, [], ◌∷◌, ◌++◌, map, slice_get, Some}
+use Rattle.std.specs.List.{AllZip}
+use Rattle.eutxo_types.specs.declared.output_ref.OutputRef.{OutputRef}
+use Rattle.roles.specs.declared.published.Published.{Published}
+use Rattle.ledger_spec.specs.Replay.{Course}
+use Rattle.plans.specs.declared.scenario.NamedThread.{NamedThread}
+use Rattle.plans.specs.declared.scenario.Scenario.{Scenario as ScenarioRead}
+use Rattle.hub.specs.Seats.{SeatRecord, AreNumbered, seat_record}
+use Rattle.parties.specs.Plays.{PlayedPlan, AreOfPlan, added}
+use Rattle.play_setup.specs.SetUp.{Begun, IsSetUp, start_output}
+use Rattle.play_lines.specs.PlayLines.{ThreadLine}
+use Rattle.marlowe_play.specs.Played.{IsThreadLine, PlaysPlan}
+
+-- a seat went on by a plan
+abbrev pub HasPlayed : PlayedPlan → SeatRecord → SeatRecord → Type 0
+HasPlayed plan old new = (new ≡ seat_record old.number (old.answers ++ added old new)) × AreOfPlan plan (added old new)
+
+-- all seats, once a scenario was set up by the first, and each of its plans played by one behind it
+pub record WerePlayed (s : ScenarioRead) (outputs : List OutputRef) (seats : List SeatRecord) : Type 0 where
+  pub first : SeatRecord
+  pub parties : List SeatRecord
+  pub seats_are : seats ≡ first ∷ parties
+  pub numbered : AreNumbered 0 seats
+  pub begun : List Begun
+  pub outputs_are : outputs ≡ map start_output begun
+  pub set_up : IsSetUp s begun first.answers
+  pub played : AllZip (PlaysPlan s begun) s.plans parties
+
+-- the lines of these threads, in order
+abbrev pub AreLines : Course → List Published → List NamedThread → List OutputRef → List ThreadLine → Type 0
+AreLines c objects [] [] [] = Unit {0}
+AreLines c objects (t ∷ ts) (start ∷ starts) (line ∷ lines) = ((object : Published) × (slice_get objects t.contract ≡ Some object) × IsThreadLine c t.name object start line) × AreLines c objects ts starts lines
+AreLines c objects _ _ _ = ⊥

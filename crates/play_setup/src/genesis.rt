@@ -1,0 +1,43 @@
+//! The ledger's beginning.
+ghost use Rattle.std.specs.Prelude.{◌≡◌, [], map, IfOk};
+ghost use Rattle.play_setup.specs.SetUp.{course, key_output};
+
+use crate::fault::{SetupFault, refused};
+use chain::{Chain, GenesisFault};
+use collections::{Items, Memory, TryClone};
+use eutxo_types::{Lock, Output};
+use plans::Funds;
+use std::alloc::Global;
+
+/// A chain that begins with what the scenario's addresses have, at this tick: an output under the key of each.
+pub fn first_chain(alloc: Global, genesis: &[Funds], tick: i64) -> Result<Chain, SetupFault>
+    ensures { IfOk result (λ chain. chain ≡ course (map key_output genesis.now) tick []) }
+{
+    let outputs = key_outputs(alloc, genesis)?;
+    match Chain::genesis(alloc, outputs, tick) {
+        Ok(chain) => Ok(chain),
+        Err(fault) => Err(genesis_refused(alloc, fault)),
+    }
+}
+
+// An output under the key of each address.
+fn key_outputs(alloc: Global, genesis: &[Funds]) -> Result<Items<Output>, Memory>
+    ensures { IfOk result (λ outputs. outputs ≡ map key_output genesis.now) }
+{
+    let mut outputs = Items::new(alloc);
+    for funds in genesis {
+        outputs.push(Output {
+            lock: Lock::Key(funds.address.try_clone()?),
+            amount: funds.amount.try_clone()?,
+        })?;
+    }
+    Ok(outputs)
+}
+
+fn genesis_refused(alloc: Global, fault: GenesisFault) -> SetupFault {
+    match fault {
+        GenesisFault::NotKey => refused(format!(in alloc; "refused genesis NotKey")),
+        GenesisFault::TooLarge => refused(format!(in alloc; "refused genesis TooLarge")),
+        GenesisFault::Memory => SetupFault::Memory,
+    }
+}
