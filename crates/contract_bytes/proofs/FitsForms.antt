@@ -61,8 +61,6 @@ value_fits-UseValue x h0 = subst ValueFits (sym (value_tree-UseValue x)) h0
 pub value_fits-Cond : (o : Observation) (v : Value) (w : Value) → ObservationFits (observation_tree o) → ValueFits (value_tree v) → ValueFits (value_tree w) → ValueFits (value_tree (values.Cond o v w))
 value_fits-Cond o v w h0 h1 h2 = subst ValueFits (sym (value_tree-Cond o v w)) (h0, h1, h2)
 
-pub ruleset value_fits_forms = (value_fits-AvailableMoney, value_fits-Constant, value_fits-NegValue, value_fits-AddValue, value_fits-SubValue, value_fits-MulValue, value_fits-DivValue, value_fits-ChoiceValue, value_fits-TimeIntervalStart, value_fits-TimeIntervalEnd, value_fits-UseValue, value_fits-Cond)
-
 pub observation_fits-AndObs : (o : Observation) (p : Observation) → ObservationFits (observation_tree o) → ObservationFits (observation_tree p) → ObservationFits (observation_tree (observations.AndObs o p))
 observation_fits-AndObs o p h0 h1 = subst ObservationFits (sym (observation_tree-AndObs o p)) (h0, h1)
 
@@ -96,8 +94,6 @@ observation_fits-TrueObs = subst ObservationFits (sym observation_tree-TrueObs) 
 pub observation_fits-FalseObs : ObservationFits (observation_tree observations.FalseObs)
 observation_fits-FalseObs = subst ObservationFits (sym observation_tree-FalseObs) tt
 
-pub ruleset observation_fits_forms = (observation_fits-AndObs, observation_fits-OrObs, observation_fits-NotObs, observation_fits-ChoseSomething, observation_fits-ValueGE, observation_fits-ValueGT, observation_fits-ValueLT, observation_fits-ValueLE, observation_fits-ValueEQ, observation_fits-TrueObs, observation_fits-FalseObs)
-
 -- ---- contracts
 
 pub contract_fits-Close : ContractFits (contract_tree contracts.Close)
@@ -127,5 +123,3 @@ cases_fit-each (k ∷ ks) h =
 pub contract_fits-When : (cases : List Case) (t : ℤ) (c : Contract) → length cases < 2 ^ 64 → All (λ k. ActionFits (action_tree k.action) × ContractFits (contract_tree k.then)) cases → TimeFits t → ContractFits (contract_tree c)
     → ContractFits (contract_tree (contracts.When cases t c))
 contract_fits-When cases t c few fit h then = subst ContractFits (sym (contract_tree-When cases t c)) (subst (λ n. n < 2 ^ 64) (sym (case_count-length cases)) few, cases_fit-each cases fit, h, then)
-
-pub ruleset contract_fits_forms = (contract_fits-Close, contract_fits-Pay, contract_fits-If, contract_fits-Let, contract_fits-Assert, contract_fits-When)

@@ -1,5 +1,5 @@
 -- The spelling of each form, of the code's values.
-use Rattle.std.proofs.Common.{◌≡◌, refl, ◌∙◌, ap, ℕ, ℤ, ◌+◌, List, [], ◌∷◌, ◌++◌, length, map, append_assoc, add-one}
+use Rattle.std.proofs.Common.{◌≡◌, refl, ◌∙◌, ap, ℕ, ℤ, ◌+◌, List, [], ◌∷◌, ◌++◌, length, map, add-one}
 use Rattle.std.specs.List.{flat_map}
 use Rattle.names.specs.declared.party.Party.{Party}
 use Rattle.names.specs.declared.payee.Payee.{Payee}
@@ -73,8 +73,6 @@ pub value_bytes-Cond : (o : Observation) (v w : Value) → value_bytes (value_tr
 unfolding value_bytes
 value_bytes-Cond o v w = ap value_bytes (value_tree-Cond o v w)
 
-pub ruleset value_forms = (value_bytes-AvailableMoney, value_bytes-Constant, value_bytes-NegValue, value_bytes-AddValue, value_bytes-SubValue, value_bytes-MulValue, value_bytes-DivValue, value_bytes-ChoiceValue, value_bytes-TimeIntervalStart, value_bytes-TimeIntervalEnd, value_bytes-UseValue, value_bytes-Cond, append_assoc)
-
 pub observation_bytes-AndObs : (o p : Observation) → observation_bytes (observation_tree (observations.AndObs o p)) ≡ 0x00 ∷ observation_bytes (observation_tree o) ++ observation_bytes (observation_tree p)
 unfolding observation_bytes
 observation_bytes-AndObs o p = ap observation_bytes (observation_tree-AndObs o p)
@@ -119,8 +117,6 @@ pub observation_bytes-FalseObs : observation_bytes (observation_tree observation
 unfolding observation_bytes
 observation_bytes-FalseObs = ap observation_bytes observation_tree-FalseObs
 
-pub ruleset observation_forms = (observation_bytes-AndObs, observation_bytes-OrObs, observation_bytes-NotObs, observation_bytes-ChoseSomething, observation_bytes-ValueGE, observation_bytes-ValueGT, observation_bytes-ValueLT, observation_bytes-ValueLE, observation_bytes-ValueEQ, observation_bytes-TrueObs, observation_bytes-FalseObs, append_assoc)
-
 -- ---- actions
 
 pub action_bytes-Deposit : (a p : Party) (t : Token) (v : Value) → action_bytes (action_tree (actions.Deposit a p t v)) ≡ 0x00 ∷ party_bytes a ++ party_bytes p ++ token_bytes t ++ value_bytes (value_tree v)
@@ -134,8 +130,6 @@ action_bytes-Choice id bounds = refl
 pub action_bytes-Notify : (o : Observation) → action_bytes (action_tree (actions.Notify o)) ≡ 0x02 ∷ observation_bytes (observation_tree o)
 unfolding action_bytes
 action_bytes-Notify o = refl
-
-pub ruleset action_forms = (action_bytes-Deposit, action_bytes-Choice, action_bytes-Notify, append_assoc)
 
 -- ---- contracts
 
@@ -175,5 +169,3 @@ unfolding contract_bytes
 contract_bytes-When cases t c =
     ap contract_bytes (contract_tree-When cases t c)
     ∙ (λ i. 0x03 ∷ length_bytes (case_count-length cases i) ++ cases_bytes-each cases i ++ time_bytes t ++ contract_bytes (contract_tree c))
-
-pub ruleset contract_forms = (contract_bytes-Close, contract_bytes-Pay, contract_bytes-If, contract_bytes-When, contract_bytes-Let, contract_bytes-Assert, append_assoc)

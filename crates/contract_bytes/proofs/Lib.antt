@@ -6,3 +6,4 @@ pub mod FitsForms
 pub mod Forms
 pub mod Fronts
 pub mod OneMore
+pub mod Spellings

@@ -1,4 +1,5 @@
 pub mod Writing
+pub mod WritingSupport
 pub mod Numbers
 pub mod Names
 pub mod Values

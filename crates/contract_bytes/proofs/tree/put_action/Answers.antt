@@ -1,18 +1,20 @@
-use Rattle.std.proofs.Common.{◌∙◌, ap, [], ◌∷◌, ◌++◌}
+use Rattle.std.proofs.Common.{subst}
 use Rattle.contract.specs.Tree.{action_tree}
-use Rattle.contract_bytes.specs.Names.{party_bytes, token_bytes}
-use Rattle.contract_bytes.specs.Trees.{action_bytes}
-use Rattle.contract_bytes.proofs.Fronts.{on_any_err, front_as, wrote_both, front_then}
-use Rattle.contract_bytes.proofs.Forms.{action_bytes-Deposit}
+use Rattle.contract_bytes.specs.Names.{bound_bytes, BoundFits, choice_id_bytes, ChoiceIdFits}
+use Rattle.contract_bytes.specs.Numbers.{list_bytes, ListFits}
+use Rattle.contract_bytes.specs.Trees.{action_bytes, ActionFits}
+use Rattle.contract_bytes.specs.WritingSupport.{Spells}
+use Rattle.contract_bytes.proofs.Spellings.{form}
+use Rattle.contract_bytes.proofs.Forms.{action_bytes-Deposit, action_bytes-Choice, action_bytes-Notify}
 use Rattle.contract_bytes.proofs.tree.put_action.Goals as goal
 
-pub returns-in_err-put_value-in-Deposit-clause-err : goal.returns-in_err-put_value-in-Deposit-clause-err
-returns-in_err-put_value-in-Deposit-clause-err c =
-    let d = c.in-Deposit in
-    let out = c.args.out.now.items in
-    let account = wrote_both out (0x00 ∷ []) (party_bytes d.account) c.in_ok-put_byte-in-Deposit.ensures.spelling c.in_ok-put_party-in-Deposit.ensures.spelling in
-    let party = wrote_both out (0x00 ∷ party_bytes d.account) (party_bytes d.party) account c.in_ok-put_party-in-Deposit-2.ensures.spelling in
-    let token = wrote_both out (0x00 ∷ party_bytes d.account ++ party_bytes d.party) (token_bytes d.token) party c.in_ok-put_token-in-Deposit.ensures.spelling in
-    on_any_err c.from_residual-in_err-put_value-in-Deposit.result
-    (front_as (ap (λ a. action_bytes (action_tree a)) d.is ∙ action_bytes-Deposit d.account d.party d.token d.value)
-    (front_then (0x00 ∷ party_bytes d.account ++ party_bytes d.party ++ token_bytes d.token) token c.in_err-put_value-in-Deposit.ensures.err))
+pub returns-in-Deposit : goal.returns-in-Deposit
+returns-in-Deposit c = rw c.in-Deposit.is (form c.put_deposit.result (action_bytes-Deposit _ _ _ _) (λ h. h) c.put_deposit.ensures)
+
+pub returns-in-Choice : goal.returns-in-Choice
+returns-in-Choice c =
+    let bounds = rw c.as_slice.ensures at c.put_choice.ensures in
+    rw c.in-Choice.is (form c.put_choice.result (action_bytes-Choice _ _) (λ h. h) bounds)
+
+pub returns-in-Notify : goal.returns-in-Notify
+returns-in-Notify c = rw c.in-Notify.is (form c.put_test.result (action_bytes-Notify _) (λ h. h) c.put_test.ensures)

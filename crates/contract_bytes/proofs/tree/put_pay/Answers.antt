@@ -1,25 +1,41 @@
 use Rattle.std.proofs.Common.{[], ◌∷◌, ◌++◌}
-use Rattle.std.proofs.lemmas.Result.{on_err_weaker}
 use Rattle.contract.specs.Tree.{value_tree}
-use Rattle.contract_bytes.specs.Names.{party_bytes, token_bytes, payee_bytes}
+use Rattle.contract_bytes.specs.Names.{party_bytes, payee_bytes, token_bytes}
 use Rattle.contract_bytes.specs.Values.{value_bytes}
-use Rattle.contract_bytes.proofs.Fronts.{on_any_err, front_first, wrote_both, front_then}
+use Rattle.contract_bytes.proofs.Fronts.{front_first, front_then, wrote_both}
+use Rattle.contract_bytes.proofs.Spellings.{no_front, refused, behind, fitting}
 use Rattle.contract_bytes.proofs.tree.put_pay.Goals as goal
 
-pub returns-in_err-put_token-clause-err : goal.returns-in_err-put_token-clause-err
-returns-in_err-put_token-clause-err c =
-    let out = c.args.out.now.items in
+pub returns-in_err-put_byte : goal.returns-in_err-put_byte
+returns-in_err-put_byte c = refused c.from_residual.result c.from_residual.ensures.0 (no_front _ c.in_err-put_byte.ensures.err)
+
+pub returns-in_err-put_party : goal.returns-in_err-put_party
+returns-in_err-put_party c =
+    let rest = front_first (token_bytes c.args.token.now) (front_first (payee_bytes c.args.payee.now) (front_then (0x01 ∷ []) c.in_ok-put_byte.ensures.spelling c.in_err-put_party.ensures.err)) in
+    refused c.from_residual-in_err-put_party.result c.from_residual-in_err-put_party.ensures.0 (front_first (value_bytes (value_tree c.args.value.now)) rest)
+
+pub returns-in_err-put_payee : goal.returns-in_err-put_payee
+returns-in_err-put_payee c =
+    let account = party_bytes c.args.account.now in
+    let first = wrote_both _ (0x01 ∷ []) account c.in_ok-put_byte.ensures.spelling c.in_ok-put_party.ensures.spelling in
+    let rest = front_first (token_bytes c.args.token.now) (front_then (0x01 ∷ account) first c.in_err-put_payee.ensures.err) in
+    refused c.from_residual-in_err-put_payee.result c.from_residual-in_err-put_payee.ensures.0 (front_first (value_bytes (value_tree c.args.value.now)) rest)
+
+pub returns-in_err-put_token : goal.returns-in_err-put_token
+returns-in_err-put_token c =
     let account = party_bytes c.args.account.now in
     let payee = payee_bytes c.args.payee.now in
-    let paid = wrote_both out (0x01 ∷ account) payee (wrote_both out (0x01 ∷ []) account c.in_ok-put_byte.ensures.spelling c.in_ok-put_party.ensures.spelling) c.in_ok-put_payee.ensures.spelling in
-    on_any_err c.from_residual-in_err-put_token.result (front_first (value_bytes (value_tree c.args.value.now)) (front_then (0x01 ∷ account ++ payee) paid c.in_err-put_token.ensures.err))
+    let first = wrote_both _ (0x01 ∷ []) account c.in_ok-put_byte.ensures.spelling c.in_ok-put_party.ensures.spelling in
+    let second = wrote_both _ (0x01 ∷ account) payee first c.in_ok-put_payee.ensures.spelling in
+    refused c.from_residual-in_err-put_token.result c.from_residual-in_err-put_token.ensures.0 (front_first (value_bytes (value_tree c.args.value.now)) (front_then (0x01 ∷ account ++ payee) second c.in_err-put_token.ensures.err))
 
-pub returns-clause-err : goal.returns-clause-err
-returns-clause-err c =
-    let out = c.args.out.now.items in
+pub returns : goal.returns
+returns c =
     let account = party_bytes c.args.account.now in
     let payee = payee_bytes c.args.payee.now in
     let token = token_bytes c.args.token.now in
-    let paid = wrote_both out (0x01 ∷ account) payee (wrote_both out (0x01 ∷ []) account c.in_ok-put_byte.ensures.spelling c.in_ok-put_party.ensures.spelling) c.in_ok-put_payee.ensures.spelling in
-    let all = wrote_both out (0x01 ∷ account ++ payee) token paid c.in_ok-put_token.ensures.spelling in
-    on_err_weaker c.put_value.result (λ h. front_then (0x01 ∷ account ++ payee ++ token) all h) c.put_value.ensures.err
+    let first = wrote_both _ (0x01 ∷ []) account c.in_ok-put_byte.ensures.spelling c.in_ok-put_party.ensures.spelling in
+    let second = wrote_both _ (0x01 ∷ account) payee first c.in_ok-put_payee.ensures.spelling in
+    let third = wrote_both _ (0x01 ∷ account ++ payee) token second c.in_ok-put_token.ensures.spelling in
+    fitting c.put_value.result (λ h. (c.in_ok-put_party.ensures.fits, c.in_ok-put_payee.ensures.fits, c.in_ok-put_token.ensures.fits, h))
+    (behind (0x01 ∷ account ++ payee ++ token) c.put_value.result third c.put_value.ensures)
