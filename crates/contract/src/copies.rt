@@ -67,6 +67,25 @@ fn copy_boxed_observation(observation: &Boxed<Observation>) -> Result<Boxed<Obse
 }
 
 #[cycle(copy_value)]
+fn copy_values(a: &Boxed<Value>, b: &Boxed<Value>) -> Result<(Boxed<Value>, Boxed<Value>), Memory>
+    ensures { IfOk result (λ copies. copies ≡ (a.now, b.now)) }
+{
+    let a = copy_boxed_value(a)?;
+    both(a, copy_boxed_value(b))
+}
+
+#[cycle(copy_value)]
+fn copy_observations(
+    a: &Boxed<Observation>,
+    b: &Boxed<Observation>,
+) -> Result<(Boxed<Observation>, Boxed<Observation>), Memory>
+    ensures { IfOk result (λ copies. copies ≡ (a.now, b.now)) }
+{
+    let a = copy_boxed_observation(a)?;
+    both(a, copy_boxed_observation(b))
+}
+
+#[cycle(copy_value)]
 fn copy_value(value: &Value) -> Result<Value, Memory>
     ensures { IfOk result (λ copy. copy ≡ value.now) }
 {
@@ -78,23 +97,19 @@ fn copy_value(value: &Value) -> Result<Value, Memory>
         Value::Constant(number) => Ok(Value::Constant(*number)),
         Value::NegValue(a) => Ok(Value::NegValue(copy_boxed_value(a)?)),
         Value::AddValue(a, b) => {
-            let a = copy_boxed_value(a)?;
-            let (a, b) = both(a, copy_boxed_value(b))?;
+            let (a, b) = copy_values(a, b)?;
             Ok(Value::AddValue(a, b))
         }
         Value::SubValue(a, b) => {
-            let a = copy_boxed_value(a)?;
-            let (a, b) = both(a, copy_boxed_value(b))?;
+            let (a, b) = copy_values(a, b)?;
             Ok(Value::SubValue(a, b))
         }
         Value::MulValue(a, b) => {
-            let a = copy_boxed_value(a)?;
-            let (a, b) = both(a, copy_boxed_value(b))?;
+            let (a, b) = copy_values(a, b)?;
             Ok(Value::MulValue(a, b))
         }
         Value::DivValue(a, b) => {
-            let a = copy_boxed_value(a)?;
-            let (a, b) = both(a, copy_boxed_value(b))?;
+            let (a, b) = copy_values(a, b)?;
             Ok(Value::DivValue(a, b))
         }
         Value::ChoiceValue(id) => Ok(Value::ChoiceValue(id.try_clone()?)),
@@ -103,9 +118,8 @@ fn copy_value(value: &Value) -> Result<Value, Memory>
         Value::UseValue(name) => Ok(Value::UseValue(name.try_clone()?)),
         Value::Cond(observation, a, b) => {
             let observation = copy_boxed_observation(observation)?;
-            let (observation, a) = both(observation, copy_boxed_value(a))?;
-            let (parts, b) = both((observation, a), copy_boxed_value(b))?;
-            let (observation, a) = parts;
+            let (observation, values) = both(observation, copy_values(a, b))?;
+            let (a, b) = values;
             Ok(Value::Cond(observation, a, b))
         }
     }
@@ -117,40 +131,33 @@ fn copy_observation(observation: &Observation) -> Result<Observation, Memory>
 {
     match observation {
         Observation::AndObs(a, b) => {
-            let a = copy_boxed_observation(a)?;
-            let (a, b) = both(a, copy_boxed_observation(b))?;
+            let (a, b) = copy_observations(a, b)?;
             Ok(Observation::AndObs(a, b))
         }
         Observation::OrObs(a, b) => {
-            let a = copy_boxed_observation(a)?;
-            let (a, b) = both(a, copy_boxed_observation(b))?;
+            let (a, b) = copy_observations(a, b)?;
             Ok(Observation::OrObs(a, b))
         }
         Observation::NotObs(a) => Ok(Observation::NotObs(copy_boxed_observation(a)?)),
         Observation::ChoseSomething(id) => Ok(Observation::ChoseSomething(id.try_clone()?)),
         Observation::ValueGE(a, b) => {
-            let a = copy_boxed_value(a)?;
-            let (a, b) = both(a, copy_boxed_value(b))?;
+            let (a, b) = copy_values(a, b)?;
             Ok(Observation::ValueGE(a, b))
         }
         Observation::ValueGT(a, b) => {
-            let a = copy_boxed_value(a)?;
-            let (a, b) = both(a, copy_boxed_value(b))?;
+            let (a, b) = copy_values(a, b)?;
             Ok(Observation::ValueGT(a, b))
         }
         Observation::ValueLT(a, b) => {
-            let a = copy_boxed_value(a)?;
-            let (a, b) = both(a, copy_boxed_value(b))?;
+            let (a, b) = copy_values(a, b)?;
             Ok(Observation::ValueLT(a, b))
         }
         Observation::ValueLE(a, b) => {
-            let a = copy_boxed_value(a)?;
-            let (a, b) = both(a, copy_boxed_value(b))?;
+            let (a, b) = copy_values(a, b)?;
             Ok(Observation::ValueLE(a, b))
         }
         Observation::ValueEQ(a, b) => {
-            let a = copy_boxed_value(a)?;
-            let (a, b) = both(a, copy_boxed_value(b))?;
+            let (a, b) = copy_values(a, b)?;
             Ok(Observation::ValueEQ(a, b))
         }
         Observation::TrueObs => Ok(Observation::TrueObs),

@@ -109,6 +109,26 @@ fn same_boxed_observation(a: &Boxed<Observation>, b: &Boxed<Observation>) -> boo
     same_observation(a.get(), b.get())
 }
 
+// Whether two values are the same as two others, one by one.
+#[cycle(same_value)]
+fn same_values(a0: &Boxed<Value>, b0: &Boxed<Value>, a1: &Boxed<Value>, b1: &Boxed<Value>) -> bool
+    ensures { IsTrue result ↔ ((a0.now ≡ a1.now) × (b0.now ≡ b1.now)) }
+{
+    same_boxed_value(a0, a1) && same_boxed_value(b0, b1)
+}
+
+#[cycle(same_value)]
+fn same_observations(
+    a0: &Boxed<Observation>,
+    b0: &Boxed<Observation>,
+    a1: &Boxed<Observation>,
+    b1: &Boxed<Observation>,
+) -> bool
+    ensures { IsTrue result ↔ ((a0.now ≡ a1.now) × (b0.now ≡ b1.now)) }
+{
+    same_boxed_observation(a0, a1) && same_boxed_observation(b0, b1)
+}
+
 #[cycle(same_value)]
 fn same_value(a: &Value, b: &Value) -> bool
     ensures { IsTrue result ↔ (a.now ≡ b.now) }
@@ -127,19 +147,19 @@ fn same_value(a: &Value, b: &Value) -> bool
             _ => false,
         },
         Value::AddValue(a0, b0) => match b {
-            Value::AddValue(a1, b1) => same_boxed_value(a0, a1) && same_boxed_value(b0, b1),
+            Value::AddValue(a1, b1) => same_values(a0, b0, a1, b1),
             _ => false,
         },
         Value::SubValue(a0, b0) => match b {
-            Value::SubValue(a1, b1) => same_boxed_value(a0, a1) && same_boxed_value(b0, b1),
+            Value::SubValue(a1, b1) => same_values(a0, b0, a1, b1),
             _ => false,
         },
         Value::MulValue(a0, b0) => match b {
-            Value::MulValue(a1, b1) => same_boxed_value(a0, a1) && same_boxed_value(b0, b1),
+            Value::MulValue(a1, b1) => same_values(a0, b0, a1, b1),
             _ => false,
         },
         Value::DivValue(a0, b0) => match b {
-            Value::DivValue(a1, b1) => same_boxed_value(a0, a1) && same_boxed_value(b0, b1),
+            Value::DivValue(a1, b1) => same_values(a0, b0, a1, b1),
             _ => false,
         },
         Value::ChoiceValue(a0) => match b {
@@ -154,8 +174,7 @@ fn same_value(a: &Value, b: &Value) -> bool
         },
         Value::Cond(a0, b0, c0) => match b {
             Value::Cond(a1, b1, c1) => same_boxed_observation(a0, a1)
-                && same_boxed_value(b0, b1)
-                && same_boxed_value(c0, c1),
+                && same_values(b0, c0, b1, c1),
             _ => false,
         },
     }
@@ -167,13 +186,11 @@ fn same_observation(a: &Observation, b: &Observation) -> bool
 {
     match a {
         Observation::AndObs(a0, b0) => match b {
-            Observation::AndObs(a1, b1) => same_boxed_observation(a0, a1)
-                && same_boxed_observation(b0, b1),
+            Observation::AndObs(a1, b1) => same_observations(a0, b0, a1, b1),
             _ => false,
         },
         Observation::OrObs(a0, b0) => match b {
-            Observation::OrObs(a1, b1) => same_boxed_observation(a0, a1)
-                && same_boxed_observation(b0, b1),
+            Observation::OrObs(a1, b1) => same_observations(a0, b0, a1, b1),
             _ => false,
         },
         Observation::NotObs(a0) => match b {
@@ -185,23 +202,23 @@ fn same_observation(a: &Observation, b: &Observation) -> bool
             _ => false,
         },
         Observation::ValueGE(a0, b0) => match b {
-            Observation::ValueGE(a1, b1) => same_boxed_value(a0, a1) && same_boxed_value(b0, b1),
+            Observation::ValueGE(a1, b1) => same_values(a0, b0, a1, b1),
             _ => false,
         },
         Observation::ValueGT(a0, b0) => match b {
-            Observation::ValueGT(a1, b1) => same_boxed_value(a0, a1) && same_boxed_value(b0, b1),
+            Observation::ValueGT(a1, b1) => same_values(a0, b0, a1, b1),
             _ => false,
         },
         Observation::ValueLT(a0, b0) => match b {
-            Observation::ValueLT(a1, b1) => same_boxed_value(a0, a1) && same_boxed_value(b0, b1),
+            Observation::ValueLT(a1, b1) => same_values(a0, b0, a1, b1),
             _ => false,
         },
         Observation::ValueLE(a0, b0) => match b {
-            Observation::ValueLE(a1, b1) => same_boxed_value(a0, a1) && same_boxed_value(b0, b1),
+            Observation::ValueLE(a1, b1) => same_values(a0, b0, a1, b1),
             _ => false,
         },
         Observation::ValueEQ(a0, b0) => match b {
-            Observation::ValueEQ(a1, b1) => same_boxed_value(a0, a1) && same_boxed_value(b0, b1),
+            Observation::ValueEQ(a1, b1) => same_values(a0, b0, a1, b1),
             _ => false,
         },
         Observation::TrueObs => matches!(b, Observation::TrueObs),
