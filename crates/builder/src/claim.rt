@@ -1,5 +1,5 @@
 //! Claims of payouts.
-ghost use Rattle.std.specs.Prelude.{◌≡◌, [], ◌++◌, map, IfOk, IfErr};
+ghost use Rattle.std.specs.Prelude.{◌≡◌, [], ◌++◌, map, IfOk};
 ghost use Rattle.collections.specs.Answers.{Aside};
 ghost use Rattle.eutxo_types.specs.Fitting.{TxFits};
 ghost use Rattle.builder_spec.specs.Holding.{sums, amount_in};
@@ -9,15 +9,16 @@ ghost use Rattle.builder_spec.specs.Claims.{claim_front, hinders_claim, layout_c
 ghost use Rattle.builder_spec.specs.Requests.{claim_request};
 ghost use Rattle.coin_selection.specs.Answers.{AnswersCause};
 
-use crate::fitting::fitting;
-use crate::inputs::{copies_of, put_keys};
+use crate::beside::beside;
+use crate::fitting::tx_of;
+use crate::inputs::put_keys;
 use crate::outputs::put_paid;
 use crate::payouts::{check_held, check_payouts, put_claims, tokens_awaited};
 use builder_spec::BuildFault;
 use coin_selection::{Amount, Shares, check_apart, check_signed, front_of, see_all, shares_within};
-use collections::{Items, Text};
+use collections::{Items, Memory, Text};
 use contract::Interval;
-use eutxo_types::Tx;
+use eutxo_types::{Output, Spend, Tx};
 use ledger::Unspent;
 use std::alloc::Global;
 use std::marker::Model;
@@ -80,12 +81,37 @@ fn claim_funds<'a>(alloc: Global, asked: &ClaimAsked<'a>) -> Result<ClaimFunds<'
     }
 }
 
-// The transaction of a claim, from what it spends.
-fn lay_out_claim(
+// What a claim spends: the payouts, and then the front.
+fn claim_inputs(
+    alloc: Global,
+    payouts: &[Unspent],
+    front: &[Unspent],
+) -> Result<Items<Spend>, Memory>
+    ensures { IfOk result (λ inputs. inputs ≡ map by_claim payouts.now ++ map by_key front.now) }
+{
+    let mut inputs = Items::new(alloc);
+    put_claims(&mut inputs, payouts)?;
+    put_keys(&mut inputs, front)?;
+    Ok(inputs)
+}
+
+// What it makes.
+fn claim_outputs(
     alloc: Global,
     asked: &ClaimAsked<'_>,
-    funds: ClaimFunds<'_>,
-) -> Result<Tx, BuildFault>
+    shares: Shares,
+) -> Result<Items<Output>, Memory>
+    ensures { IfOk result (λ outputs. outputs ≡ paid_to asked.now.to shares.first ++ paid_to asked.now.change shares.others) }
+{
+    let Shares { first, others } = shares;
+    let mut outputs = Items::new(alloc);
+    put_paid(&mut outputs, asked.to, first)?;
+    put_paid(&mut outputs, asked.change, others)?;
+    Ok(outputs)
+}
+
+// The transaction of a claim, from what it spends.
+fn lay_out_claim(alloc: Global, asked: &ClaimAsked<'_>, funds: ClaimFunds<'_>) -> Result<Tx, Memory>
     ensures ok { let shares = funds.entry.shares in IfOk result (λ tx. tx ≡ record {
       inputs = map by_claim asked.now.payouts ++ map by_key funds.entry.front.now;
       outputs = paid_to asked.now.to shares.first ++ paid_to asked.now.change shares.others;
@@ -94,25 +120,19 @@ fn lay_out_claim(
       datums = [];
     }) }
     ensures fits { IfOk result TxFits }
-    ensures err { IfErr result (λ fault. fault ≡ BuildFault.Memory) }
 {
     let ClaimFunds { shares, front } = funds;
-    let Shares { first, others } = shares;
-    let mut inputs = Items::new(alloc);
-    put_claims(&mut inputs, asked.payouts)?;
-    put_keys(&mut inputs, front)?;
-    let mut outputs = Items::new(alloc);
-    put_paid(&mut outputs, asked.to, first)?;
-    put_paid(&mut outputs, asked.change, others)?;
-    let signers = copies_of(alloc, asked.signers)?;
-    let tx = Tx {
+    let outputs = claim_outputs(alloc, asked, shares)?;
+    let (outputs, inputs) = beside(outputs, claim_inputs(alloc, asked.payouts, front))?;
+    let datums = Items::new(alloc);
+    tx_of(
+        alloc,
         inputs,
         outputs,
-        interval: asked.interval,
-        signers,
-        datums: Items::new(alloc),
-    };
-    Ok(fitting(alloc, tx)?)
+        asked.interval,
+        asked.signers,
+        datums,
+    )
 }
 
 /// Builds the transaction that claims payouts, in an interval in POSIX milliseconds, signed by these addresses. It
@@ -146,7 +166,7 @@ pub fn build_claim(
         change,
     };
     match claim_funds(alloc, &asked) {
-        Ok(funds) => lay_out_claim(alloc, &asked, funds),
+        Ok(funds) => Ok(lay_out_claim(alloc, &asked, funds)?),
         Err(fault) => Err(fault),
     }
 }

@@ -2,16 +2,49 @@
 ghost use Rattle.std.specs.Prelude.{◌≡◌, IfOk};
 ghost use Rattle.eutxo_types.specs.Fitting.{TxFits};
 
-use collections::Memory;
-use eutxo_types::{Tx, encode_tx};
+use crate::beside::beside;
+use crate::inputs::copies_of;
+use collections::{Items, Memory, Text};
+use contract::Interval;
+use eutxo_types::{Datum, Output, Spend, Tx, encode_tx};
 use std::alloc::Global;
 
-/// The transaction itself, which fits its spelling. It is spelled once, and refused only for memory.
-pub(crate) fn fitting(alloc: Global, tx: Tx) -> Result<Tx, Memory>
+// The transaction itself, which fits its spelling. It is spelled once, and refused only for memory.
+fn fitting(alloc: Global, tx: Tx) -> Result<Tx, Memory>
     ensures same { IfOk result (λ fits. fits ≡ tx) }
     ensures fits { IfOk result TxFits }
 {
     // touch: it fits its spelling
     let _ = encode_tx(alloc, &tx)?;
     Ok(tx)
+}
+
+/// The transaction of these parts, signed by these addresses. It fits its spelling, and is refused only for memory.
+pub(crate) fn tx_of(
+    alloc: Global,
+    inputs: Items<Spend>,
+    outputs: Items<Output>,
+    interval: Interval,
+    signers: &[Text],
+    datums: Items<Datum>,
+) -> Result<Tx, Memory>
+    ensures same { IfOk result (λ tx. tx ≡ record {
+      inputs = inputs;
+      outputs = outputs;
+      interval = interval;
+      signers = signers.now;
+      datums = datums;
+    }) }
+    ensures fits { IfOk result TxFits }
+{
+    let (parts, signers) = beside((inputs, outputs, datums), copies_of(alloc, signers))?;
+    let (inputs, outputs, datums) = parts;
+    let tx = Tx {
+        inputs,
+        outputs,
+        interval,
+        signers,
+        datums,
+    };
+    fitting(alloc, tx)
 }

@@ -38,6 +38,15 @@ pub(crate) fn put_keys(spends: &mut Items<Spend>, outputs: &[Unspent]) -> Result
     Ok(())
 }
 
+/// The inputs that spend key outputs.
+pub(crate) fn key_inputs(alloc: Global, outputs: &[Unspent]) -> Result<Items<Spend>, Memory>
+    ensures { IfOk result (λ spends. spends ≡ map by_key outputs.now) }
+{
+    let mut spends = Items::new(alloc);
+    put_keys(&mut spends, outputs)?;
+    Ok(spends)
+}
+
 /// Copies of all, in order.
 pub(crate) fn copies_of<T: TryClone + Drop>(alloc: Global, items: &[T]) -> Result<Items<T>, Memory>
     ensures { IfOk result (λ copies. copies ≡ items.now) }

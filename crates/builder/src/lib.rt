@@ -6,6 +6,7 @@
 //! ledger: they build on what was seen of one.
 #![tactic(auto)]
 
+mod beside;
 mod claim;
 mod fitting;
 mod fresh;

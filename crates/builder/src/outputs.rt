@@ -1,5 +1,5 @@
 //! The outputs of a layout: those that are owed, where there is room for them, and the change.
-ghost use Rattle.std.specs.Prelude.{◌≡◌, ◌++◌, true, false, IfOk, IfErr, OnOk};
+ghost use Rattle.std.specs.Prelude.{◌≡◌, [], ◌∷◌, ◌++◌, map, true, false, if◌then◌else◌, IfOk, OnOk};
 ghost use Rattle.std.specs.FinMap.{entries};
 ghost use Rattle.bundle.specs.Bundles.{covers, minus};
 ghost use Rattle.eutxo.specs.Faults.{is_empty};
@@ -10,29 +10,28 @@ ghost use Rattle.builder_spec.specs.Causes.{is_much};
 ghost use Rattle.builder_spec.specs.Laying.{paid_to};
 ghost use Rattle.builder.specs.OutputsSupport.{data_left, outcome_outputs};
 
-use builder_spec::BuildFault;
+use crate::beside::beside;
 use bundle::{Bundle, BundleFault};
 use coin_selection::{see_all, see_room, sum, sums_of};
 use collections::{Items, Memory, Text, TryClone};
 use contract::Outcome;
 use eutxo_types::{Cont, Datum, Lock, Output};
 use roles::{Published, continuation, put_due};
-use std::alloc::Global;
+use std::alloc::{AllocError, Global};
 
 /// The output in which a contract goes on from a datum, with the sums of its accounts, none of which is too large for
-/// an amount. It is refused only for memory.
+/// an amount.
 pub(crate) fn continuing_output(
     alloc: Global,
     script: &[u8; 32],
     datum: &Datum,
-) -> Result<Output, BuildFault>
+) -> Result<Output, Memory>
     requires { is_much (sums_of datum.now.state) ≡ false }
-    ensures ok { IfOk result (λ output. output ≡ continuation script.now datum.now) }
-    ensures err { IfErr result (λ fault. fault ≡ BuildFault.Memory) }
+    ensures { IfOk result (λ output. output ≡ continuation script.now datum.now) }
 {
     match sums_of(alloc, &datum.state) {
-        Ok(sums) => Ok(continuation(alloc, script, datum, sums)?),
-        Err(BundleFault::Memory) => Err(BuildFault::Memory),
+        Ok(sums) => continuation(alloc, script, datum, sums),
+        Err(BundleFault::Memory) => Err(AllocError),
         Err(_) => unreachable!(),
     }
 }
@@ -61,9 +60,31 @@ pub(crate) fn put_paid(
     outputs.push(Output { lock, amount })
 }
 
+// Puts the output in which a contract goes on behind others, unless it is closed; and the datum from which it goes on.
+fn put_continuing(
+    alloc: Global,
+    outputs: &mut Items<Output>,
+    datums: &mut Items<Datum>,
+    script: &[u8; 32],
+    closed: bool,
+    datum: Datum,
+) -> Result<(), Memory>
+    requires { is_much (sums_of datum.state) ≡ false }
+    ensures made { OnOk result (outputs.new ≡ outputs.old ++ map (continuation script.now) (if closed then [] else datum ∷ [])) }
+    ensures brought { OnOk result (datums.new ≡ datums.old ++ (if closed then [] else datum ∷ [])) }
+{
+    if closed {
+        return Ok(());
+    }
+    let made = continuing_output(alloc, script, &datum);
+    let (datum, output) = beside(datum, made)?;
+    let (datum, _) = beside(datum, outputs.push(output))?;
+    datums.push(datum)
+}
+
 /// Puts the block of a part behind others: the output in which a published contract goes on, unless it is closed, and
 /// those that are due for the payments. The datum from which it goes on is put behind others, too. No sum of its
-/// accounts is too large for an amount, and it is refused only for memory.
+/// accounts is too large for an amount.
 pub(crate) fn put_block(
     alloc: Global,
     outputs: &mut Items<Output>,
@@ -71,11 +92,10 @@ pub(crate) fn put_block(
     published: &Published,
     closed: bool,
     outcome: Outcome<Cont>,
-) -> Result<(), BuildFault>
+) -> Result<(), Memory>
     requires { is_much (sums_of outcome.state) ≡ false }
-    ensures ok { OnOk result (outputs.new ≡ outputs.old ++ outcome_outputs published.now closed outcome) }
+    ensures made { OnOk result (outputs.new ≡ outputs.old ++ outcome_outputs published.now closed outcome) }
     ensures brought { OnOk result (datums.new ≡ datums.old ++ data_left closed outcome) }
-    ensures err { IfErr result (λ fault. fault ≡ BuildFault.Memory) }
 {
     let Outcome {
         payments,
@@ -83,14 +103,11 @@ pub(crate) fn put_block(
         place,
         ..
     } = outcome;
-    if !closed {
-        let datum = Datum { cont: place, state };
-        outputs.push(continuing_output(alloc, &published.id, &datum)?)?;
-        datums.push(datum)?;
-    }
-    let currency = &published.currency;
-    put_due(alloc, outputs, currency, payments.as_slice())?;
-    Ok(())
+    let datum = Datum { cont: place, state };
+    let script = &published.id;
+    let gone_on = put_continuing(alloc, outputs, datums, script, closed, datum);
+    let (payments, _) = beside(payments, gone_on)?;
+    put_due(alloc, outputs, &published.currency, payments.as_slice())
 }
 
 // What is left of a bundle that covers another.
@@ -104,11 +121,10 @@ fn without(mut all: Bundle, taken: &Bundle) -> Bundle
     }
 }
 
-/// What is spent and not made, where what is spent covers what is made. It is refused only for memory.
-pub(crate) fn rest(alloc: Global, all: Bundle, made: &[Output]) -> Result<Bundle, BuildFault>
+// What is spent and not made, where what is spent covers what is made.
+fn rest(alloc: Global, all: Bundle, made: &[Output]) -> Result<Bundle, Memory>
     requires { covers all (sums (λ o. o.amount) made.now) ≡ true }
-    ensures ok { IfOk result (λ rest. rest ≡ minus all (sums (λ o. o.amount) made.now)) }
-    ensures err { IfErr result (λ fault. fault ≡ BuildFault.Memory) }
+    ensures { IfOk result (λ rest. rest ≡ minus all (sums (λ o. o.amount) made.now)) }
 {
     // touch: amounts are above 0, and there is room for what is spent
     see_all(made);
@@ -116,7 +132,22 @@ pub(crate) fn rest(alloc: Global, all: Bundle, made: &[Output]) -> Result<Bundle
     let _ = all.entries();
     match sum(alloc, made) {
         Ok(sum) => Ok(without(all, &sum)),
-        Err(BundleFault::Memory) => Err(BuildFault::Memory),
+        Err(BundleFault::Memory) => Err(AllocError),
         Err(_) => unreachable!(),
     }
+}
+
+/// These outputs, which what is spent covers, and behind them the change.
+pub(crate) fn with_change(
+    alloc: Global,
+    mut outputs: Items<Output>,
+    all: Bundle,
+    address: &Text,
+) -> Result<Items<Output>, Memory>
+    requires { covers all (sums (λ o. o.amount) outputs) ≡ true }
+    ensures { IfOk result (λ made. made ≡ outputs ++ paid_to address.now (minus all (sums (λ o. o.amount) outputs))) }
+{
+    let change = rest(alloc, all, outputs.as_slice())?;
+    put_paid(&mut outputs, address, change)?;
+    Ok(outputs)
 }

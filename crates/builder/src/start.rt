@@ -1,5 +1,5 @@
 //! Starts of a contract.
-ghost use Rattle.std.specs.Prelude.{◌≡◌, false, Some, if◌then◌else◌, IfOk, IfErr};
+ghost use Rattle.std.specs.Prelude.{◌≡◌, false, [], ◌∷◌, Some, if◌then◌else◌, IfOk};
 ghost use Rattle.collections.specs.Answers.{Aside};
 ghost use Rattle.names.specs.Equal.{ada};
 ghost use Rattle.eutxo_types.specs.Fitting.{TxFits};
@@ -9,16 +9,18 @@ ghost use Rattle.builder_spec.specs.declared.fault.BuildFault.TheVariants.{NoFun
 ghost use Rattle.builder_spec.specs.Holding.{amount_in, AreBundles};
 ghost use Rattle.builder_spec.specs.Causes.{funds_cause, is_much};
 ghost use Rattle.builder_spec.specs.Built.{build_answer};
-ghost use Rattle.builder_spec.specs.Starts.{fresh_state, start_datum, start_output, hinders_start, layout_start};
+ghost use Rattle.builder_spec.specs.Laying.{paid_to, rest};
+ghost use Rattle.builder_spec.specs.Starts.{fresh_state, start_front, start_datum, start_output, hinders_start, layout_start};
 ghost use Rattle.builder_spec.specs.Requests.{start_request};
 ghost use Rattle.coin_selection.specs.Answers.{AnswersCause};
 ghost use Rattle.builder.specs.FundsSupport.{AreStartFunds};
 
-use crate::fitting::fitting;
+use crate::beside::{alone, beside};
+use crate::fitting::tx_of;
 use crate::fresh::fresh;
 use crate::funds::Funds;
-use crate::inputs::{copies_of, put_keys};
-use crate::outputs::{continuing_output, put_paid, rest};
+use crate::inputs::key_inputs;
+use crate::outputs::{continuing_output, with_change};
 use crate::payouts::are_none;
 use builder_spec::BuildFault;
 use coin_selection::{
@@ -123,43 +125,59 @@ fn start_datum(alloc: Global, asked: &StartAsked<'_>) -> Result<Datum, Memory>
 }
 
 // The contract's output, at its datum.
-fn start_output(alloc: Global, asked: &StartAsked<'_>, datum: &Datum) -> Result<Output, BuildFault>
+fn start_output(
+    alloc: Global,
+    asked: &StartAsked<'_>,
+    datum: &Datum,
+) -> Result<Items<Output>, Memory>
     requires of { datum.now ≡ start_datum asked.now }
     requires room { is_much (sums_of (fresh_state asked.now.state)) ≡ false }
-    ensures ok { IfOk result (λ output. output ≡ start_output asked.now) }
-    ensures err { IfErr result (λ fault. fault ≡ BuildFault.Memory) }
+    ensures { IfOk result (λ outputs. outputs ≡ start_output asked.now ∷ []) }
 {
-    continuing_output(alloc, &asked.published.id, datum)
+    let output = continuing_output(alloc, &asked.published.id, datum)?;
+    alone(alloc, output)
+}
+
+// What a start makes: the contract's output, at its datum, and the change.
+fn start_outputs(
+    alloc: Global,
+    asked: &StartAsked<'_>,
+    funds: Funds<'_>,
+    datum: &Datum,
+) -> Result<Items<Output>, Memory>
+    requires funds { AreStartFunds asked.now funds }
+    requires of { datum.now ≡ start_datum asked.now }
+    ensures { let r = asked.now in
+        IfOk result (λ outputs. outputs ≡ start_output r ∷ paid_to r.change (rest (start_front r) (start_output r ∷ []))) }
+{
+    let Funds { all, .. } = funds;
+    // touch: there is room for what is spent
+    see_room(&all);
+    let outputs = start_output(alloc, asked, datum)?;
+    with_change(alloc, outputs, all, asked.change)
 }
 
 // The transaction of a start that nothing hinders.
-fn lay_out_start(alloc: Global, asked: &StartAsked<'_>, funds: Funds<'_>) -> Result<Tx, BuildFault>
+fn lay_out_start(alloc: Global, asked: &StartAsked<'_>, funds: Funds<'_>) -> Result<Tx, Memory>
     requires { AreStartFunds asked.now funds }
     ensures ok { IfOk result (λ tx. tx ≡ layout_start asked.now) }
     ensures fits { IfOk result TxFits }
-    ensures err { IfErr result (λ fault. fault ≡ BuildFault.Memory) }
 {
-    let Funds { all, front } = funds;
-    // touch: there is room for what is spent
-    see_room(&all);
-    let mut outputs = Items::new(alloc);
-    let datum = start_datum(alloc, asked)?;
-    outputs.push(start_output(alloc, asked, &datum)?)?;
-    let change = rest(alloc, all, outputs.as_slice())?;
-    put_paid(&mut outputs, asked.change, change)?;
-    let mut inputs = Items::new(alloc);
-    put_keys(&mut inputs, front)?;
-    let signers = copies_of(alloc, asked.signers)?;
-    let mut datums = Items::new(alloc);
-    datums.push(datum)?;
-    let tx = Tx {
+    let front = funds.front;
+    let (funds, datum) = beside(funds, start_datum(alloc, asked))?;
+    let outputs = start_outputs(alloc, asked, funds, &datum);
+    let (datum, outputs) = beside(datum, outputs)?;
+    let (outputs, datums) = beside(outputs, alone(alloc, datum))?;
+    let (parts, inputs) = beside((outputs, datums), key_inputs(alloc, front))?;
+    let (outputs, datums) = parts;
+    tx_of(
+        alloc,
         inputs,
         outputs,
-        interval: asked.interval,
-        signers,
+        asked.interval,
+        asked.signers,
         datums,
-    };
-    Ok(fitting(alloc, tx)?)
+    )
 }
 
 /// Builds the transaction that starts a published contract with the accounts and the minimum time of a state, in an
@@ -193,7 +211,7 @@ pub fn build_start(
         change,
     };
     match start_funds(alloc, &asked) {
-        Ok(funds) => lay_out_start(alloc, &asked, funds),
+        Ok(funds) => Ok(lay_out_start(alloc, &asked, funds)?),
         Err(fault) => Err(fault),
     }
 }

@@ -1,6 +1,6 @@
 //! Steps of several threads in one transaction.
 ghost use Rattle.std.specs.Prelude.{◌≡◌, ◌++◌, ◌<◌, true, not, length, nat_lt, get_or, map};
-ghost use Rattle.std.specs.Prelude.{IfOk, IfErr, OnOk, option_map, option_copied};
+ghost use Rattle.std.specs.Prelude.{IfOk, OnOk, option_map, option_copied};
 ghost use Rattle.std.specs.List.{list_any};
 ghost use Rattle.collections.specs.Answers.{Aside};
 ghost use Rattle.semantics.specs.Walk.{answer_of};
@@ -19,12 +19,13 @@ ghost use Rattle.coin_selection.specs.Answers.{AnswersCause};
 ghost use Rattle.builder.specs.ClashSupport.{kept, IsPut};
 ghost use Rattle.builder.specs.PartsSupport.{stepped_at, parts_causes_after_contracts, ArePartsFunds, IsStanding};
 ghost use Rattle.builder.specs.PartsSupport.{AreStanding, IsOutcome, AreOutcomes, IsPositive, ArePositive, HaveRoom};
-ghost use Rattle.builder.specs.PartsSupport.{outcomes_outputs, outcomes_data, AreFinished};
+ghost use Rattle.builder.specs.PartsSupport.{outcomes_outputs, data_after, outcomes_data, AreFinished};
 
-use crate::fitting::fitting;
+use crate::beside::beside;
+use crate::fitting::tx_of;
 use crate::funds::Funds;
-use crate::inputs::{by_step, copies_of, put_keys};
-use crate::outputs::{put_block, put_paid, rest};
+use crate::inputs::{by_step, put_keys};
+use crate::outputs::{put_block, with_change};
 use crate::parts::Part;
 use crate::thread::{ThreadAt, thread_of};
 use builder_spec::BuildFault;
@@ -412,26 +413,41 @@ fn own_data(alloc: Global, steps: &[SteppedAt<'_>]) -> Result<Items<Datum>, Memo
     Ok(datums)
 }
 
+// Puts the outputs of all blocks behind others, and so the data from which contracts go on.
+fn put_blocks(
+    alloc: Global,
+    outputs: &mut Items<Output>,
+    datums: &mut Items<Datum>,
+    steps: &[SteppedAt<'_>],
+    mut outcomes: Vec<Outcome<Cont>>,
+) -> Result<(), Memory>
+    requires { HaveRoom steps.now outcomes.items }
+    ensures outputs { OnOk result (outputs.new ≡ outputs.old ++ outcomes_outputs steps.now outcomes.items) }
+    ensures datums { OnOk result (datums.new ≡ datums.old ++ data_after steps.now outcomes.items) }
+{
+    for step in steps {
+        let outcome = outcomes.remove(0);
+        let published = step.published();
+        let closed = published.table.is_close(outcome.place);
+        put_block(alloc, outputs, datums, published, closed, outcome)?;
+    }
+    Ok(())
+}
+
 // The outputs of all blocks, and the data that are brought: those of the threads, and then those from which contracts
 // go on.
 fn blocks_of(
     alloc: Global,
     steps: &[SteppedAt<'_>],
-    mut outcomes: Vec<Outcome<Cont>>,
-) -> Result<(Items<Output>, Items<Datum>), BuildFault>
+    outcomes: Vec<Outcome<Cont>>,
+) -> Result<(Items<Output>, Items<Datum>), Memory>
     requires { HaveRoom steps.now outcomes.items }
     ensures outputs { IfOk result (λ made. made.0 ≡ outcomes_outputs steps.now outcomes.items) }
     ensures datums { IfOk result (λ made. made.1 ≡ outcomes_data steps.now outcomes.items) }
-    ensures err { IfErr result (λ fault. fault ≡ BuildFault.Memory) }
 {
+    let (outcomes, mut datums) = beside(outcomes, own_data(alloc, steps))?;
     let mut outputs = Items::new(alloc);
-    let mut datums = own_data(alloc, steps)?;
-    for step in steps {
-        let outcome = outcomes.remove(0);
-        let published = step.published();
-        let closed = published.table.is_close(outcome.place);
-        put_block(alloc, &mut outputs, &mut datums, published, closed, outcome)?;
-    }
+    put_blocks(alloc, &mut outputs, &mut datums, steps, outcomes)?;
     Ok((outputs, datums))
 }
 
@@ -449,15 +465,29 @@ fn put_steps(
     Ok(())
 }
 
+// What steps spend: the threads' outputs, and then the front.
+fn step_inputs(
+    alloc: Global,
+    steps: &[SteppedAt<'_>],
+    front: &[Unspent],
+) -> Result<Items<Spend>, Memory>
+    ensures { IfOk result (λ inputs. inputs ≡ map (λ s. by_step s.inputs (own_output s.thread)) steps.now ++ map by_key front.now) }
+{
+    let mut inputs = Items::new(alloc);
+    put_steps(alloc, &mut inputs, steps)?;
+    put_keys(&mut inputs, front)?;
+    Ok(inputs)
+}
+
 // The transaction of steps, from what they spend, what they make but for the change, and the data that they bring.
 fn lay_out_steps(
     alloc: Global,
     asked: &StepsAsked<'_>,
     steps: &[SteppedAt<'_>],
     funds: Funds<'_>,
-    mut outputs: Items<Output>,
+    outputs: Items<Output>,
     datums: Items<Datum>,
-) -> Result<Tx, BuildFault>
+) -> Result<Tx, Memory>
     requires { covers funds.all (sums (λ o. o.amount) outputs) ≡ true }
     ensures ok { IfOk result (λ tx. tx ≡ record {
       inputs = map (λ s. by_step s.inputs (own_output s.thread)) steps.now ++ map by_key funds.entry.front;
@@ -467,23 +497,19 @@ fn lay_out_steps(
       datums = datums;
     }) }
     ensures fits { IfOk result TxFits }
-    ensures err { IfErr result (λ fault. fault ≡ BuildFault.Memory) }
 {
     let Funds { all, front } = funds;
-    let change = rest(alloc, all, outputs.as_slice())?;
-    put_paid(&mut outputs, asked.change, change)?;
-    let mut inputs = Items::new(alloc);
-    put_steps(alloc, &mut inputs, steps)?;
-    put_keys(&mut inputs, front)?;
-    let signers = copies_of(alloc, asked.signers)?;
-    let tx = Tx {
+    let (datums, outputs) = beside(datums, with_change(alloc, outputs, all, asked.change))?;
+    let (parts, inputs) = beside((outputs, datums), step_inputs(alloc, steps, front))?;
+    let (outputs, datums) = parts;
+    tx_of(
+        alloc,
         inputs,
         outputs,
-        interval: asked.interval,
-        signers,
+        asked.interval,
+        asked.signers,
         datums,
-    };
-    Ok(fitting(alloc, tx)?)
+    )
 }
 
 // The transaction of steps that nothing hinders.
@@ -493,11 +519,10 @@ fn finish(
     steps: &[SteppedAt<'_>],
     funds: Funds<'_>,
     outcomes: Vec<Outcome<Cont>>,
-) -> Result<Tx, BuildFault>
+) -> Result<Tx, Memory>
     requires { AreFinished asked.now steps.now funds outcomes.items }
     ensures ok { IfOk result (λ tx. tx ≡ layout_threads asked.now steps.now) }
     ensures fits { IfOk result TxFits }
-    ensures err { IfErr result (λ fault. fault ≡ BuildFault.Memory) }
 {
     money_is_kept();
     transactions_end_quiet();
@@ -507,7 +532,7 @@ fn finish(
     see_room(&funds.all);
     match blocks_of(alloc, steps, outcomes) {
         Ok((outputs, datums)) => lay_out_steps(alloc, asked, steps, funds, outputs, datums),
-        Err(fault) => Err(fault),
+        Err(refused) => Err(refused),
     }
 }
 
@@ -524,7 +549,7 @@ fn build_on(
 {
     match outcomes_of(alloc, asked, steps) {
         Ok(outcomes) => match steps_funds(alloc, asked, steps) {
-            Ok(funds) => finish(alloc, asked, steps, funds, outcomes),
+            Ok(funds) => Ok(finish(alloc, asked, steps, funds, outcomes)?),
             Err(fault) => Err(fault),
         },
         Err(fault) => Err(fault),
