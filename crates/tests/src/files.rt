@@ -1,8 +1,12 @@
 //! Texts that come and go in short pieces, and calls that fail.
 use marlowe_io::{
-    LONGEST, LoadFault, ReaderSource, ShortSink, ShortSource, Unwritable, WriterSink, emit, load,
+    LONGEST, LoadFault, ReaderSource, ShortSink, ShortSource, Unwritable, WriterSink, emit,
+    emit_output, load,
 };
 use std::alloc::Global;
+use std::fmt::Display;
+use std::io;
+use std::sync::atomic::{AtomicUsize, Ordering};
 
 const TEXT: &[u8] = b"when money moves";
 
@@ -66,5 +70,45 @@ fn a_write_that_fails_leaves_a_beginning(rt: HostRuntime) {
         let mut out = Vec::new(rt.alloc());
         assert_eq!(rt; emitted(&mut out, 3, calls), Err(Unwritable));
         assert_eq!(rt; out.as_slice(), &TEXT[..3 * calls]);
+    }
+}
+
+// Standard output that takes so many bytes at a write, and counts those that it took.
+#[derive(Drop)]
+struct Counted {
+    taken: AtomicUsize,
+    most: usize,
+}
+
+impl Print for Counted {
+    fn print<D: Display + Drop>(&self, _value: D) -> io::Result<()> {
+        Err(io::Error::from(io::ErrorKind::Unsupported))
+    }
+
+    fn println<D: Display + Drop>(&self, _value: D) -> io::Result<()> {
+        Err(io::Error::from(io::ErrorKind::Unsupported))
+    }
+
+    fn write_all(&self, _bytes: &[u8]) -> io::Result<()> {
+        Err(io::Error::from(io::ErrorKind::Unsupported))
+    }
+
+    fn write_some(&self, bytes: &[u8]) -> io::Result<usize> {
+        let count = bytes.len().min(self.most);
+        self.taken.fetch_add(count, Ordering::SeqCst);
+        Ok(count)
+    }
+}
+
+#[test]
+fn a_long_text_is_printed_whole(rt: HostRuntime) {
+    let text = vec![in rt.alloc(); 7u8; 1_000_000].expect(&rt, "bytes");
+    for most in [1_000, 65_536, 1_000_000] {
+        let output = Counted {
+            taken: AtomicUsize::new(0),
+            most,
+        };
+        assert_eq!(rt; emit_output(&output, text.as_slice()), Ok(()));
+        assert_eq!(rt; output.taken.load(Ordering::SeqCst), 1_000_000);
     }
 }
