@@ -38,6 +38,19 @@ for wanted in "escrow_1_the_buyer_deposits 0" "partial_pay 3" "not_json 1"; do
   if [ "$status" = "${wanted#* }" ]; then echo "$name, analysed: as written"
   else echo "$name, analysed: status $status"; failed=1; fi
 done
+# a long answer comes whole: a table of 9,004 lines, which are more than 65,536 bytes
+long=$(mktemp)
+awk 'BEGIN {
+  printf "{\"when\":["
+  for (i = 1; i <= 3000; i++) printf "%s{\"case\":{\"notify_if\":{\"value\":%d,\"gt\":0}},\"then\":\"close\"}", (i > 1 ? "," : ""), i
+  printf "],\"timeout\":100,\"timeout_continuation\":\"close\"}"
+}' > "$long"
+out=$("$program" table "$long" 2>&1)
+status=$?
+lines=$(echo "$out" | wc -l)
+if [ "$lines" = 9004 ] && [ "$(echo "$out" | tail -1)" = "root k1" ] && [ "$status" = 0 ]; then echo "a long table: as written"
+else echo "a long table: status $status, $lines lines"; failed=1; fi
+rm "$long"
 # no file, and a word that is no text in UTF-8
 out=$("$program" run no_such_file no_such_file no_such_file 2>&1)
 status=$?
