@@ -83,8 +83,8 @@
 //! These need no chain either; where INPUTS is left out, it is 1:
 //!
 //! - `workers WORKERS JOBS INPUTS` has so many payments of so many inputs each checked by so many workers, and prints how many are
-//!   accepted, and whether their checks stand in the order of the payments. `time` prints how many microseconds that took, for
-//!   measurements alone (`bench/checks_at_once.py`);
+//!   accepted, and whether their checks stand in the order of the payments; or, whether memory is refused or not, that the gate wasn't
+//!   left as often as it was entered. `time` prints how many microseconds that took, for measurements alone (`bench/checks_at_once.py`);
 //! - `seats SEATS PAYMENTS INPUTS` has so many seats of a hub, each in a thread of its own, submit so many payments each, and prints how
 //!   many entries the closed chain has, and how many of them are accepted. `time_calls` prints how many microseconds the calls took, and
 //!   `time_admits 1 PAYMENTS INPUTS` the same for one seat that admits payments that were checked before (`bench/calls_of_seats.py`);

@@ -5,14 +5,46 @@ use crate::seats::{Played, admit, call, pay};
 use collections::Memory;
 use eutxo::{Checked, Validator};
 use eutxo_types::Verdict;
-use parallel_check::{NoGate, check_all};
+use parallel_check::{Gate, NoGate, check_all};
 use rows_text::{RowFault, called};
 use std::alloc::Global;
 use std::io;
 use std::rt::Clock;
 use std::sync::Wait;
+use std::sync::atomic::{AtomicU64, Ordering};
 use std::thread::Threads;
 use std::time::Instant;
+
+/// Counts how often it is entered and left.
+#[derive(Drop)]
+struct Counter {
+    entered: AtomicU64,
+    left: AtomicU64,
+}
+
+impl Counter {
+    fn new() -> Counter {
+        Counter {
+            entered: AtomicU64::new(0),
+            left: AtomicU64::new(0),
+        }
+    }
+
+    // Whether it was left as often as it was entered.
+    fn is_left(&self) -> bool {
+        self.left.load(Ordering::SeqCst) == self.entered.load(Ordering::SeqCst)
+    }
+}
+
+impl Gate for Counter {
+    fn enter(&self, _job: usize) {
+        self.entered.fetch_add(1, Ordering::SeqCst);
+    }
+
+    fn leave(&self, _job: usize) {
+        self.left.fetch_add(1, Ordering::SeqCst);
+    }
+}
 
 /// The answer to a row, from its word and what follows.
 pub fn answer<R: Clock + AllocGlobal + Threads + Wait + Sync>(
@@ -45,8 +77,12 @@ fn check_line<R: AllocGlobal + Threads + Wait + Sync>(
     row: Row,
 ) -> Result<String, RowFault> {
     let jobs = payments(rt.alloc(), row)?;
-    let checks = called(check_all(rt, rt.alloc(), &NoGate, row.workers(), jobs))?;
-    Ok(line_of(rt.alloc(), row, &checks)?)
+    let gate = Counter::new();
+    let checks = called(check_all(rt, rt.alloc(), &gate, row.workers(), jobs));
+    if !gate.is_left() {
+        return Ok(String::from_str(rt.alloc(), "the gate wasn't left")?);
+    }
+    Ok(line_of(rt.alloc(), row, &checks?)?)
 }
 
 fn time_line<R: Clock + AllocGlobal + Threads + Wait + Sync>(
