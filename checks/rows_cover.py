@@ -79,6 +79,7 @@ COPIED = {
     "rows_transactions copies faults": "TxFault",
     "rows_chain faults": "BuildFault",
     "rows_chain copies": "Call Reply Ticketed",
+    "rows_chain record_copies": "StepRecord",
     "rows_chain look": "Look Ask PayoutLock Unspent ThreadOutput",
 }
 COMPARED = {
@@ -101,6 +102,7 @@ COMPARED = {
     "rows_values apart Task": "Task",
     "rows_chain texts GenesisFault": "GenesisFault",
     "rows_chain copies ": "Entry",
+    "rows_chain record_copies ": "StepRecord",
 }
 
 # What no row prints, runs or copies, and why.

@@ -9,8 +9,9 @@ use builder_laws::{
 use eutxo::found_is_enough;
 use ledger_laws::{
     accepting_is_sound, contracts_are_funded, contracts_end_threads, names_are_single,
-    outputs_are_spent_once, outputs_serve_one_contract, parties_are_authorised, publishing_is_sound, starting_is_sound,
-    steps_stand_on_threads, threads_are_runs, tokens_are_preserved,
+    outputs_are_spent_once, outputs_serve_one_contract, parties_are_authorised,
+    publishing_is_sound, starting_is_sound, steps_stand_on_threads, threads_are_runs,
+    tokens_are_preserved,
 };
 use ledger_spec::{publications_are_entries, starts_are_told};
 use roles::{Published, sums_are_of_each_token};

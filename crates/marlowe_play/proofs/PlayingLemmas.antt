@@ -144,8 +144,7 @@ lines_begun c objects [] [] begin h = tt
 lines_begun c objects [] (l ∷ ls) begin h = absurd h
 lines_begun c objects (b ∷ bs) [] begin h = absurd h
 lines_begun c objects (b ∷ bs) (l ∷ ls) begin h =
-    let one = begin 0 b (first_place (length bs)) in
-    (
+    let one = begin 0 b (first_place (length bs)) in (
       subst (λ (p : Published). IsThreadLine c b.thread.name p (start_output b) l) (same_object objects b.thread.contract h.0.0 b.object h.0.1 one.object) h.0.2,
       lines_begun c objects bs ls (λ k d here. begin (suc k) d (next_place k (length bs) here)) h.1,
     )

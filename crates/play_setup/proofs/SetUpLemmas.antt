@@ -94,8 +94,8 @@ same_id a b e = cc
 pub accepted_is : (session : Opened) (tx : Tx) (reply : Reply) (id : List ℕ) → IsReply session (on.Submit tx) reply → reply ≡ replies.Accepted id → (id ≡ id_of tx) × (reply ≡ replies.Accepted (id_of tx))
 accepted_is session tx reply id is told =
     elim (submit_told session tx reply is) [
-      inl done ↦ (same_id id (id_of tx) (sym told ∙ done), done)
-    | inr not ↦ let clash : replies.Accepted id ≡ replies.Refused not.0 = sym told ∙ not.1 in absurd (cc)
+      | inl done ↦ (same_id id (id_of tx) (sym told ∙ done), done)
+      | inr not ↦ let clash : replies.Accepted id ≡ replies.Refused not.0 = sym told ∙ not.1 in absurd (cc)
     ]
 
 -- and no other reply is told
@@ -140,8 +140,7 @@ pub set_up_is : (s : Scenario) (objects : List Published) (outputs : List Output
 unfolding went_on_more
 set_up_is s objects outputs a b c none are published w =
     let all = went_on_more a b c (map publishes s.contracts) (flat_map starts w.begun) published w.seat in
-    let answers : c.answers ≡ all.more = ap (λ (x : SeatRecord). x.answers) all.list ∙ ap (λ (l : List Answer). l ++ all.more) none in
-    (
+    let answers : c.answers ≡ all.more = ap (λ (x : SeatRecord). x.answers) all.list ∙ ap (λ (l : List Answer). l ++ all.more) none in (
       w.begun,
       record {
         threads = w.of;

@@ -1,10 +1,10 @@
 //! The steps of a thread as they are printed.
 use crate::shown::state_word;
 use chain::StepRecord;
-use collections::{Items, Memory};
+use collections::{Items, Memory, TryClone};
 use contract::{Input, Payment, Warning};
 use contract_json::fitting_to_json;
-use rows_text::{RowFault, called, put_words};
+use rows_text::{RowFault, called, put_copy, put_same, put_words};
 use std::alloc::{AllocError, Global};
 
 /// What was recorded of a step. Dropped once: who owns it is generic in it, so that no proof walks through its drop.
@@ -21,6 +21,23 @@ pub fn steps_lines<T: Recorded>(
     let mut lines = format!(in alloc; "steps {}", steps.len())?;
     for step in steps.as_slice() {
         step.put(alloc, &mut lines)?;
+    }
+    Ok(lines)
+}
+
+/// Whether a copy of each record is the same, and whether each record is the same as the one before it.
+pub fn record_copies<T: TryClone + PartialEq + Drop>(
+    alloc: Global,
+    steps: Result<Items<T>, Memory>,
+) -> Result<String, RowFault> {
+    let steps = called(steps)?;
+    let mut lines = String::from_str(alloc, "records")?;
+    for step in steps.as_slice() {
+        put_copy::<T>(&mut lines, step)?;
+    }
+    lines.push_str("\nrecords beside")?;
+    for (before, step) in steps.as_slice().iter().zip(steps.as_slice().iter().skip(1)) {
+        put_same(&mut lines, *before == *step)?;
     }
     Ok(lines)
 }

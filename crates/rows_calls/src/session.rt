@@ -3,7 +3,7 @@ use crate::asked::{history_lines, resolved_lines};
 use crate::copies::history_copies;
 use crate::desk::{Desk, empty_desk};
 use crate::front::{front_lines, keep_checks};
-use crate::recorded::steps_lines;
+use crate::recorded::{record_copies, steps_lines};
 use crate::replies::reply_lines;
 use crate::started::started;
 use crate::taking::{Calls, taken};
@@ -120,6 +120,10 @@ fn asked(
         "steps_of" => {
             let start = reference_of(&desk.known.sent, rest)?;
             steps_lines(alloc, chain.steps_of(alloc, &start))
+        }
+        "record_copies" => {
+            let start = reference_of(&desk.known.sent, rest)?;
+            record_copies(alloc, chain.steps_of(alloc, &start))
         }
         "resolve" => resolved_lines(alloc, &desk.known, &desk.tx, chain.resolve(alloc, &desk.tx)),
         _ => judged(alloc, chain, desk, word, rest),

@@ -58,6 +58,8 @@
 //! - `history` prints a line for each entry: its place, `SEAT.NUMBER`, the call, and the reply without what a look shows;
 //! - `copies COUNT` prints for each of the last so many entries whether a copy of its call is the `same`, and of its reply; and for
 //!   each of these but the first whether its call, its reply and the entry are the `same` as those before or an `other`;
+//! - `record_copies REFERENCE` prints for each step of the thread that starts there whether a copy of its record is the `same`, and for
+//!   each but the first whether its record is the `same` as the one before or an `other`;
 //! - `check_copies` prints whether a copy of each check at hand is the `same`, with the copy's verdict.
 //!
 //! `texts ENUM` prints the text of each fault of that name, a line for each, in their order, and `faults` whether a copy of each

@@ -28,8 +28,7 @@ loop-place-preserved g c =
     let plan = c.args.means.now.plan.now in
     let a = c.args.seat.now in
     let b = c.loop-place.seat in
-    let d = c.perform.new.seat in
-    (
+    let d = c.perform.new.seat in (
       noted_more plan a b d c.args.receipts.now.items c.loop-place.receipts.items c.perform.new.receipts.items c.loop-place.invariant.0 c.in_ok-told.ensures.ok,
       subst (λ (ls : List LeftOut). All (IsLeftOut plan (added a d)) ls) (sym c.in_ok-keep.ensures) (all_left plan a b d c.loop-place.left.items c.in_ok-told.told c.loop-place.invariant.0.went c.in_ok-told.ensures.ok.went c.loop-place.invariant.1 c.in_ok-told.ensures.left),
     )
