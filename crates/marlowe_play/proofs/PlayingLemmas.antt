@@ -15,7 +15,7 @@ use Rattle.eutxo_types.specs.declared.output_ref.OutputRef.{OutputRef}
 use Rattle.ledger_spec.specs.Legal.{IsLegal}
 use Rattle.ledger_spec.specs.Replay.{Course}
 use Rattle.hub.specs.declared.answer.Answer.{Answer}
-use Rattle.hub.specs.Seats.{SeatRecord, AreHeard, AreNumbered, answered, seat_record}
+use Rattle.hub.specs.Seats.{SeatRecord, AreHeard, AreNumbered, answered}
 use Rattle.parties.specs.Plays.{PlayedPlan, AreOfPlan, added}
 use Rattle.play_lines.specs.PlayLines.{ThreadLine, played_lines}
 use Rattle.play_setup.specs.SetUp.{Begun, Begins, IsSetUp, object_of, course, currencies, key_output, plan_on, start_output}

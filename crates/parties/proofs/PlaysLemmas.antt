@@ -26,7 +26,7 @@ use Rattle.ledger_spec.specs.Replay.{world}
 use Rattle.ledger_spec.specs.Views.{look}
 use Rattle.parties.specs.Plays.{PlayedIntent, PlayedPlan, step_ask, claim_ask, step_made, steps_made, claim_made, offered_by, parts_of}
 use Rattle.parties.specs.Plays.{AreLooks, WereShown, LooksOrHandsIn, IsOf, IsOfPlan, AreOf, AreOfPlan, IsWithin, added, receipt_of}
-use Rattle.parties.specs.Plays.{asks_of, by_first, made_of, IsLeftOut}
+use Rattle.parties.specs.Plays.{asks_of, by_first, IsLeftOut}
 use Rattle.parties.specs.declared.left_out.LeftOut.{LeftOut}
 use Rattle.parties.specs.PlaysSupport.{LeavesOut, replies_of, AreShown, ShowsALook, HandsIn, HasRoom, WasNoted, AtMostNoted, Went, WentNoted, WasShown}
 

@@ -25,7 +25,6 @@ use Rattle.ledger.specs.declared.call.Reply.TheVariants as replies
 use Rattle.ledger.specs.declared.look.Look.{Look}
 use Rattle.ledger_spec.specs.Calls.{same_publication, publish_reply, publish_reply_beside, submit_reply, fault_on}
 use Rattle.ledger_spec.specs.Replay.{World, world, if_compiled, published_at}
-use Rattle.ledger_spec.specs.Views.{look}
 use Rattle.plans.specs.declared.scenario.NamedContract.{NamedContract}
 use Rattle.plans.specs.declared.scenario.NamedThread.{NamedThread}
 use Rattle.plans.specs.declared.scenario.Scenario.{Scenario}

@@ -1,5 +1,5 @@
 //! The starts of a setup's threads.
-ghost use Rattle.std.specs.Prelude.{◌≡◌, ◌<◌, [], ◌∷◌, length, Ok, IfOk, MatchResult};
+ghost use Rattle.std.specs.Prelude.{◌≡◌, ◌<◌, [], ◌∷◌, length, Ok, IfOk};
 ghost use Rattle.std.specs.List.{All};
 ghost use Rattle.eutxo_types.specs.declared.output_ref.OutputRef.TheVariants.{Made};
 ghost use Rattle.eutxo_types.specs.Ids.{id_of};

@@ -1,4 +1,4 @@
-use Rattle.std.proofs.Common.{◌≡◌, ◌∙◌, List, map, ap}
+use Rattle.std.proofs.Common.{◌∙◌, List, map, ap}
 use Rattle.eutxo_types.specs.declared.output_ref.OutputRef.{OutputRef}
 use Rattle.plans.specs.declared.scenario.Scenario.{Scenario}
 use Rattle.play_setup.specs.SetUp.{currencies, plan_on}
