@@ -9,7 +9,7 @@ use Rattle.eutxo.specs.Asked.{Judges}
 use Rattle.eutxo.specs.Blocks.{Block, size, blocks, blocks_on}
 use Rattle.eutxo.specs.Found.{with_outputs}
 use Rattle.eutxo.specs.Rules.{Step, steps_of}
-use Rattle.ledger_laws.specs.Past.{Past, created_at}
+use Rattle.ledger_laws.specs.Past.{created_at}
 use Rattle.ledger_laws.specs.Laws.{OutputsServeOneContract}
 use Rattle.ledger_laws.proofs.FindingLemmas.{answer}
 use Rattle.ledger_laws.proofs.PlainLaws.{same_some}

@@ -1,5 +1,5 @@
 -- The datum that a transaction brings for a contract output that it spends is the one at which the rules read its step.
-use Rattle.std.proofs.Common.{◌≡◌, ℕ, zero, suc, Bool, true, false, ◌||◌, List, [], ◌∷◌, ◌++◌, refl, sym, ◌∙◌, ap, Option, Some, None, drop}
+use Rattle.std.proofs.Common.{◌≡◌, ℕ, suc, Bool, true, false, ◌||◌, List, [], ◌∷◌, ◌++◌, refl, sym, ◌∙◌, ap, Option, Some, None, drop}
 use Rattle.std.specs.Prelude.{map, if◌then◌else◌}
 use Rattle.std.specs.List.{slice_get, list_any}
 use Rattle.std.specs.Map.{lookup}
@@ -10,14 +10,14 @@ use Rattle.eutxo_types.specs.declared.output_ref.OutputRef.{OutputRef}
 use Rattle.eutxo_types.specs.declared.spend.Spend.{Spend}
 use Rattle.eutxo_types.specs.declared.tx.Tx.{Tx}
 use Rattle.eutxo_types.specs.Digests.{datum_hash}
-use Rattle.eutxo_types.specs.Parts.{given_to, inputs_of, is_contract, ContractLock, contract_in, same_ref, is_step}
+use Rattle.eutxo_types.specs.Parts.{given_to, inputs_of, ContractLock, contract_in, same_ref, is_step}
 use Rattle.eutxo.specs.Laws.{FoundIsEnough}
 use Rattle.eutxo.specs.Asked.{Judges}
 use Rattle.eutxo.specs.Rules.{opens, digests_in, Step, or_step, steps_of}
 use Rattle.ledger_laws.specs.Past.{Past, before, created, is_input_of, unspent_at}
 use Rattle.ledger_laws.specs.Sound.{IsSound}
 use Rattle.ledger_laws.specs.Threads.{brought_to}
-use Rattle.ledger_laws.proofs.PlainLaws.{EachFalse, not_both, not_false, same_some}
+use Rattle.ledger_laws.proofs.PlainLaws.{EachFalse, not_false, same_some}
 use Rattle.ledger_laws.proofs.PartLaws.{contract_of_lock, is_contract_so}
 use Rattle.ledger_laws.proofs.ReferenceLaws.{same_ref_so}
 use Rattle.ledger_laws.proofs.DatumLaws.{told}

@@ -27,7 +27,7 @@ use Rattle.ledger_laws.specs.Sound.{IsSound}
 use Rattle.ledger_laws.specs.Threads.{Link, Effect, Member, Gives, Run, contract_after, state_after, blocks_of, next_in, next_of, spine_by, ends_by, thread, brought_to, brought_by, LaidOut, Carries, IsMade, IsStart}
 use Rattle.table.specs.Flat.{is_close}
 use Rattle.roles.specs.Steps.{is_fresh, walk_of, marlowe}
-use Rattle.ledger_laws.specs.Laws.{AreTables, DigestsTell, DigestsTellWhatWasMade, EachIsARun, ThreadsAreRuns, EndsWithItsRun, ThreadsEndWithRuns}
+use Rattle.ledger_laws.specs.Laws.{AreTables, DigestsTellWhatWasMade, EachIsARun, ThreadsAreRuns, EndsWithItsRun, ThreadsEndWithRuns}
 use Rattle.ledger_laws.proofs.PlainLaws.{same_some, head_at}
 use Rattle.ledger_laws.proofs.PartLaws.{script_so, under_so, brought_so}
 use Rattle.ledger_laws.proofs.SpineLaws.{member_stood, next_there}

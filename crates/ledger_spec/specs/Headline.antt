@@ -88,7 +88,7 @@ pub record IsSoundLedger (es : List Entry) (named : List ℕ → Option Publishe
   pub stepped : ContractsAreStepped past
   -- and a step spends a contract output
   pub of_contracts : StepsAreOfContracts past
-  -- one output never serves two contracts, neither in the one nor in a payment
+  -- one output never serves two contracts, be it the one in which a contract goes on or a payment
   pub apart : BlocksAreApart marlowe named past
   -- each party that a step's inputs need is an address that signed, or a role whose token a key input's output holds
   pub authorised : EachIsAuthorised named past
