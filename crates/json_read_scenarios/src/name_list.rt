@@ -98,7 +98,7 @@ pub(crate) fn place_from_json<J: JsonValue, X: Named>(
     list: &NameList<X>,
     json: &J,
 ) -> Result<usize, JsonFault>
-    ensures { Aside JsonFault.Memory result (known X.name list.now (J.json json.now)) }
+    ensures { result ≡ known X.name list.now (J.json json.now) }
 {
     let name = json.text().ok_or(JsonFault::NoForm)?;
     list.place(name).ok_or(JsonFault::NoForm)
