@@ -101,16 +101,8 @@ impl Candidates for Numbers<'_> {
     }
 
     fn at(&self, index: usize) -> Option<i128> {
-        let number = if index < self.ends() {
-            self.end(index)?
-        } else {
-            self.inner(index.saturating_sub(self.ends()))?
-        };
-        if is_written(number) {
-            Some(number)
-        } else {
-            None
-        }
+        let number = self.number(index)?;
+        some_if(is_written(number), number)
     }
 
     fn cost(&self, index: usize) -> u64 {
@@ -128,52 +120,83 @@ impl Numbers<'_> {
         self.bounds.len().saturating_mul(2)
     }
 
+    fn number(&self, index: usize) -> Option<i128> {
+        let ends = self.ends();
+        if index < ends {
+            self.end(index)
+        } else {
+            self.inner(index.saturating_sub(ends))
+        }
+    }
+
     // The end of a bound: first where it begins, then where it ends, unless that is the same number.
     fn end(&self, index: usize) -> Option<i128> {
         let bound = self.bounds.get(index / 2)?;
-        if index % 2 == 0 {
-            if bound.from <= bound.to {
-                Some(bound.from)
-            } else {
-                None
-            }
-        } else if bound.from < bound.to {
-            Some(bound.to)
-        } else {
-            None
-        }
+        end_of(bound.from, bound.to, index % 2 == 0)
     }
 
     // A number of the way or about an account, if it lies within bounds and is the end of none.
     fn inner(&self, index: usize) -> Option<i128> {
-        let number = match self.numbers.get(index) {
-            Some(number) => *number,
-            None => self.about_account(index.saturating_sub(self.numbers.len()))?,
-        };
-        let mut lies = false;
-        for bound in self.bounds {
-            if bound.from <= number && number <= bound.to {
-                if bound.from == number || bound.to == number {
-                    return None;
-                }
-                lies = true;
-            }
+        let number = self.other(index)?;
+        some_if(lies_inside(self.bounds, number), number)
+    }
+
+    // A number of the way, or about an account.
+    fn other(&self, index: usize) -> Option<i128> {
+        match self.numbers.get(index) {
+            Some(number) => Some(*number),
+            None => self.about_account(index.saturating_sub(self.numbers.len())),
         }
-        if lies { Some(number) } else { None }
     }
 
     // What an account holds, one less or one more, unless it is a number of the way.
     fn about_account(&self, index: usize) -> Option<i128> {
-        let (_, amount) = self.accounts.get(index / 3)?;
-        let number = match index % 3 {
-            0 => *amount,
-            1 => amount.saturating_sub(1),
-            _ => amount.saturating_add(1),
-        };
-        if self.numbers.contains(&number) {
-            None
-        } else {
-            Some(number)
+        let entry = self.accounts.get(index / 3)?;
+        let number = about(entry.1, index % 3);
+        some_if(!self.numbers.contains(&number), number)
+    }
+}
+
+fn some_if(holds: bool, number: i128) -> Option<i128> {
+    if holds { Some(number) } else { None }
+}
+
+// The beginning of a bound, unless it has no number, or its end, unless it has one alone.
+fn end_of(from: i128, to: i128, first: bool) -> Option<i128> {
+    if first {
+        some_if(from <= to, from)
+    } else {
+        some_if(from < to, to)
+    }
+}
+
+// An amount, one less or one more.
+fn about(amount: i128, which: usize) -> i128 {
+    match which {
+        0 => amount,
+        1 => amount.saturating_sub(1),
+        _ => amount.saturating_add(1),
+    }
+}
+
+// Whether a number lies within bounds and is the end of none.
+fn lies_inside(bounds: &[Bound], number: i128) -> bool {
+    let mut lies = false;
+    for bound in bounds {
+        if contains(bound, number) {
+            if is_end(bound, number) {
+                return false;
+            }
+            lies = true;
         }
     }
+    lies
+}
+
+fn contains(bound: &Bound, number: i128) -> bool {
+    bound.from <= number && number <= bound.to
+}
+
+fn is_end(bound: &Bound, number: i128) -> bool {
+    bound.from == number || bound.to == number
 }

@@ -1,14 +1,16 @@
 //! Runs that are played again.
 ghost use Rattle.std.specs.Prelude.{◌≡◌, true, IfOk};
 ghost use Rattle.contract.specs.Tree.{contract_tree};
-ghost use Rattle.semantics.specs.Walk.{standing};
+ghost use Rattle.collections.specs.Answers.{AsideBy};
+ghost use Rattle.semantics.specs.Walk.{standing, answer_of};
+ghost use Rattle.analysis_spec.specs.declared.kind.AlarmKind.TheVariants.{Leaves128};
 ghost use Rattle.analysis_spec.specs.Runs.{walk_from};
-ghost use Rattle.analysis_spec.specs.CounterRuns.{EndsIn, Tells};
+ghost use Rattle.analysis_spec.specs.CounterRuns.{EndsIn, HasKind, Tells};
 
 use crate::kinds::has_kind;
 use analysis_spec::AlarmKind;
 use collections::Memory;
-use contract::{Contract, SemFault, State, Transaction};
+use contract::{Contract, Outcome, SemFault, State, Transaction, Warning};
 use semantics::{Plain, Steps};
 use std::alloc::{AllocError, Global};
 
@@ -28,24 +30,16 @@ pub fn ends_in(
     match run {
         [] => Ok(false),
         [last] => tells(alloc, contract, state, last, kind),
-        [first, rest @ ..] => {
-            let computed = Plain::new().compute(
-                alloc,
-                &contract,
-                state,
-                first.interval,
-                first.inputs.as_slice(),
-            );
-            match computed {
-                Ok(outcome) => ends_in(alloc, outcome.place, &outcome.state, rest, kind),
-                Err(SemFault::Memory) => Err(AllocError),
-                Err(_) => Ok(false),
-            }
-        }
+        [first, rest @ ..] => match played(alloc, contract, state, first) {
+            Ok(outcome) => ends_in(alloc, outcome.place, &outcome.state, rest, kind),
+            Err(SemFault::Memory) => Err(AllocError),
+            Err(_) => Ok(false),
+        },
     }
 }
 
 // Whether a transaction tells of an alarm.
+#[tactic(auto, using(crate::proofs::CounterRunLemmas::warned))]
 fn tells(
     alloc: Global,
     contract: &Contract,
@@ -55,19 +49,36 @@ fn tells(
 ) -> Result<bool, Memory>
     ensures { IfOk result (λ yes. yes ≡ true → Tells kind (walk_from (standing state.now (contract_tree contract.now)) last.now)) }
 {
-    let computed = Plain::new().compute(
-        alloc,
-        &contract,
-        state,
-        last.interval,
-        last.inputs.as_slice(),
-    );
-    match computed {
-        Ok(outcome) => Ok(
-            kind != AlarmKind::Leaves128 && has_kind(outcome.warnings.as_slice(), kind),
-        ),
+    match played(alloc, contract, state, last) {
+        Ok(outcome) => Ok(warns(outcome.warnings.as_slice(), kind)),
         Err(SemFault::Memory) => Err(AllocError),
         Err(SemFault::Leaves128) => Ok(kind == AlarmKind::Leaves128),
         Err(_) => Ok(false),
     }
+}
+
+// Whether warnings tell of an alarm of a kind.
+fn warns(warnings: &[Warning], kind: AlarmKind) -> bool
+    ensures { result ≡ true → (kind ≡ Leaves128 → ⊥) × HasKind kind warnings.now }
+{
+    kind != AlarmKind::Leaves128 && has_kind(warnings, kind)
+}
+
+// The outcome of a transaction.
+fn played<'c>(
+    alloc: Global,
+    contract: &'c Contract,
+    state: &State,
+    transaction: &Transaction,
+) -> Result<Outcome<&'c Contract>, SemFault>
+    ensures answer { AsideBy SemFault.Memory (λ outcome. standing outcome.state (contract_tree outcome.place.now)) result (answer_of (walk_from (standing state.now (contract_tree contract.now)) transaction.now)) }
+    ensures warnings { IfOk result (λ outcome. outcome.warnings ≡ (walk_from (standing state.now (contract_tree contract.now)) transaction.now).warnings) }
+{
+    Plain::new().compute(
+        alloc,
+        &contract,
+        state,
+        transaction.interval,
+        transaction.inputs.as_slice(),
+    )
 }

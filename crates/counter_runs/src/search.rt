@@ -36,17 +36,33 @@ pub fn run_to(
         if others == 1 {
             way.add_numbers(alloc, work)?;
         }
-        for second in [false, true] {
-            let found = run_with(alloc, contract, state, alarm, &way, others, second, work)?;
-            if found.is_some() {
-                return Ok(found);
-            }
+        if let Some(run) = run_by(alloc, contract, state, alarm, &way, others, work)? {
+            return Ok(Some(run));
         }
     }
     Ok(None)
 }
 
-// The first run to the alarm that takes another candidate than the first at no more than so many points.
+// The first run to the alarm that takes another candidate than the first at no more than so many points: first with the
+// first number of a choice as its first candidate, and then with the second.
+fn run_by(
+    alloc: Global,
+    contract: &Contract,
+    state: &State,
+    alarm: &Alarm,
+    way: &Way,
+    others: usize,
+    work: &mut u64,
+) -> Result<Option<Items<Transaction>>, Memory>
+    ensures { IfOk result (λ found. IfSome found (EndsIn alarm.now.kind (standing state.now (contract_tree contract.now)))) }
+{
+    match run_with(alloc, contract, state, alarm, way, others, false, work)? {
+        Some(run) => Ok(Some(run)),
+        None => run_with(alloc, contract, state, alarm, way, others, true, work),
+    }
+}
+
+// .. with one of the two.
 fn run_with(
     alloc: Global,
     contract: &Contract,
@@ -68,17 +84,40 @@ fn run_with(
         let Try { run, points } = try_run(
             alloc, contract, place, way, alarm.kind, state, turns, work,
         )?;
-        if let Some(run) = run {
-            let found = before.saturating_sub(*work);
-            if spend(work, way.replay(run.len(), found)) {
-                if ends_in(alloc, contract, state, run.as_slice(), alarm.kind)? {
-                    return Ok(Some(run));
-                }
-            }
+        let found = before.saturating_sub(*work);
+        let run = replayed(alloc, contract, state, alarm, way, run, found, work)?;
+        if run.is_some() {
+            return Ok(run);
         }
         if *work == 0 || !next_turns(&mut decided, points.as_slice(), others)? {
             return Ok(None);
         }
     }
     Ok(None)
+}
+
+// A run, if it ends in the alarm as it is played again; to find it took so much work.
+fn replayed(
+    alloc: Global,
+    contract: &Contract,
+    state: &State,
+    alarm: &Alarm,
+    way: &Way,
+    run: Option<Items<Transaction>>,
+    found: u64,
+    work: &mut u64,
+) -> Result<Option<Items<Transaction>>, Memory>
+    ensures { IfOk result (λ found. IfSome found (EndsIn alarm.now.kind (standing state.now (contract_tree contract.now)))) }
+{
+    let Some(run) = run else {
+        return Ok(None);
+    };
+    if !spend(work, way.replay(run.len(), found)) {
+        return Ok(None);
+    }
+    if ends_in(alloc, contract, state, run.as_slice(), alarm.kind)? {
+        Ok(Some(run))
+    } else {
+        Ok(None)
+    }
 }

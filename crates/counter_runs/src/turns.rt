@@ -15,12 +15,22 @@ pub(crate) struct Point {
 
 /// The points where a run had a choice so far, and what it takes at those that were decided before. Beyond these it
 /// takes the first.
-#[derive(Drop)]
 pub(crate) struct Turns<'a> {
     decided: &'a [usize],
     points: Vec<Point>,
     // Whether the second number of a choice counts as its first.
     prefers_second: bool,
+}
+
+// Dropped once.
+impl<'a> Drop for Turns<'a> {
+    fn drop(self) {
+        let Turns {
+            decided: _,
+            points: _,
+            prefers_second: _,
+        } = self;
+    }
 }
 
 impl<'a> Turns<'a> {
@@ -64,40 +74,42 @@ impl<'a> Turns<'a> {
         first: Option<usize>,
         left: &mut u64,
     ) -> Result<Option<C::Candidate>, Memory> {
-        let Some(first) = first else {
-            self.points.push(Point { taken: 0, count: 0 })?;
-            return Ok(None);
+        let count = match first {
+            Some(_) => candidates.count(),
+            None => 0,
         };
-        let count = candidates.count();
         let decided = self.decided.get(self.points.len()).copied().unwrap_or(0);
-        if decided == 0 {
-            self.points.push(Point { taken: 0, count })?;
-            return Ok(candidates.at(first));
-        }
-        match other_from(candidates, decided - 1, first, left) {
-            Some(index) => {
-                let taken = index.saturating_add(1);
-                self.points.push(Point { taken, count })?;
-                Ok(candidates.at(index))
-            }
-            None => {
-                self.points.push(Point {
-                    taken: count,
-                    count,
-                })?;
-                Ok(None)
-            }
-        }
+        let (taken, index) = taken_of(candidates, decided, first, count, left);
+        self.points.push(Point { taken, count })?;
+        Ok(match index {
+            Some(index) => candidates.at(index),
+            None => None,
+        })
     }
 
-    /// The points that there were.
-    pub(crate) fn into_points(self) -> Vec<Point> {
-        let Turns {
-            decided: _,
-            points,
-            prefers_second: _,
-        } = self;
-        points
+    /// The points that there were, which are no longer kept.
+    pub(crate) fn take_points(&mut self, alloc: Global) -> Vec<Point> {
+        std::mem::replace(&mut self.points, Vec::new(alloc))
+    }
+}
+
+// What a point notes of the candidate that is taken, and its index, if one is left.
+fn taken_of<C: Candidates>(
+    candidates: &C,
+    decided: usize,
+    first: Option<usize>,
+    count: usize,
+    left: &mut u64,
+) -> (usize, Option<usize>) {
+    let Some(first) = first else {
+        return (0, None);
+    };
+    if decided == 0 {
+        return (0, Some(first));
+    }
+    match other_from(candidates, decided - 1, first, left) {
+        Some(index) => (index.saturating_add(1), Some(index)),
+        None => (count, None),
     }
 }
 
@@ -136,7 +148,7 @@ pub(crate) fn next_turns(
     points: &[Point],
     most: usize,
 ) -> Result<bool, Memory> {
-    let mut others = points.iter().filter(|point| point.taken > 0).count();
+    let mut others = others_of(points);
     for place in (0..points.len()).rev() {
         let Point { taken, count } = points[place];
         if taken > 0 {
@@ -152,4 +164,15 @@ pub(crate) fn next_turns(
         }
     }
     Ok(false)
+}
+
+// At how many points another candidate than the first was taken.
+fn others_of(points: &[Point]) -> usize {
+    let mut others: usize = 0;
+    for point in points {
+        if point.taken > 0 {
+            others = others.saturating_add(1);
+        }
+    }
+    others
 }

@@ -51,40 +51,32 @@ pub(crate) fn try_run(
         let points = Vec::new(alloc);
         return Ok(Try { run: None, points });
     }
-    let mut walk = Walk {
+    let mut walk = begun(alloc, state, turns, *work)?;
+    let reached = walk.reaches(contract, place, way, kind)?;
+    *work = walk.left;
+    walk.tried(reached)
+}
+
+// A run that is to begin in a state.
+fn begun<'a>(
+    alloc: Global,
+    state: &State,
+    turns: Turns<'a>,
+    left: u64,
+) -> Result<Walk<'a>, Memory> {
+    let state = state.try_clone()?;
+    Ok(Walk {
         alloc,
-        state: state.try_clone()?,
+        state,
         open: None,
         inputs: Vec::new(alloc),
         done: Vec::new(alloc),
         turns,
-        left: *work,
-    };
-    let reached = walk.reaches(contract, place, way, kind)?;
-    let Walk {
-        alloc: _,
-        state: _,
-        open,
-        inputs,
-        mut done,
-        turns,
         left,
-    } = walk;
-    *work = left;
-    let points = turns.into_points();
-    if !reached {
-        return Ok(Try { run: None, points });
-    }
-    if let Some(interval) = open {
-        let inputs = Items::from_vec(inputs);
-        done.push(Transaction { interval, inputs })?;
-    }
-    let run = Some(Items::from_vec(done));
-    Ok(Try { run, points })
+    })
 }
 
 // A run on its way: the state, the interval and the inputs of the transaction that is open, and those before it.
-#[derive(Drop)]
 struct Walk<'a> {
     alloc: Global,
     state: State,
@@ -95,40 +87,59 @@ struct Walk<'a> {
     left: u64,
 }
 
-// Where a step leads.
-#[derive(Clone, Copy)]
-enum Next<'c> {
-    // To a part of the contract.
-    On(&'c Contract),
-    // The alarm has come.
-    Reached,
-    // The run doesn't go that way.
-    Lost,
-}
-
-// What comes of taking a case.
-#[derive(Clone, Copy)]
-enum Taken {
-    // The run goes on with what follows the case.
-    On,
-    // The alarm has come.
-    Reached,
-    // The run doesn't go that way.
-    Lost,
+// Dropped once.
+impl<'a> Drop for Walk<'a> {
+    fn drop(self) {
+        let Walk {
+            alloc: _,
+            state: _,
+            open: _,
+            inputs: _,
+            done: _,
+            turns: _,
+            left: _,
+        } = self;
+    }
 }
 
 // What is brought to a case.
-#[derive(Drop)]
+#[derive(Clone, Copy)]
 enum Offer {
     // Nothing.
     None,
-    // This input.
-    Input(Input),
-    // This one, at which a number leaves 128 bits.
-    Leaving(Input),
+    // An input of this number; a notification has none, and 0 stands for it.
+    Input(i128),
+    // An input at which a number leaves 128 bits.
+    Leaving,
+}
+
+// What comes of bringing it.
+#[derive(Clone, Copy)]
+enum Brought {
+    // Nothing is brought, or another case takes it.
+    Nothing,
+    // The case takes a deposit of this amount, and all numbers have 128 bits.
+    Deposited(i128),
+    // It takes another input.
+    Taken,
+    // A number leaves 128 bits.
+    Leaving,
 }
 
 impl Walk<'_> {
+    // What came of the try, once the way is walked.
+    fn tried(&mut self, reached: bool) -> Result<Try, Memory> {
+        if reached {
+            self.end()?;
+            let done = std::mem::replace(&mut self.done, Vec::new(self.alloc));
+            let run = Some(Items::from_vec(done));
+            let points = self.turns.take_points(self.alloc);
+            return Ok(Try { run, points });
+        }
+        let points = self.turns.take_points(self.alloc);
+        Ok(Try { run: None, points })
+    }
+
     // Follows the way, and tells whether the alarm comes at its end.
     fn reaches(
         &mut self,
@@ -147,86 +158,83 @@ impl Walk<'_> {
             if !spend(&mut self.left, way.weight(index)) {
                 return Ok(false);
             }
-            match self.step(way, index, at, place[index], kind)? {
-                Next::On(next) => at = next,
-                Next::Reached => return Ok(true),
-                Next::Lost => return Ok(false),
+            if let PathStep::Action(case) = place[index] {
+                return self.alarms_in_action(way, index, at, case, kind);
+            }
+            match self.step(way, index, at, place[index])? {
+                Some(next) => at = next,
+                None => return Ok(false),
             }
         }
         Ok(spend(&mut self.left, way.weight(place.len())) && self.alarms(at, kind))
     }
 
-    // Takes a step of the way, by its place.
+    // Takes a step of the way, by its place: none where the run doesn't go that way.
     fn step<'c>(
         &mut self,
         way: &Way,
         place: usize,
         at: &'c Contract,
         step: PathStep,
-        kind: AlarmKind,
-    ) -> Result<Next<'c>, Memory> {
-        match step {
-            PathStep::Case(index) => self.step_case(way, place, at, index, false, kind),
-            PathStep::Action(index) => self.step_case(way, place, at, index, true, kind),
-            PathStep::TimeoutContinuation => self.step_time(way, place, at),
-            PathStep::Then | PathStep::Else => self.step_on(at, step),
-        }
+    ) -> Result<Option<&'c Contract>, Memory> {
+        let goes = match step {
+            PathStep::Case(index) => self.takes_case(way, place, at, index)?,
+            PathStep::TimeoutContinuation => self.times_out(way, place, at)?,
+            PathStep::Then | PathStep::Else => self.passes(at, step)?,
+            PathStep::Action(_) => false,
+        };
+        Ok(part_if(goes, at, step))
     }
 
-    // Takes a case of a When, in a transaction of its own. The way ends with its action, or goes on.
-    fn step_case<'c>(
+    // Takes a case of a When, and tells whether the run goes on behind it.
+    fn takes_case(
         &mut self,
         way: &Way,
         place: usize,
-        at: &'c Contract,
+        at: &Contract,
         index: usize,
-        ends: bool,
+    ) -> Result<bool, Memory> {
+        let brought = self.bring(way, place, at, index)?;
+        Ok(matches!(brought, Brought::Taken | Brought::Deposited(_)))
+    }
+
+    // Takes a case, and tells whether an alarm of the kind comes at its action.
+    fn alarms_in_action(
+        &mut self,
+        way: &Way,
+        place: usize,
+        at: &Contract,
+        index: usize,
         kind: AlarmKind,
-    ) -> Result<Next<'c>, Memory> {
+    ) -> Result<bool, Memory> {
+        let brought = self.bring(way, place, at, index)?;
+        Ok(match brought {
+            Brought::Nothing | Brought::Taken => false,
+            Brought::Deposited(amount) => kind == AlarmKind::NonPositiveDeposit && amount <= 0,
+            Brought::Leaving => kind == AlarmKind::Leaves128,
+        })
+    }
+
+    // Brings an input to a case of a When, in a transaction of its own.
+    fn bring(
+        &mut self,
+        way: &Way,
+        place: usize,
+        at: &Contract,
+        index: usize,
+    ) -> Result<Brought, Memory> {
         let Contract::When(cases, timeout, _) = at else {
-            return Ok(Next::Lost);
+            return Ok(Brought::Nothing);
         };
         let Some(case) = cases.as_slice().get(index) else {
-            return Ok(Next::Lost);
+            return Ok(Brought::Nothing);
         };
         let now = self.state.min_time();
         let until = way.until(place);
         if !self.is_early(*timeout) || !self.begin(way, now, until)? {
-            return Ok(Next::Lost);
+            return Ok(Brought::Nothing);
         }
-        match self.take_case(way, at, case, index > 0, ends, kind)? {
-            Taken::On => Ok(Next::On(&case.then)),
-            Taken::Reached => Ok(Next::Reached),
-            Taken::Lost => Ok(Next::Lost),
-        }
-    }
-
-    // Goes on behind the timeout of a When.
-    fn step_time<'c>(
-        &mut self,
-        way: &Way,
-        place: usize,
-        at: &'c Contract,
-    ) -> Result<Next<'c>, Memory> {
-        let Contract::When(_, timeout, then) = at else {
-            return Ok(Next::Lost);
-        };
-        if self.times_out(way, place, *timeout)? {
-            Ok(Next::On(then.get()))
-        } else {
-            Ok(Next::Lost)
-        }
-    }
-
-    // Does what stands at a place, and goes on by a step from there.
-    fn step_on<'c>(&mut self, at: &'c Contract, step: PathStep) -> Result<Next<'c>, Memory> {
-        if !self.passes(at, step)? {
-            return Ok(Next::Lost);
-        }
-        match part_behind(at, step) {
-            Some(next) => Ok(Next::On(next)),
-            None => Ok(Next::Lost),
-        }
+        self.take_case(way, at, case, index > 0)
     }
 
     // Whether a When with this timeout still waits at the end of the transaction that is open, if one is.
@@ -237,17 +245,20 @@ impl Walk<'_> {
         }
     }
 
-    // Times out, in the transaction that is open or in one of its own, and tells whether it can.
-    fn times_out(&mut self, way: &Way, place: usize, timeout: i64) -> Result<bool, Memory> {
+    // Goes on behind the timeout of a When, in the transaction that is open or in one of its own, and tells whether it can.
+    fn times_out(&mut self, way: &Way, place: usize, at: &Contract) -> Result<bool, Memory> {
+        let Contract::When(_, timeout, _) = at else {
+            return Ok(false);
+        };
         if let Some(interval) = self.open {
-            if timeout <= interval.from {
+            if *timeout <= interval.from {
                 return Ok(true);
             }
-            if timeout <= interval.to {
+            if *timeout <= interval.to {
                 return Ok(false);
             }
         }
-        let low = self.state.min_time().max(timeout);
+        let low = self.state.min_time().max(*timeout);
         let until = way.until(place.saturating_add(1));
         self.begin(way, low, until)
     }
@@ -261,28 +272,21 @@ impl Walk<'_> {
         }
         let numbers = way.numbers.as_slice();
         let times = Times { low, high, numbers };
-        let Some(interval) = self.turns.interval(&times, &mut self.left)? else {
-            return Ok(false);
-        };
-        if !self.is_written() {
+        match self.turns.interval(&times, &mut self.left)? {
+            Some(interval) => self.begin_in(interval),
+            None => Ok(false),
+        }
+    }
+
+    // Begins a transaction in an interval, if JSON can write the state.
+    fn begin_in(&mut self, interval: Interval) -> Result<bool, Memory> {
+        if !is_state_written(&self.state) {
             return Ok(false);
         }
         self.end()?;
         self.open = Some(interval);
         self.state.set_min_time(interval.from);
         Ok(true)
-    }
-
-    // Whether JSON has each number of the state, so that another transaction can be run on it.
-    fn is_written(&self) -> bool {
-        let accounts = self.state.accounts().iter().all(|(_, n)| is_written(*n));
-        let choices = self.state.choices().iter().all(|(_, n)| is_written(*n));
-        let bound = self
-            .state
-            .bound_values()
-            .iter()
-            .all(|(_, n)| is_written(*n));
-        accounts && choices && bound
     }
 
     // Ends the transaction that is open, if one is.
@@ -299,10 +303,7 @@ impl Walk<'_> {
     // Does what stands at a place that isn't a When, and tells whether the run goes on by a step from there.
     fn passes(&mut self, at: &Contract, step: PathStep) -> Result<bool, Memory> {
         match at {
-            Contract::Pay(from, to, token, amount, _) => match self.number(amount) {
-                Some(due) => self.pay(from, to, token, due),
-                None => Ok(false),
-            },
+            Contract::Pay(from, to, token, amount, _) => self.pays(from, to, token, amount),
             Contract::If(observation, _, _) => {
                 let wanted = matches!(step, PathStep::Then);
                 Ok(self.truth(observation) == Some(wanted))
@@ -323,6 +324,20 @@ impl Walk<'_> {
     fn truth(&self, observation: &Observation) -> Option<bool> {
         let interval = self.open?;
         holds(observation, &self.state, interval).ok()
+    }
+
+    // Pays what a value is, and tells whether all numbers have 128 bits.
+    fn pays(
+        &mut self,
+        from: &Party,
+        to: &Payee,
+        token: &Token,
+        amount: &Value,
+    ) -> Result<bool, Memory> {
+        match self.number(amount) {
+            Some(due) => self.pay(from, to, token, due),
+            None => Ok(false),
+        }
     }
 
     // Pays, and tells whether the sum of the payee's account has 128 bits.
@@ -370,38 +385,20 @@ impl Walk<'_> {
         at: &Contract,
         case: &Case,
         has_earlier: bool,
-        ends: bool,
-        kind: AlarmKind,
-    ) -> Result<Taken, Memory> {
-        let input = match self.offer(way, &case.action)? {
-            Offer::None => return Ok(Taken::Lost),
-            Offer::Input(input) => input,
-            Offer::Leaving(input) => {
-                self.inputs.push(input)?;
-                return Ok(reached_if(ends && kind == AlarmKind::Leaves128));
+    ) -> Result<Brought, Memory> {
+        match self.offer(way, &case.action)? {
+            Offer::None => Ok(Brought::Nothing),
+            Offer::Leaving => Ok(Brought::Leaving),
+            Offer::Input(number) => {
+                if has_earlier && !self.is_taken_by(at, &case.then) {
+                    return Ok(Brought::Nothing);
+                }
+                self.apply(&case.action, number)
             }
-        };
-        if has_earlier && !self.is_taken_by(at, &input, &case.then) {
-            return Ok(Taken::Lost);
-        }
-        let warns = is_deposit_of_nothing(&input);
-        let fits = self.apply(&input)?;
-        self.inputs.push(input)?;
-        if ends {
-            let came = match kind {
-                AlarmKind::NonPositiveDeposit => warns,
-                AlarmKind::Leaves128 => !fits,
-                _ => false,
-            };
-            Ok(reached_if(came))
-        } else if fits {
-            Ok(Taken::On)
-        } else {
-            Ok(Taken::Lost)
         }
     }
 
-    // An input that an action waits for: what is asked to be deposited, a number that may be chosen, or a
+    // Offers an input that an action waits for: what is asked to be deposited, a number that may be chosen, or a
     // notification.
     fn offer(&mut self, way: &Way, action: &Action) -> Result<Offer, Memory> {
         match action {
@@ -409,11 +406,16 @@ impl Walk<'_> {
                 self.deposits(account, party, token, amount)
             }
             Action::Choice(id, bounds) => self.chooses(way, id, bounds.as_slice()),
-            Action::Notify(observation) => match self.truth(observation) {
-                Some(true) => Ok(Offer::Input(Input::Notify)),
-                Some(false) => Ok(Offer::None),
-                None => Ok(Offer::Leaving(Input::Notify)),
-            },
+            Action::Notify(observation) => self.notifies(observation),
+        }
+    }
+
+    // A notification, where the observation is true.
+    fn notifies(&mut self, observation: &Observation) -> Result<Offer, Memory> {
+        match self.truth(observation) {
+            Some(true) => self.offered(Input::Notify, Offer::Input(0)),
+            Some(false) => Ok(Offer::None),
+            None => self.offered(Input::Notify, Offer::Leaving),
         }
     }
 
@@ -425,33 +427,49 @@ impl Walk<'_> {
             accounts: self.state.accounts(),
         };
         match self.turns.number(&numbers, &mut self.left)? {
-            Some(number) => Ok(Offer::Input(Input::Choice(id.try_clone()?, number))),
+            Some(number) => {
+                let choice = Input::Choice(id.try_clone()?, number);
+                self.offered(choice, Offer::Input(number))
+            }
             None => Ok(Offer::None),
         }
     }
 
     // The deposit that is asked, where JSON can write it.
     fn deposits(
-        &self,
+        &mut self,
         account: &Party,
         party: &Party,
         token: &Token,
         amount: &Value,
     ) -> Result<Offer, Memory> {
-        let asked = self.number(amount);
-        let account = account.try_clone()?;
-        let party = party.try_clone()?;
-        let token = token.try_clone()?;
-        match asked {
-            Some(n) if is_written(n) => Ok(Offer::Input(Input::Deposit(account, party, token, n))),
-            Some(_) => Ok(Offer::None),
-            None => Ok(Offer::Leaving(Input::Deposit(account, party, token, 1))),
-        }
+        let (number, offer) = match self.number(amount) {
+            Some(n) => (
+                n,
+                if is_written(n) {
+                    Offer::Input(n)
+                } else {
+                    Offer::None
+                },
+            ),
+            None => (1, Offer::Leaving),
+        };
+        let deposit = deposit_of(account, party, token, number)?;
+        self.offered(deposit, offer)
     }
 
-    // Whether the first case that takes an input goes on with a contract.
-    fn is_taken_by(&self, at: &Contract, input: &Input, then: &Contract) -> bool {
+    // Notes an input in the transaction that is open.
+    fn offered(&mut self, input: Input, offer: Offer) -> Result<Offer, Memory> {
+        self.inputs.push(input)?;
+        Ok(offer)
+    }
+
+    // Whether the first case that takes the input that is offered goes on with a contract.
+    fn is_taken_by(&self, at: &Contract, then: &Contract) -> bool {
         let Some(interval) = self.open else {
+            return false;
+        };
+        let Some(input) = self.inputs.as_slice().last() else {
             return false;
         };
         match matching_case(&Plain::new(), input, at, &self.state, interval) {
@@ -460,22 +478,24 @@ impl Walk<'_> {
         }
     }
 
-    // Does what an input does to the state, and tells whether the sum that a deposit makes has 128 bits.
-    fn apply(&mut self, input: &Input) -> Result<bool, Memory> {
-        match input {
-            Input::Deposit(account, _, token, amount) => {
-                if *amount > 0 {
-                    self.add_money(account, token, *amount)
-                } else {
-                    Ok(true)
-                }
+    // Does what an input of an action and a number does to the state.
+    fn apply(&mut self, action: &Action, number: i128) -> Result<Brought, Memory> {
+        match action {
+            Action::Deposit(account, _, token, _) => self.receive(account, token, number),
+            Action::Choice(id, _) => {
+                self.state.set_choice(id, number)?;
+                Ok(Brought::Taken)
             }
-            Input::Choice(id, number) => {
-                self.state.set_choice(id, *number)?;
-                Ok(true)
-            }
-            Input::Notify => Ok(true),
+            Action::Notify(_) => Ok(Brought::Taken),
         }
+    }
+
+    // Adds what is deposited.
+    fn receive(&mut self, account: &Party, token: &Token, amount: i128) -> Result<Brought, Memory> {
+        if amount > 0 && !self.add_money(account, token, amount)? {
+            return Ok(Brought::Leaving);
+        }
+        Ok(Brought::Deposited(amount))
     }
 
     // Whether an alarm of the kind comes at a place that isn't a When.
@@ -522,13 +542,35 @@ fn is_when(contract: &Contract) -> bool {
     matches!(contract, Contract::When(_, _, _))
 }
 
-fn reached_if(came: bool) -> Taken {
-    if came { Taken::Reached } else { Taken::Lost }
+// The part of a contract behind a step, where the run goes that way.
+fn part_if(goes: bool, at: &Contract, step: PathStep) -> Option<&Contract> {
+    if goes { part_behind(at, step) } else { None }
 }
 
-fn is_deposit_of_nothing(input: &Input) -> bool {
-    match input {
-        Input::Deposit(_, _, _, amount) => *amount <= 0,
-        _ => false,
+fn deposit_of(
+    account: &Party,
+    party: &Party,
+    token: &Token,
+    amount: i128,
+) -> Result<Input, Memory> {
+    let account = account.try_clone()?;
+    let party = party.try_clone()?;
+    let token = token.try_clone()?;
+    Ok(Input::Deposit(account, party, token, amount))
+}
+
+// Whether JSON has each number of a state, so that another transaction can be run on it.
+fn is_state_written(state: &State) -> bool {
+    are_written(state.accounts())
+        && are_written(state.choices())
+        && are_written(state.bound_values())
+}
+
+fn are_written<K>(entries: &[(K, i128)]) -> bool {
+    for (_, number) in entries {
+        if !is_written(*number) {
+            return false;
+        }
     }
+    true
 }

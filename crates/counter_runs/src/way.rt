@@ -15,7 +15,6 @@ const NUMBERS: u64 = 48;
 const REPLAY: u64 = 4;
 
 /// What is read off the way from a contract to a place in it before a run is tried.
-#[derive(Drop)]
 pub(crate) struct Way {
     /// The first constants that stand along it.
     constants: Vec<i128>,
@@ -29,6 +28,20 @@ pub(crate) struct Way {
     copy: u64,
     weights: Vec<u64>,
     behind: u64,
+}
+
+// Dropped once.
+impl Drop for Way {
+    fn drop(self) {
+        let Way {
+            constants: _,
+            numbers: _,
+            untils: _,
+            copy: _,
+            weights: _,
+            behind: _,
+        } = self;
+    }
 }
 
 impl Way {
@@ -49,22 +62,48 @@ impl Way {
             behind: 0,
         };
         let looks = looks_of(entries_of(state).saturating_add(steps.len()));
-        let mut waits = Vec::new(alloc);
-        let mut at = Some(contract);
-        for step in steps {
-            let Some(here) = at else {
-                break;
-            };
-            way.add_step(alloc, here, Some(*step), looks, left)?;
-            waits.push(wait_of(here, *step))?;
-            at = part_behind(here, *step);
-        }
-        if let Some(here) = at {
-            way.add_step(alloc, here, None, looks, left)?;
-            way.behind = way.behind.saturating_add(weigh_settling(here, looks, left));
-        }
+        let waits = way.read(alloc, contract, steps, looks, left)?;
         way.untils = earliest_behind(alloc, waits.as_slice())?;
         Ok(way)
+    }
+
+    // Reads the steps from a contract on, and returns for each the last moment at which the When waits that it leaves by
+    // a case.
+    fn read(
+        &mut self,
+        alloc: Global,
+        contract: &Contract,
+        steps: &[PathStep],
+        looks: u64,
+        left: &mut u64,
+    ) -> Result<Vec<Option<i64>>, Memory> {
+        let mut waits = Vec::new(alloc);
+        let mut at = contract;
+        for step in steps {
+            self.add_step(alloc, at, Some(*step), looks, left)?;
+            waits.push(wait_of(at, *step))?;
+            match part_behind(at, *step) {
+                Some(next) => at = next,
+                None => return Ok(waits),
+            }
+        }
+        self.add_end(alloc, at, looks, left)?;
+        Ok(waits)
+    }
+
+    // Adds what a run looks at where it ends.
+    fn add_end(
+        &mut self,
+        alloc: Global,
+        here: &Contract,
+        looks: u64,
+        left: &mut u64,
+    ) -> Result<(), Memory> {
+        self.add_step(alloc, here, None, looks, left)?;
+        self.behind = self
+            .behind
+            .saturating_add(weigh_settling(here, looks, left));
+        Ok(())
     }
 
     // Adds what a run looks at where it goes on from a contract by a step.

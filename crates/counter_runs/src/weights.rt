@@ -72,19 +72,26 @@ fn weigh_case(
     let Some(case) = cases.get(index) else {
         return Ok(spend(left, 1));
     };
-    if !weigh_action(&case.action, looks, left) {
+    if !weigh_action(&case.action, looks, left)
+        || !weigh_trials(cases, index, &case.action, looks, left)
+    {
         return Ok(false);
-    }
-    for other in cases.iter().take(index) {
-        if !weigh_trial(&other.action, &case.action, looks, left) {
-            return Ok(false);
-        }
     }
     if index > 0 {
         weigh_all(alloc, &case.then, left)
     } else {
         Ok(true)
     }
+}
+
+// Weighs the actions of the cases before one, which an input for its action is tried against.
+fn weigh_trials(cases: &[Case], index: usize, action: &Action, looks: u64, left: &mut u64) -> bool {
+    for other in cases.iter().take(index) {
+        if !weigh_trial(&other.action, action, looks, left) {
+            return false;
+        }
+    }
+    true
 }
 
 // Weighs an action that is taken.
@@ -119,35 +126,40 @@ fn weigh_trial(action: &Action, other: &Action, looks: u64, left: &mut u64) -> b
 
 #[cycle(weigh)]
 fn weigh_value(value: &Value, looks: u64, left: &mut u64) -> bool {
-    let own = match value {
-        Value::AvailableMoney(owner, token) => look(1, of_account(owner, token), looks),
-        Value::ChoiceValue(id) => look(1, of_choice(id), looks),
-        Value::UseValue(name) => look(1, name.as_str().len(), looks),
-        _ => 2,
-    };
-    if !spend(left, own) {
+    if !spend(left, weight_of_value(value, looks)) {
         return false;
     }
     match value {
         Value::NegValue(a) => weigh_value(a.get(), looks, left),
-        Value::AddValue(a, b)
-        | Value::SubValue(a, b)
-        | Value::MulValue(a, b)
-        | Value::DivValue(a, b) => {
-            weigh_value(a.get(), looks, left) && weigh_value(b.get(), looks, left)
-        }
+        Value::AddValue(a, b) => weigh_values(a.get(), b.get(), looks, left),
+        Value::SubValue(a, b) => weigh_values(a.get(), b.get(), looks, left),
+        Value::MulValue(a, b) => weigh_values(a.get(), b.get(), looks, left),
+        Value::DivValue(a, b) => weigh_values(a.get(), b.get(), looks, left),
         Value::Cond(observation, a, b) => {
-            weigh_observation(observation.get(), looks, left)
-                && weigh_value(a.get(), looks, left)
-                && weigh_value(b.get(), looks, left)
+            weigh_cond(observation.get(), a.get(), b.get(), looks, left)
         }
-        Value::AvailableMoney(_, _)
-        | Value::Constant(_)
-        | Value::ChoiceValue(_)
-        | Value::TimeIntervalStart
-        | Value::TimeIntervalEnd
-        | Value::UseValue(_) => true,
+        _ => true,
     }
+}
+
+// What a value takes beside its parts.
+fn weight_of_value(value: &Value, looks: u64) -> u64 {
+    match value {
+        Value::AvailableMoney(owner, token) => look(1, of_account(owner, token), looks),
+        Value::ChoiceValue(id) => look(1, of_choice(id), looks),
+        Value::UseValue(name) => look(1, name.as_str().len(), looks),
+        _ => 2,
+    }
+}
+
+#[cycle(weigh)]
+fn weigh_values(a: &Value, b: &Value, looks: u64, left: &mut u64) -> bool {
+    weigh_value(a, looks, left) && weigh_value(b, looks, left)
+}
+
+#[cycle(weigh)]
+fn weigh_cond(observation: &Observation, a: &Value, b: &Value, looks: u64, left: &mut u64) -> bool {
+    weigh_observation(observation, looks, left) && weigh_values(a, b, looks, left)
 }
 
 #[cycle(weigh)]
@@ -156,57 +168,98 @@ fn weigh_observation(observation: &Observation, looks: u64, left: &mut u64) -> b
         return false;
     }
     match observation {
-        Observation::AndObs(a, b) | Observation::OrObs(a, b) => {
-            weigh_observation(a.get(), looks, left) && weigh_observation(b.get(), looks, left)
-        }
+        Observation::AndObs(a, b) => weigh_observations(a.get(), b.get(), looks, left),
+        Observation::OrObs(a, b) => weigh_observations(a.get(), b.get(), looks, left),
         Observation::NotObs(a) => weigh_observation(a.get(), looks, left),
-        Observation::ValueGE(a, b)
-        | Observation::ValueGT(a, b)
-        | Observation::ValueLT(a, b)
-        | Observation::ValueLE(a, b)
-        | Observation::ValueEQ(a, b) => {
-            weigh_value(a.get(), looks, left) && weigh_value(b.get(), looks, left)
-        }
+        Observation::ValueGE(a, b) => weigh_values(a.get(), b.get(), looks, left),
+        Observation::ValueGT(a, b) => weigh_values(a.get(), b.get(), looks, left),
+        Observation::ValueLT(a, b) => weigh_values(a.get(), b.get(), looks, left),
+        Observation::ValueLE(a, b) => weigh_values(a.get(), b.get(), looks, left),
+        Observation::ValueEQ(a, b) => weigh_values(a.get(), b.get(), looks, left),
         Observation::ChoseSomething(id) => spend(left, look(1, of_choice(id), looks)),
         Observation::TrueObs | Observation::FalseObs => true,
     }
 }
 
+#[cycle(weigh)]
+fn weigh_observations(a: &Observation, b: &Observation, looks: u64, left: &mut u64) -> bool {
+    weigh_observation(a, looks, left) && weigh_observation(b, looks, left)
+}
+
 // Weighs a whole contract, which is compared with another.
 fn weigh_all(alloc: Global, contract: &Contract, left: &mut u64) -> Result<bool, Memory> {
-    let mut open = Vec::new(alloc);
-    open.push(contract)?;
+    let mut rest = Vec::new(alloc);
+    rest.push(contract)?;
     let most = *left;
     for _ in 0..most {
-        let Some(at) = open.pop() else {
-            return Ok(true);
-        };
-        if !weigh_own(at, 1, left) {
-            return Ok(false);
-        }
-        match at {
-            Contract::Close => {}
-            Contract::Pay(_, _, _, _, then)
-            | Contract::Let(_, _, then)
-            | Contract::Assert(_, then) => {
-                open.push(then.get())?;
-            }
-            Contract::If(_, then, otherwise) => {
-                open.push(then.get())?;
-                open.push(otherwise.get())?;
-            }
-            Contract::When(cases, _, then) => {
-                for case in cases.as_slice() {
-                    if !weigh_trial(&case.action, &case.action, 1, left) {
-                        return Ok(false);
-                    }
-                    open.push(&case.then)?;
+        match rest.pop() {
+            Some(at) => {
+                if !weigh_part(&mut rest, at, left)? {
+                    return Ok(false);
                 }
-                open.push(then.get())?;
             }
+            None => return Ok(true),
         }
     }
     Ok(false)
+}
+
+// Weighs a part, and puts its own parts to the rest.
+fn weigh_part<'c>(
+    rest: &mut Vec<&'c Contract>,
+    part: &'c Contract,
+    left: &mut u64,
+) -> Result<bool, Memory> {
+    if weigh_own(part, 1, left) {
+        put_parts(rest, part, left)
+    } else {
+        Ok(false)
+    }
+}
+
+// Puts the parts of a contract to the rest, and weighs the actions that it waits for.
+fn put_parts<'c>(
+    rest: &mut Vec<&'c Contract>,
+    contract: &'c Contract,
+    left: &mut u64,
+) -> Result<bool, Memory> {
+    match contract {
+        Contract::Close => Ok(true),
+        Contract::Pay(_, _, _, _, then) => put_part(rest, then.get()),
+        Contract::Let(_, _, then) => put_part(rest, then.get()),
+        Contract::Assert(_, then) => put_part(rest, then.get()),
+        Contract::If(_, then, otherwise) => put_two(rest, then.get(), otherwise.get()),
+        Contract::When(cases, _, then) => put_cases(rest, cases.as_slice(), then.get(), left),
+    }
+}
+
+fn put_part<'c>(rest: &mut Vec<&'c Contract>, part: &'c Contract) -> Result<bool, Memory> {
+    rest.push(part)?;
+    Ok(true)
+}
+
+fn put_two<'c>(
+    rest: &mut Vec<&'c Contract>,
+    part: &'c Contract,
+    other: &'c Contract,
+) -> Result<bool, Memory> {
+    rest.push(part)?;
+    put_part(rest, other)
+}
+
+fn put_cases<'c>(
+    rest: &mut Vec<&'c Contract>,
+    cases: &'c [Case],
+    then: &'c Contract,
+    left: &mut u64,
+) -> Result<bool, Memory> {
+    for case in cases {
+        if !weigh_trial(&case.action, &case.action, 1, left) {
+            return Ok(false);
+        }
+        rest.push(&case.then)?;
+    }
+    put_part(rest, then)
 }
 
 /// Weighs what a contract does until it waits or is closed, and returns the weight of its heaviest way there.
@@ -220,16 +273,21 @@ pub(crate) fn weigh_settling(contract: &Contract, looks: u64, left: &mut u64) ->
     }
     let behind = match contract {
         Contract::Close => 0,
-        Contract::Pay(_, _, _, _, then)
-        | Contract::Let(_, _, then)
-        | Contract::Assert(_, then)
-        | Contract::When(_, _, then) => weigh_settling(then.get(), looks, left),
+        Contract::Pay(_, _, _, _, then) => weigh_settling(then.get(), looks, left),
+        Contract::Let(_, _, then) => weigh_settling(then.get(), looks, left),
+        Contract::Assert(_, then) => weigh_settling(then.get(), looks, left),
+        Contract::When(_, _, then) => weigh_settling(then.get(), looks, left),
         Contract::If(_, then, otherwise) => {
-            let one = weigh_settling(then.get(), looks, left);
-            one.max(weigh_settling(otherwise.get(), looks, left))
+            weigh_either(then.get(), otherwise.get(), looks, left)
         }
     };
     own.saturating_add(behind)
+}
+
+#[cycle(settles)]
+fn weigh_either(then: &Contract, otherwise: &Contract, looks: u64, left: &mut u64) -> u64 {
+    let one = weigh_settling(then, looks, left);
+    one.max(weigh_settling(otherwise, looks, left))
 }
 
 /// Weighs a copy of a state.
