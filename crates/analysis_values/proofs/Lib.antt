@@ -6,3 +6,4 @@ mod TruthLemmas
 mod TimeLemmas
 mod LookupLemmas
 mod NumberedLemmas
+mod JunctionLemmas

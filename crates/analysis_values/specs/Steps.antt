@@ -129,6 +129,10 @@ DecidesThere v k m o if_true if_false = (scope : Scope) (i : Interval) (s : Stat
 pub record Leaves (k m : Symbols) (p q : Option Symbols) (n : Symbols) (if_true if_false : Option Symbols) : Type 0 where
   pub settles : ((n ≡ m) × (if_true ≡ p) × (if_false ≡ q)) ⊎ (((n ≡ k) × (if_true ≡ Some k) × (q ≡ None)) ⊎ ((n ≡ k) × (if_false ≡ Some k) × (p ≡ None)))
 
+-- what a comparison leaves behind, by what is known where it is true and where it is false
+abbrev pub Compares : Comparison → Symbols → Symbols → Linear → Linear → Symbols → Option Symbols → Option Symbols → Type 0
+Compares c k m a b n if_true if_false = (p : Option Symbols) × (q : Option Symbols) × KnowsWhere (HoldsOf c) m a b p × KnowsWhere (FailsOf c) m a b q × Leaves k m p q n if_true if_false
+
 -- where the numbers that it looks at are said to fit, the runs that are spoken of may visit them
 abbrev pub LooksWhereSaid : View → Symbols → ObservationTree → Bool → Type 0
 LooksWhereSaid v k o said = (scope : Scope) (i : Interval) (s : StateMaps) (ps : List Payment) → IsDescribed scope (known k v) i s ps → GoesOn scope (unless said Leaves128) → AllByRecursion (Allowed scope) (looked i s o)
@@ -137,6 +141,11 @@ LooksWhereSaid v k o said = (scope : Scope) (i : Interval) (s : StateMaps) (ps :
 pub record IsObserved (k : Symbols) (v : View) (o : ObservationTree) (m : Symbols) (t : Truths) : Type 0 where
   pub truths : DecidesThere v k m o t.if_true t.if_false
   pub fits : LooksWhereSaid v k o t.fits
+
+-- .. where something is known
+abbrev pub ObservesIn : View → Option Symbols → ObservationTree → Option Truths → Type 0
+ObservesIn v None o t = t ≡ None
+ObservesIn v (Some m) o t = IsSomeAnd t (λ u. (n : Symbols) × IsObserved m v o n u)
 
 -- ---- one of two values
 

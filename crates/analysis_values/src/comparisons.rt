@@ -1,9 +1,11 @@
 //! Comparisons of two numbers.
-ghost use Rattle.std.specs.Prelude.{IfOk};
-ghost use Rattle.analysis_values.specs.Steps.{KnowsWhere, HoldsOf, FailsOf};
+ghost use Rattle.std.specs.Prelude.{◌≡◌, IfOk};
+ghost use Rattle.analysis_values.specs.Steps.{KnowsWhere, HoldsOf, FailsOf, Compares, Leaves};
 
+use crate::observations::Truths;
 use crate::truths::{where_less, where_no_less, where_other, where_same};
-use collections::Memory;
+use crate::values::Operands;
+use collections::{Memory, TryClone};
 use linear::Linear;
 use symbols::Symbols;
 
@@ -50,5 +52,59 @@ pub(crate) fn where_false(
         Comparison::Less => where_no_less(symbols, left, right),
         Comparison::NoGreater => where_less(symbols, right, left),
         Comparison::Same => where_other(symbols, left, right),
+    }
+}
+
+/// What a comparison of two values leaves behind, of which the numbers have expressions where more is known.
+pub(crate) fn compared(
+    symbols: &mut Symbols,
+    there: Symbols,
+    comparison: Comparison,
+    operands: &Operands,
+) -> Result<Truths, Memory>
+    ensures fits { IfOk result (λ t. t.fits ≡ operands.now.fits) }
+    ensures leaves { IfOk result (λ t. Compares comparison symbols.old there operands.now.left operands.now.right symbols.new t.if_true t.if_false) }
+{
+    let if_true = where_true(&there, comparison, &operands.left, &operands.right)?;
+    let if_false = where_false(&there, comparison, &operands.left, &operands.right)?;
+    settled(symbols, there, operands.fits, if_true, if_false)
+}
+
+// Where the values made new unknowns and only one truth can be, what was known before is left.
+fn settled(
+    symbols: &mut Symbols,
+    there: Symbols,
+    fits: bool,
+    if_true: Option<Symbols>,
+    if_false: Option<Symbols>,
+) -> Result<Truths, Memory>
+    ensures fits { IfOk result (λ t. t.fits ≡ fits) }
+    ensures leaves { IfOk result (λ t. Leaves symbols.old there if_true if_false symbols.new t.if_true t.if_false) }
+{
+    match (there.count() > symbols.count(), if_true, if_false) {
+        (true, Some(_), None) => {
+            let same = symbols.try_clone()?;
+            Ok(Truths {
+                fits,
+                if_true: Some(same),
+                if_false: None,
+            })
+        }
+        (true, None, Some(_)) => {
+            let same = symbols.try_clone()?;
+            Ok(Truths {
+                fits,
+                if_true: None,
+                if_false: Some(same),
+            })
+        }
+        (_, if_true, if_false) => {
+            *symbols = there;
+            Ok(Truths {
+                fits,
+                if_true,
+                if_false,
+            })
+        }
     }
 }

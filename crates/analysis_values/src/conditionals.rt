@@ -2,6 +2,7 @@
 ghost use Rattle.std.specs.Prelude.{IfOk, OnOk};
 ghost use Rattle.contract.specs.Tree.{value_tree, cond_value, observation_tree, and_obs, or_obs, not_obs};
 ghost use Rattle.analysis_values.specs.Steps.{IsEvaluated, LeadsOn, EvaluatesIn};
+ghost use Rattle.analysis_values.specs.Branches.{branch_tree};
 
 use crate::cases::{Counted, of_either};
 use crate::observations::{Truths, truth_in};
@@ -14,6 +15,14 @@ use symbols::Symbols;
 
 // The most parts of a Cond's observation (comparisons, and what joins them) that it is taken apart to: 8.
 const MOST_JOINED: u32 = 8;
+
+/// What a Cond is where an observation is true, or where it is false: one of its values, or a Cond of what is left of the
+/// observation, and how many parts of that are taken apart.
+#[derive(Clone, Copy)]
+pub(crate) enum Branch<'a> {
+    Value(&'a Boxed<Value>),
+    Cond(&'a Boxed<Observation>, &'a Boxed<Value>, &'a Boxed<Value>, u32),
+}
 
 /// The number of the first value where an observation is true, and else that of the second.
 #[cycle(values)]
@@ -46,8 +55,10 @@ fn taken_apart(
 ) -> Result<Evaluated, Memory>
     ensures { IfOk result (IsEvaluated symbols.old view.now (cond_value (observation_tree condition.now) (value_tree first.now) (value_tree second.now)) symbols.new) }
 {
+    let one = Branch::Value(first);
+    let other = Branch::Value(second);
     if joined == 0 {
-        return by_truth(view, symbols, condition, first, second);
+        return by_truth(view, symbols, condition, one, other);
     }
     let rest = joined - 1;
     match condition {
@@ -56,17 +67,17 @@ fn taken_apart(
             if is_plain(second.get()) {
                 by_both(view, symbols, a, b, first, second, rest)
             } else {
-                by_truth(view, symbols, condition, first, second)
+                by_truth(view, symbols, condition, one, other)
             }
         }
         Observation::OrObs(a, b) => {
             if is_plain(first.get()) {
                 by_one(view, symbols, a, b, first, second, rest)
             } else {
-                by_truth(view, symbols, condition, first, second)
+                by_truth(view, symbols, condition, one, other)
             }
         }
-        _ => by_truth(view, symbols, condition, first, second),
+        _ => by_truth(view, symbols, condition, one, other),
     }
 }
 
@@ -100,15 +111,8 @@ fn by_both(
     ensures { IfOk result (IsEvaluated symbols.old view.now (cond_value (and_obs (observation_tree left.now) (observation_tree right.now)) (value_tree first.now) (value_tree second.now)) symbols.new) }
 {
     let inner = left.get();
-    let truths = truth_in(view, symbols, inner)?;
-    let Truths {
-        fits,
-        if_true,
-        if_false,
-    } = truths;
-    let one = apart_where(view, if_true, right, first, second, joined)?;
-    let other = value_where(view, if_false, second)?;
-    of_either(symbols, one, other, fits)
+    let rest = Branch::Cond(right, first, second, joined);
+    by_truth(view, symbols, inner, rest, Branch::Value(second))
 }
 
 // .. where one of two observations is true.
@@ -125,35 +129,46 @@ fn by_one(
     ensures { IfOk result (IsEvaluated symbols.old view.now (cond_value (or_obs (observation_tree left.now) (observation_tree right.now)) (value_tree first.now) (value_tree second.now)) symbols.new) }
 {
     let inner = left.get();
-    let truths = truth_in(view, symbols, inner)?;
+    let rest = Branch::Cond(right, first, second, joined);
+    by_truth(view, symbols, inner, Branch::Value(first), rest)
+}
+
+// One of two branches, by the truth of an observation as a whole.
+#[cycle(values)]
+fn by_truth(
+    view: &View,
+    symbols: &mut Symbols,
+    condition: &Observation,
+    one: Branch<'_>,
+    other: Branch<'_>,
+) -> Result<Evaluated, Memory>
+    ensures { IfOk result (IsEvaluated symbols.old view.now (cond_value (observation_tree condition.now) (branch_tree one.entry) (branch_tree other.entry)) symbols.new) }
+{
+    let truths = truth_in(view, symbols, condition)?;
     let Truths {
         fits,
         if_true,
         if_false,
     } = truths;
-    let one = value_where(view, if_true, first)?;
-    let other = apart_where(view, if_false, right, first, second, joined)?;
-    of_either(symbols, one, other, fits)
+    let first = branch_where(view, if_true, one)?;
+    let second = branch_where(view, if_false, other)?;
+    of_either(symbols, first, second, fits)
 }
 
-// The number of one of two values where more is known, if that can be.
+// The number of a branch where more is known, if that can be.
 #[cycle(values)]
-fn apart_where(
+fn branch_where(
     view: &View,
     symbols: Option<Symbols>,
-    condition: &Boxed<Observation>,
-    first: &Boxed<Value>,
-    second: &Boxed<Value>,
-    joined: u32,
+    branch: Branch<'_>,
 ) -> Result<Option<Counted>, Memory>
-    ensures { IfOk result (EvaluatesIn view.now symbols (cond_value (observation_tree condition.now) (value_tree first.now) (value_tree second.now))) }
+    ensures { IfOk result (EvaluatesIn view.now symbols (branch_tree branch.entry)) }
 {
     match symbols {
         None => Ok(None),
         Some(there) => {
             let mut more = there;
-            let inner = condition.get();
-            let evaluated = taken_apart(view, &mut more, inner, first, second, joined)?;
+            let evaluated = branch_in(view, &mut more, branch)?;
             Ok(Some(Counted {
                 symbols: more,
                 number: evaluated.number,
@@ -163,26 +178,17 @@ fn apart_where(
     }
 }
 
-// One of two values, by the truth of an observation as a whole.
+// The number of a branch.
 #[cycle(values)]
-fn by_truth(
-    view: &View,
-    symbols: &mut Symbols,
-    condition: &Observation,
-    first: &Boxed<Value>,
-    second: &Boxed<Value>,
-) -> Result<Evaluated, Memory>
-    ensures { IfOk result (IsEvaluated symbols.old view.now (cond_value (observation_tree condition.now) (value_tree first.now) (value_tree second.now)) symbols.new) }
+fn branch_in(view: &View, symbols: &mut Symbols, branch: Branch<'_>) -> Result<Evaluated, Memory>
+    ensures { IfOk result (IsEvaluated symbols.old view.now (branch_tree branch.entry) symbols.new) }
 {
-    let truths = truth_in(view, symbols, condition)?;
-    let Truths {
-        fits,
-        if_true,
-        if_false,
-    } = truths;
-    let one = value_where(view, if_true, first)?;
-    let other = value_where(view, if_false, second)?;
-    of_either(symbols, one, other, fits)
+    match branch {
+        Branch::Value(value) => value_in(view, symbols, value.get()),
+        Branch::Cond(condition, first, second, joined) => {
+            taken_apart(view, symbols, condition.get(), first, second, joined)
+        }
+    }
 }
 
 // Gives the products and quotients of a plain value symbols where it stands, so that each branch of a Cond has the same ones.
@@ -196,28 +202,4 @@ fn name_operations(view: &View, symbols: &mut Symbols, value: &Boxed<Value>) -> 
         value_in(view, symbols, inner)?;
     }
     Ok(())
-}
-
-// The number of a value where more is known, if that can be.
-#[cycle(values)]
-fn value_where(
-    view: &View,
-    symbols: Option<Symbols>,
-    value: &Boxed<Value>,
-) -> Result<Option<Counted>, Memory>
-    ensures { IfOk result (EvaluatesIn view.now symbols (value_tree value.now)) }
-{
-    match symbols {
-        None => Ok(None),
-        Some(there) => {
-            let mut more = there;
-            let inner = value.get();
-            let evaluated = value_in(view, &mut more, inner)?;
-            Ok(Some(Counted {
-                symbols: more,
-                number: evaluated.number,
-                fits: evaluated.fits,
-            }))
-        }
-    }
 }

@@ -12,7 +12,7 @@ ghost use Rattle.analysis_values.specs.Known.{held, with_amount};
 ghost use Rattle.analysis_values.specs.Entries.{in_numbers, keys_of};
 ghost use Rattle.analysis_values.specs.Answered.{StaysWhereSaid, AddsTime};
 
-use crate::lookup::in_expressions;
+use crate::lookup::{AccountOf, found, has, in_expressions, or_zero, put_first, put_keys};
 use crate::stays::stays;
 use crate::view::View;
 use collections::{Items, Memory, Text, TryClone};
@@ -114,7 +114,14 @@ impl Known {
     pub fn paid(&self, party: &Party, token: &Token) -> Result<Linear, Memory>
         ensures { IfOk result (λ e. e ≡ held self.now.view.paid (account_of party.now token.now)) }
     {
-        self.view.paid(party, token)
+        let entry = found(
+            &self.view.paid,
+            &AccountOf {
+                owner: party,
+                token,
+            },
+        )?;
+        Ok(or_zero(self.view.memory(), entry))
     }
 
     /// The accounts that have an entry, of what is held or of what parties were paid: the others hold 0, and their owners
@@ -122,7 +129,10 @@ impl Known {
     pub fn named(&self) -> Result<Items<Account>, Memory>
         ensures { IfOk result (λ ns. ns ≡ keys_of self.now.view.accounts ++ keys_of self.now.view.paid) }
     {
-        self.view.named()
+        let mut names = Items::new(self.view.memory());
+        put_keys(&mut names, &self.view.accounts)?;
+        put_keys(&mut names, &self.view.paid)?;
+        Ok(names)
     }
 
     /// The number that was chosen, if one was.
@@ -143,7 +153,7 @@ impl Known {
     pub fn is_bound(&self, name: &Text) -> bool
         ensures { result ≡ is_some (find bytes_cmp name.now self.now.view.bound) }
     {
-        self.view.is_bound(name)
+        has(&self.view.bound, name)
     }
 
     /// The start of the interval.
@@ -171,35 +181,43 @@ impl Known {
     ) -> Result<(), Memory>
         ensures { OnOk result (self.new ≡ record { symbols = self.old.symbols; view = with_amount self.old.view owner.now token.now amount }) }
     {
-        self.view.put_account(owner, token, amount)
+        put_first(&mut self.view.accounts, &AccountOf { owner, token }, amount)
     }
 
     /// Sets what a party was paid of a token.
     pub fn set_paid(&mut self, party: &Party, token: &Token, amount: Linear) -> Result<(), Memory>
         ensures { OnOk result (self.new ≡ record { symbols = self.old.symbols; view = record (self.old.view) { paid = (account_of party.now token.now, amount) ∷ self.old.view.paid } }) }
     {
-        self.view.put_paid(party, token, amount)
+        put_first(
+            &mut self.view.paid,
+            &AccountOf {
+                owner: party,
+                token,
+            },
+            amount,
+        )
     }
 
     /// Sets the number of a choice.
     pub fn set_choice(&mut self, id: &ChoiceId, number: Linear) -> Result<(), Memory>
         ensures { OnOk result (self.new ≡ record { symbols = self.old.symbols; view = record (self.old.view) { choices = (id.now, number) ∷ self.old.view.choices } }) }
     {
-        self.view.put_choice(id, number)
+        put_first(&mut self.view.choices, id, number)
     }
 
     /// Binds a value to a name.
     pub fn set_bound(&mut self, name: &Text, value: Linear) -> Result<(), Memory>
         ensures { OnOk result (self.new ≡ record { symbols = self.old.symbols; view = record (self.old.view) { bound = (name.now, value) ∷ self.old.view.bound } }) }
     {
-        self.view.put_bound(name, value)
+        put_first(&mut self.view.bound, name, value)
     }
 
     /// Sets the two ends of the interval.
     pub fn set_interval(&mut self, start: Linear, end: Linear)
         ensures { self.new ≡ record { symbols = self.old.symbols; view = record (self.old.view) { start = start; end = end } } }
     {
-        self.view.put_interval(start, end);
+        self.view.start = start;
+        self.view.end = end;
     }
 
     // ---- what is known of symbols

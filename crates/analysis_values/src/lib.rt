@@ -13,6 +13,7 @@ mod cases;
 mod comparisons;
 mod conditionals;
 mod evaluated;
+mod junctions;
 mod known;
 mod lookup;
 mod observations;

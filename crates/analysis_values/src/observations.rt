@@ -1,11 +1,12 @@
 //! The truths of observations, over what is known of symbols, in a view.
 ghost use Rattle.std.specs.Prelude.{◌≡◌, IfOk, Some, true, cond};
-ghost use Rattle.contract.specs.Tree.{value_tree, observation_tree, and_obs, or_obs, not_obs, chose_something, true_obs, false_obs};
-ghost use Rattle.analysis_values.specs.Steps.{IsObserved, Leaves, test_of};
+ghost use Rattle.contract.specs.Tree.{value_tree, observation_tree, not_obs, chose_something, true_obs, false_obs};
+ghost use Rattle.analysis_values.specs.Steps.{IsObserved, ObservesIn, test_of};
+ghost use Rattle.analysis_values.specs.Junctions.{junction_of};
 
-use crate::comparisons::{Comparison, where_false, where_true};
-use crate::truths::joined;
-use crate::values::{both, both_values};
+use crate::comparisons::{Comparison, compared};
+use crate::junctions::{Junction, decided, side};
+use crate::values::both_values;
 use crate::view::View;
 use collections::{Boxed, Memory, TryClone};
 use contract::{Observation, Value};
@@ -32,8 +33,8 @@ pub(crate) fn truth_in(
     ensures { IfOk result (IsObserved symbols.old view.now (observation_tree observation.now) symbols.new) }
 {
     match observation {
-        Observation::AndObs(a, b) => both_of(view, symbols, a, b),
-        Observation::OrObs(a, b) => one_of(view, symbols, a, b),
+        Observation::AndObs(a, b) => of_junction(view, symbols, Junction::And, a, b),
+        Observation::OrObs(a, b) => of_junction(view, symbols, Junction::Or, a, b),
         Observation::NotObs(a) => none_of(view, symbols, a),
         Observation::ChoseSomething(id) => chosen_of(view, symbols, id),
         Observation::ValueGE(a, b) => compare(view, symbols, Comparison::NoLess, a, b),
@@ -59,48 +60,7 @@ fn compare(
 {
     let mut there = symbols.try_clone()?;
     let operands = both_values(view, &mut there, left, right)?;
-    let if_true = where_true(&there, comparison, &operands.left, &operands.right)?;
-    let if_false = where_false(&there, comparison, &operands.left, &operands.right)?;
-    settled(symbols, there, operands.fits, if_true, if_false)
-}
-
-// What a comparison leaves behind: where its values made new unknowns and only one truth can be, what was known before.
-fn settled(
-    symbols: &mut Symbols,
-    there: Symbols,
-    fits: bool,
-    if_true: Option<Symbols>,
-    if_false: Option<Symbols>,
-) -> Result<Truths, Memory>
-    ensures fits { IfOk result (λ t. t.fits ≡ fits) }
-    ensures leaves { IfOk result (λ t. Leaves symbols.old there if_true if_false symbols.new t.if_true t.if_false) }
-{
-    match (there.count() > symbols.count(), if_true, if_false) {
-        (true, Some(_), None) => {
-            let same = symbols.try_clone()?;
-            Ok(Truths {
-                fits,
-                if_true: Some(same),
-                if_false: None,
-            })
-        }
-        (true, None, Some(_)) => {
-            let same = symbols.try_clone()?;
-            Ok(Truths {
-                fits,
-                if_true: None,
-                if_false: Some(same),
-            })
-        }
-        (_, if_true, if_false) => {
-            *symbols = there;
-            Ok(Truths {
-                fits,
-                if_true,
-                if_false,
-            })
-        }
-    }
+    compared(symbols, there, comparison, &operands)
 }
 
 // It is false.
@@ -121,78 +81,45 @@ fn none_of(
     })
 }
 
-// Both are true.
+// Two observations that are joined: the second is looked at where the first doesn't decide.
 #[cycle(values)]
-fn both_of(
+fn of_junction(
     view: &View,
     symbols: &mut Symbols,
+    junction: Junction,
     left: &Boxed<Observation>,
     right: &Boxed<Observation>,
 ) -> Result<Truths, Memory>
-    ensures { IfOk result (IsObserved symbols.old view.now (and_obs (observation_tree left.now) (observation_tree right.now)) symbols.new) }
+    ensures { IfOk result (IsObserved symbols.old view.now (junction_of junction (observation_tree left.now) (observation_tree right.now)) symbols.new) }
 {
     let outer = left.get();
-    let first = truth_in(view, symbols, outer)?;
+    let truths = truth_in(view, symbols, outer)?;
+    let first = side(junction, truths);
     let Truths {
         fits,
         if_true,
         if_false,
     } = first;
-    match if_true {
-        None => Ok(Truths {
-            fits,
-            if_true: None,
-            if_false,
-        }),
-        Some(more) => {
-            let mut there = more;
-            let inner = right.get();
-            let second = truth_in(view, &mut there, inner)?;
-            let either = joined(symbols, if_false, second.if_false)?;
-            let fit = both(fits, second.fits);
-            Ok(Truths {
-                fits: fit,
-                if_true: second.if_true,
-                if_false: either,
-            })
-        }
-    }
+    let second = truth_where(view, if_true, right)?;
+    decided(symbols, junction, fits, if_false, second)
 }
 
-// One of the two is true, or both are.
+// What is known where an observation is true, and where it is false, where more is known, if that can be.
 #[cycle(values)]
-fn one_of(
+fn truth_where(
     view: &View,
-    symbols: &mut Symbols,
-    left: &Boxed<Observation>,
-    right: &Boxed<Observation>,
-) -> Result<Truths, Memory>
-    ensures { IfOk result (IsObserved symbols.old view.now (or_obs (observation_tree left.now) (observation_tree right.now)) symbols.new) }
+    symbols: Option<Symbols>,
+    observation: &Boxed<Observation>,
+) -> Result<Option<Truths>, Memory>
+    ensures { IfOk result (ObservesIn view.now symbols (observation_tree observation.now)) }
 {
-    let outer = left.get();
-    let first = truth_in(view, symbols, outer)?;
-    let Truths {
-        fits,
-        if_true,
-        if_false,
-    } = first;
-    match if_false {
-        None => Ok(Truths {
-            fits,
-            if_true,
-            if_false: None,
-        }),
-        Some(more) => {
-            let mut there = more;
-            let inner = right.get();
-            let second = truth_in(view, &mut there, inner)?;
-            let either = joined(symbols, if_true, second.if_true)?;
-            let fit = both(fits, second.fits);
-            Ok(Truths {
-                fits: fit,
-                if_true: either,
-                if_false: second.if_false,
-            })
+    match symbols {
+        None => Ok(None),
+        Some(there) => {
+            let mut more = there;
+            let inner = observation.get();
+            let truths = truth_in(view, &mut more, inner)?;
+            Ok(Some(truths))
         }
     }
 }

@@ -1,17 +1,14 @@
 //! A state, an interval and what was paid, in expressions.
-ghost use Rattle.std.specs.Prelude.{◌≡◌, ◌∷◌, ◌++◌, pos, is_some, IfOk, OnOk};
+ghost use Rattle.std.specs.Prelude.{◌≡◌, ◌∷◌, pos, is_some, IfOk, OnOk};
 ghost use Rattle.std.specs.Option.{unwrap_or};
 ghost use Rattle.std.specs.FinMap.Entries.{find};
 ghost use Rattle.names.specs.Orders.{choice_id_cmp, bytes_cmp};
 ghost use Rattle.semantics.specs.Reduction.{account_of};
 ghost use Rattle.linear.specs.Linear.{number};
-ghost use Rattle.analysis_values.specs.Known.{held, with_amount};
-ghost use Rattle.analysis_values.specs.Entries.{keys_of};
+ghost use Rattle.analysis_values.specs.Known.{held};
 
-use crate::lookup::{
-    AccountOf, copied_entries, copied_times, found, has, or_zero, put_first, put_keys, put_time,
-};
-use collections::{Items, Memory, Text, TryClone};
+use crate::lookup::{AccountOf, copied_entries, copied_times, found, has, or_zero, put_time};
+use collections::{Memory, Text, TryClone};
 use linear::Linear;
 use names::{Account, ChoiceId, Party, Token};
 use std::alloc::Global;
@@ -116,24 +113,6 @@ impl View {
         Ok(or_zero(self.memory(), entry))
     }
 
-    /// What a party was paid of a token.
-    pub(crate) fn paid(&self, owner: &Party, token: &Token) -> Result<Linear, Memory>
-        ensures { IfOk result (λ e. e ≡ held self.now.paid (account_of owner.now token.now)) }
-    {
-        let entry = found(&self.paid, &AccountOf { owner, token })?;
-        Ok(or_zero(self.memory(), entry))
-    }
-
-    /// The accounts that have an entry, of what is held or of what was paid: the others hold 0, and were paid nothing.
-    pub(crate) fn named(&self) -> Result<Items<Account>, Memory>
-        ensures { IfOk result (λ ns. ns ≡ keys_of self.now.accounts ++ keys_of self.now.paid) }
-    {
-        let mut names = Items::new(self.memory());
-        put_keys(&mut names, &self.accounts)?;
-        put_keys(&mut names, &self.paid)?;
-        Ok(names)
-    }
-
     /// The number that was chosen, if one was.
     pub(crate) fn choice(&self, id: &ChoiceId) -> Result<Option<Linear>, Memory>
         ensures { IfOk result (λ o. o ≡ find choice_id_cmp id.now self.now.choices) }
@@ -171,59 +150,6 @@ impl View {
     {
         let entry = self.bound(name)?;
         Ok(or_zero(self.memory(), entry))
-    }
-
-    /// Whether a value is bound to a name.
-    pub(crate) fn is_bound(&self, name: &Text) -> bool
-        ensures { result ≡ is_some (find bytes_cmp name.now self.now.bound) }
-    {
-        has(&self.bound, name)
-    }
-
-    /// Sets what the account of a party holds of a token.
-    pub(crate) fn put_account(
-        &mut self,
-        owner: &Party,
-        token: &Token,
-        amount: Linear,
-    ) -> Result<(), Memory>
-        ensures { OnOk result (self.new ≡ with_amount self.old owner.now token.now amount) }
-    {
-        put_first(&mut self.accounts, &AccountOf { owner, token }, amount)
-    }
-
-    /// Sets what a party was paid of a token.
-    pub(crate) fn put_paid(
-        &mut self,
-        owner: &Party,
-        token: &Token,
-        amount: Linear,
-    ) -> Result<(), Memory>
-        ensures { OnOk result (self.new ≡ record self.old { paid = (account_of owner.now token.now, amount) ∷ self.old.paid }) }
-    {
-        put_first(&mut self.paid, &AccountOf { owner, token }, amount)
-    }
-
-    /// Sets the number of a choice.
-    pub(crate) fn put_choice(&mut self, id: &ChoiceId, number: Linear) -> Result<(), Memory>
-        ensures { OnOk result (self.new ≡ record self.old { choices = (id.now, number) ∷ self.old.choices }) }
-    {
-        put_first(&mut self.choices, id, number)
-    }
-
-    /// Binds a value to a name.
-    pub(crate) fn put_bound(&mut self, name: &Text, value: Linear) -> Result<(), Memory>
-        ensures { OnOk result (self.new ≡ record self.old { bound = (name.now, value) ∷ self.old.bound }) }
-    {
-        put_first(&mut self.bound, name, value)
-    }
-
-    /// Sets the two ends of the interval.
-    pub(crate) fn put_interval(&mut self, start: Linear, end: Linear)
-        ensures { self.new ≡ record self.old { start = start; end = end } }
-    {
-        self.start = start;
-        self.end = end;
     }
 
     /// Says that a symbol is a time.

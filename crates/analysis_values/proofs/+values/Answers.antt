@@ -7,7 +7,9 @@ use Rattle.contract.proofs.TreeLaws.{observation_tree-AndObs, observation_tree-O
 use Rattle.std.proofs.lemmas.Result.{IfOk-weaker}
 use Rattle.analysis_values.specs.Steps.{IsEvaluated, IsObserved, tree_of, test_of, result_of, LooksWhereSaid}
 use Rattle.analysis_values.proofs.StepLemmas.{evaluated_as, ok_both, ok_three, two_evaluated, two_fit, tree_evaluated, tree_visited, negation_evaluated, one_fits, both_evaluated, both_fit}
-use Rattle.analysis_values.proofs.TruthLemmas.{leads_on_by, leads_on_then, evaluated_on, not_evaluated, and_evaluated, or_evaluated, evaluated_either, observed_as, settled_decides, test_decides, test_looks, not_decides, and_never, and_never_looks, and_decides, and_looks, or_never, or_never_looks, or_decides, or_looks}
+use Rattle.analysis_values.proofs.TruthLemmas.{leads_on_by, leads_on_then, evaluated_on, not_evaluated, and_evaluated, or_evaluated, evaluated_either, observed_as, settled_decides, test_decides, test_looks, not_decides}
+use Rattle.analysis_values.specs.Branches.{branch_tree}
+use Rattle.analysis_values.proofs.JunctionLemmas.{side_again}
 use Rattle.analysis_values.proofs.«+values».Goals as goal
 
 pub values::value_in-returns-in-AvailableMoney : goal.values::value_in-returns-in-AvailableMoney
@@ -75,12 +77,12 @@ values::value_in-returns-in-Constant t c =
 pub observations::truth_in-returns-in-AndObs : goal.observations::truth_in-returns-in-AndObs
 observations::truth_in-returns-in-AndObs t c =
     let e = ap observation_tree c.in-AndObs.is ∙ observation_tree-AndObs _ _ in
-    observed_as c.both_of.result _ _ _ _ _ e c.both_of.ensures
+    observed_as c.of_junction.result _ _ _ _ _ e c.of_junction.ensures
 
 pub observations::truth_in-returns-in-OrObs : goal.observations::truth_in-returns-in-OrObs
 observations::truth_in-returns-in-OrObs t c =
     let e = ap observation_tree c.in-OrObs.is ∙ observation_tree-OrObs _ _ in
-    observed_as c.one_of.result _ _ _ _ _ e c.one_of.ensures
+    observed_as c.of_junction-in-OrObs.result _ _ _ _ _ e c.of_junction-in-OrObs.ensures
 
 pub observations::truth_in-returns-in-NotObs : goal.observations::truth_in-returns-in-NotObs
 observations::truth_in-returns-in-NotObs t c =
@@ -207,137 +209,78 @@ conditionals::by_opposite-returns t c =
     IfOk-weaker c.taken_apart.result _ _
     (λ a e. not_evaluated c.args.symbols.now c.args.view.now c.taken_apart.new.symbols a (observation_tree c.args.condition.now) (value_tree c.args.first.now) (value_tree c.args.second.now) e) h
 
+pub observations::none_of-returns : goal.observations::none_of-returns
+observations::none_of-returns t c =
+    let p = rw c.get-inner.ensures at c.in_ok-truths.ensures in
+    record { truths = not_decides c.args.view.now c.args.symbols.now c.truth_in.new.symbols (observation_tree c.args.observation.now) c.in_ok-truths.truths.if_true c.in_ok-truths.truths.if_false p.truths; fits = p.fits }
+
 pub conditionals::by_both-returns : goal.conditionals::by_both-returns
 conditionals::by_both-returns t c =
-    let p = rw c.get-inner.ensures at c.in_ok-truths.ensures in
-    let v = c.args.view.now in
-    let k = c.args.symbols.now in
-    let n = c.of_either.new.symbols in
-    let o = observation_tree c.args.left.now in
-    let q = observation_tree c.args.right.now in
-    let x = value_tree c.args.first.now in
-    let y = value_tree c.args.second.now in
-    IfOk-weaker c.of_either.result _ _
-    (λ a h. and_evaluated k v n a o x y q (evaluated_either k v c.truth_in.new.symbols n a c.in_ok-one.one c.in_ok-other.other o (cond_value q x y) y c.in_ok-truths.truths p c.in_ok-one.ensures c.in_ok-other.ensures h)) c.of_either.ensures
+    let p = rw c.get-inner.ensures at c.by_truth.ensures in
+    IfOk-weaker c.by_truth.result _ _
+    (λ a h. and_evaluated c.args.symbols.now c.args.view.now c.by_truth.new.symbols a (observation_tree c.args.left.now) (value_tree c.args.first.now) (value_tree c.args.second.now) (observation_tree c.args.right.now) h) p
 
 pub conditionals::by_one-returns : goal.conditionals::by_one-returns
 conditionals::by_one-returns t c =
-    let p = rw c.get-inner.ensures at c.in_ok-truths.ensures in
-    let v = c.args.view.now in
-    let k = c.args.symbols.now in
-    let n = c.of_either.new.symbols in
-    let o = observation_tree c.args.left.now in
-    let q = observation_tree c.args.right.now in
-    let x = value_tree c.args.first.now in
-    let y = value_tree c.args.second.now in
-    IfOk-weaker c.of_either.result _ _
-    (λ a h. or_evaluated k v n a o x y q (evaluated_either k v c.truth_in.new.symbols n a c.in_ok-one.one c.in_ok-other.other o x (cond_value q x y) c.in_ok-truths.truths p c.in_ok-one.ensures c.in_ok-other.ensures h)) c.of_either.ensures
+    let p = rw c.get-inner.ensures at c.by_truth.ensures in
+    IfOk-weaker c.by_truth.result _ _
+    (λ a h. or_evaluated c.args.symbols.now c.args.view.now c.by_truth.new.symbols a (observation_tree c.args.left.now) (value_tree c.args.first.now) (value_tree c.args.second.now) (observation_tree c.args.right.now) h) p
 
 pub conditionals::by_truth-returns : goal.conditionals::by_truth-returns
 conditionals::by_truth-returns t c =
     IfOk-weaker c.of_either.result _ _
-    (λ a h. evaluated_either c.args.symbols.now c.args.view.now c.truth_in.new.symbols c.of_either.new.symbols a c.in_ok-one.one c.in_ok-other.other (observation_tree c.args.condition.now) (value_tree c.args.first.now) (value_tree c.args.second.now)
-    c.in_ok-truths.truths c.in_ok-truths.ensures c.in_ok-one.ensures c.in_ok-other.ensures h) c.of_either.ensures
+    (λ a h. evaluated_either c.args.symbols.now c.args.view.now c.truth_in.new.symbols c.of_either.new.symbols a c.in_ok-first.first c.in_ok-second.second (observation_tree c.args.condition.now) (branch_tree c.args.one) (branch_tree c.args.other)
+    c.in_ok-truths.truths c.in_ok-truths.ensures c.in_ok-first.ensures c.in_ok-second.ensures h) c.of_either.ensures
 
-pub conditionals::apart_where-returns-in-None : goal.conditionals::apart_where-returns-in-None
-conditionals::apart_where-returns-in-None t c = rw c.in-None.is refl
+pub conditionals::branch_where-returns-in-None : goal.conditionals::branch_where-returns-in-None
+conditionals::branch_where-returns-in-None t c = rw c.in-None.is refl
 
-pub conditionals::apart_where-returns-in_ok-evaluated-in-Some : goal.conditionals::apart_where-returns-in_ok-evaluated-in-Some
-conditionals::apart_where-returns-in_ok-evaluated-in-Some t c =
-    let p = rw c.get-inner.ensures at c.in_ok-evaluated-in-Some.ensures in
+pub conditionals::branch_where-returns-in_ok-evaluated-in-Some : goal.conditionals::branch_where-returns-in_ok-evaluated-in-Some
+conditionals::branch_where-returns-in_ok-evaluated-in-Some t c =
+    let p = c.in_ok-evaluated-in-Some.ensures in
     rw c.in-Some.is (p.number, p.fits)
 
-pub conditionals::value_where-returns-in-None : goal.conditionals::value_where-returns-in-None
-conditionals::value_where-returns-in-None t c = rw c.in-None.is refl
+pub conditionals::branch_in-returns-in-Value : goal.conditionals::branch_in-returns-in-Value
+conditionals::branch_in-returns-in-Value t c = evaluated_as c.value_in.result _ _ _ _ _ (ap branch_tree c.in-Value.is) (rw c.get.ensures at c.value_in.ensures)
 
-pub conditionals::value_where-returns-in_ok-evaluated-in-Some : goal.conditionals::value_where-returns-in_ok-evaluated-in-Some
-conditionals::value_where-returns-in_ok-evaluated-in-Some t c =
-    let p = rw c.get-inner.ensures at c.in_ok-evaluated-in-Some.ensures in
-    rw c.in-Some.is (p.number, p.fits)
+pub conditionals::branch_in-returns-in-Cond : goal.conditionals::branch_in-returns-in-Cond
+conditionals::branch_in-returns-in-Cond t c = evaluated_as c.taken_apart.result _ _ _ _ _ (ap branch_tree c.in-Cond.is) (rw c.get-in-Cond.ensures at c.taken_apart.ensures)
 
 pub observations::compare-returns : goal.observations::compare-returns
 observations::compare-returns t c =
     let v = c.args.view.now in
     let k = c.args.symbols.now in
     let m = c.both_values.new.symbols in
-    let n = c.settled.new.symbols in
+    let n = c.compared.new.symbols in
     let x = value_tree c.args.left.now in
     let y = value_tree c.args.right.now in
     let f = c.args.comparison in
     let p = c.in_ok-operands.operands in
     let e = rw c.in_ok-there.ensures at c.in_ok-operands.ensures in
-    let d = test_decides v k m x y p.left p.right f c.in_ok-if_true.if_true c.in_ok-if_false.if_false e.number c.in_ok-if_true.ensures c.in_ok-if_false.ensures in
     let w = test_looks v k m x y p.left p.right f p.fits e.fits in
-    ok_both c.settled.result _ _ (IsObserved k v (test_of f x y) n)
+    ok_both c.compared.result _ _ (IsObserved k v (test_of f x y) n)
     (λ t h l. record {
-      truths = settled_decides v k m n (test_of f x y) c.in_ok-if_true.if_true c.in_ok-if_false.if_false t.if_true t.if_false d l;
+      truths = settled_decides v k m n (test_of f x y) l.0 l.1 t.if_true t.if_false (test_decides v k m x y p.left p.right f l.0 l.1 e.number l.2 l.3) l.4;
       fits = subst (LooksWhereSaid v k (test_of f x y)) (sym h) w;
     })
-    c.settled.ensures.fits c.settled.ensures.leaves
+    c.compared.ensures.fits c.compared.ensures.leaves
 
-pub observations::none_of-returns : goal.observations::none_of-returns
-observations::none_of-returns t c =
-    let p = rw c.get-inner.ensures at c.in_ok-truths.ensures in
-    record { truths = not_decides c.args.view.now c.args.symbols.now c.truth_in.new.symbols (observation_tree c.args.observation.now) c.in_ok-truths.truths.if_true c.in_ok-truths.truths.if_false p.truths; fits = p.fits }
-
-pub observations::both_of-returns-in-None : goal.observations::both_of-returns-in-None
-observations::both_of-returns-in-None t c =
-    let p = rw c.get-outer.ensures at c.in_ok-first.ensures in
-    let d = rw c.in-None.is at p.truths in
+pub observations::of_junction-returns : goal.observations::of_junction-returns
+observations::of_junction-returns t c =
+    let p = rw c.get-outer.ensures at c.in_ok-truths.ensures in
     let v = c.args.view.now in
     let k = c.args.symbols.now in
     let n = c.truth_in.new.symbols in
     let x = observation_tree c.args.left.now in
     let y = observation_tree c.args.right.now in
-    let w = c.in_ok-first.first.if_false in
-    record { truths = and_never v k n x y w d; fits = and_never_looks v k n x y w c.in_ok-first.first.fits d p.fits }
+    let f = c.side-first.result in
+    let h = subst (IsObserved k v x n) (sym (side_again c.args.junction c.in_ok-truths.truths f c.side-first.ensures)) p in
+    IfOk-weaker c.decided.result _ _ (λ a d. d k v x y f.if_true h c.in_ok-second.ensures) c.decided.ensures
 
-pub observations::both_of-returns-in_ok-either-in-Some : goal.observations::both_of-returns-in_ok-either-in-Some
-observations::both_of-returns-in_ok-either-in-Some t c =
-    let p = rw c.get-outer.ensures at c.in_ok-first.ensures in
-    let d = rw c.in-Some.is at p.truths in
-    let q = rw c.get-inner.ensures at c.in_ok-second-in-Some.ensures in
-    let v = c.args.view.now in
-    let k = c.args.symbols.now in
-    let n = c.truth_in.new.symbols in
-    let m = c.in-Some.more in
-    let j = c.truth_in-in-Some.new.symbols in
-    let x = observation_tree c.args.left.now in
-    let y = observation_tree c.args.right.now in
-    let w = c.in_ok-first.first.if_false in
-    let o = c.in_ok-second-in-Some.second in
-    record {
-      truths = and_decides v k n m j x y w o.if_true o.if_false d q.truths c.in_ok-either-in-Some.either c.in_ok-either-in-Some.ensures;
-      fits = rw c.both-fit.ensures (and_looks v k n m x y w c.in_ok-first.first.fits o.fits d p.fits q.fits);
-    }
+pub observations::truth_where-returns-in-None : goal.observations::truth_where-returns-in-None
+observations::truth_where-returns-in-None t c = rw c.in-None.is refl
 
-pub observations::one_of-returns-in-None : goal.observations::one_of-returns-in-None
-observations::one_of-returns-in-None t c =
-    let p = rw c.get-outer.ensures at c.in_ok-first.ensures in
-    let d = rw c.in-None.is at p.truths in
-    let v = c.args.view.now in
-    let k = c.args.symbols.now in
-    let n = c.truth_in.new.symbols in
-    let x = observation_tree c.args.left.now in
-    let y = observation_tree c.args.right.now in
-    let w = c.in_ok-first.first.if_true in
-    record { truths = or_never v k n x y w d; fits = or_never_looks v k n x y w c.in_ok-first.first.fits d p.fits }
-
-pub observations::one_of-returns-in_ok-either-in-Some : goal.observations::one_of-returns-in_ok-either-in-Some
-observations::one_of-returns-in_ok-either-in-Some t c =
-    let p = rw c.get-outer.ensures at c.in_ok-first.ensures in
-    let d = rw c.in-Some.is at p.truths in
-    let q = rw c.get-inner.ensures at c.in_ok-second-in-Some.ensures in
-    let v = c.args.view.now in
-    let k = c.args.symbols.now in
-    let n = c.truth_in.new.symbols in
-    let m = c.in-Some.more in
-    let j = c.truth_in-in-Some.new.symbols in
-    let x = observation_tree c.args.left.now in
-    let y = observation_tree c.args.right.now in
-    let w = c.in_ok-first.first.if_true in
-    let o = c.in_ok-second-in-Some.second in
-    record {
-      truths = or_decides v k n m j x y w o.if_true o.if_false d q.truths c.in_ok-either-in-Some.either c.in_ok-either-in-Some.ensures;
-      fits = rw c.both-fit.ensures (or_looks v k n m x y w c.in_ok-first.first.fits o.fits d p.fits q.fits);
-    }
+pub observations::truth_where-returns-in_ok-truths-in-Some : goal.observations::truth_where-returns-in_ok-truths-in-Some
+observations::truth_where-returns-in_ok-truths-in-Some t c =
+    let p = rw c.get-inner.ensures at c.in_ok-truths-in-Some.ensures in
+    rw c.in-Some.is (c.truth_in.new.symbols, p)
