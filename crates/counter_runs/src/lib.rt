@@ -1,8 +1,7 @@
 //! Runs that end in an alarm.
 //!
 //! For an alarm that an analysis raises, `run_to` looks for a run from the start state that comes to its place and
-//! warns there. Nothing of how it looks has to be believed: a run is told only after `ends_in` has played it again by
-//! the transaction function, one transaction after another.
+//! warns there. Nothing of how it looks has to be believed: a run is told only after the crate `replay` has played it again.
 //!
 //! The search follows the place, from the contract down, and has a choice of intervals, of numbers and of nothing
 //! else: what is deposited is what is asked. Where it has a choice, it takes the first candidate; then runs with one
@@ -12,8 +11,6 @@
 
 mod candidates;
 mod constants;
-mod kinds;
-mod replay;
 mod search;
 mod turns;
 mod walk;
@@ -22,7 +19,5 @@ mod weights;
 mod work;
 mod written;
 
-pub use kinds::kind_of;
-pub use replay::ends_in;
 pub use search::run_to;
 pub use written::is_written;

@@ -4,7 +4,6 @@ ghost use Rattle.contract.specs.Tree.{contract_tree};
 ghost use Rattle.semantics.specs.Walk.{standing};
 ghost use Rattle.analysis_spec.specs.CounterRuns.{EndsIn};
 
-use crate::replay::ends_in;
 use crate::turns::{Turns, next_turns};
 use crate::walk::{Try, try_run};
 use crate::way::Way;
@@ -12,6 +11,7 @@ use crate::work::spend;
 use analysis_spec::Alarm;
 use collections::{Items, Memory};
 use contract::{Contract, State, Transaction};
+use replay::replayed;
 use std::alloc::Global;
 
 // The most points of a run at which it takes another candidate than the first.
@@ -85,7 +85,7 @@ fn run_with(
             alloc, contract, place, way, alarm.kind, state, turns, work,
         )?;
         let found = before.saturating_sub(*work);
-        let run = replayed(alloc, contract, state, alarm, way, run, found, work)?;
+        let run = played_again(alloc, contract, state, alarm, way, run, found, work)?;
         if run.is_some() {
             return Ok(run);
         }
@@ -96,8 +96,8 @@ fn run_with(
     Ok(None)
 }
 
-// A run, if it ends in the alarm as it is played again; to find it took so much work.
-fn replayed(
+// A run, if it ends in the alarm as it is played again, and there is work left to do so; to find it took so much.
+fn played_again(
     alloc: Global,
     contract: &Contract,
     state: &State,
@@ -112,11 +112,8 @@ fn replayed(
     let Some(run) = run else {
         return Ok(None);
     };
-    if !spend(work, way.replay(run.len(), found)) {
-        return Ok(None);
-    }
-    if ends_in(alloc, contract, state, run.as_slice(), alarm.kind)? {
-        Ok(Some(run))
+    if spend(work, way.replay(run.len(), found)) {
+        replayed(alloc, contract, state, run, alarm.kind)
     } else {
         Ok(None)
     }

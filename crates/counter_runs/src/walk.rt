@@ -2,7 +2,7 @@
 //!
 //! It goes through the contract by rules of its own, of which nothing is proved. Where they are wrong, it loses a run
 //! that there is, and the alarm is told as one that isn't known; or it brings one that doesn't end in the alarm, which
-//! `ends_in` then throws away. A run that is false is never told.
+//! `replayed` then throws away. A run that is false is never told.
 ghost use Rattle.std.specs.Prelude.{pos, ◌≤ℤ◌};
 
 use crate::candidates::{Numbers, Times};

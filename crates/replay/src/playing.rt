@@ -1,5 +1,5 @@
 //! Runs that are played again.
-ghost use Rattle.std.specs.Prelude.{◌≡◌, true, IfOk};
+ghost use Rattle.std.specs.Prelude.{◌≡◌, true, IfOk, IfSome};
 ghost use Rattle.contract.specs.Tree.{contract_tree};
 ghost use Rattle.collections.specs.Answers.{AsideBy};
 ghost use Rattle.semantics.specs.Walk.{standing, answer_of};
@@ -9,7 +9,7 @@ ghost use Rattle.analysis_spec.specs.CounterRuns.{EndsIn, HasKind, Tells};
 
 use crate::kinds::has_kind;
 use analysis_spec::AlarmKind;
-use collections::Memory;
+use collections::{Items, Memory};
 use contract::{Contract, Outcome, SemFault, State, Transaction, Warning};
 use semantics::{Plain, Steps};
 use std::alloc::{AllocError, Global};
@@ -35,6 +35,23 @@ pub fn ends_in(
             Err(SemFault::Memory) => Err(AllocError),
             Err(_) => Ok(false),
         },
+    }
+}
+
+/// A run, if it ends in an alarm of a kind, as `ends_in` tells.
+pub fn replayed(
+    alloc: Global,
+    contract: &Contract,
+    state: &State,
+    run: Items<Transaction>,
+    kind: AlarmKind,
+) -> Result<Option<Items<Transaction>>, Memory>
+    ensures { IfOk result (λ found. IfSome found (EndsIn kind (standing state.now (contract_tree contract.now)))) }
+{
+    if ends_in(alloc, contract, state, run.as_slice(), kind)? {
+        Ok(Some(run))
+    } else {
+        Ok(None)
     }
 }
 
