@@ -8,6 +8,7 @@ ghost use Rattle.marlowe_analyse.specs.Lines.{lines_of, alarms_lines};
 ghost use Rattle.marlowe_analyse.specs.Printed.{printed, IsClear, TellsOfTree, TellsSo, is_read};
 ghost use Rattle.marlowe_analyse.specs.RunsSupport.{TellsFrom, is_started};
 
+use crate::dropped::beside_dropped;
 use crate::lines::{put_alarms, put_ranges};
 use crate::runs::{told_alarms, work_of};
 use crate::told::Told;
@@ -57,7 +58,10 @@ pub fn analyse_text(
 {
     let length = contract.len().saturating_add(length_of(state));
     match read_contract(alloc, contract) {
-        Ok(given) => analysed_from(alloc, &given, state, length, reader),
+        Ok(given) => {
+            let told = analysed_from(alloc, &given, state, length, reader);
+            beside_dropped(given, told)
+        }
         Err(fault) => Err(RunFault::of_contract(fault)),
     }
 }
@@ -75,7 +79,8 @@ fn analysed_from(
 {
     match start(alloc, state) {
         Ok(first) => {
-            let told = analysis_text(alloc, contract, &first, length, reader)?;
+            let text = analysis_text(alloc, contract, &first, length, reader);
+            let told = beside_dropped(first, text)?;
             Ok(told)
         }
         Err(fault) => Err(RunFault::of_state(fault)),

@@ -2,6 +2,7 @@
 #![tactic(auto)]
 
 mod analysed;
+mod dropped;
 mod lines;
 mod order;
 mod places;

@@ -8,7 +8,7 @@ use std::alloc::Global;
 
 // Where an alarm stands, so that the derived order is that of places: what stands nearer the beginning is less, a
 // place less than those behind it, and of one place what was raised first.
-#[derive(Debug, PartialEq, Eq, PartialOrd, Ord, Drop)]
+#[derive(PartialEq, Eq, PartialOrd, Ord, Drop)]
 pub(crate) struct Standing {
     steps: Vec<StepOrder>,
     pub(crate) index: usize,
@@ -16,7 +16,7 @@ pub(crate) struct Standing {
 
 // Where a step leads: of a When its cases come in their order, each action before what follows it, and then what
 // follows the timeout; of an If first `then` and then `else`.
-#[derive(Clone, Copy, Debug, PartialEq, Eq, PartialOrd, Ord)]
+#[derive(Clone, Copy, PartialEq, Eq, PartialOrd, Ord)]
 struct StepOrder {
     is_last: bool,
     case: usize,

@@ -8,7 +8,7 @@ use collections::Items;
 use contract::Transaction;
 
 /// A step of the way to a place in a contract's text: a key of an object, or the place of a case in its list, from 0.
-#[derive(Clone, Copy, Debug, PartialEq, Eq)]
+#[derive(Clone, Copy)]
 pub(crate) enum Key {
     Then,
     Else,

@@ -8,8 +8,9 @@ pub returns-in_ok-told-in-Ok : goal.returns-in_ok-told-in-Ok
 returns-in_ok-told-in-Ok c =
     let start = start_of (option_map (λ t. t.now) c.args.state) in
     let told = c.in_ok-told-in-Ok.told in
+    let h = rw (← c.in_ok-told-in-Ok.ensures) at c.analysis_text-text.ensures in
     record {
-      told = tells_from c.args.reader (contract_tree c.args.contract.now) start c.in-Ok.first told.is_clear told.text.items c.in-Ok.ensures c.in_ok-told-in-Ok.ensures;
+      told = tells_from c.args.reader (contract_tree c.args.contract.now) start c.in-Ok.first told.is_clear told.text.items c.in-Ok.ensures h;
       read = started start c.in-Ok.first c.in-Ok.ensures;
     }
 
