@@ -68,12 +68,12 @@ impl<'r, R: Clock + Eprint> Progress<'r, R> {
 }
 
 impl<R: Clock + Eprint> Watch for Progress<'_, R> {
-    fn answered(&self, _entry: u64) {
+    fn answered(&self) {
         self.entries.fetch_add(1, Ordering::SeqCst);
         self.show();
     }
 
-    fn ended(&self, _seat: u64) {
+    fn ended(&self) {
         self.ended.fetch_add(1, Ordering::SeqCst);
         self.show();
     }

@@ -10,9 +10,8 @@ mod lines;
 mod playing;
 mod refusal_line;
 mod turns;
-mod watch;
 
 pub use fault::PlayFault;
+pub use parties::{NoWatch, Watch};
 pub use playing::{play, play_watched};
 pub use refusal_line::play_refusal;
-pub use watch::{Unwatched, Watch};

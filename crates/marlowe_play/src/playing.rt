@@ -12,9 +12,9 @@ ghost use Rattle.play_setup.specs.SetUp.{key_output, object_of};
 use crate::fault::PlayFault;
 use crate::lines::played_text;
 use crate::turns::{play_turns, seats_of, take_first, turns_of};
-use crate::watch::{Told, Unwatched, Watch};
 use hub::{Hub, Opening, Seat, Session};
 use json_read_scenarios::read_scenario;
+use parties::{NoWatch, Watch};
 use plans::Scenario;
 use play_setup::{Stage, first_chain, set_up};
 use std::alloc::Global;
@@ -40,7 +40,7 @@ pub fn play<R: Threads + Wait + Sync>(
     ensures unread { IsRefused (of_text reads.scenario text.now) result }
     ensures played { IfOk result (λ lines. IsPlayed (of_text reads.scenario text.now) lines.items) }
 {
-    play_watched(rt, alloc, text, one, &Unwatched)
+    play_watched(rt, alloc, text, one, &NoWatch)
 }
 
 /// The same, while somebody is told how far it is.
@@ -107,7 +107,7 @@ fn play_all<R: Threads + Wait + Sync, J: Session + Send + Sync, W: Watch + Sync>
     ensures seats { IfOk result (λ r. WerePlayed scenario.now r.0.starts.items r.1.items) }
 {
     let mut first = take_first(&mut seats);
-    let stage = set_up(rt, alloc, hub, &mut first, &Told { watch }, scenario)?;
+    let stage = set_up(rt, alloc, hub, &mut first, watch, scenario)?;
     let turns = turns_of(alloc, hub, scenario, &stage.starts, seats)?;
     let ended = play_turns(rt, alloc, watch, turns, one)?;
     let seats = seats_of(alloc, first, ended)?;

@@ -5,11 +5,10 @@ ghost use Rattle.json_read_scenarios.specs.Named.{PlanNames};
 ghost use Rattle.marlowe_play.specs.PlayedSupport.{HasPlayed};
 ghost use Rattle.play_setup.specs.SetUp.{currencies, plan_on};
 
-use crate::watch::{Told, Watch};
 use collections::Memory;
 use eutxo_types::OutputRef;
 use hub::{Hub, Seat, SeatAtHub, Session};
-use parties::Party;
+use parties::{Party, Watch};
 use plans::Scenario;
 use play_setup::plan_on;
 use std::alloc::Global;
@@ -74,9 +73,7 @@ fn played<R: Threads + Wait + Sync, J: Session, W: Watch>(
 {
     let Turn { party, place } = turn;
     let SeatAtHub { hub, mut seat } = place;
-    let told = party.run_watched(rt, alloc, hub, &mut seat, &Told { watch });
-    watch.ended(seat.number());
-    match told {
+    match party.run_watched(rt, alloc, hub, &mut seat, watch) {
         Ok(_) => (seat, Ok(())),
         Err(refused) => (seat, Err(refused)),
     }

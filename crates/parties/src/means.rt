@@ -57,7 +57,7 @@ impl<R: Threads + Wait + Sync, J: Session, W: Watch> Means<'_, R, J, W> {
                 .hub
                 .round(self.rt, self.alloc, seat, count, inside(workers), &NoGate)?,
         };
-        self.watch.answered(receipt.entry());
+        self.watch.answered();
         Ok(receipt)
     }
 }

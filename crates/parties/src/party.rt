@@ -129,7 +129,7 @@ impl Party {
         Ok(receipts)
     }
 
-    /// The same, with a watch that is called after each answered call, and with what it left out beside the receipts: each
+    /// The same, with a watch that is called after each answered call and at the end, and with what it left out beside the receipts: each
     /// intent that its builder refused for another cause than memory, with the looks by which it did, and with the cause.
     pub fn run_watched<R: Threads + Wait + Sync, J: Session, W: Watch>(
         &self,
@@ -173,7 +173,9 @@ impl Party {
             tells,
         };
         let mut receipts = Vec::new(alloc);
-        let left = perform_all(&means, seat, &mut receipts)?;
+        let left = perform_all(&means, seat, &mut receipts);
+        watch.ended();
+        let left = left?;
         Ok((receipts, left))
     }
 }

@@ -1,17 +1,21 @@
-//! What is called after each answered call.
+//! Who is told how far parties are.
 
-/// What a caller has done after each answered call of a party, in the party's thread. It is for a caller's tests and
-/// for showing how far a play has come. It changes no answer: it gives none, and is given no handle, so its calls
-/// return.
+/// Who is told how far parties are: a caller's tests, and who shows how far a play has come. It is called in the party's thread, and changes no
+/// answer: it gives none, and is given no handle, so its calls return.
 pub trait Watch {
-    /// A call of the party was answered, by the entry at this place of the history.
-    fn answered(&self, entry: u64);
+    /// A call was answered.
+    fn answered(&self);
+
+    /// A party has gone through its plan, or was refused memory.
+    fn ended(&self);
 }
 
 /// The watch that does nothing.
-#[derive(Drop)]
+#[derive(Clone, Copy, Debug)]
 pub struct NoWatch;
 
 impl Watch for NoWatch {
-    fn answered(&self, _entry: u64) {}
+    fn answered(&self) {}
+
+    fn ended(&self) {}
 }

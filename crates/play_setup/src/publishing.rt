@@ -75,7 +75,7 @@ fn is_published<R: Wait, J: Session, W: Watch>(
     let contract = named.contract.try_clone()?;
     let call = Call::Publish { contract, currency };
     let receipt = hub.call(rt, alloc, seat, call)?;
-    watch.answered(receipt.entry());
+    watch.answered();
     match receipt.reply() {
         Reply::Published(_) => Ok(true),
         Reply::IdInUse => Ok(false),

@@ -83,7 +83,7 @@ fn look_at<R: Wait, J: Session, W: Watch>(
         payouts: Items::new(alloc),
     };
     let shown = hub.call(rt, alloc, seat, Call::Look(ask))?;
-    watch.answered(shown.entry());
+    watch.answered();
     Ok(shown)
 }
 
@@ -146,7 +146,7 @@ fn submitted<R: Wait, J: Session, W: Watch>(
         × WentOn seat.old seat.new ((on.Submit tx, replies.Accepted (id_of tx)) ∷ [])) }
 {
     let told = hub.call(rt, alloc, seat, Call::Submit(tx))?;
-    watch.answered(told.entry());
+    watch.answered();
     match told.reply() {
         Reply::Accepted(id) => Ok(OutputRef::Made { id: *id, index: 0 }),
         Reply::Refused(fault) => Err(thread_refused(alloc, name, tx_fault_text(alloc, fault))),

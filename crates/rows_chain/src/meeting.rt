@@ -74,9 +74,11 @@ impl Gate for Meeting {
 
 /// A party comes first with its first call, and waits for the second then.
 impl Watch for Meeting {
-    fn answered(&self, _entry: u64) {
+    fn answered(&self) {
         if self.first.swap(1, Ordering::SeqCst) == 0 {
             self.wait(&self.second);
         }
     }
+
+    fn ended(&self) {}
 }

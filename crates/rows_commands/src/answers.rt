@@ -4,7 +4,7 @@ use crate::examples::example;
 use crate::folder::Folder;
 use crate::shown::shown;
 use marlowe_commands::{Printed, command};
-use marlowe_play::Unwatched;
+use marlowe_play::NoWatch;
 use rows_given::Given;
 use rows_text::{RowFault, first};
 use std::rt::Files;
@@ -41,6 +41,6 @@ pub fn printed<R: Files + AllocGlobal + Threads + Wait + Sync>(
     for word in line.split_whitespace() {
         words.push(String::from_str(alloc, word)?)?;
     }
-    let printed = command(rt, &Folder { rt, given }, &Unwatched, words.as_slice());
+    let printed = command(rt, &Folder { rt, given }, &NoWatch, words.as_slice());
     Ok(printed?)
 }
