@@ -26,7 +26,7 @@ ROWS = [crate for crate in CRATES if crate.startswith("rows_")]
 TESTS = ["tests"]
 LIBRARIES = [crate for crate in CRATES if crate not in ROWS + TESTS + ["marlowe", "uses"]]
 # The crates whose calls a user makes.
-PUBLIC = """marlowe_commands marlowe_run marlowe_analyse marlowe_play marlowe_cli marlowe_io contract_json json_read_scenarios evaluation semantics states compiler table machine contract_bytes
+PUBLIC = """marlowe_commands marlowe_refusals marlowe_run marlowe_analyse marlowe_play marlowe_cli marlowe_io contract_json json_read_scenarios evaluation semantics states compiler table machine contract_bytes
             bundle eutxo_types eutxo parallel_check roles ledger chain builder hub parties""".split()
 
 # Where the names of an enum's variants are printed, and for a variant that isn't printed by its own name, how.

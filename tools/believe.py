@@ -27,7 +27,7 @@ BEGIN, END = "<!-- written by tools/believe.py -->", "<!-- to here -->"
 
 # The faces of the page: a title, and the calls. What a crate passes on is read off its lib.rt.
 FACES = [
-    ("`marlowe run`, and the texts that it reads", "marlowe_run::run marlowe_run::refusal contract_json::read_contract contract_json::read_input contract_json::read_state "
+    ("`marlowe run`, and the texts that it reads", "marlowe_run::run marlowe_refusals::refusal contract_json::read_contract contract_json::read_input contract_json::read_state "
      "contract_json::read_transaction"),
     ("The transaction function on a tree, its laws, and states", "evaluation::value evaluation::holds semantics states"),
     ("Tables: what compiles to which, and runs on them", "marlowe_run::table_text compiler table machine"),

@@ -7,9 +7,9 @@ use Rattle.contract.specs.Tree.{ContractTree, contract_tree}
 use Rattle.states.specs.States.{StateMaps}
 use Rattle.json_read_names.specs.declared.fault.JsonFault.{JsonFault}
 use Rattle.json_read_names.specs.declared.fault.JsonFault.TheVariants as json
-use Rattle.marlowe_run.specs.declared.fault.RunFault.{RunFault}
-use Rattle.marlowe_run.specs.declared.fault.RunFault.TheVariants as run
-use Rattle.marlowe_run.specs.Faults.{read_as, contract_fault, state_fault}
+use Rattle.marlowe_refusals.specs.declared.fault.RunFault.{RunFault}
+use Rattle.marlowe_refusals.specs.declared.fault.RunFault.TheVariants as run
+use Rattle.marlowe_refusals.specs.Faults.{read_as, contract_fault, state_fault}
 use Rattle.json_read_names.specs.ReadsText.{of_text}
 use Rattle.json_read_contracts.specs.ReadsContract.{contract}
 use Rattle.marlowe_analyse.specs.declared.analysed.Analysed.{Analysed}

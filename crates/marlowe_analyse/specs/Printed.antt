@@ -7,8 +7,8 @@ use Rattle.states.specs.States.{StateMaps}
 use Rattle.json_read_names.specs.ReadsText.{of_text}
 use Rattle.json_read_contracts.specs.ReadsContract.{contract}
 use Rattle.analysis_spec.specs.declared.paid.PaidRange.{PaidRange}
-use Rattle.marlowe_run.specs.declared.fault.RunFault.{RunFault}
-use Rattle.marlowe_run.specs.Faults.{read_as, contract_fault, state_fault}
+use Rattle.marlowe_refusals.specs.declared.fault.RunFault.{RunFault}
+use Rattle.marlowe_refusals.specs.Faults.{read_as, contract_fault, state_fault}
 use Rattle.marlowe_analyse.specs.declared.analysed.Reader.{Reader}
 use Rattle.marlowe_analyse.specs.declared.analysed.Reader.TheVariants.{People, OfAlarms, Tools, PeopleWithoutRuns, ToolsWithoutRuns}
 use Rattle.marlowe_analyse.specs.Told.{Alarms, IsSo, NeverAlarms, start_of}

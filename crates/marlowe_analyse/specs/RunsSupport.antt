@@ -5,8 +5,8 @@ use Rattle.contract.specs.Tree.{ContractTree}
 use Rattle.states.specs.States.{StateMaps}
 use Rattle.analysis_spec.specs.declared.alarm.Alarm.{Alarm}
 use Rattle.json_read_names.specs.declared.fault.JsonFault.{JsonFault}
-use Rattle.marlowe_run.specs.declared.fault.RunFault.{RunFault}
-use Rattle.marlowe_run.specs.Faults.{read_as, state_fault}
+use Rattle.marlowe_refusals.specs.declared.fault.RunFault.{RunFault}
+use Rattle.marlowe_refusals.specs.Faults.{read_as, state_fault}
 use Rattle.marlowe_analyse.specs.declared.analysed.Reader.{Reader}
 use Rattle.marlowe_analyse.specs.declared.order.Standing.{Standing}
 use Rattle.marlowe_analyse.specs.declared.told.ToldAlarm.{ToldAlarm}

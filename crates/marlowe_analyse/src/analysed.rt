@@ -18,7 +18,7 @@ use analysis_walk::Analysis;
 use collections::Memory;
 use contract::{Contract, State};
 use contract_json::{JsonFault, read_contract, read_state};
-use marlowe_run::RunFault;
+use marlowe_refusals::RunFault;
 use std::alloc::Global;
 
 /// Who reads what is printed.

@@ -1,9 +1,9 @@
 -- What is printed for each task.
 use Rattle.std.specs.Prelude.{◌≡◌, ◌⊎◌, ℕ, true, false, List, [], ◌∷◌, ◌++◌, Option, Some, None, Result, Ok, Err, codes}
 use Rattle.clap.specs.Words.{Row, Text}
-use Rattle.marlowe_run.specs.declared.fault.RunFault.{RunFault}
-use Rattle.marlowe_run.specs.declared.table_fault.TableFault.{TableFault}
-use Rattle.marlowe_run.specs.Refusals.{run_refusal, table_refusal}
+use Rattle.marlowe_refusals.specs.declared.fault.RunFault.{RunFault}
+use Rattle.marlowe_refusals.specs.declared.table_fault.TableFault.{TableFault}
+use Rattle.marlowe_refusals.specs.Refusals.{run_refusal, table_refusal}
 use Rattle.marlowe_analyse.specs.declared.analysed.Reader.{Reader}
 use Rattle.marlowe_analyse.specs.Printed.{TellsSo, is_read}
 use Rattle.marlowe_cli.specs.declared.task.Task.{Task}

@@ -4,7 +4,7 @@ use Rattle.json_read_names.specs.declared.fault.JsonFault.{JsonFault}
 use Rattle.json_read_names.specs.declared.fault.JsonFault.TheVariants as json
 use Rattle.json_read_names.specs.Parts.{Reading}
 use Rattle.plans.specs.declared.scenario.Scenario.{Scenario as ScenarioRead}
-use Rattle.marlowe_run.specs.Refusals.{json_fault_name}
+use Rattle.marlowe_refusals.specs.Refusals.{json_fault_name}
 use Rattle.marlowe_play.specs.declared.fault.PlayFault.{PlayFault}
 use Rattle.marlowe_play.specs.declared.fault.PlayFault.TheVariants.{Scenario, Setup, Memory}
 

@@ -4,7 +4,7 @@ ghost use Rattle.marlowe_play.specs.Faults.{play_refusal_text};
 
 use crate::fault::PlayFault;
 use collections::Memory;
-use marlowe_run::json_fault_name;
+use marlowe_refusals::json_fault_name;
 use std::alloc::Global;
 
 /// The line for a fault, without its line feed: `refused scenario NAME` where the JSON text has the fault, the line of the

@@ -8,9 +8,9 @@ use Rattle.lowering.specs.Code.{code}
 use Rattle.compiler.specs.declared.fault.CompileFault.{CompileFault}
 use Rattle.compiler.specs.Limits.{compile_fault}
 use Rattle.table_lines.specs.TableLines.{table_lines}
-use Rattle.marlowe_run.specs.declared.table_fault.TableFault.{TableFault}
-use Rattle.marlowe_run.specs.Faults.{read_as}
-use Rattle.marlowe_run.specs.TableFaults.{table_contract_fault, table_compile_fault}
+use Rattle.marlowe_refusals.specs.declared.table_fault.TableFault.{TableFault}
+use Rattle.marlowe_refusals.specs.Faults.{read_as}
+use Rattle.marlowe_refusals.specs.TableFaults.{table_contract_fault, table_compile_fault}
 
 -- the lines of a contract's table
 abbrev pub contract_lines : ContractTree → List ℕ

@@ -4,7 +4,7 @@ ghost use Rattle.contract.specs.Tree.{contract_tree};
 ghost use Rattle.marlowe_run.specs.TableText.{printed_table, table_text};
 
 use crate::dropped::beside_dropped;
-use crate::table_fault::TableFault;
+use marlowe_refusals::TableFault;
 use compiler::compile;
 use contract::Contract;
 use contract_json::read_contract;

@@ -16,7 +16,7 @@ use Rattle.ledger.specs.declared.call.Reply.{Reply}
 use Rattle.ledger.specs.declared.call.Reply.TheVariants as replies
 use Rattle.ledger.specs.declared.call.Entry.{Entry}
 use Rattle.ledger.specs.declared.call.Ticketed.{Ticketed}
-use Rattle.marlowe_run.specs.Refusals.{sem_fault_name, compile_fault_name}
+use Rattle.marlowe_refusals.specs.Refusals.{sem_fault_name, compile_fault_name}
 
 -- ---- faults: the name, and after a space the place, the party, the token, or the name of the fault inside
 

@@ -7,7 +7,7 @@ use crate::fault_texts::tx_fault_text;
 use collections::Memory;
 use eutxo_types::Verdict;
 use ledger::{Entry, Reply, Ticketed};
-use marlowe_run::compile_fault_name;
+use marlowe_refusals::compile_fault_name;
 use std::alloc::Global;
 use std::fmt::Write;
 

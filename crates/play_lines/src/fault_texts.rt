@@ -7,7 +7,7 @@ use builder_spec::BuildFault;
 use collections::Memory;
 use eutxo_types::TxFault;
 use json_write_contracts::{Term, term_text};
-use marlowe_run::sem_fault_name;
+use marlowe_refusals::sem_fault_name;
 use std::alloc::Global;
 
 /// The text of a transaction's fault. Answers `Memory` only where a growth was refused.

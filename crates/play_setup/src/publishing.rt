@@ -9,7 +9,7 @@ use crate::fault::{SetupFault, refused};
 use chain::{Call, Reply};
 use collections::{Memory, TryClone};
 use hub::{Hub, Seat, Session};
-use marlowe_run::compile_fault_name;
+use marlowe_refusals::compile_fault_name;
 use parties::Watch;
 use plans::NamedContract;
 use roles::{CompileFault, Published, publish};

@@ -5,7 +5,7 @@ use contract_json::{JsonFault, WriteFault};
 use marlowe_cli::{Task, WordsFault};
 use marlowe_io::LoadFault;
 use marlowe_play::PlayFault;
-use marlowe_run::{Fault, RunFault, TableFault, refusal};
+use marlowe_refusals::{Fault, RunFault, TableFault, refusal};
 use rows_text::{RowFault, put_same};
 use std::alloc::{AllocError, Global};
 use std::fmt::Display;

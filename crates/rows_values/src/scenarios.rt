@@ -3,7 +3,7 @@ use crate::intents::put_plan;
 use collections::Memory;
 use contract_json::{WriteFault, fitting_to_json, to_json};
 use json_read_names::JsonFault;
-use marlowe_run::json_fault_name;
+use marlowe_refusals::json_fault_name;
 use plans::{Funds, NamedContract, NamedThread, Scenario};
 use rows_text::{RowFault, put_amounts};
 use serde_json::Value as Json;

@@ -5,7 +5,7 @@ use contract::{
     TryClone, Value,
 };
 use contract_json::{JsonFault, Transaction, WriteFault};
-use marlowe_run::{json_fault_name, write_fault_name};
+use marlowe_refusals::{json_fault_name, write_fault_name};
 use rows_text::{RowFault, same_or_other};
 use std::alloc::{AllocError, Global};
 

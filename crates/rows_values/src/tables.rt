@@ -4,7 +4,7 @@ use collections::{Boxed, Items, TryClone};
 use compiler::{CompileFault, compile};
 use contract::{Action, Case, Contract, Observation};
 use contract_json::read_contract;
-use marlowe_run::compile_fault_name;
+use marlowe_refusals::compile_fault_name;
 use rows_text::{RowFault, nested, number, parts, put_beside, put_copies, put_copy, wide};
 use std::alloc::{AllocError, Global};
 use table::{Cont, Entry, Table};

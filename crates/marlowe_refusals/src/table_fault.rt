@@ -1,10 +1,10 @@
 //! Why a table isn't printed.
 ghost use Rattle.std.specs.Prelude.{◌≡◌};
-ghost use Rattle.marlowe_run.specs.TableFaults.{table_contract_fault, table_compile_fault};
-ghost use Rattle.marlowe_run.specs.declared.table_fault.TableFault.TheVariants as table;
+ghost use Rattle.marlowe_refusals.specs.TableFaults.{table_contract_fault, table_compile_fault};
+ghost use Rattle.marlowe_refusals.specs.declared.table_fault.TableFault.TheVariants as table;
 
 use compiler::CompileFault;
-use contract_json::JsonFault;
+use json_read_names::JsonFault;
 use std::alloc::AllocError;
 use thiserror::Error;
 

@@ -3,8 +3,8 @@ use Rattle.json_read_names.specs.declared.fault.JsonFault.{JsonFault}
 use Rattle.json_read_names.specs.declared.fault.JsonFault.TheVariants as json
 use Rattle.compiler.specs.declared.fault.CompileFault.{CompileFault}
 use Rattle.compiler.specs.declared.fault.CompileFault.TheVariants as compile
-use Rattle.marlowe_run.specs.declared.table_fault.TableFault.{TableFault}
-use Rattle.marlowe_run.specs.declared.table_fault.TableFault.TheVariants as table
+use Rattle.marlowe_refusals.specs.declared.table_fault.TableFault.{TableFault}
+use Rattle.marlowe_refusals.specs.declared.table_fault.TableFault.TheVariants as table
 
 abbrev pub table_contract_fault : JsonFault → TableFault
 table_contract_fault json.Memory = table.Memory
