@@ -10,8 +10,10 @@ Usage    plays.py SCENARIO                      prints what `marlowe play --one 
 Expect   the lines of the play and status 0, or one line `refused ..` on standard error and status 1;
          `replayed N entries`, where each printed verdict is the one that comes here, seat by seat;
          `N scenarios agree`, then how many lines of each kind there were; the same for the same seed.
-         for each race how many entries it has, of which how many were refused since another was faster, and that they were replayed.
-Else     the first line that differs, or `differs` with the seed and the scenario's file, and status 1.
+         for each race how many entries it has, how often another plan's entry came next, how many entries were refused since another was faster, and that
+         they were replayed.
+Else     the first line that differs, or `differs` with the seed and the scenario's file, or `in turn` where no race has a plan's entry between two of another
+         plan, and status 1.
 """
 import collections
 import json
@@ -307,7 +309,14 @@ def race_of(seed):
     return json.dumps(scenario, separators=(",", ":")).encode()
 
 
+def turns(lines):
+    """How often the next entry is of another plan, from the first entry of a plan on."""
+    seats = [found[1] for found in map(ENTRY.match, lines) if found and found[1] != "0"]
+    return sum(one != other for one, other in zip(seats, seats[1:]))
+
+
 def race(count, seed, program):
+    mixed = False
     with tempfile.TemporaryDirectory() as folder:
         path = os.path.join(folder, "scenario.json")
         for number in range(count):
@@ -317,7 +326,12 @@ def race(count, seed, program):
             output, refusal, status = run(program, path)
             if status:
                 raise Differs(f"{refusal}\nhere the race is played")
-            print(replayed(text, lines_of(output.encode())), "entries,", output.count("NotUnspent"), "of them refused since another was faster: replayed")
+            lines = lines_of(output.encode())
+            # in turn there are as many as plans but one
+            mixed |= turns(lines) >= 10
+            print(f"{replayed(text, lines)} entries, {turns(lines)} turns,", output.count("NotUnspent"), "entries refused since another was faster: replayed")
+    if not mixed:
+        raise Differs("in turn")
 
 
 def kind(line):

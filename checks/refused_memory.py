@@ -10,10 +10,12 @@ A party that is refused looks once more: the entries of looks are left out where
 
 What checks at hand spare: a call that has one makes fewer requests than one that has none. `checks/before_merge.sh` runs this part.
 
-Of the built program `marlowe` each request is refused alone, and then with all that come after it.
+Of the built program `marlowe` each request is refused alone, and then with all that come after it. Whichever it is, also one of a party of a play, nothing
+is printed but `refused Memory`: a play in which a party stops for want of memory isn't told as a shorter one.
 
 Needs    (cd crates/rows_chain && rt run -- data/hub.txt data/common.txt) and (cd crates/marlowe && rt run -- --version); `cc` and glibc on Linux.
 Usage    checks/refused_memory.py [calls] [spared] [marlowe]    all three, or those that are named; `spared` takes some seconds
+         checks/refused_memory.py run|table|play|analyse ..     these tasks of `marlowe` alone
          checks/refused_memory.py --table ..                    the same, as the table of checks/README.md
 Expect   for each kind of row how often it was refused memory, how often a row's own words were, and how often all came as with ample memory; the same of
          `marlowe`; and that the checks at hand spare requests, and status 0; a few minutes.
@@ -313,7 +315,7 @@ def main():
                 if counts[less] >= total:
                     wrong.append(f"{less}: not fewer requests than {' and '.join(more)}")
         for task, lines in command_lines().items():
-            for on in (False, True) if "marlowe" in wanted else ():
+            for on in (False, True) if {"marlowe", task.split()[0]} & set(wanted) else ():
                 sums = [0, 0, 0]
                 for line in lines:
                     *counts, faults = of_program(pool, library, line, on)

@@ -1,0 +1,87 @@
+#!/usr/bin/env python3
+"""Plays scenarios by the built program, and prints what a step takes in instructions and what it leaves in memory, each beside its bound.
+
+Needs    (cd crates/marlowe && rt run -- --version), valgrind and Debian's package `libc-devtools`
+Usage    step_costs.py [PROGRAM]   (another program than the built one)
+Expect   three lines and status 0, in half a minute:
+         - a step: what FEW to MANY deposits add to a run, by callgrind. A step is two calls, a look and a submit, with the copies that its seat keeps. Each
+           transaction is encoded a few times, and hashed once; more work than the bound allows is done again and again;
+         - a step's room: what the same steps add to the peak of the heap. Entries stay, and so do the ids and the moves of their transactions. What was
+           spent leaves its place to what comes;
+         - locks' names: how much more the peak is where each of CHAIN parties sends its change to the next one than where all are one party. An address
+           without outputs leaves no name.
+Else     `too many` behind what is above its bound, and status 1
+Mind     both are exact, and the same on a busy machine. FEW and MANY are powers of two: so the lists and maps of both have the same share of free room. The
+         bounds are of the program as it is built from proofs; one built by `rt try` takes more instructions and room.
+"""
+import json
+import os
+import re
+import subprocess
+import sys
+import tempfile
+
+import plays
+
+FEW, MANY = 512, 1024
+CHAIN = 60
+INSTRUCTIONS = 1
+ROOM = 1
+NAMES = 2_000
+
+
+def chained(own):
+    """A scenario of so many parties, each of which deposits 1 ada once, and sends what it has left to the next one; or of one party in their place, whose
+    name is as long."""
+    names = [f"p{place if own else 0:02}" for place in range(CHAIN + 1)]
+    left = "close"
+    for name in reversed(names[:-1]):
+        left = {"when": [{"case": plays.deposit_of(name), "then": left}], "timeout": 100, "timeout_continuation": "close"}
+    given = [{"input_from_party": {"address": name}, "that_deposits": 1, "of_token": plays.ADA, "into_account": {"address": name}} for name in names]
+    return {"tick": 0,
+            "genesis": [{"address": name, "amount": [[plays.ADA, 1000]]} for name in (names[0], "bank")],
+            "contracts": [{"name": "p", "currency": "aa", "contract": left}],
+            "threads": [{"name": "t", "contract": "p", "by": "bank", "accounts": [], "minTime": 0}],
+            "plans": [{"name": f"plan{place:02}", "keys": [names[place]], "change": names[place + 1], "intents": [{"step": "t", "inputs": [given[place]], "from": 0, "to": 10}]}
+                      for place in range(CHAIN)]}
+
+
+def played(program, told, steps, before):
+    """What a program that measures says of a play in turn with so many steps."""
+    with tempfile.TemporaryDirectory() as folder:
+        path = os.path.join(folder, "scenario.json")
+        with open(path, "w", encoding="utf-8") as file:
+            json.dump(told, file, separators=(",", ":"))
+        run = subprocess.run([*before, program, "play", path, "--one"], capture_output=True, text=True)
+    if run.returncode or run.stdout.count(" submit accepted\n") != steps + len(told["threads"]):
+        sys.exit("the program answered otherwise")
+    return run.stderr
+
+
+def instructions(program, told, steps):
+    said = played(program, told, steps, ["valgrind", "--tool=callgrind", "--callgrind-out-file=/dev/null"])
+    return int(re.search(r"Collected : (\d+)", said)[1])
+
+
+def peak(program, told, steps):
+    """The most bytes of the heap that are taken at once."""
+    return int(re.search(r"heap peak: (\d+)", played(program, told, steps, ["memusage"]))[1])
+
+
+def a_step(measured, program):
+    """What each of the steps that MANY are more than FEW adds."""
+    return (measured(program, plays.scenario(MANY), MANY) - measured(program, plays.scenario(FEW), FEW)) / (MANY - FEW)
+
+
+def main(words):
+    program = os.path.abspath(words[0]) if words else plays.PROGRAM
+    found = [("a step takes", a_step(instructions, program), INSTRUCTIONS, "instructions"),
+             ("a step leaves", a_step(peak, program), ROOM, "bytes"),
+             (f"{CHAIN} names of locks leave", peak(program, chained(True), CHAIN) - peak(program, chained(False), CHAIN), NAMES, "bytes")]
+    for what, count, most, unit in found:
+        print(f"{what} {count:,.0f} {unit}, of at most {most:,}" + ("" if count <= most else ": too many"), flush=True)
+    sys.exit(1 if any(count > most for _, count, most, _ in found) else 0)
+
+
+if __name__ == "__main__":
+    main(sys.argv[1:])
