@@ -10,15 +10,14 @@ use Rattle.analysis_spec.specs.declared.paid.PaidRange.{PaidRange}
 use Rattle.marlowe_refusals.specs.declared.fault.RunFault.{RunFault}
 use Rattle.marlowe_refusals.specs.Faults.{read_as, contract_fault, state_fault}
 use Rattle.marlowe_analyse.specs.declared.analysed.Reader.{Reader}
-use Rattle.marlowe_analyse.specs.declared.analysed.Reader.TheVariants.{People, OfAlarms, Tools, PeopleWithoutRuns, ToolsWithoutRuns}
+use Rattle.marlowe_analyse.specs.declared.analysed.Reader.TheVariants.{People, Tools, PeopleWithoutRuns, ToolsWithoutRuns}
 use Rattle.marlowe_analyse.specs.Told.{Alarms, IsSo, NeverAlarms, start_of}
 use Rattle.marlowe_analyse.specs.ToldLines.{Line, line_at}
-use Rattle.marlowe_analyse.specs.Lines.{alarms_lines, lines_of}
+use Rattle.marlowe_analyse.specs.Lines.{lines_of}
 use Rattle.marlowe_analyse.specs.Tools.{told_json}
 
 abbrev pub printed : Reader → List Line → List PaidRange → List ℕ
 printed People lines ranges = lines_of true lines ranges
-printed OfAlarms lines ranges = alarms_lines true lines
 printed Tools lines ranges = compact_text (told_json true lines ranges) ++ 10 ∷ []
 printed PeopleWithoutRuns lines ranges = lines_of false lines ranges
 printed ToolsWithoutRuns lines ranges = compact_text (told_json false lines ranges) ++ 10 ∷ []

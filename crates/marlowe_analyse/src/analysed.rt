@@ -4,7 +4,7 @@ ghost use Rattle.collections.specs.Answers.{Aside, AsideBy};
 ghost use Rattle.contract.specs.Tree.{contract_tree};
 ghost use Rattle.marlowe_analyse.specs.Told.{start_of};
 ghost use Rattle.marlowe_analyse.specs.ToldLines.{line_of, LineFits};
-ghost use Rattle.marlowe_analyse.specs.Lines.{lines_of, alarms_lines};
+ghost use Rattle.marlowe_analyse.specs.Lines.{lines_of};
 ghost use Rattle.marlowe_analyse.specs.Printed.{printed, IsClear, TellsOfTree, TellsSo, is_read};
 ghost use Rattle.marlowe_analyse.specs.RunsSupport.{TellsFrom, is_started};
 
@@ -26,8 +26,6 @@ use std::alloc::Global;
 pub enum Reader {
     /// Lines for people: alarms with their runs, and then what is paid.
     People,
-    /// Of these lines those of alarms alone.
-    OfAlarms,
     /// JSON for tools.
     Tools,
     /// Lines for people, of which those of alarms have no run: none is looked for.
@@ -109,7 +107,7 @@ fn analysis_text(
 // Whether runs are looked for.
 fn has_runs(reader: Reader) -> bool {
     match reader {
-        Reader::People | Reader::OfAlarms | Reader::Tools => true,
+        Reader::People | Reader::Tools => true,
         Reader::PeopleWithoutRuns | Reader::ToolsWithoutRuns => false,
     }
 }
@@ -137,7 +135,6 @@ fn printed(alloc: Global, told: &Told, reader: Reader) -> Result<Vec<u8>, Memory
 {
     match reader {
         Reader::People => for_people(alloc, told, true),
-        Reader::OfAlarms => of_alarms(alloc, told),
         Reader::Tools => put_told(alloc, told, true),
         Reader::PeopleWithoutRuns => for_people(alloc, told, false),
         Reader::ToolsWithoutRuns => put_told(alloc, told, false),
@@ -151,14 +148,5 @@ fn for_people(alloc: Global, told: &Told, runs: bool) -> Result<Vec<u8>, Memory>
     let mut out = Vec::new(alloc);
     put_alarms(alloc, &mut out, &told.alarms, runs)?;
     put_ranges(alloc, &mut out, told.ranges.as_slice())?;
-    Ok(out)
-}
-
-fn of_alarms(alloc: Global, told: &Told) -> Result<Vec<u8>, Memory>
-    requires { All LineFits told.now.alarms.items }
-    ensures { IfOk result (λ text. text.items ≡ alarms_lines true (map line_of told.now.alarms.items)) }
-{
-    let mut out = Vec::new(alloc);
-    put_alarms(alloc, &mut out, &told.alarms, true)?;
     Ok(out)
 }
