@@ -53,7 +53,8 @@ pub fn analysis_printed(
     state: Option<&[u8]>,
     reader: Reader,
 ) -> Result<Printed, Memory>
-    ensures told { IfOk result (λ printed. PrintsAnalysis reader contract.now (option_map (λ text. text.now) state.entry) (streams_of printed)) }
+    ensures told { IfOk result (λ printed.
+        PrintsAnalysis reader contract.now (option_map (λ text. text.now) state.entry) (streams_of printed)) }
     ensures stream { IfOk result (λ printed. IsOnOneStream (streams_of printed)) }
 {
     match analyse_text(alloc, contract, state, reader) {

@@ -46,7 +46,8 @@ pub record TellsAPlay (s : ScenarioRead) (text : List ℕ) : Type 0 where
   pub set_up : IsSetUp s begun first.answers
   pub played : AllZip (PlaysPlan s begun) s.plans parties
   pub threads : List ThreadLine
-  pub each : AllZip (λ (b : Begun) (line : ThreadLine). IsThreadLine (course (map key_output s.genesis) s.tick entries) b.thread.name b.object (start_output b) line) begun threads
+  pub each : AllZip (λ (b : Begun) (line : ThreadLine).
+      IsThreadLine (course (map key_output s.genesis) s.tick entries) b.thread.name b.object (start_output b) line) begun threads
   pub lines : text ≡ played_lines entries threads
 
 -- what is printed of a scenario tells a play of it; of a text that is none, nothing is

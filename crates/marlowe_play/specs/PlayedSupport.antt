@@ -30,5 +30,6 @@ pub record WerePlayed (s : ScenarioRead) (outputs : List OutputRef) (seats : Lis
 -- the lines of these threads, in order
 abbrev pub AreLines : Course → List Published → List NamedThread → List OutputRef → List ThreadLine → Type 0
 AreLines c objects [] [] [] = Unit {0}
-AreLines c objects (t ∷ ts) (start ∷ starts) (line ∷ lines) = ((object : Published) × (slice_get objects t.contract ≡ Some object) × IsThreadLine c t.name object start line) × AreLines c objects ts starts lines
+AreLines c objects (t ∷ ts) (start ∷ starts) (line ∷ lines) =
+    ((object : Published) × (slice_get objects t.contract ≡ Some object) × IsThreadLine c t.name object start line) × AreLines c objects ts starts lines
 AreLines c objects _ _ _ = ⊥

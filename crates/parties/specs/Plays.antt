@@ -47,8 +47,11 @@ claim_ask plan currency role = record { thread = None; keys = plan.keys; payouts
 abbrev pub step_request : PlayedPlan → List Input → Interval → Look → StepRequest
 step_request plan inputs interval look = request interval inputs plan.keys look.keys plan.change
 
+abbrev pub step_answer : Look → StepRequest → Result Tx BuildFault
+step_answer look r = build_answer (hinders_step look r) (layout_step look r)
+
 abbrev pub step_made : PlayedPlan → List Input → Interval → Look → Result Tx BuildFault
-step_made plan inputs interval look = build_answer (hinders_step look (step_request plan inputs interval look)) (layout_step look (step_request plan inputs interval look))
+step_made plan inputs interval look = step_answer look (step_request plan inputs interval look)
 
 -- steps of several threads: a request with a part for each, as its look shows it; offered are the key outputs of the first look
 abbrev pub offered_by : List Look → List Unspent
@@ -63,15 +66,21 @@ parts_of (s ∷ ss) (look ∷ looks) = record { look = look; inputs = s.1 } ∷ 
 abbrev pub joint_request : PlayedPlan → List (OutputRef × List Input) → Interval → List Look → StepsRequest
 joint_request plan steps interval looks = steps_request (parts_of steps looks) interval plan.keys (offered_by looks) plan.change
 
+abbrev pub steps_answer : StepsRequest → Result Tx BuildFault
+steps_answer r = build_answer (hinders_steps r) (layout_steps r)
+
 abbrev pub steps_made : PlayedPlan → List (OutputRef × List Input) → Interval → List Look → Result Tx BuildFault
-steps_made plan steps interval looks = build_answer (hinders_steps (joint_request plan steps interval looks)) (layout_steps (joint_request plan steps interval looks))
+steps_made plan steps interval looks = steps_answer (joint_request plan steps interval looks)
 
 -- a claim: a request for all shown payouts; they go to the change address, too
 abbrev pub payout_request : PlayedPlan → Interval → Look → ClaimRequest
 payout_request plan interval look = claim_request look.payouts interval plan.keys look.keys plan.change plan.change
 
+abbrev pub claim_answer : ClaimRequest → Result Tx BuildFault
+claim_answer r = build_answer (hinders_claim r) (layout_claim r)
+
 abbrev pub claim_made : PlayedPlan → Interval → Look → Result Tx BuildFault
-claim_made plan interval look = build_answer (hinders_claim (payout_request plan interval look)) (layout_claim (payout_request plan interval look))
+claim_made plan interval look = claim_answer (payout_request plan interval look)
 
 -- what an intent asks to be shown, in order: one look, or one for each of several threads
 abbrev pub asks_of : PlayedPlan → PlayedIntent → List Ask
@@ -109,19 +118,24 @@ WereShown asks looks before = (earlier last : List Answer) × (before ≡ earlie
 -- a call looks, or hands in what the builder makes of the look that was shown just before: nothing hinders that request
 abbrev pub LooksOrHandsIn : Ask → (Tx → Call) → (Look → Result Tx BuildFault) → List Answer → Call → Type 0
 LooksOrHandsIn ask hand_in made before call =
-    (call ≡ on.Look ask) ⊎ ((look : Look) × (tx : Tx) × (WereShown (ask ∷ []) (look ∷ []) before) × (made look ≡ Ok tx) × (call ≡ hand_in tx))
+    (call ≡ on.Look ask)
+    ⊎ ((look : Look) × (tx : Tx) × (WereShown (ask ∷ []) (look ∷ []) before) × (made look ≡ Ok tx) × (call ≡ hand_in tx))
 
 -- a call looks at one of several threads, or hands in what the builder makes of the looks that were shown just before, one for each, in order
 abbrev pub LooksAllOrHandsIn : List Ask → (Tx → Call) → (List Look → Result Tx BuildFault) → List Answer → Call → Type 0
 LooksAllOrHandsIn asks hand_in made before call =
-    Any (λ ask. call ≡ on.Look ask) asks ⊎ ((looks : List Look) × (tx : Tx) × (WereShown asks looks before) × (made looks ≡ Ok tx) × (call ≡ hand_in tx))
+    Any (λ ask. call ≡ on.Look ask) asks
+    ⊎ ((looks : List Look) × (tx : Tx) × (WereShown asks looks before) × (made looks ≡ Ok tx) × (call ≡ hand_in tx))
 
 -- OF AN INTENT: a call of the seat, by the answers before it
 abbrev pub IsOf : PlayedPlan → List Answer → Call → PlayedIntent → Type 0
-IsOf plan before call (Step thread inputs interval pooled) = LooksOrHandsIn (step_ask plan thread) (λ tx. if pooled then on.Enqueue tx else on.Submit tx) (step_made plan inputs interval) before call
+IsOf plan before call (Step thread inputs interval pooled) =
+    LooksOrHandsIn (step_ask plan thread) (λ tx. if pooled then on.Enqueue tx else on.Submit tx) (step_made plan inputs interval) before call
 IsOf plan before call (Steps steps interval pooled) =
-    LooksAllOrHandsIn (map (λ s. step_ask plan s.0) steps) (λ tx. if pooled then on.Enqueue tx else on.Submit tx) (steps_made plan steps interval) before call
-IsOf plan before call (Claim currency role interval) = LooksOrHandsIn (claim_ask plan currency role) on.Submit (claim_made plan interval) before call
+    LooksAllOrHandsIn (map (λ s. step_ask plan s.0) steps) (λ tx. if pooled then on.Enqueue tx else on.Submit tx) (steps_made plan steps interval)
+    before call
+IsOf plan before call (Claim currency role interval) =
+    LooksOrHandsIn (claim_ask plan currency role) on.Submit (claim_made plan interval) before call
 IsOf plan before call (Round count workers) = call ≡ on.Round count
 IsOf plan before call (Advance tick) = call ≡ on.Advance tick
 

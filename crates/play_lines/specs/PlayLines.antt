@@ -96,7 +96,8 @@ reply_text replies.Full = codes "enqueue full"
 reply_text (replies.Round tickets) = beside (codes "round") (round_text tickets)
 
 abbrev pub entry_line : ℕ → Entry → List ℕ
-entry_line n e = decimal n ++ (codes " " ++ (decimal e.seat ++ (codes "." ++ (decimal e.number ++ (codes " " ++ (reply_text e.reply ++ 10 ∷ []))))))
+entry_line n e =
+    decimal n ++ (codes " " ++ (decimal e.seat ++ (codes "." ++ (decimal e.number ++ (codes " " ++ (reply_text e.reply ++ 10 ∷ []))))))
 
 abbrev pub entry_lines : ℕ → List Entry → List ℕ
 entry_lines n [] = []
@@ -110,7 +111,8 @@ pub record ThreadLine : Type 0 where
   pub closed : Bool
 
 abbrev pub thread_line : ThreadLine → List ℕ
-thread_line t = codes "thread " ++ (t.name ++ (codes " steps " ++ (decimal t.steps ++ (if t.closed then codes " closed\n" else codes " open\n"))))
+thread_line t =
+    codes "thread " ++ (t.name ++ (codes " steps " ++ (decimal t.steps ++ (if t.closed then codes " closed\n" else codes " open\n"))))
 
 abbrev pub thread_lines : List ThreadLine → List ℕ
 thread_lines [] = []
@@ -118,4 +120,5 @@ thread_lines (t ∷ ts) = thread_line t ++ thread_lines ts
 
 -- ---- all of them
 unfoldable pub played_lines : List Entry → List ThreadLine → List ℕ
-played_lines entries threads = entry_lines 0 entries ++ (thread_lines threads ++ (codes "entries " ++ (decimal (length entries) ++ 10 ∷ [])))
+played_lines entries threads =
+    entry_lines 0 entries ++ (thread_lines threads ++ (codes "entries " ++ (decimal (length entries) ++ 10 ∷ [])))

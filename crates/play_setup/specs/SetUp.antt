@@ -119,4 +119,5 @@ intent_on names outputs (Round count workers) = Round count workers
 intent_on names outputs (Advance tick) = Advance tick
 
 abbrev pub plan_on : List (List ℕ) → List OutputRef → Plan ℕ ℕ → PlayedPlan
-plan_on names outputs p = record { name = p.name; keys = p.keys; change = p.change; intents = map (intent_on names outputs) p.intents; stop_after = p.stop_after }
+plan_on names outputs p =
+    record { name = p.name; keys = p.keys; change = p.change; intents = map (intent_on names outputs) p.intents; stop_after = p.stop_after }
