@@ -1,15 +1,15 @@
 #!/usr/bin/env python3
 """Plays scenarios by the built program, and prints what a step takes in instructions and what it leaves in memory, each beside its bound.
 
-Needs    (cd crates/marlowe && rt run -- --version), valgrind and Debian's package `libc-devtools`
+Needs    (cd crates/marlowe && rt run -- --version), and valgrind
 Usage    step_costs.py [PROGRAM]   (another program than the built one)
 Expect   three lines and status 0, in half a minute:
          - a step: what FEW to MANY deposits add to a run, by callgrind. A step is two calls, a look and a submit, with the copies that its seat keeps. Each
            transaction is encoded a few times, and hashed once; more work than the bound allows is done again and again;
          - a step's room: what the same steps add to the peak of the heap. Entries stay, and so do the ids and the moves of their transactions. What was
            spent leaves its place to what comes;
-         - locks' names: how much more the peak is where each of CHAIN parties sends its change to the next one than where all are one party. An address
-           without outputs leaves no name.
+         - locks' names: how much more the peak is where each of CHAIN parties sends its change to the next one than where all are one party, whose name is as
+           long. An address without outputs leaves no name.
 Else     `too many` behind what is above its bound, and status 1
 Mind     both are exact, and the same on a busy machine. FEW and MANY are powers of two: so the lists and maps of both have the same share of free room. The
          bounds are of the program as it is built from proofs; one built by `rt try` takes more instructions and room.
@@ -24,20 +24,21 @@ import tempfile
 import plays
 
 FEW, MANY = 512, 1024
-CHAIN = 60
+CHAIN = 40
 INSTRUCTIONS = 1
 ROOM = 1
 NAMES = 2_000
 
 
 def chained(own):
-    """A scenario of so many parties, each of which deposits 1 ada once, and sends what it has left to the next one; or of one party in their place, whose
-    name is as long."""
+    """A scenario of so many parties, each of which deposits 1 ada once into the first one's account, and sends what it has left to the next one; or of one
+    party in their place."""
     names = [f"p{place if own else 0:02}" for place in range(CHAIN + 1)]
-    left = "close"
+    left, account = "close", {"address": names[0]}
     for name in reversed(names[:-1]):
-        left = {"when": [{"case": plays.deposit_of(name), "then": left}], "timeout": 100, "timeout_continuation": "close"}
-    given = [{"input_from_party": {"address": name}, "that_deposits": 1, "of_token": plays.ADA, "into_account": {"address": name}} for name in names]
+        deposit = {"party": {"address": name}, "deposits": 1, "of_token": plays.ADA, "into_account": account}
+        left = {"when": [{"case": deposit, "then": left}], "timeout": 100, "timeout_continuation": "close"}
+    given = [{"input_from_party": {"address": name}, "that_deposits": 1, "of_token": plays.ADA, "into_account": account} for name in names]
     return {"tick": 0,
             "genesis": [{"address": name, "amount": [[plays.ADA, 1000]]} for name in (names[0], "bank")],
             "contracts": [{"name": "p", "currency": "aa", "contract": left}],
@@ -65,7 +66,8 @@ def instructions(program, told, steps):
 
 def peak(program, told, steps):
     """The most bytes of the heap that are taken at once."""
-    return int(re.search(r"heap peak: (\d+)", played(program, told, steps, ["memusage"]))[1])
+    said = played(program, told, steps, ["valgrind", "--tool=dhat", "--dhat-out-file=/dev/null"])
+    return int(re.search(r"At t-gmax: ([0-9,]+) bytes", said)[1].replace(",", ""))
 
 
 def a_step(measured, program):
