@@ -1,14 +1,17 @@
 //! The contracts of a scenario as JSON values.
 ghost use Rattle.std.specs.Prelude.{◌≡◌, None, IfOk};
 ghost use Rattle.collections.specs.Answers.{Aside};
-ghost use Rattle.json_read_scenarios.specs.Names.{place_of, list_in_turn};
+ghost use Rattle.json_read_names.specs.Parts.{reading_at};
+ghost use Rattle.json_read_contracts.specs.ReadsContract.{contract};
+ghost use Rattle.json_read_scenarios.specs.Names.{place_of};
 ghost use Rattle.json_read_scenarios.specs.ReadsPlan.{contract_name};
 ghost use Rattle.json_read_scenarios.specs.ReadsScenario as reads;
 
-use crate::name_list::{NameList, Named, new_name_from_json};
-use contract::Text;
+use crate::members::bytes_at;
+use crate::name_list::{NameList, Named, NamedReader, new_name_at};
+use contract::{Contract, Text};
 use json_read_contracts::contract_from_json;
-use json_read_names::{JsonFault, has_three, member, read_bytes};
+use json_read_names::{JsonFault, beside, has_three, member};
 use json_tree::JsonValue;
 use plans::NamedContract;
 use std::alloc::Global;
@@ -21,8 +24,14 @@ impl Named for NamedContract {
     }
 }
 
+fn contract_at<J: JsonValue>(alloc: Global, json: &J, key: &str) -> Result<Contract, JsonFault>
+    ensures { Aside JsonFault.Memory result (reading_at contract (J.json json.now) key.now) }
+{
+    contract_from_json(alloc, member(json, key)?)
+}
+
 // A contract, beside those before it.
-fn named_from_json<J: JsonValue>(
+fn named_contract<J: JsonValue>(
     alloc: Global,
     before: &NameList<NamedContract>,
     json: &J,
@@ -33,9 +42,10 @@ fn named_from_json<J: JsonValue>(
     if !has_three(json, "name", "currency", "contract") {
         return Err(JsonFault::NoForm);
     }
-    let name = new_name_from_json(alloc, before, member(json, "name")?)?;
-    let currency = read_bytes(alloc, member(json, "currency")?)?;
-    let contract = contract_from_json(alloc, member(json, "contract")?)?;
+    let name = new_name_at(alloc, before, json, "name")?;
+    let (name, currency) = beside(name, bytes_at(alloc, json, "currency"))?;
+    let (named, contract) = beside((name, currency), contract_at(alloc, json, "contract"))?;
+    let (name, currency) = named;
     Ok(NamedContract {
         name,
         currency,
@@ -43,18 +53,19 @@ fn named_from_json<J: JsonValue>(
     })
 }
 
-// The contracts that a list stands for, in order.
-pub(crate) fn contracts_from_json<J: JsonValue>(
-    alloc: Global,
-    json: &J,
-) -> Result<NameList<NamedContract>, JsonFault>
-    ensures { Aside JsonFault.Memory result (list_in_turn reads.contract (J.json json.now)) }
-{
-    let items = json.items().ok_or(JsonFault::NoForm)?;
-    let mut contracts = NameList::new(alloc);
-    for item in items {
-        let contract = named_from_json(alloc, &contracts, item)?;
-        contracts = contracts.with(alloc, contract)?;
+// Reads contracts.
+#[derive(Clone, Copy)]
+pub(crate) struct Contracts;
+
+impl NamedReader<NamedContract> for Contracts {
+    ghost reading = { λ _. reads.contract };
+
+    fn named_from_json<J: JsonValue>(
+        &self,
+        alloc: Global,
+        before: &NameList<NamedContract>,
+        json: &J,
+    ) -> Result<NamedContract, JsonFault> {
+        named_contract(alloc, before, json)
     }
-    Ok(contracts)
 }

@@ -1,19 +1,28 @@
 //! Intents as JSON values.
-ghost use Rattle.std.specs.Prelude.{codes};
+ghost use Rattle.std.specs.Prelude.{[], codes};
 ghost use Rattle.collections.specs.Answers.{Aside};
-ghost use Rattle.json_read_names.specs.Parts.{list};
+ghost use Rattle.json_read_names.specs.Parts.{list, reading_at};
+ghost use Rattle.json_read_inputs.specs.ReadsInput.{input};
 ghost use Rattle.json_read_scenarios.specs.ReadsPlan as reads;
 ghost use Rattle.json_read_scenarios.specs.declared.intent_forms.IntentForm.TheVariants as forms;
 
 use crate::intent_forms::{IntentForm, intent_form};
-use crate::name_list::{NameList, place_from_json};
+use crate::lists::{ItemReader, list_at};
+use crate::members::{text_at, time_at};
+use crate::name_list::{NameList, place_at};
 use crate::numbers::{read_count, read_workers, truth_at};
 use contract::{Input, Items};
 use json_read_inputs::{inputs_from_json, interval_from_json};
-use json_read_names::{JsonFault, member, read_text, read_time};
+use json_read_names::{JsonFault, beside, member};
 use json_tree::JsonValue;
 use plans::{Intent, NamedContract, NamedThread};
 use std::alloc::Global;
+
+fn inputs_at<J: JsonValue>(alloc: Global, json: &J, key: &str) -> Result<Items<Input>, JsonFault>
+    ensures { Aside JsonFault.Memory result (reading_at (list input) (J.json json.now) key.now) }
+{
+    inputs_from_json(alloc, member(json, key)?)
+}
 
 #[tactic(auto, unfolding(crate::specs::ReadsPlan::intent_by))]
 fn step_from_json<J: JsonValue>(
@@ -24,15 +33,15 @@ fn step_from_json<J: JsonValue>(
 ) -> Result<Intent<usize, usize>, JsonFault>
     ensures { Aside JsonFault.Memory result (reads.intent_by forms.Step contracts.now threads.now (J.json json.now)) }
 {
-    let thread = place_from_json(threads, member(json, "step")?)?;
-    let inputs = inputs_from_json(alloc, member(json, "inputs")?)?;
-    let interval = interval_from_json(json)?;
-    let pooled = truth_at(json, "pool")?.unwrap_or(false);
+    let thread = place_at(threads, json, "step")?;
+    let inputs = inputs_at(alloc, json, "inputs")?;
+    let (inputs, interval) = beside(inputs, interval_from_json(json))?;
+    let (inputs, pooled) = beside(inputs, truth_at(json, "pool"))?;
     Ok(Intent::Step {
         thread,
         inputs,
         interval,
-        pooled,
+        pooled: pooled.unwrap_or(false),
     })
 }
 
@@ -44,24 +53,25 @@ fn step_item_from_json<J: JsonValue>(
 ) -> Result<(usize, Items<Input>), JsonFault>
     ensures { Aside JsonFault.Memory result (reads.step_item threads.now (J.json json.now)) }
 {
-    let thread = place_from_json(threads, member(json, "step")?)?;
-    let inputs = inputs_from_json(alloc, member(json, "inputs")?)?;
-    Ok((thread, inputs))
+    let thread = place_at(threads, json, "step")?;
+    beside(thread, inputs_at(alloc, json, "inputs"))
 }
 
-fn step_items_from_json<J: JsonValue>(
-    alloc: Global,
-    threads: &NameList<NamedThread>,
-    json: &J,
-) -> Result<Items<(usize, Items<Input>)>, JsonFault>
-    ensures { Aside JsonFault.Memory result (list (reads.step_item threads.now) (J.json json.now)) }
-{
-    let items = json.items().ok_or(JsonFault::NoForm)?;
-    let mut steps = Items::new(alloc);
-    for item in items {
-        steps.push(step_item_from_json(alloc, threads, item)?)?;
+#[derive(Clone, Copy)]
+struct StepItems<'a> {
+    threads: &'a NameList<NamedThread>,
+}
+
+impl<'a> ItemReader<(usize, Items<Input>)> for StepItems<'a> {
+    ghost reading = { λ reader. reads.step_item reader.threads.now };
+
+    fn item_from_json<J: JsonValue>(
+        &self,
+        alloc: Global,
+        json: &J,
+    ) -> Result<(usize, Items<Input>), JsonFault> {
+        step_item_from_json(alloc, self.threads, json)
     }
-    Ok(steps)
 }
 
 #[tactic(auto, unfolding(crate::specs::ReadsPlan::intent_by))]
@@ -73,9 +83,9 @@ fn steps_from_json<J: JsonValue>(
 ) -> Result<Intent<usize, usize>, JsonFault>
     ensures { Aside JsonFault.Memory result (reads.intent_by forms.Steps contracts.now threads.now (J.json json.now)) }
 {
-    let steps = step_items_from_json(alloc, threads, member(json, "steps")?)?;
-    let interval = interval_from_json(json)?;
-    let pooled = truth_at(json, "pool")?;
+    let steps = list_at(alloc, &StepItems { threads }, json, "steps")?;
+    let (steps, interval) = beside(steps, interval_from_json(json))?;
+    let (steps, pooled) = beside(steps, truth_at(json, "pool"))?;
     Ok(Intent::Steps {
         steps,
         interval,
@@ -92,14 +102,23 @@ fn claim_from_json<J: JsonValue>(
 ) -> Result<Intent<usize, usize>, JsonFault>
     ensures { Aside JsonFault.Memory result (reads.intent_by forms.Claim contracts.now threads.now (J.json json.now)) }
 {
-    let contract = place_from_json(contracts, member(json, "claim")?)?;
-    let role = read_text(alloc, member(json, "role")?)?;
-    let interval = interval_from_json(json)?;
+    let contract = place_at(contracts, json, "claim")?;
+    let role = text_at(alloc, json, "role")?;
+    let (role, interval) = beside(role, interval_from_json(json))?;
     Ok(Intent::Claim {
         contract,
         role,
         interval,
     })
+}
+
+#[tactic(auto, unfolding(crate::specs::ReadsPlan::intent_by))]
+fn round_from_json<J: JsonValue>(json: &J) -> Result<Intent<usize, usize>, JsonFault>
+    ensures { Aside JsonFault.Memory result (reads.intent_by forms.Round [] [] (J.json json.now)) }
+{
+    let count = read_count(member(json, "round")?)?;
+    let workers = read_workers(member(json, "workers")?)?;
+    Ok(Intent::Round { count, workers })
 }
 
 // An intent, by its form, among these contracts and threads.
@@ -116,29 +135,40 @@ fn intent_from_json<J: JsonValue>(
         IntentForm::Step => step_from_json(alloc, contracts, threads, json),
         IntentForm::Steps => steps_from_json(alloc, contracts, threads, json),
         IntentForm::Claim => claim_from_json(alloc, contracts, threads, json),
-        IntentForm::Round => {
-            let count = read_count(member(json, "round")?)?;
-            let workers = read_workers(member(json, "workers")?)?;
-            Ok(Intent::Round { count, workers })
-        }
-        IntentForm::Advance => Ok(Intent::Advance(read_time(member(json, "advance")?)?)),
+        IntentForm::Round => round_from_json(json),
+        IntentForm::Advance => Ok(Intent::Advance(time_at(json, "advance")?)),
         IntentForm::Nothing => Err(JsonFault::NoForm),
     }
 }
 
-// The intents that a list stands for, in order.
-pub(crate) fn intents_from_json<J: JsonValue>(
+#[derive(Clone, Copy)]
+struct Intents<'a> {
+    contracts: &'a NameList<NamedContract>,
+    threads: &'a NameList<NamedThread>,
+}
+
+impl<'a> ItemReader<Intent<usize, usize>> for Intents<'a> {
+    ghost reading = { λ reader. reads.intent reader.contracts.now reader.threads.now };
+
+    fn item_from_json<J: JsonValue>(
+        &self,
+        alloc: Global,
+        json: &J,
+    ) -> Result<Intent<usize, usize>, JsonFault> {
+        intent_from_json(alloc, self.contracts, self.threads, json)
+    }
+}
+
+// The intents that the list at a key stands for, in order.
+pub(crate) fn intents_at<J: JsonValue>(
     alloc: Global,
     contracts: &NameList<NamedContract>,
     threads: &NameList<NamedThread>,
     json: &J,
+    key: &str,
 ) -> Result<Items<Intent<usize, usize>>, JsonFault>
-    ensures { Aside JsonFault.Memory result (list (reads.intent contracts.now threads.now) (J.json json.now)) }
+    ensures { Aside JsonFault.Memory result (reading_at (list (reads.intent contracts.now threads.now)) (J.json json.now) key.now) }
 {
-    let items = json.items().ok_or(JsonFault::NoForm)?;
-    let mut intents = Items::new(alloc);
-    for item in items {
-        intents.push(intent_from_json(alloc, contracts, threads, item)?)?;
-    }
-    Ok(intents)
+    let reader = Intents { contracts, threads };
+    list_at(alloc, &reader, json, key)
 }

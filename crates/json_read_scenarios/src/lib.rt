@@ -5,6 +5,8 @@ mod contracts;
 mod funds;
 mod intent_forms;
 mod intents;
+mod lists;
+mod members;
 mod name_list;
 mod numbers;
 mod plan_forms;

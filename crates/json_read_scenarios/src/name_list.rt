@@ -1,10 +1,12 @@
 //! Items by their names.
 ghost use Rattle.std.specs.Prelude.{◌≡◌, ℕ, List, [], ◌∷◌, ◌++◌, length, None, IfOk};
 ghost use Rattle.collections.specs.Answers.{Aside};
-ghost use Rattle.json_read_scenarios.specs.Names.{place_of, known, new_name};
+ghost use Rattle.serde_json.specs.Data.{Data};
+ghost use Rattle.json_read_names.specs.Parts.{Reading, reading_at};
+ghost use Rattle.json_read_scenarios.specs.Names.{place_of, known, new_name, list_in_turn};
 
 use contract::{Items, Memory, Text};
-use json_read_names::{JsonFault, read_text};
+use json_read_names::{JsonFault, member, read_text};
 use json_tree::JsonValue;
 use std::alloc::Global;
 use std::collections::BTreeMap;
@@ -118,4 +120,61 @@ pub(crate) fn new_name_from_json<J: JsonValue, X: Named>(
         return Err(JsonFault::NoForm);
     }
     Ok(name)
+}
+
+// The place of the item whose name the member at a key is.
+pub(crate) fn place_at<J: JsonValue, X: Named>(
+    list: &NameList<X>,
+    json: &J,
+    key: &str,
+) -> Result<usize, JsonFault>
+    ensures { Aside JsonFault.Memory result (reading_at (known X.name list.now) (J.json json.now) key.now) }
+{
+    place_from_json(list, member(json, key)?)
+}
+
+// The name that the member at a key is, which no item has.
+pub(crate) fn new_name_at<J: JsonValue, X: Named>(
+    alloc: Global,
+    list: &NameList<X>,
+    json: &J,
+    key: &str,
+) -> Result<Text, JsonFault>
+    ensures reading { Aside JsonFault.Memory result (reading_at (new_name X.name list.now) (J.json json.now) key.now) }
+    ensures new { IfOk result (λ name. place_of X.name name list.now ≡ None) }
+{
+    new_name_from_json(alloc, list, member(json, key)?)
+}
+
+// What reads an item of a list, beside those before it.
+pub(crate) trait NamedReader<X: Named> {
+    // What an item stands for.
+    ghost reading: { Self → List X → Data → Reading X };
+
+    fn named_from_json<J: JsonValue>(
+        &self,
+        alloc: Global,
+        before: &NameList<X>,
+        json: &J,
+    ) -> Result<X, JsonFault>
+        ensures reading { Aside JsonFault.Memory result (reading self.now before.now (J.json json.now)) }
+        ensures new { IfOk result (λ item. place_of X.name (X.name item) before.now ≡ None) };
+}
+
+// The items that the list at a key stands for, in order, each read beside those before it.
+pub(crate) fn named_at<J: JsonValue, X: Named + Drop, R: NamedReader<X>>(
+    alloc: Global,
+    reader: &R,
+    json: &J,
+    key: &str,
+) -> Result<NameList<X>, JsonFault>
+    ensures { Aside JsonFault.Memory result (reading_at (list_in_turn (R.reading reader.now)) (J.json json.now) key.now) }
+{
+    let values = member(json, key)?.items().ok_or(JsonFault::NoForm)?;
+    let mut list = NameList::new(alloc);
+    for value in values {
+        let item = reader.named_from_json(alloc, &list, value)?;
+        list = list.with(alloc, item)?;
+    }
+    Ok(list)
 }

@@ -1,16 +1,18 @@
 //! Plans as JSON values.
 ghost use Rattle.std.specs.Prelude.{◌≡◌, None, IfOk};
 ghost use Rattle.collections.specs.Answers.{Aside};
-ghost use Rattle.json_read_names.specs.Parts.{list, text};
+ghost use Rattle.json_read_names.specs.Parts.{list, reading_at, text};
 ghost use Rattle.json_read_scenarios.specs.Names.{place_of, list_in_turn};
 ghost use Rattle.json_read_scenarios.specs.ReadsPlan as reads;
 ghost use Rattle.json_read_scenarios.specs.ReadsPlan.{plan_name};
 
-use crate::intents::intents_from_json;
-use crate::name_list::{NameList, Named, new_name_from_json};
+use crate::intents::intents_at;
+use crate::lists::{ItemReader, list_at};
+use crate::members::text_at;
+use crate::name_list::{NameList, Named, NamedReader, named_at, new_name_at};
 use crate::numbers::calls_at;
 use contract::{Items, Text};
-use json_read_names::{JsonFault, has_two, member, read_text};
+use json_read_names::{JsonFault, has_two, read_text};
 use json_tree::JsonValue;
 use plans::{NamedContract, NamedThread, Plan};
 use std::alloc::Global;
@@ -23,15 +25,21 @@ impl Named for Plan<usize, usize> {
     }
 }
 
-fn texts_from_json<J: JsonValue>(alloc: Global, json: &J) -> Result<Items<Text>, JsonFault>
-    ensures { Aside JsonFault.Memory result (list text (J.json json.now)) }
-{
-    let items = json.items().ok_or(JsonFault::NoForm)?;
-    let mut texts = Items::new(alloc);
-    for item in items {
-        texts.push(read_text(alloc, item)?)?;
+#[derive(Clone, Copy)]
+struct Texts;
+
+impl ItemReader<Text> for Texts {
+    ghost reading = { λ _. text };
+
+    fn item_from_json<J: JsonValue>(&self, alloc: Global, json: &J) -> Result<Text, JsonFault> {
+        read_text(alloc, json)
     }
-    Ok(texts)
+}
+
+fn texts_at<J: JsonValue>(alloc: Global, json: &J, key: &str) -> Result<Items<Text>, JsonFault>
+    ensures { Aside JsonFault.Memory result (reading_at (list text) (J.json json.now) key.now) }
+{
+    list_at(alloc, &Texts, json, key)
 }
 
 // A plan, beside those before it, of which there are at most 62.
@@ -48,10 +56,10 @@ fn plan_from_json<J: JsonValue>(
     if !(before.len() < 63 && has_two(json, "name", "keys") && has_two(json, "change", "intents")) {
         return Err(JsonFault::NoForm);
     }
-    let name = new_name_from_json(alloc, before, member(json, "name")?)?;
-    let keys = texts_from_json(alloc, member(json, "keys")?)?;
-    let change = read_text(alloc, member(json, "change")?)?;
-    let intents = intents_from_json(alloc, contracts, threads, member(json, "intents")?)?;
+    let name = new_name_at(alloc, before, json, "name")?;
+    let keys = texts_at(alloc, json, "keys")?;
+    let change = text_at(alloc, json, "change")?;
+    let intents = intents_at(alloc, contracts, threads, json, "intents")?;
     let stop_after = calls_at(json, "stop_after")?;
     Ok(Plan {
         name,
@@ -62,20 +70,36 @@ fn plan_from_json<J: JsonValue>(
     })
 }
 
-// The plans that a list stands for, at most 63.
-pub(crate) fn plans_from_json<J: JsonValue>(
+// Reads plans among these contracts and threads, at most 63.
+#[derive(Clone, Copy)]
+struct Plans<'a> {
+    contracts: &'a NameList<NamedContract>,
+    threads: &'a NameList<NamedThread>,
+}
+
+impl<'a> NamedReader<Plan<usize, usize>> for Plans<'a> {
+    ghost reading = { λ reader. reads.plan reader.contracts.now reader.threads.now };
+
+    fn named_from_json<J: JsonValue>(
+        &self,
+        alloc: Global,
+        before: &NameList<Plan<usize, usize>>,
+        json: &J,
+    ) -> Result<Plan<usize, usize>, JsonFault> {
+        plan_from_json(alloc, self.contracts, self.threads, before, json)
+    }
+}
+
+// The plans that the list at a key stands for, at most 63.
+pub(crate) fn plans_at<J: JsonValue>(
     alloc: Global,
     contracts: &NameList<NamedContract>,
     threads: &NameList<NamedThread>,
     json: &J,
+    key: &str,
 ) -> Result<NameList<Plan<usize, usize>>, JsonFault>
-    ensures { Aside JsonFault.Memory result (list_in_turn (reads.plan contracts.now threads.now) (J.json json.now)) }
+    ensures { Aside JsonFault.Memory result (reading_at (list_in_turn (reads.plan contracts.now threads.now)) (J.json json.now) key.now) }
 {
-    let items = json.items().ok_or(JsonFault::NoForm)?;
-    let mut plans = NameList::new(alloc);
-    for item in items {
-        let plan = plan_from_json(alloc, contracts, threads, &plans, item)?;
-        plans = plans.with(alloc, plan)?;
-    }
-    Ok(plans)
+    let reader = Plans { contracts, threads };
+    named_at(alloc, &reader, json, key)
 }

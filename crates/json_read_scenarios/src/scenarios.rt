@@ -5,12 +5,14 @@ ghost use Rattle.json_read_names.specs.ReadsText.{of_text};
 ghost use Rattle.json_read_scenarios.specs.Named.{NamesWhatItHas};
 ghost use Rattle.json_read_scenarios.specs.ReadsScenario as reads;
 
-use crate::contracts::contracts_from_json;
-use crate::funds::genesis_from_json;
-use crate::plan_forms::plans_from_json;
-use crate::threads::threads_from_json;
+use crate::contracts::Contracts;
+use crate::funds::genesis_at;
+use crate::members::time_at;
+use crate::name_list::named_at;
+use crate::plan_forms::plans_at;
+use crate::threads::threads_at;
 use json::Scratch;
-use json_read_names::{JsonFault, has_three, has_two, json_of, member, read_time};
+use json_read_names::{JsonFault, has_three, has_two, json_of};
 use json_tree::JsonValue;
 use plans::Scenario;
 use std::alloc::Global;
@@ -26,11 +28,11 @@ pub fn scenario_from_json<J: JsonValue>(alloc: Global, json: &J) -> Result<Scena
     if !(has_three(json, "tick", "genesis", "contracts") && has_two(json, "threads", "plans")) {
         return Err(JsonFault::NoForm);
     }
-    let tick = read_time(member(json, "tick")?)?;
-    let genesis = genesis_from_json(alloc, member(json, "genesis")?)?;
-    let contracts = contracts_from_json(alloc, member(json, "contracts")?)?;
-    let threads = threads_from_json(alloc, &contracts, member(json, "threads")?)?;
-    let plans = plans_from_json(alloc, &contracts, &threads, member(json, "plans")?)?;
+    let tick = time_at(json, "tick")?;
+    let genesis = genesis_at(alloc, json, "genesis")?;
+    let contracts = named_at(alloc, &Contracts, json, "contracts")?;
+    let threads = threads_at(alloc, &contracts, json, "threads")?;
+    let plans = plans_at(alloc, &contracts, &threads, json, "plans")?;
     Ok(Scenario {
         tick,
         genesis,

@@ -1,14 +1,16 @@
 //! The threads of a scenario as JSON values.
 ghost use Rattle.std.specs.Prelude.{◌≡◌, None, IfOk};
 ghost use Rattle.collections.specs.Answers.{Aside};
+ghost use Rattle.json_read_names.specs.Parts.{reading_at};
 ghost use Rattle.json_read_scenarios.specs.Names.{place_of, list_in_turn};
 ghost use Rattle.json_read_scenarios.specs.ReadsPlan.{thread_name};
 ghost use Rattle.json_read_scenarios.specs.ReadsScenario as reads;
 
-use crate::name_list::{NameList, Named, new_name_from_json, place_from_json};
+use crate::members::{text_at, time_at};
+use crate::name_list::{NameList, Named, NamedReader, named_at, new_name_at, place_at};
 use contract::{Entries, State, Text};
 use json_read_inputs::accounts_from_json;
-use json_read_names::{JsonFault, has_three, has_two, member, read_text, read_time};
+use json_read_names::{JsonFault, beside, has_three, has_two, member};
 use json_tree::JsonValue;
 use plans::{NamedContract, NamedThread};
 use std::alloc::Global;
@@ -27,7 +29,7 @@ fn first_state_from_json<J: JsonValue>(alloc: Global, json: &J) -> Result<State,
     ensures { Aside JsonFault.Memory result (reads.first_state (J.json json.now)) }
 {
     let accounts = accounts_from_json(alloc, member(json, "accounts")?)?;
-    let min_time = read_time(member(json, "minTime")?)?;
+    let (accounts, min_time) = beside(accounts, time_at(json, "minTime"))?;
     let state = State::from_entries(accounts, Entries::new(alloc), Entries::new(alloc), min_time);
     Ok(state)
 }
@@ -45,10 +47,11 @@ fn thread_from_json<J: JsonValue>(
     if !(has_three(json, "name", "contract", "by") && has_two(json, "accounts", "minTime")) {
         return Err(JsonFault::NoForm);
     }
-    let name = new_name_from_json(alloc, before, member(json, "name")?)?;
-    let contract = place_from_json(contracts, member(json, "contract")?)?;
-    let by = read_text(alloc, member(json, "by")?)?;
-    let state = first_state_from_json(alloc, json)?;
+    let name = new_name_at(alloc, before, json, "name")?;
+    let (name, contract) = beside(name, place_at(contracts, json, "contract"))?;
+    let (name, by) = beside(name, text_at(alloc, json, "by"))?;
+    let (texts, state) = beside((name, by), first_state_from_json(alloc, json))?;
+    let (name, by) = texts;
     Ok(NamedThread {
         name,
         contract,
@@ -57,19 +60,34 @@ fn thread_from_json<J: JsonValue>(
     })
 }
 
-// The threads that a list stands for, in order, of these contracts.
-pub(crate) fn threads_from_json<J: JsonValue>(
+// Reads threads of these contracts.
+#[derive(Clone, Copy)]
+struct Threads<'a> {
+    contracts: &'a NameList<NamedContract>,
+}
+
+impl<'a> NamedReader<NamedThread> for Threads<'a> {
+    ghost reading = { λ reader. reads.new_thread reader.contracts.now };
+
+    fn named_from_json<J: JsonValue>(
+        &self,
+        alloc: Global,
+        before: &NameList<NamedThread>,
+        json: &J,
+    ) -> Result<NamedThread, JsonFault> {
+        thread_from_json(alloc, self.contracts, before, json)
+    }
+}
+
+// The threads that the list at a key stands for, in order, of these contracts.
+pub(crate) fn threads_at<J: JsonValue>(
     alloc: Global,
     contracts: &NameList<NamedContract>,
     json: &J,
+    key: &str,
 ) -> Result<NameList<NamedThread>, JsonFault>
-    ensures { Aside JsonFault.Memory result (list_in_turn (reads.new_thread contracts.now) (J.json json.now)) }
+    ensures { Aside JsonFault.Memory result (reading_at (list_in_turn (reads.new_thread contracts.now)) (J.json json.now) key.now) }
 {
-    let items = json.items().ok_or(JsonFault::NoForm)?;
-    let mut threads = NameList::new(alloc);
-    for item in items {
-        let thread = thread_from_json(alloc, contracts, &threads, item)?;
-        threads = threads.with(alloc, thread)?;
-    }
-    Ok(threads)
+    let reader = Threads { contracts };
+    named_at(alloc, &reader, json, key)
 }
