@@ -1,0 +1,4 @@
+pub mod Numbers
+pub mod Apart
+pub mod Owners
+pub mod Joining
