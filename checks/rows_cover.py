@@ -125,6 +125,7 @@ LEFT = {
     "fault WordsFault::Memory": MEMORY,
     "fault TxFault::IdInUse": "needs two transactions of one SHA-256: one that comes again names what it spent (rule 4)",
     "reply Reply::IdInUse": "needs two contracts of one SHA-256",
+    "== Lane": "no crate above can name it; claims are settled by its order",
     "== LockName": "no crate above can name it; the looks of rows_chain compare it",
     "copy Carried": "no crate above can name it; each call by a seat is copied in it",
     "copy Linear": KNOWN,

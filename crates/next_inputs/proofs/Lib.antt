@@ -1,0 +1,9 @@
+pub mod Ranges
+pub mod Ways
+pub mod Stopping
+pub mod Gathering
+pub mod Putting
+pub mod Shares
+pub mod Offering
+pub mod OneInput
+pub mod Worked

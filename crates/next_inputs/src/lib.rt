@@ -1,0 +1,15 @@
+//! What can be done with a contract next: which inputs its cases take, and until when it waits.
+#![tactic(auto)]
+
+mod cases;
+mod claiming;
+mod lane;
+mod laws;
+mod offer;
+mod sharing;
+mod waiting;
+
+pub use cases::offers;
+pub use laws::{a_when_waits_to_the_last, one_input_is_computed_so, worked_inputs_next};
+pub use offer::Offer;
+pub use waiting::waits_until;
