@@ -19,6 +19,7 @@ mod session;
 
 pub use answer::Answer;
 pub use at_hub::SeatAtHub;
+pub use chain::{Call, Chain, Entry, GenesisFault, Reply, StepRecord};
 pub use closed::Closed;
 pub use hub::Hub;
 pub use opening::Opening;

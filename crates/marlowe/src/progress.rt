@@ -1,5 +1,5 @@
 //! How far a play is, on standard error.
-use marlowe_play::Watch;
+use marlowe_commands::Watch;
 use std::rt::Clock;
 use std::sync::atomic::{AtomicU64, Ordering};
 use std::time::Instant;

@@ -11,6 +11,7 @@ mod tasks;
 mod texts;
 
 pub use command_line::command;
+pub use marlowe_play::{NoWatch, Watch};
 pub use printed::Printed;
 pub use tasks::{analysis_printed, play_printed, run_printed, table_printed};
 pub use texts::Texts;

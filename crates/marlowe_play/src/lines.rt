@@ -6,9 +6,9 @@ ghost use Rattle.play_lines.specs.PlayLines.{ThreadLine as Told, played_lines};
 ghost use Rattle.marlowe_play.specs.Played.{IsThreadLine, leaves_close};
 ghost use Rattle.marlowe_play.specs.PlayedSupport.{AreLines};
 
-use chain::{Chain, StepRecord};
 use collections::{Memory, Text};
 use eutxo_types::OutputRef;
+use hub::{Chain, StepRecord};
 use plans::NamedThread;
 use play_lines::{ThreadLine, played_lines};
 use play_setup::Stage;

@@ -1,6 +1,6 @@
 //! What a party does next.
-use chain::Call;
 use eutxo::Checked;
+use hub::Call;
 use roles::Published;
 
 /// One thing that a party does by its seat.

@@ -8,12 +8,11 @@ use builder::{
     Ask, BuildFault, Look, Part, PayoutLock, Unspent, build_claim, build_step, build_steps,
     resolve_parts,
 };
-use chain::Reply;
 use collections::{Bytes, Items, Memory, Text, TryClone};
 use contract::{Input, Interval};
 use eutxo::{Checked, check_owned};
 use eutxo_types::{OutputRef, Tx};
-use hub::{Receipt, Session};
+use hub::{Receipt, Reply, Session};
 use plans::{Intent, Plan};
 use roles::Published;
 use std::alloc::{AllocError, Global};

@@ -15,6 +15,7 @@ mod party;
 mod turns;
 mod watch;
 
+pub use hub::{Call, Chain, GenesisFault, Hub, Receipt, Reply, Seat, Session};
 pub use left_out::LeftOut;
 pub use party::Party;
 pub use plans::{Intent, Plan};

@@ -28,9 +28,9 @@ use Rattle.ledger_spec.specs.Replay.{World, world, if_compiled, published_at}
 use Rattle.plans.specs.declared.scenario.NamedContract.{NamedContract}
 use Rattle.plans.specs.declared.scenario.NamedThread.{NamedThread}
 use Rattle.plans.specs.declared.scenario.Scenario.{Scenario}
-use Rattle.hub.specs.declared.answer.Answer.{Answer}
-use Rattle.hub.specs.Seats.{SeatRecord, ReceiptRecord, seat_record, answer_of, IsReply, WasTold}
-use Rattle.hub.specs.Session.{Opened}
+use Rattle.parties.specs.Answer.{Answer}
+use Rattle.parties.specs.Seats.{SeatRecord, ReceiptRecord, seat_record, answer_of, IsReply, WasTold}
+use Rattle.parties.specs.Session.{Opened}
 use Rattle.play_setup.specs.SetUp.{Told, told, object_of, publishes, Begun, Begins, IsSetUp, key_ask, start_made, starts, start_output, currencies, currency_at}
 use Rattle.play_setup.specs.SetUpSupport.{WentOn, WasStarted, WereStarted}
 

@@ -30,7 +30,7 @@ use Rattle.plans.specs.declared.scenario.Funds.{Funds}
 use Rattle.plans.specs.declared.scenario.NamedContract.{NamedContract}
 use Rattle.plans.specs.declared.scenario.NamedThread.{NamedThread}
 use Rattle.plans.specs.declared.scenario.Scenario.{Scenario}
-use Rattle.hub.specs.declared.answer.Answer.{Answer}
+use Rattle.parties.specs.Answer.{Answer}
 use Rattle.parties.specs.Plays.{PlayedIntent, PlayedPlan}
 
 -- ---- the ledger's beginning

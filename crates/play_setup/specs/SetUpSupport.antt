@@ -4,8 +4,8 @@ use Rattle.std.specs.List.{All, flat_map}
 use Rattle.eutxo_types.specs.declared.output_ref.OutputRef.{OutputRef}
 use Rattle.roles.specs.declared.published.Published.{Published}
 use Rattle.plans.specs.declared.scenario.NamedThread.{NamedThread}
-use Rattle.hub.specs.declared.answer.Answer.{Answer}
-use Rattle.hub.specs.Seats.{SeatRecord, seat_record}
+use Rattle.parties.specs.Answer.{Answer}
+use Rattle.parties.specs.Seats.{SeatRecord, seat_record}
 use Rattle.play_setup.specs.SetUp.{Told, told, Begun, Begins, starts, start_output}
 
 -- the seat went on, and was told this

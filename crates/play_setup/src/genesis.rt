@@ -3,9 +3,9 @@ ghost use Rattle.std.specs.Prelude.{◌≡◌, [], map, IfOk};
 ghost use Rattle.play_setup.specs.SetUp.{course, key_output};
 
 use crate::fault::{SetupFault, refused};
-use chain::{Chain, GenesisFault};
 use collections::{Items, Memory, TryClone};
 use eutxo_types::{Lock, Output};
+use parties::{Chain, GenesisFault};
 use plans::Funds;
 use std::alloc::Global;
 

@@ -6,11 +6,9 @@ ghost use Rattle.play_setup.specs.SetUp.{object_of, publishes};
 ghost use Rattle.play_setup.specs.SetUpSupport.{WentOn};
 
 use crate::fault::{SetupFault, refused};
-use chain::{Call, Reply};
 use collections::{Memory, TryClone};
-use hub::{Hub, Seat, Session};
 use marlowe_refusals::compile_fault_name;
-use parties::Watch;
+use parties::{Call, Hub, Reply, Seat, Session, Watch};
 use plans::NamedContract;
 use roles::{CompileFault, Published, publish};
 use std::alloc::Global;

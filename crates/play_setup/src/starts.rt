@@ -12,12 +12,10 @@ ghost use Rattle.play_setup.specs.SetUpSupport.{WentOn, WasStarted, WereStarted}
 
 use crate::fault::{SetupFault, refused};
 use builder::{Ask, BuildFault, Look, build_start};
-use chain::{Call, Reply};
 use collections::{Items, Memory, Text, TryClone};
 use contract::Interval;
 use eutxo_types::{OutputRef, Tx};
-use hub::{Hub, Receipt, Seat, Session};
-use parties::Watch;
+use parties::{Call, Hub, Receipt, Reply, Seat, Session, Watch};
 use plans::NamedThread;
 use play_lines::{build_fault_text, tx_fault_text};
 use roles::Published;

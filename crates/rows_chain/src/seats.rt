@@ -5,10 +5,11 @@ use crate::calls::{Work, call_all};
 use crate::meeting::Meeting;
 use crate::payments::{found, key_output, list, payment};
 use crate::row::Row;
-use chain::{Chain, Entry, GenesisFault, Reply};
 use collections::{Memory, Same};
 use eutxo::{Checked, check_owned};
-use hub::{Closed, Hub, Opening, Receipt, Seat, SeatAtHub, Session};
+use hub::{
+    Chain, Closed, Entry, GenesisFault, Hub, Opening, Receipt, Reply, Seat, SeatAtHub, Session,
+};
 use roles::Published;
 use rows_text::RowFault;
 use std::alloc::Global;
