@@ -4,10 +4,10 @@ ghost use Rattle.contract.specs.Tree.{contract_tree};
 ghost use Rattle.marlowe_run.specs.TableText.{printed_table, table_text};
 
 use crate::dropped::beside_dropped;
-use marlowe_refusals::TableFault;
 use compiler::compile;
 use contract::Contract;
 use contract_json::read_contract;
+use marlowe_refusals::TableFault;
 use std::alloc::Global;
 use table_lines::table_lines;
 

@@ -16,8 +16,12 @@ OneOfEach =
     (submit round : Call) →
     played_lines
     (record { seat = 1; number = 0; call = submit; reply = replies.Refused (NotUnspent 3) }
-      ∷ record { seat = 2; number = 4; call = round;
-          reply = replies.Round (record { ticket = 7; verdict = Accepted } ∷ record { ticket = 8; verdict = Refused OutsideInterval } ∷ []) } ∷ [])
+    ∷ record {
+      seat = 2;
+      number = 4;
+      call = round;
+      reply = replies.Round (record { ticket = 7; verdict = Accepted } ∷ record { ticket = 8; verdict = Refused OutsideInterval } ∷ []);
+    } ∷ [])
     (record { name = codes "deal"; steps = 2; closed = true } ∷ [])
     ≡ codes "0 1.0 submit refused NotUnspent 3\n1 2.4 round 7 accepted, 8 refused OutsideInterval\nthread deal steps 2 closed\nentries 2\n"
 
