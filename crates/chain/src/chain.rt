@@ -5,7 +5,7 @@ ghost use Rattle.eutxo.specs.Judgement.{found};
 ghost use Rattle.ledger_spec.specs.Genesis.{SumsFit, RefusesGenesis};
 ghost use Rattle.eutxo_types.specs.Fitting.{TxFits};
 ghost use Rattle.ledger_spec.specs.Replay.{Course, past_of, world, published, published_at, moment_of};
-ghost use Rattle.ledger_spec.specs.Headline.{FirstHalf, SecondHalf, BothHalves};
+ghost use Rattle.ledger_spec.specs.Headline.{StepsAreRuns, BuildsAreAccepted, BothHalves};
 ghost use Rattle.ledger_spec.specs.Calls.{reply_to};
 ghost use Rattle.ledger_spec.specs.Legal.{entry_of, with_entry, before_entry, IsLegal};
 ghost use Rattle.ledger_spec.specs.Records.{AreSteps};
@@ -187,9 +187,9 @@ impl Chain {
         )
     }
 
-    // The headline's second half, of this history. It does nothing.
+    // What is built is accepted, after this history. It does nothing.
     fn layouts_are_accepted(&self)
-        ensures { SecondHalf self.now }
+        ensures { BuildsAreAccepted self.now }
     {
         both_halves_hold_of_legal_histories();
         // touch: brings the invariant
@@ -210,8 +210,7 @@ impl Chain {
     /// that stands, at its end, in its current state. From the last timeout on anyone closes a
     /// thread that a Look shows, without inputs and offers, in an interval that ends neither before its start nor
     /// before the minimum time: the parties are paid all that the thread's output held, and what is built is accepted
-    /// like any step, unless a number leaves 128 bits or nothing is left to do. The change of a step is what its front
-    /// holds above the deposits. What is published stays published.
+    /// like any step, unless a number leaves 128 bits or nothing is left to do. What is published stays published.
     pub fn step(
         &mut self,
         alloc: Global,
@@ -224,7 +223,7 @@ impl Chain {
         ensures told { IfOk result (λ r. r.1 ≡ (entry_of self.old seat call).reply) }
         ensures err { OnErr result (self.new ≡ self.old) }
         ensures stays { IsMore (published_at (published self.old.entries)) (published_at (published self.new.entries)) }
-        ensures second { SecondHalf self.old }
+        ensures second { BuildsAreAccepted self.old }
     {
         // touch: the law of what stands now
         self.layouts_are_accepted();
@@ -306,8 +305,8 @@ impl Chain {
         ensures stays { (n m : ℕ) → n ≤ m →
             IsMore (published_at (published (before_entry self.now n).entries)) (published_at (published (before_entry self.now m).entries)) }
         ensures fits { All TxFits (past_of (world self.now)).accepted }
-        ensures first { FirstHalf self.now }
-        ensures second { SecondHalf self.now }
+        ensures first { StepsAreRuns self.now }
+        ensures second { BuildsAreAccepted self.now }
         ensures throughout { (n : ℕ) → BothHalves (before_entry self.now n) }
         ensures shown { ShowsWhatWasMade self.now }
     {
