@@ -49,7 +49,7 @@ pub(crate) fn look_at(alloc: Global, chain: &mut Chain, seat: u64, ask: Ask) -> 
     ensures err { OnErr result (OnlyLooked chain.old chain.new seat ask) }
     ensures second { BuildsAreAccepted chain.old }
 {
-    let (reply, _copy) = chain.step(alloc, seat, Call::Look(ask), &[])?;
+    let reply = chain.call(alloc, seat, Call::Look(ask))?;
     match &reply {
         Reply::Look(look) => look.try_clone(),
         _ => unreachable!(),
@@ -63,6 +63,5 @@ pub(crate) fn submit(alloc: Global, chain: &mut Chain, seat: u64, tx: Tx) -> Res
     ensures err { OnErr result (chain.new ≡ chain.old) }
     ensures second { BuildsAreAccepted chain.old }
 {
-    let (reply, _copy) = chain.step(alloc, seat, Call::Submit(tx), &[])?;
-    Ok(reply)
+    chain.call(alloc, seat, Call::Submit(tx))
 }
