@@ -154,6 +154,8 @@ LEFT = {
     "call table::Table::push_observation": "each observation of a table that a row prints was put there by it",
     "call table::Table::push_case": "each case of a table that a row prints was put there by it",
     "call table::Table::push_cont": "each continuation of a table that a row prints was put there by it",
+    "call eutxo::id_at_hand": "each Submit and each place of a round of rows_chain has its id by it",
+    "call eutxo::kept_among": "each Submit and each place of a round of rows_chain is judged by it, with a check at hand or without",
     "call eutxo::rejudge": "each row of a check at hand prints what `recheck` makes of its answer",
     "call roles::only": "each output for a payment that a row's built step prints holds it",
     "call roles::put_due": "each built step of a row prints what it puts",
