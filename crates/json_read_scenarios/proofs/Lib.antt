@@ -1,3 +1,4 @@
 mod NamedLaws
 pub mod PlaceLaws
 mod ScenarioLaws
+mod StepLaws
