@@ -1,1 +1,3 @@
+pub mod ValueSteps
+pub mod ActionSteps
 pub mod ContractSteps

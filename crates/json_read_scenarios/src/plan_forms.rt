@@ -1,20 +1,20 @@
 //! Plans as JSON values.
-ghost use Rattle.std.specs.Prelude.{◌≡◌, None, IfOk, codes};
+ghost use Rattle.std.specs.Prelude.{◌≡◌, None, IfOk};
 ghost use Rattle.collections.specs.Answers.{Aside};
-ghost use Rattle.json_read_names.specs.Parts.{both_readings, list, reading_at, text};
+ghost use Rattle.json_read_names.specs.Parts.{list, reading_at, text};
 ghost use Rattle.json_read_scenarios.specs.Names.{place_of, list_in_turn};
 ghost use Rattle.json_read_scenarios.specs.ReadsPlan as reads;
 ghost use Rattle.json_read_scenarios.specs.ReadsPlan.{plan_name};
 
 use crate::intents::intents_at;
-use crate::lists::{ItemReader, list_at};
-use crate::members::text_at;
 use crate::name_list::{NameList, Named, NamedReader, named_at, new_name_at};
 use crate::numbers::calls_at;
 use contract::{Items, Text};
-use json_read_names::{JsonFault, beside, has_two, read_text};
+use json_read_names::{
+    ItemReader, JsonFault, beside, has_two, list_from_json, member, read_text, text_at,
+};
 use json_tree::JsonValue;
-use plans::{Intent, NamedContract, NamedThread, Plan};
+use plans::{NamedContract, NamedThread, Plan};
 use std::alloc::Global;
 
 impl Named for Plan<usize, usize> {
@@ -39,28 +39,7 @@ impl ItemReader<Text> for Texts {
 fn texts_at<J: JsonValue>(alloc: Global, json: &J, key: &str) -> Result<Items<Text>, JsonFault>
     ensures { Aside JsonFault.Memory result (reading_at (list text) (J.json json.now) key.now) }
 {
-    list_at(alloc, &Texts, json, key)
-}
-
-// A plan's addresses: those that sign, and that of the change.
-fn keys_and_change<J: JsonValue>(alloc: Global, json: &J) -> Result<(Items<Text>, Text), JsonFault>
-    ensures { Aside JsonFault.Memory result (both_readings (reading_at (list text) (J.json json.now) (codes "keys")) (reading_at text (J.json json.now) (codes "change"))) }
-{
-    let keys = texts_at(alloc, json, "keys")?;
-    beside(keys, text_at(alloc, json, "change"))
-}
-
-// What a plan does, and when it stops.
-fn intents_and_stop<J: JsonValue>(
-    alloc: Global,
-    contracts: &NameList<NamedContract>,
-    threads: &NameList<NamedThread>,
-    json: &J,
-) -> Result<(Items<Intent<usize, usize>>, Option<u64>), JsonFault>
-    ensures { Aside JsonFault.Memory result (both_readings (reading_at (list (reads.intent contracts.now threads.now)) (J.json json.now) (codes "intents")) (reads.if_there reads.calls (J.json json.now) (codes "stop_after"))) }
-{
-    let intents = intents_at(alloc, contracts, threads, json, "intents")?;
-    beside(intents, calls_at(json, "stop_after"))
+    list_from_json(alloc, &Texts, member(json, key)?)
 }
 
 // A plan, beside those before it, of which there are at most 62.
@@ -78,11 +57,12 @@ fn plan_from_json<J: JsonValue>(
         return Err(JsonFault::NoForm);
     }
     let name = new_name_at(alloc, before, json, "name")?;
-    let (name, addresses) = beside(name, keys_and_change(alloc, json))?;
-    let acts = intents_and_stop(alloc, contracts, threads, json);
-    let (named, acts) = beside((name, addresses), acts)?;
-    let (name, (keys, change)) = named;
-    let (intents, stop_after) = acts;
+    let (name, keys) = beside(name, texts_at(alloc, json, "keys"))?;
+    let (who, change) = beside((name, keys), text_at(alloc, json, "change"))?;
+    let intents = intents_at(alloc, contracts, threads, json, "intents");
+    let (who, intents) = beside((who, change), intents)?;
+    let (all, stop_after) = beside((who, intents), calls_at(json, "stop_after"))?;
+    let (((name, keys), change), intents) = all;
     Ok(Plan {
         name,
         keys,

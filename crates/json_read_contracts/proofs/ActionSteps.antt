@@ -8,8 +8,8 @@ use Rattle.collections.specs.Answers.{◌>>=◌}
 use Rattle.json_read_names.specs.Parts.{both_readings, reading_at}
 use Rattle.json_read_names.specs.ReadsNames.{party, token}
 use Rattle.json_read_names.specs.declared.forms.ActionForm.TheVariants.{Deposit}
-use Rattle.json_read_values.specs.ReadsAction.{action_by}
-use Rattle.json_read_values.specs.ReadsValue.{value}
+use Rattle.json_read_contracts.specs.ReadsAction.{action_by}
+use Rattle.json_read_contracts.specs.ReadsValue.{value}
 
 pub deposit-step : (d : Data) → action_by Deposit d
     ≡ (both_readings (reading_at party d (codes "party")) (reading_at value d (codes "deposits")) >>= λ p.

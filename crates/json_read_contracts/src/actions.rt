@@ -3,15 +3,15 @@ ghost use Rattle.std.specs.Prelude.{codes};
 ghost use Rattle.collections.specs.Answers.{Aside};
 ghost use Rattle.json_read_names.specs.Parts.{both_readings, list, reading_at};
 ghost use Rattle.json_read_names.specs.ReadsNames.{bound, party, token};
-ghost use Rattle.json_read_names.specs.declared.forms.ActionForm.TheVariants.{Deposit};
-ghost use Rattle.json_read_values.specs.ReadsAction as reads;
-ghost use Rattle.json_read_values.specs.ReadsValue.{value};
+ghost use Rattle.json_read_names.specs.declared.forms.ActionForm.TheVariants.{Choice, Deposit};
+ghost use Rattle.json_read_contracts.specs.ReadsAction as reads;
+ghost use Rattle.json_read_contracts.specs.ReadsValue.{value};
 
-use crate::values::{observation_from_json, value_from_json};
+use crate::values::{observation_at, value_at};
 use contract::{Action, Bound, Items, Party, Token, Value};
 use json_read_names::{
-    ActionForm, JsonFault, action_form, beside, bound_from_json, choice_id_from_json, member,
-    party_from_json, token_from_json,
+    ActionForm, ItemReader, JsonFault, action_form, beside, bound_from_json, choice_id_at,
+    list_from_json, member, party_at, token_at,
 };
 use json_tree::JsonValue;
 use std::alloc::Global;
@@ -23,15 +23,8 @@ pub fn action_from_json<J: JsonValue>(alloc: Global, json: &J) -> Result<Action,
 {
     match action_form(json) {
         ActionForm::Deposit => deposit_from_json(alloc, json),
-        ActionForm::Choice => {
-            let id = choice_id_from_json(alloc, member(json, "for_choice")?)?;
-            let bounds = bounds_from_json(alloc, member(json, "choose_between")?)?;
-            Ok(Action::Choice(id, bounds))
-        }
-        ActionForm::Notify => {
-            let holds = observation_from_json(alloc, member(json, "notify_if")?)?;
-            Ok(Action::Notify(holds))
-        }
+        ActionForm::Choice => choice_from_json(alloc, json),
+        ActionForm::Notify => Ok(Action::Notify(observation_at(alloc, json, "notify_if")?)),
         ActionForm::Nothing => Err(JsonFault::NoForm),
     }
 }
@@ -51,27 +44,41 @@ fn deposit_from_json<J: JsonValue>(alloc: Global, json: &J) -> Result<Action, Js
 fn party_and_value<J: JsonValue>(alloc: Global, json: &J) -> Result<(Party, Value), JsonFault>
     ensures { Aside JsonFault.Memory result (both_readings (reading_at party (J.json json.now) (codes "party")) (reading_at value (J.json json.now) (codes "deposits"))) }
 {
-    let depositor = party_from_json(alloc, member(json, "party")?)?;
-    let amount = value_from_json(alloc, member(json, "deposits")?)?;
-    Ok((depositor, amount))
+    let depositor = party_at(alloc, json, "party")?;
+    beside(depositor, value_at(alloc, json, "deposits"))
 }
 
 // Of what token, and into whose account.
 fn token_and_account<J: JsonValue>(alloc: Global, json: &J) -> Result<(Token, Party), JsonFault>
     ensures { Aside JsonFault.Memory result (both_readings (reading_at token (J.json json.now) (codes "of_token")) (reading_at party (J.json json.now) (codes "into_account"))) }
 {
-    let token = token_from_json(alloc, member(json, "of_token")?)?;
-    let account = party_from_json(alloc, member(json, "into_account")?)?;
-    Ok((token, account))
+    let token = token_at(alloc, json, "of_token")?;
+    beside(token, party_at(alloc, json, "into_account"))
 }
 
-fn bounds_from_json<J: JsonValue>(alloc: Global, json: &J) -> Result<Items<Bound>, JsonFault>
-    ensures { Aside JsonFault.Memory result (list bound (J.json json.now)) }
+#[tactic(auto, unfolding(crate::specs::ReadsAction::action_by))]
+fn choice_from_json<J: JsonValue>(alloc: Global, json: &J) -> Result<Action, JsonFault>
+    ensures { Aside JsonFault.Memory result (reads.action_by Choice (J.json json.now)) }
 {
-    let items = json.items().ok_or(JsonFault::NoForm)?;
-    let mut bounds = Items::new(alloc);
-    for item in items {
-        bounds.push(bound_from_json(item)?)?;
+    let id = choice_id_at(alloc, json, "for_choice")?;
+    let (id, bounds) = beside(id, bounds_at(alloc, json, "choose_between"))?;
+    Ok(Action::Choice(id, bounds))
+}
+
+fn bounds_at<J: JsonValue>(alloc: Global, json: &J, key: &str) -> Result<Items<Bound>, JsonFault>
+    ensures { Aside JsonFault.Memory result (reading_at (list bound) (J.json json.now) key.now) }
+{
+    list_from_json(alloc, &Bounds, member(json, key)?)
+}
+
+// Reads bounds.
+#[derive(Clone, Copy)]
+struct Bounds;
+
+impl ItemReader<Bound> for Bounds {
+    ghost reading = { λ _. bound };
+
+    fn item_from_json<J: JsonValue>(&self, alloc: Global, json: &J) -> Result<Bound, JsonFault> {
+        bound_from_json(json)
     }
-    Ok(bounds)
 }

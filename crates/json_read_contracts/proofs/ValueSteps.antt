@@ -8,7 +8,7 @@ use Rattle.json_read_names.specs.Forms.{value_form, observation_form}
 use Rattle.collections.specs.Answers.{◌>>=◌}
 use Rattle.json_read_names.specs.Parts.{needed, reading_at}
 use Rattle.json_read_names.proofs.ListLaws.{read_found}
-use Rattle.json_read_values.specs.ReadsValue.{value_by, observation_by, value, value_in, observation, observation_in}
+use Rattle.json_read_contracts.specs.ReadsValue.{value_by, observation_by, value, value_in, observation, observation_in}
 
 value_in-found : (key : List ℕ) (ms : Members) → value_in key ms ≡ (needed (get_member key ms) >>= value)
 unfolding value

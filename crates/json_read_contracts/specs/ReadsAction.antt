@@ -10,7 +10,7 @@ use Rattle.json_read_names.specs.ReadsNames.{party, token, choice_id, bound}
 use Rattle.json_read_names.specs.declared.fault.JsonFault.TheVariants.{NoForm}
 use Rattle.json_read_names.specs.declared.forms.ActionForm.{ActionForm}
 use Rattle.json_read_names.specs.declared.forms.ActionForm.TheVariants as action_forms
-use Rattle.json_read_values.specs.ReadsValue.{value, observation}
+use Rattle.json_read_contracts.specs.ReadsValue.{value, observation}
 
 -- An action of each form.
 unfoldable pub action_by : ActionForm → Data → Reading Action

@@ -1,2 +1,0 @@
-pub mod ValueSteps
-pub mod ActionSteps

@@ -1,2 +1,0 @@
-pub mod ReadsValue
-pub mod ReadsAction
