@@ -23,7 +23,7 @@ pub fn texts_row(alloc: Global, name: &str) -> Result<String, RowFault> {
                 &|fault: &GenesisFault| after_genesis(*fault),
             )?)
         }
-        _ => Err(RowFault::NoSuchRow),
+        _ => rows_transactions::texts_row(alloc, name),
     }
 }
 

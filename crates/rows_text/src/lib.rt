@@ -1,13 +1,9 @@
 //! Rows beside their answers, and transactions as text: how the row programs read a file, and what its lines say.
 //!
-//! A program plays each file that its arguments name (`print_rows`), a session for each. Of these lines every file may have some:
+//! A program plays each file that its arguments name, a session for each. A line `= TEXT` is what the row before must answer; a row that
+//! answers several lines has several of them below it. One that begins with `#` is the subject of the rows below it.
 //!
-//! - `= TEXT` is what the row before must answer. A row that answers several lines has several of them below it;
-//! - `use NAME` has the lines of the file of that name beside this one stand in its place: texts that several files name. They
-//!   answer nothing;
-//! - `#` begins a comment, most often the subject of the rows below it.
-//!
-//! Any other line is the session's (`Answers`): one that answers is a row. Of each file is printed `FILE ok N rows`, and where
+//! Any other line is the session's: one that answers is a row. Of each file is printed `FILE ok N rows`, and where
 //! a row answers otherwise, or a row has no answer, its `FILE:LINE` with what was wanted and what came; then the status is 1.
 //! Of a file without any `=` all that its rows answer is printed: so one sees what rows that are still to be written down answer.
 //!
@@ -53,7 +49,7 @@ mod verdicts;
 mod words;
 
 pub use amounts::{amounts_of, bundle_of, put_amounts, token_of, word_of};
-pub use answers::{Answers, in_bytes, print_rows, put_answer, text_beside};
+pub use answers::{in_bytes, put_answer, text_beside};
 pub use checks::{check_copies, keep_check, recheck_line};
 pub use copied::{
     apart_of, fault_copies, put_beside, put_copies, put_copy, put_same, put_same_copy,

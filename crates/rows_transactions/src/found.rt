@@ -1,5 +1,6 @@
 //! What a transaction that is written down more than once finds.
-use crate::checks::scripts_of;
+use crate::checks::found_under;
+use crate::finds::Finds;
 use collections::{Items, Memory};
 use eutxo::{Resolved, Scripts, copy_option};
 use eutxo_types::Output;
@@ -7,21 +8,31 @@ use roles::Published;
 use rows_text::{Known, Named, RowFault};
 use std::alloc::Global;
 
-/// What a transaction finds: these outputs, all that has a name, and under the ids of some of these names something else.
+/// What a transaction finds where no chain is begun: what is said of its inputs, all that has a name, and under the ids of some of these
+/// names something else, but for the word `check`.
 pub fn found(
     alloc: Global,
-    outputs: &Items<Option<Output>>,
+    finds: &Finds,
+    known: &Known,
+    word: &str,
+) -> Result<Resolved<Published>, RowFault> {
+    let mut found = found_under::<Published>(alloc, &finds.outputs, &known.published)?;
+    if word != "check" {
+        put_others(&mut found.scripts, known, &finds.others)?;
+    }
+    Ok(found)
+}
+
+fn put_others(
+    scripts: &mut Scripts<Published>,
     known: &Known,
     others: &[Named],
-) -> Result<Resolved<Published>, RowFault> {
-    let mut scripts = scripts_of::<Published>(alloc, &known.published)?;
+) -> Result<(), RowFault> {
     for other in others {
-        put_other(&mut scripts, known, other)?;
+        let id = known.by_name(other.name())?.id();
+        scripts.insert(id, other.shared()?)?;
     }
-    Ok(Resolved {
-        outputs: copies_of(alloc, outputs.as_slice())?,
-        scripts,
-    })
+    Ok(())
 }
 
 /// Copies of what inputs find.
@@ -34,13 +45,4 @@ pub fn copies_of(
         copies.push(copy_option(output.as_ref())?)?;
     }
     Ok(copies)
-}
-
-fn put_other(
-    scripts: &mut Scripts<Published>,
-    known: &Known,
-    other: &Named,
-) -> Result<(), RowFault> {
-    let id = known.by_name(other.name())?.id();
-    Ok(scripts.insert(id, other.shared()?)?)
 }

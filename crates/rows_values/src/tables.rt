@@ -12,7 +12,7 @@ use table::{Cont, Entry, Table};
 /// The answer to a row about a table.
 pub fn table_row(alloc: Global, word: &str, text: &str) -> Result<Vec<u8>, RowFault> {
     let answer = match word {
-        "last" => asked_row(alloc, text, Asked::LastTimeout)?,
+        "last_timeout" => asked_row(alloc, text, Asked::LastTimeout)?,
         "copies" => asked_row(alloc, text, Asked::Copies)?,
         "nested" => made_row(alloc, nested(alloc, number(text)?)?, Asked::Height)?,
         "wide" => made_row(alloc, wide(alloc, number(text)?)?, Asked::Root)?,
