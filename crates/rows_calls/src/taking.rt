@@ -3,7 +3,7 @@ use crate::asked::resolved_lines;
 use crate::built::build;
 use crate::desk::{Desk, is_written, written};
 use crate::faults::{fault_copies_line, texts_row};
-use crate::parts::lent;
+use crate::parts::lent_parts;
 use crate::played::played;
 use builder::resolve_parts;
 use chain::Call;
@@ -119,7 +119,7 @@ fn seen_lines(alloc: Global, desk: &Desk) -> Result<String, RowFault> {
 
 // What the looks of the parts hold of what the transaction names.
 fn seen_by_parts_lines(alloc: Global, desk: &Desk) -> Result<String, RowFault> {
-    let parts = lent(alloc, &desk.parts)?;
+    let parts = lent_parts(alloc, &desk.parts)?;
     let found = resolve_parts(alloc, &parts, &desk.tx);
     resolved_lines(alloc, &desk.known, &desk.tx, found)
 }

@@ -33,6 +33,7 @@
 
 mod amounts;
 mod answers;
+mod carried;
 mod checks;
 mod copied;
 mod datums;
@@ -50,22 +51,24 @@ mod words;
 
 pub use amounts::{amounts_of, bundle_of, put_amounts, token_of, word_of};
 pub use answers::{in_bytes, put_answer, text_beside};
+pub use carried::{
+    both, copies_of, done, lent, list, put, put_at, put_in, put_option, put_words, replace,
+    take_back,
+};
 pub use checks::{check_copies, keep_check, recheck_line};
 pub use copied::{
-    apart_of, fault_copies, put_beside, put_copies, put_copy, put_same, put_same_copy,
-    same_or_other, texts_of,
+    apart_of, list_apart, list_copies, list_texts, put_beside, put_copies, put_copy, put_same,
+    put_same_copy, same_or_other, texts_of,
 };
 pub use datums::{bring_for_input, bring_for_outputs, data_for_outputs, datum_of};
 pub use drafts::{nothing, write};
 pub use fault::{RowFault, called};
 pub use known::{Known, NamedText, named_text_of};
-pub use large::{nested, wide};
+pub use large::{nested, notify_and, waiting, wide};
 pub use outputs::{Written, locked, output_of, state_of, written_of};
 pub use publications::{Named, named_of};
 pub use references::{Sent, reference_of, sent_of, word_of_id, word_of_reference};
 pub use report::Report;
 pub use spends::{inputs_of, put_keys};
 pub use verdicts::{refusal_line, verdict_line};
-pub use words::{
-    both, bytes, first, number, parts, put, put_in, put_words, replace, take_back, text,
-};
+pub use words::{bytes, first, number, parts, text};

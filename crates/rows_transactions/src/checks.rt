@@ -1,5 +1,5 @@
 //! Checks of transactions.
-use crate::found::copies_of;
+use crate::resolved::copies_of;
 use crate::stubborn::Stubborn;
 use collections::{Items, Memory};
 use eutxo::{Resolved, Scripts, Shared, Validator, check, judge_local, judge_spent, verdict_of};

@@ -48,11 +48,11 @@ mod copies;
 mod data;
 mod faults;
 mod finds;
-mod found;
+mod resolved;
 mod stubborn;
 mod sums;
 
 pub use asked::{answered, copied, judged, judged_stubbornly};
 pub use faults::texts_row;
 pub use finds::{Finds, is_of_finds, put_finds};
-pub use found::found;
+pub use resolved::found;

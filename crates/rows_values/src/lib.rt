@@ -38,7 +38,6 @@ mod answers;
 mod faults;
 mod forms;
 mod intents;
-mod lending;
 mod lines;
 mod numbers;
 mod on_tables;

@@ -5,7 +5,7 @@ use collections::{Items, Memory};
 use eutxo::{Resolved, Scripts, copy_option};
 use eutxo_types::Output;
 use roles::Published;
-use rows_text::{Known, Named, RowFault};
+use rows_text::{Known, Named, RowFault, done};
 use std::alloc::Global;
 
 /// What a transaction finds where no chain is begun: what is said of its inputs, all that has a name, and under the ids of some of these
@@ -17,10 +17,11 @@ pub fn found(
     word: &str,
 ) -> Result<Resolved<Published>, RowFault> {
     let mut found = found_under::<Published>(alloc, &finds.outputs, &known.published)?;
-    if word != "check" {
-        put_others(&mut found.scripts, known, &finds.others)?;
-    }
-    Ok(found)
+    let put = match word {
+        "check" => Ok(()),
+        _ => put_others(&mut found.scripts, known, &finds.others),
+    };
+    done(found, put)
 }
 
 fn put_others(
