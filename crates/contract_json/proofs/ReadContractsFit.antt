@@ -25,8 +25,8 @@ use Rattle.json_read_names.specs.declared.forms.CaseForm.{CaseForm}
 use Rattle.json_read_names.specs.declared.forms.CaseForm.TheVariants as case_forms
 use Rattle.json_read_names.specs.declared.forms.ActionForm.{ActionForm}
 use Rattle.json_read_names.specs.declared.forms.ActionForm.TheVariants as action_forms
-use Rattle.json_read_contracts.specs.ReadsAction.{action, action_by}
-use Rattle.json_read_contracts.specs.ReadsValue.{value, observation}
+use Rattle.json_read_values.specs.ReadsAction.{action, action_by}
+use Rattle.json_read_values.specs.ReadsValue.{value, observation}
 use Rattle.json_read_contracts.specs.ReadsContract.{contract, contract_by, contract_in, case, case_by, cases, all_cases, cases_in}
 use Rattle.json_write_contracts.specs.WrittenNames.{number_fits, time_fits}
 use Rattle.json_write_contracts.specs.WrittenContract.{bound_fits, action_fits, case_fits, cases_fit, contract_fits}

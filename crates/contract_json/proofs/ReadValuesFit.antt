@@ -15,7 +15,7 @@ use Rattle.json_read_names.specs.declared.forms.ValueForm.{ValueForm}
 use Rattle.json_read_names.specs.declared.forms.ValueForm.TheVariants as value_forms
 use Rattle.json_read_names.specs.declared.forms.ObservationForm.{ObservationForm}
 use Rattle.json_read_names.specs.declared.forms.ObservationForm.TheVariants as observation_forms
-use Rattle.json_read_contracts.specs.ReadsValue.{value_by, observation_by, value, value_in, observation, observation_in}
+use Rattle.json_read_values.specs.ReadsValue.{value_by, observation_by, value, value_in, observation, observation_in}
 use Rattle.json_write_contracts.specs.WrittenValues.{value_fits, observation_fits}
 use Rattle.contract_json.proofs.Ranges.{InRange, MembersInRange, bind_ok, ok-same, whole-fits}
 

@@ -16,8 +16,8 @@ use Rattle.contract.proofs.TreeLaws.{value_of-value_tree, observation_of-observa
 use Rattle.json_read_names.specs.Parts.{Reading}
 use Rattle.json_read_names.specs.ReadsText.{of_text}
 use Rattle.json_read_names.proofs.TextLaws.{json_of-read}
-use Rattle.json_read_contracts.specs.ReadsAction.{action}
-use Rattle.json_read_contracts.specs.ReadsValue.{value, observation}
+use Rattle.json_read_values.specs.ReadsAction.{action}
+use Rattle.json_read_values.specs.ReadsValue.{value, observation}
 use Rattle.json_read_contracts.specs.ReadsContract.{contract, case}
 use Rattle.json_write_contracts.specs.Symbols.{ValueSymbols, ObservationSymbols, ActionSymbols, CaseSymbols, ContractSymbols}
 use Rattle.json_write_contracts.specs.WrittenValues.{value_json, observation_json}

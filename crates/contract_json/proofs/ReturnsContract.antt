@@ -21,8 +21,8 @@ use Rattle.contract.specs.TreeInverse.{value_of, observation_of, action_of, cont
 use Rattle.json_read_names.specs.Forms.{contract_form, case_form, action_form}
 use Rattle.json_read_names.specs.Parts.{time}
 use Rattle.json_read_names.specs.ReadsNames.{party, payee, token, choice_id}
-use Rattle.json_read_contracts.specs.ReadsValue.{value, observation}
-use Rattle.json_read_contracts.specs.ReadsAction.{action, action_by}
+use Rattle.json_read_values.specs.ReadsValue.{value, observation}
+use Rattle.json_read_values.specs.ReadsAction.{action, action_by}
 use Rattle.json_read_contracts.specs.ReadsContract.{contract, contract_by, case, case_by, all_cases}
 use Rattle.json_write_contracts.specs.Symbols.{ActionSymbols, ContractSymbols, CasesSymbols}
 use Rattle.json_write_contracts.specs.WrittenNames.{one, two, three, four, five, number_json, party_json, payee_json, token_json, choice_id_json}

@@ -15,7 +15,7 @@ use Rattle.contract.specs.Tree.{ObservationTree, and_obs, or_obs, not_obs, chose
 use Rattle.contract.specs.TreeInverse.{observation_of}
 use Rattle.json_read_names.specs.Forms.{value_form, observation_form}
 use Rattle.json_read_names.specs.ReadsNames.{party, token, choice_id}
-use Rattle.json_read_contracts.specs.ReadsValue.{value, value_by, observation, observation_by}
+use Rattle.json_read_values.specs.ReadsValue.{value, value_by, observation, observation_by}
 use Rattle.json_write_contracts.specs.Symbols.{ValueSymbols, ObservationSymbols}
 use Rattle.json_write_contracts.specs.WrittenNames.{one, two, three, number_json, party_json, token_json, choice_id_json}
 use Rattle.json_write_contracts.specs.WrittenValues.{value_json, observation_json}

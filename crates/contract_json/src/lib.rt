@@ -9,14 +9,14 @@ mod puts;
 mod texts;
 
 pub use contract::Transaction;
-pub use json_read_contracts::{
-    action_from_json, case_from_json, contract_from_json, contracts_are_read_by_form,
-    observation_from_json, value_from_json, values_are_read_by_form,
-};
+pub use json_read_contracts::{case_from_json, contract_from_json, contracts_are_read_by_form};
 pub use json_read_inputs::{input_from_json, state_from_json, transaction_from_json};
 pub use json_read_names::{
     JsonFault, bound_from_json, choice_id_from_json, party_from_json, payee_from_json,
     token_from_json,
+};
+pub use json_read_values::{
+    action_from_json, observation_from_json, value_from_json, values_are_read_by_form,
 };
 pub use json_tree::JsonValue;
 pub use json_write_contracts::WriteFault;

@@ -2,8 +2,8 @@
 ghost use Rattle.std.specs.Prelude.{◌≡◌, true, ⊤, Ok};
 ghost use Rattle.contract.specs.Tree.{value_tree, observation_tree, action_tree, case_tree, contract_tree};
 ghost use Rattle.json_read_names.specs.ReadsNames as reads;
-ghost use Rattle.json_read_contracts.specs.ReadsValue as value_reads;
-ghost use Rattle.json_read_contracts.specs.ReadsAction.{action};
+ghost use Rattle.json_read_values.specs.ReadsValue as value_reads;
+ghost use Rattle.json_read_values.specs.ReadsAction.{action};
 ghost use Rattle.json_read_contracts.specs.ReadsContract as contract_reads;
 ghost use Rattle.json_read_inputs.specs.ReadsInput as input_reads;
 ghost use Rattle.json_read_inputs.specs.ReadsState as state_reads;

@@ -1,6 +1,5 @@
 //! Checked transactions.
 ghost use Rattle.std.specs.Prelude.{◌≡◌, ◌↔◌, IsTrue, IfOk};
-ghost use Rattle.eutxo_types.specs.Ids.{id_of};
 ghost use Rattle.eutxo.specs.Local.{verdict_of};
 ghost use Rattle.eutxo.specs.Checks.{check_of, IsCheck, IsOf};
 
@@ -118,10 +117,9 @@ impl<V: Validator> Checked<V> {
         &self.tx
     }
 
-    /// Its id: the SHA-256 of its spelling, which was made once, where it was checked.
+    /// Its id: the SHA-256 of its spelling.
     pub fn id(&self) -> &[u8; 32]
-        ensures kept { result.now ≡ self.now.id }
-        ensures id { result.now ≡ id_of self.now.tx }
+        ensures { result.now ≡ self.now.id }
     {
         &self.id
     }

@@ -9,7 +9,7 @@ use Rattle.json_read_names.specs.Forms.{contract_form, case_form}
 use Rattle.collections.specs.Answers.{◌>>=◌}
 use Rattle.json_read_names.specs.Parts.{Reading, ByKey, both_readings, needed, reading_at, time, list, all_items}
 use Rattle.json_read_names.specs.ReadsNames.{party, payee, token}
-use Rattle.json_read_contracts.specs.ReadsValue.{value}
+use Rattle.json_read_values.specs.ReadsValue.{value}
 use Rattle.json_read_contracts.specs.ReadsContract.{contract_by, case_by, contract, contract_in, case, cases, all_cases, cases_in}
 use Rattle.json_read_names.proofs.ListLaws.{read_found, then_two}
 use Rattle.json_read_names.specs.declared.forms.ContractForm.TheVariants.{Pay, When}

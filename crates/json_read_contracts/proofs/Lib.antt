@@ -1,3 +1,1 @@
-pub mod ValueSteps
-pub mod ActionSteps
 pub mod ContractSteps

@@ -1,3 +1,1 @@
-pub mod ReadsValue
-pub mod ReadsAction
 pub mod ReadsContract

@@ -10,8 +10,8 @@ use Rattle.json_read_names.specs.Forms.{contract_form, case_form}
 use Rattle.collections.specs.Answers.{◌>>=◌}
 use Rattle.json_read_names.specs.Parts.{Reading, ByKey, reading_at, both_readings, nowhere, text, time}
 use Rattle.json_read_names.specs.ReadsNames.{party, token, payee}
-use Rattle.json_read_contracts.specs.ReadsValue.{value, observation}
-use Rattle.json_read_contracts.specs.ReadsAction.{action}
+use Rattle.json_read_values.specs.ReadsValue.{value, observation}
+use Rattle.json_read_values.specs.ReadsAction.{action}
 use Rattle.json_read_names.specs.declared.fault.JsonFault.TheVariants.{NoForm, Merkleized}
 use Rattle.json_read_names.specs.declared.forms.ContractForm.{ContractForm}
 use Rattle.json_read_names.specs.declared.forms.ContractForm.TheVariants as contract_forms

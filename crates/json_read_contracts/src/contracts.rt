@@ -3,17 +3,16 @@ ghost use Rattle.std.specs.Prelude.{codes};
 ghost use Rattle.collections.specs.Answers.{Aside};
 ghost use Rattle.json_read_names.specs.Parts.{both_readings, list, nowhere, reading_at, time};
 ghost use Rattle.json_read_names.specs.ReadsNames.{party, payee, token};
-ghost use Rattle.json_read_names.specs.declared.forms.ContractForm.TheVariants.{Assert, If, Let, Pay, When};
-ghost use Rattle.json_read_contracts.specs.ReadsValue.{value};
+ghost use Rattle.json_read_names.specs.declared.forms.ContractForm.TheVariants.{Pay, When};
+ghost use Rattle.json_read_values.specs.ReadsValue.{value};
 ghost use Rattle.json_read_contracts.specs.ReadsContract as reads;
 
-use crate::actions::action_from_json;
-use crate::values::{observation_at, value_at};
 use contract::{Boxed, Case, Contract, Items, Party, Payee, Token, Value};
 use json_read_names::{
-    CaseForm, ContractForm, JsonFault, beside, case_form, contract_form, member, party_at,
-    payee_at, text_at, time_at, token_at,
+    CaseForm, ContractForm, JsonFault, beside, case_form, contract_form, member, party_from_json,
+    payee_from_json, read_text, read_time, token_from_json,
 };
+use json_read_values::{action_from_json, observation_from_json, value_from_json};
 use json_tree::JsonValue;
 use std::alloc::Global;
 
@@ -27,10 +26,24 @@ pub fn contract_from_json<J: JsonValue>(alloc: Global, json: &J) -> Result<Contr
     match contract_form(json) {
         ContractForm::Close => Ok(Contract::Close),
         ContractForm::Pay => pay_from_json(alloc, json),
-        ContractForm::If => if_from_json(alloc, json),
+        ContractForm::If => {
+            let holds = observation_from_json(alloc, member(json, "if")?)?;
+            let (holds, branches) = beside(holds, contracts_at(alloc, json, "then", "else"))?;
+            let (then, otherwise) = branches;
+            Ok(Contract::If(holds, then, otherwise))
+        }
         ContractForm::When => when_from_json(alloc, json),
-        ContractForm::Let => let_from_json(alloc, json),
-        ContractForm::Assert => assert_from_json(alloc, json),
+        ContractForm::Let => {
+            let name = read_text(alloc, member(json, "let")?)?;
+            let value = value_from_json(alloc, member(json, "be")?)?;
+            let (value, then) = beside(value, contract_at(alloc, json, "then"))?;
+            Ok(Contract::Let(name, value, then))
+        }
+        ContractForm::Assert => {
+            let holds = observation_from_json(alloc, member(json, "assert")?)?;
+            let (holds, then) = beside(holds, contract_at(alloc, json, "then"))?;
+            Ok(Contract::Assert(holds, then))
+        }
         ContractForm::Nothing => Err(JsonFault::NoForm),
     }
 }
@@ -41,7 +54,7 @@ fn pay_from_json<J: JsonValue>(alloc: Global, json: &J) -> Result<Contract, Json
     ensures { Aside JsonFault.Memory result (reads.contract_by Pay (J.json json.now) (reading_at reads.contract (J.json json.now)) nowhere) }
 {
     let paid = what_is_paid(alloc, json)?;
-    let (paid, then) = beside(paid, boxed_contract_at(alloc, json, "then"))?;
+    let (paid, then) = beside(paid, contract_at(alloc, json, "then"))?;
     let ((amount, token), (account, payee)) = paid;
     Ok(Contract::Pay(account, payee, token, amount, then))
 }
@@ -62,27 +75,23 @@ fn what_is_paid<J: JsonValue>(
 fn amount_and_token<J: JsonValue>(alloc: Global, json: &J) -> Result<(Value, Token), JsonFault>
     ensures { Aside JsonFault.Memory result (both_readings (reading_at value (J.json json.now) (codes "pay")) (reading_at token (J.json json.now) (codes "token"))) }
 {
-    let amount = value_at(alloc, json, "pay")?;
+    let amount = value_from_json(alloc, member(json, "pay")?)?;
     beside(amount, token_at(alloc, json, "token"))
+}
+
+fn token_at<J: JsonValue>(alloc: Global, json: &J, key: &str) -> Result<Token, JsonFault>
+    ensures { Aside JsonFault.Memory result (reading_at token (J.json json.now) key.now) }
+{
+    token_from_json(alloc, member(json, key)?)
 }
 
 // Where a Pay takes it from, and whom it gives it to.
 fn account_and_payee<J: JsonValue>(alloc: Global, json: &J) -> Result<(Party, Payee), JsonFault>
     ensures { Aside JsonFault.Memory result (both_readings (reading_at party (J.json json.now) (codes "from_account")) (reading_at payee (J.json json.now) (codes "to"))) }
 {
-    let account = party_at(alloc, json, "from_account")?;
-    beside(account, payee_at(alloc, json, "to"))
-}
-
-#[cycle(contract_from_json)]
-#[tactic(auto, unfolding(crate::specs::ReadsContract::contract_by))]
-fn if_from_json<J: JsonValue>(alloc: Global, json: &J) -> Result<Contract, JsonFault>
-    ensures { Aside JsonFault.Memory result (reads.contract_by If (J.json json.now) (reading_at reads.contract (J.json json.now)) nowhere) }
-{
-    let holds = observation_at(alloc, json, "if")?;
-    let (holds, branches) = beside(holds, contracts_at(alloc, json, "then", "else"))?;
-    let (then, otherwise) = branches;
-    Ok(Contract::If(holds, then, otherwise))
+    let account = party_from_json(alloc, member(json, "from_account")?)?;
+    let payee = payee_from_json(alloc, member(json, "to")?)?;
+    Ok((account, payee))
 }
 
 #[cycle(contract_from_json)]
@@ -104,33 +113,9 @@ fn timeout_and_then<J: JsonValue>(
 ) -> Result<(i64, Boxed<Contract>), JsonFault>
     ensures { Aside JsonFault.Memory result (both_readings (reading_at time (J.json json.now) (codes "timeout")) (reading_at reads.contract (J.json json.now) (codes "timeout_continuation"))) }
 {
-    let timeout = time_at(json, "timeout")?;
-    beside(
-        timeout,
-        boxed_contract_at(alloc, json, "timeout_continuation"),
-    )
-}
-
-#[cycle(contract_from_json)]
-#[tactic(auto, unfolding(crate::specs::ReadsContract::contract_by))]
-fn let_from_json<J: JsonValue>(alloc: Global, json: &J) -> Result<Contract, JsonFault>
-    ensures { Aside JsonFault.Memory result (reads.contract_by Let (J.json json.now) (reading_at reads.contract (J.json json.now)) nowhere) }
-{
-    let name = text_at(alloc, json, "let")?;
-    let (name, value) = beside(name, value_at(alloc, json, "be"))?;
-    let (bound, then) = beside((name, value), boxed_contract_at(alloc, json, "then"))?;
-    let (name, value) = bound;
-    Ok(Contract::Let(name, value, then))
-}
-
-#[cycle(contract_from_json)]
-#[tactic(auto, unfolding(crate::specs::ReadsContract::contract_by))]
-fn assert_from_json<J: JsonValue>(alloc: Global, json: &J) -> Result<Contract, JsonFault>
-    ensures { Aside JsonFault.Memory result (reads.contract_by Assert (J.json json.now) (reading_at reads.contract (J.json json.now)) nowhere) }
-{
-    let holds = observation_at(alloc, json, "assert")?;
-    let (holds, then) = beside(holds, boxed_contract_at(alloc, json, "then"))?;
-    Ok(Contract::Assert(holds, then))
+    let timeout = read_time(member(json, "timeout")?)?;
+    let then = contract_at(alloc, json, "timeout_continuation")?;
+    Ok((timeout, then))
 }
 
 // The two contracts that the members at two keys stand for, the first before the second.
@@ -143,27 +128,20 @@ fn contracts_at<J: JsonValue>(
 ) -> Result<(Boxed<Contract>, Boxed<Contract>), JsonFault>
     ensures { Aside JsonFault.Memory result (both_readings (reading_at reads.contract (J.json json.now) a.now) (reading_at reads.contract (J.json json.now) b.now)) }
 {
-    let first = boxed_contract_at(alloc, json, a)?;
-    beside(first, boxed_contract_at(alloc, json, b))
+    let first = contract_at(alloc, json, a)?;
+    beside(first, contract_at(alloc, json, b))
 }
 
 // The contract that the member at a key stands for.
 #[cycle(contract_from_json)]
-fn contract_at<J: JsonValue>(alloc: Global, json: &J, key: &str) -> Result<Contract, JsonFault>
-    ensures { Aside JsonFault.Memory result (reading_at reads.contract (J.json json.now) key.now) }
-{
-    contract_from_json(alloc, member(json, key)?)
-}
-
-#[cycle(contract_from_json)]
-fn boxed_contract_at<J: JsonValue>(
+fn contract_at<J: JsonValue>(
     alloc: Global,
     json: &J,
     key: &str,
 ) -> Result<Boxed<Contract>, JsonFault>
     ensures { Aside JsonFault.Memory result (reading_at reads.contract (J.json json.now) key.now) }
 {
-    let contract = contract_at(alloc, json, key)?;
+    let contract = contract_from_json(alloc, member(json, key)?)?;
     Ok(Boxed::new(alloc, contract)?)
 }
 
@@ -176,12 +154,20 @@ pub fn case_from_json<J: JsonValue>(alloc: Global, json: &J) -> Result<Case, Jso
     match case_form(json) {
         CaseForm::Plain => {
             let action = action_from_json(alloc, member(json, "case")?)?;
-            let (action, then) = beside(action, contract_at(alloc, json, "then"))?;
+            let (action, then) = beside(action, then_of_case(alloc, json))?;
             Ok(Case { action, then })
         }
         CaseForm::Merkleized => Err(JsonFault::Merkleized),
         CaseForm::Nothing => Err(JsonFault::NoForm),
     }
+}
+
+// The contract that a case is gone on with.
+#[cycle(contract_from_json)]
+fn then_of_case<J: JsonValue>(alloc: Global, json: &J) -> Result<Contract, JsonFault>
+    ensures { Aside JsonFault.Memory result (reading_at reads.contract (J.json json.now) (codes "then")) }
+{
+    contract_from_json(alloc, member(json, "then")?)
 }
 
 #[cycle(contract_from_json)]

@@ -1,18 +1,9 @@
 //! Laws of readings, each the contract of a function that does nothing.
 ghost use Rattle.std.specs.Prelude.{◌≡◌};
 ghost use Rattle.serde_json.specs.Data.{Data};
-ghost use Rattle.json_read_names.specs.Forms.{value_form, observation_form, contract_form, case_form};
+ghost use Rattle.json_read_names.specs.Forms.{contract_form, case_form};
 ghost use Rattle.json_read_names.specs.Parts.{list, reading_at};
-ghost use Rattle.json_read_contracts.specs.ReadsValue.{value, observation, value_by, observation_by};
 ghost use Rattle.json_read_contracts.specs.ReadsContract.{contract, case, contract_by, case_by};
-
-/// A value is read by its form, from what the members at the form's keys stand for; so is an observation. The
-/// order in which the members of an object stand plays no part.
-#[tactic(auto, using(crate::proofs::ValueSteps::value_steps))]
-pub fn values_are_read_by_form()
-    ensures values { (d : Data) → value d ≡ value_by (value_form d) d (reading_at value d) (reading_at observation d) }
-    ensures observations { (d : Data) → observation d ≡ observation_by (observation_form d) d (reading_at value d) (reading_at observation d) }
-{}
 
 /// A contract is read by its form, from what the members at the form's keys stand for; so is a case. The order in
 /// which the members of an object stand plays no part.

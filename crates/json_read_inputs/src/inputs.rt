@@ -1,13 +1,12 @@
 //! Inputs and transactions as JSON values.
 ghost use Rattle.collections.specs.Answers.{Aside};
 ghost use Rattle.json_read_names.specs.Parts.{list};
-ghost use Rattle.json_read_names.specs.declared.forms.InputForm.TheVariants.{Choice, Deposit};
 ghost use Rattle.json_read_inputs.specs.ReadsInput as reads;
 
 use contract::{Input, Interval, Items, Transaction};
 use json_read_names::{
-    InputForm, ItemReader, JsonFault, beside, choice_id_at, has_two, input_form, list_from_json,
-    member, party_at, time_at, token_at, whole_at,
+    InputForm, JsonFault, choice_id_from_json, has_two, input_form, member, party_from_json,
+    read_time, read_whole, token_from_json,
 };
 use json_tree::JsonValue;
 use std::alloc::Global;
@@ -20,31 +19,20 @@ pub fn input_from_json<J: JsonValue>(alloc: Global, json: &J) -> Result<Input, J
 {
     match input_form(json) {
         InputForm::Notify => Ok(Input::Notify),
-        InputForm::Deposit => deposit_from_json(alloc, json),
-        InputForm::Choice => choice_from_json(alloc, json),
+        InputForm::Deposit => {
+            let depositor = party_from_json(alloc, member(json, "input_from_party")?)?;
+            let amount = read_whole(member(json, "that_deposits")?)?;
+            let token = token_from_json(alloc, member(json, "of_token")?)?;
+            let account = party_from_json(alloc, member(json, "into_account")?)?;
+            Ok(Input::Deposit(account, depositor, token, amount))
+        }
+        InputForm::Choice => {
+            let id = choice_id_from_json(alloc, member(json, "for_choice_id")?)?;
+            let number = read_whole(member(json, "input_that_chooses_num")?)?;
+            Ok(Input::Choice(id, number))
+        }
         InputForm::Nothing => Err(JsonFault::NoForm),
     }
-}
-
-#[tactic(auto, unfolding(crate::specs::ReadsInput::input_by))]
-fn deposit_from_json<J: JsonValue>(alloc: Global, json: &J) -> Result<Input, JsonFault>
-    ensures { Aside JsonFault.Memory result (reads.input_by Deposit (J.json json.now)) }
-{
-    let depositor = party_at(alloc, json, "input_from_party")?;
-    let (depositor, amount) = beside(depositor, whole_at(json, "that_deposits"))?;
-    let (depositor, token) = beside(depositor, token_at(alloc, json, "of_token"))?;
-    let (first, account) = beside((depositor, token), party_at(alloc, json, "into_account"))?;
-    let (depositor, token) = first;
-    Ok(Input::Deposit(account, depositor, token, amount))
-}
-
-#[tactic(auto, unfolding(crate::specs::ReadsInput::input_by))]
-fn choice_from_json<J: JsonValue>(alloc: Global, json: &J) -> Result<Input, JsonFault>
-    ensures { Aside JsonFault.Memory result (reads.input_by Choice (J.json json.now)) }
-{
-    let id = choice_id_at(alloc, json, "for_choice_id")?;
-    let (id, number) = beside(id, whole_at(json, "input_that_chooses_num"))?;
-    Ok(Input::Choice(id, number))
 }
 
 /// The interval that a JSON value stands for: two times.
@@ -54,28 +42,21 @@ pub fn interval_from_json<J: JsonValue>(json: &J) -> Result<Interval, JsonFault>
     if !has_two(json, "from", "to") {
         return Err(JsonFault::NoForm);
     }
-    let from = time_at(json, "from")?;
-    let to = time_at(json, "to")?;
+    let from = read_time(member(json, "from")?)?;
+    let to = read_time(member(json, "to")?)?;
     Ok(Interval { from, to })
-}
-
-// Reads inputs.
-#[derive(Clone, Copy)]
-struct Inputs;
-
-impl ItemReader<Input> for Inputs {
-    ghost reading = { λ _. reads.input };
-
-    fn item_from_json<J: JsonValue>(&self, alloc: Global, json: &J) -> Result<Input, JsonFault> {
-        input_from_json(alloc, json)
-    }
 }
 
 /// The inputs that a list stands for, in order.
 pub fn inputs_from_json<J: JsonValue>(alloc: Global, json: &J) -> Result<Items<Input>, JsonFault>
     ensures reading { Aside JsonFault.Memory result (list reads.input (J.json json.now)) }
 {
-    list_from_json(alloc, &Inputs, json)
+    let items = json.items().ok_or(JsonFault::NoForm)?;
+    let mut inputs = Items::new(alloc);
+    for item in items {
+        inputs.push(input_from_json(alloc, item)?)?;
+    }
+    Ok(inputs)
 }
 
 /// The transaction that a JSON value stands for.

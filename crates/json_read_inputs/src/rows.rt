@@ -1,20 +1,19 @@
 //! Maps as lists of rows, each a list of a key and a number.
-ghost use Rattle.std.specs.Prelude.{◌≡◌, ℤ, pos, int_lt, [], map, Ok, Err, IfOk, IfErr, if◌then◌else◌};
+ghost use Rattle.std.specs.Prelude.{◌≡◌, ℤ, [], map, IfOk, IfErr};
 ghost use Rattle.std.proofs.Math.Dec.{T};
 ghost use Rattle.std.specs.FinMap.{IsAntisymmetric, from_sorted, is_sorted};
-ghost use Rattle.collections.specs.Answers.{Aside, AsideBy, ◌>>=◌};
+ghost use Rattle.collections.specs.Answers.{Aside, AsideBy};
 ghost use Rattle.names.proofs.Exact.{bytes_exact, token_exact, account_exact, choice_id_exact};
 ghost use Rattle.serde_json.specs.Data.{Data};
 ghost use Rattle.serde_json.specs.View.{items_of};
-ghost use Rattle.json_read_names.specs.Parts.{Reading, reading_at};
+ghost use Rattle.json_read_names.specs.Parts.{Reading};
 ghost use Rattle.json_read_names.specs.declared.fault.JsonFault.TheVariants as faults;
 ghost use Rattle.json_read_inputs.specs.ReadsState as reads;
 ghost use Rattle.json_read_inputs.specs.Rows.{until_fault};
 
 use contract::{Account, ChoiceId, Entries, Text, Token};
 use json_read_names::{
-    JsonFault, beside, choice_id_from_json, member, pair, party_from_json, read_text, read_whole,
-    token_from_json,
+    JsonFault, choice_id_from_json, pair, party_from_json, read_text, read_whole, token_from_json,
 };
 use json_tree::JsonValue;
 use std::alloc::Global;
@@ -31,24 +30,12 @@ pub(crate) trait RowKey: Ord {
     ghost exact: { IsAntisymmetric Self.cmp };
 }
 
-// A key with its number, which is above 0.
-fn with_positive<K: Drop>(key: K, number: Result<i128, JsonFault>) -> Result<(K, i128), JsonFault>
-    ensures { result ≡ (number >>= λ n. if int_lt (pos 0) n then Ok (key, n) else Err faults.BadState) }
-{
-    let (key, number) = beside(key, number)?;
-    if number > 0 {
-        Ok((key, number))
-    } else {
-        Err(JsonFault::BadState)
-    }
-}
-
 fn account_from_json<J: JsonValue>(alloc: Global, json: &J) -> Result<Account, JsonFault>
     ensures { Aside JsonFault.Memory result (reads.account (J.json json.now)) }
 {
     let (owner, token) = pair(json)?;
     let owner = party_from_json(alloc, owner)?;
-    let (owner, token) = beside(owner, token_from_json(alloc, token))?;
+    let token = token_from_json(alloc, token)?;
     Ok(Account { owner, token })
 }
 
@@ -59,7 +46,12 @@ impl RowKey for Account {
     fn row_from_json<J: JsonValue>(alloc: Global, json: &J) -> Result<(Account, i128), JsonFault> {
         let (key, number) = pair(json)?;
         let account = account_from_json(alloc, key)?;
-        with_positive(account, read_whole(number))
+        let amount = read_whole(number)?;
+        if amount > 0 {
+            Ok((account, amount))
+        } else {
+            Err(JsonFault::BadState)
+        }
     }
 
     ghost exact = { account_exact };
@@ -72,7 +64,12 @@ impl RowKey for Token {
     fn row_from_json<J: JsonValue>(alloc: Global, json: &J) -> Result<(Token, i128), JsonFault> {
         let (key, number) = pair(json)?;
         let token = token_from_json(alloc, key)?;
-        with_positive(token, read_whole(number))
+        let amount = read_whole(number)?;
+        if amount > 0 {
+            Ok((token, amount))
+        } else {
+            Err(JsonFault::BadState)
+        }
     }
 
     ghost exact = { token_exact };
@@ -85,7 +82,8 @@ impl RowKey for ChoiceId {
     fn row_from_json<J: JsonValue>(alloc: Global, json: &J) -> Result<(ChoiceId, i128), JsonFault> {
         let (key, number) = pair(json)?;
         let id = choice_id_from_json(alloc, key)?;
-        beside(id, read_whole(number))
+        let number = read_whole(number)?;
+        Ok((id, number))
     }
 
     ghost exact = { choice_id_exact };
@@ -98,7 +96,8 @@ impl RowKey for Text {
     fn row_from_json<J: JsonValue>(alloc: Global, json: &J) -> Result<(Text, i128), JsonFault> {
         let (key, number) = pair(json)?;
         let name = read_text(alloc, key)?;
-        beside(name, read_whole(number))
+        let value = read_whole(number)?;
+        Ok((name, value))
     }
 
     ghost exact = { bytes_exact };
@@ -140,16 +139,4 @@ pub(crate) fn entries_from_json<J: JsonValue, K: RowKey + Drop>(
             Some(fault) => Err(fault),
         },
     }
-}
-
-// The map of the list of rows that the member at a key is.
-pub(crate) fn entries_at<J: JsonValue, K: RowKey + Drop>(
-    alloc: Global,
-    json: &J,
-    key: &str,
-) -> Result<Entries<K, i128>, JsonFault>
-    ensures reading { AsideBy JsonFault.Memory from_sorted result (reading_at (reads.rows K.cmp K.reading) (J.json json.now) key.now) }
-    ensures sorted { IfOk result (λ entries. T (is_sorted K.cmp entries)) }
-{
-    entries_from_json::<J, K>(alloc, member(json, key)?)
 }

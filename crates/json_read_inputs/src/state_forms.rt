@@ -3,9 +3,9 @@ ghost use Rattle.collections.specs.Answers.{Aside};
 ghost use Rattle.json_read_inputs.specs.ReadsState as reads;
 
 use crate::amounts::accounts_from_json;
-use crate::rows::entries_at;
+use crate::rows::entries_from_json;
 use contract::{ChoiceId, State, Text};
-use json_read_names::{JsonFault, beside, has_two, member, time_at};
+use json_read_names::{JsonFault, has_two, member, read_time};
 use json_tree::JsonValue;
 use std::alloc::Global;
 
@@ -17,10 +17,8 @@ pub fn state_from_json<J: JsonValue>(alloc: Global, json: &J) -> Result<State, J
         return Err(JsonFault::NoForm);
     }
     let accounts = accounts_from_json(alloc, member(json, "accounts")?)?;
-    let (accounts, choices) = beside(accounts, entries_at::<J, ChoiceId>(alloc, json, "choices"))?;
-    let bound_values = entries_at::<J, Text>(alloc, json, "boundValues");
-    let (maps, bound_values) = beside((accounts, choices), bound_values)?;
-    let (maps, min_time) = beside((maps, bound_values), time_at(json, "minTime"))?;
-    let ((accounts, choices), bound_values) = maps;
+    let choices = entries_from_json::<J, ChoiceId>(alloc, member(json, "choices")?)?;
+    let bound_values = entries_from_json::<J, Text>(alloc, member(json, "boundValues")?)?;
+    let min_time = read_time(member(json, "minTime")?)?;
     Ok(State::from_entries(accounts, choices, bound_values, min_time))
 }

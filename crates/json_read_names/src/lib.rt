@@ -3,7 +3,6 @@
 
 mod fault;
 mod forms;
-mod lists;
 mod look;
 mod name_forms;
 mod numbers;
@@ -14,14 +13,11 @@ pub use forms::{
     ActionForm, CaseForm, ContractForm, InputForm, ObservationForm, ValueForm, action_form,
     case_form, contract_form, input_form, observation_form, value_form,
 };
-pub use lists::{ItemReader, list_from_json};
 pub use look::{
-    beside, bytes_at, has, has_three, has_two, is_number, is_word, member, pair, read_bytes,
-    read_text, text_at,
+    beside, has, has_three, has_two, is_number, is_word, member, pair, read_bytes, read_text,
 };
 pub use name_forms::{
-    bound_from_json, choice_id_at, choice_id_from_json, party_at, party_from_json, payee_at,
-    payee_from_json, token_at, token_from_json,
+    bound_from_json, choice_id_from_json, party_from_json, payee_from_json, token_from_json,
 };
-pub use numbers::{read_time, read_whole, time_at, whole_at};
+pub use numbers::{read_time, read_whole};
 pub use texts::json_of;

@@ -3,7 +3,7 @@ ghost use Rattle.std.specs.Prelude.{◌≡◌, ◌<◌, Ok, IfOk};
 ghost use Rattle.collections.specs.Answers.{Aside, AsideBy};
 ghost use Rattle.serde_json.specs.Data.{depth};
 ghost use Rattle.json_read_names.specs.Forms.{has, has_two, has_three, is_number, is_word};
-ghost use Rattle.json_read_names.specs.Parts.{both_readings, member_at, reading_at, pair, text, bytes};
+ghost use Rattle.json_read_names.specs.Parts.{both_readings, member_at, pair, text, bytes};
 
 use crate::fault::JsonFault;
 use collections::{Bytes, Text};
@@ -81,13 +81,6 @@ pub fn read_text<J: JsonValue>(alloc: Global, json: &J) -> Result<Text, JsonFaul
     Ok(Text::from_string(String::from_str(alloc, text)?))
 }
 
-/// The text that the member at a key is.
-pub fn text_at<J: JsonValue>(alloc: Global, json: &J, key: &str) -> Result<Text, JsonFault>
-    ensures { Aside JsonFault.Memory result (reading_at text (J.json json.now) key.now) }
-{
-    read_text(alloc, member(json, key)?)
-}
-
 /// The bytes that a text of hexadecimal digits of either case stands for.
 pub fn read_bytes<J: JsonValue>(alloc: Global, json: &J) -> Result<Bytes, JsonFault>
     ensures { Aside JsonFault.Memory result (bytes (J.json json.now)) }
@@ -98,13 +91,6 @@ pub fn read_bytes<J: JsonValue>(alloc: Global, json: &J) -> Result<Bytes, JsonFa
         Err(hex::FromHexError::OutOfMemory) => Err(JsonFault::Memory),
         Err(_) => Err(JsonFault::BadHex),
     }
-}
-
-/// The bytes that the member at a key stands for.
-pub fn bytes_at<J: JsonValue>(alloc: Global, json: &J, key: &str) -> Result<Bytes, JsonFault>
-    ensures { Aside JsonFault.Memory result (reading_at bytes (J.json json.now) key.now) }
-{
-    read_bytes(alloc, member(json, key)?)
 }
 
 /// What was read, beside what was read after it. Where that has a fault, it is the fault, and what was read before

@@ -1,9 +1,8 @@
 //! Whole numbers and times as JSON values.
 ghost use Rattle.collections.specs.Answers.{Aside};
-ghost use Rattle.json_read_names.specs.Parts.{reading_at, whole_number, time};
+ghost use Rattle.json_read_names.specs.Parts.{whole_number, time};
 
 use crate::fault::JsonFault;
-use crate::look::member;
 use json_tree::JsonValue;
 
 /// The whole number from -2^63 to 2^64 - 1 that a JSON value is. Another number isn't whole here.
@@ -35,18 +34,4 @@ pub fn read_time<J: JsonValue>(json: &J) -> Result<i64, JsonFault>
     } else {
         Err(JsonFault::NoForm)
     }
-}
-
-/// The whole number that the member at a key is.
-pub fn whole_at<J: JsonValue>(json: &J, key: &str) -> Result<i128, JsonFault>
-    ensures { Aside JsonFault.Memory result (reading_at whole_number (J.json json.now) key.now) }
-{
-    read_whole(member(json, key)?)
-}
-
-/// The time that the member at a key is.
-pub fn time_at<J: JsonValue>(json: &J, key: &str) -> Result<i64, JsonFault>
-    ensures { Aside JsonFault.Memory result (reading_at time (J.json json.now) key.now) }
-{
-    read_time(member(json, key)?)
 }

@@ -1,4 +1,3 @@
 mod NamedLaws
 pub mod PlaceLaws
 mod ScenarioLaws
-mod StepLaws

@@ -7,10 +7,11 @@ ghost use Rattle.json_read_scenarios.specs.Names.{place_of};
 ghost use Rattle.json_read_scenarios.specs.ReadsPlan.{contract_name};
 ghost use Rattle.json_read_scenarios.specs.ReadsScenario as reads;
 
+use crate::members::bytes_at;
 use crate::name_list::{NameList, Named, NamedReader, new_name_at};
 use contract::{Contract, Text};
 use json_read_contracts::contract_from_json;
-use json_read_names::{JsonFault, beside, bytes_at, has_three, member};
+use json_read_names::{JsonFault, beside, has_three, member};
 use json_tree::JsonValue;
 use plans::NamedContract;
 use std::alloc::Global;

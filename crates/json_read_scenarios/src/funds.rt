@@ -5,10 +5,12 @@ ghost use Rattle.json_read_names.specs.Parts.{list, reading_at};
 ghost use Rattle.json_read_inputs.specs.ReadsState.{amount_row, rows};
 ghost use Rattle.json_read_scenarios.specs.ReadsScenario as reads;
 
+use crate::lists::{ItemReader, list_at};
+use crate::members::text_at;
 use bundle::Bundle;
 use contract::Items;
 use json_read_inputs::amounts_from_json;
-use json_read_names::{ItemReader, JsonFault, beside, has_two, list_from_json, member, text_at};
+use json_read_names::{JsonFault, beside, has_two, member};
 use json_tree::JsonValue;
 use plans::Funds;
 use std::alloc::Global;
@@ -50,5 +52,5 @@ pub(crate) fn genesis_at<J: JsonValue>(
 ) -> Result<Items<Funds>, JsonFault>
     ensures { Aside JsonFault.Memory result (reading_at (list reads.funds) (J.json json.now) key.now) }
 {
-    list_from_json(alloc, &Beginnings, member(json, key)?)
+    list_at(alloc, &Beginnings, json, key)
 }

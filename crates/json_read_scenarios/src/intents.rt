@@ -7,11 +7,13 @@ ghost use Rattle.json_read_scenarios.specs.ReadsPlan as reads;
 ghost use Rattle.json_read_scenarios.specs.declared.intent_forms.IntentForm.TheVariants as forms;
 
 use crate::intent_forms::{IntentForm, intent_form};
+use crate::lists::{ItemReader, list_at};
+use crate::members::{text_at, time_at};
 use crate::name_list::{NameList, place_at};
 use crate::numbers::{read_count, read_workers, truth_at};
 use contract::{Input, Items};
 use json_read_inputs::{inputs_from_json, interval_from_json};
-use json_read_names::{ItemReader, JsonFault, beside, list_from_json, member, text_at, time_at};
+use json_read_names::{JsonFault, beside, member};
 use json_tree::JsonValue;
 use plans::{Intent, NamedContract, NamedThread};
 use std::alloc::Global;
@@ -81,7 +83,7 @@ fn steps_from_json<J: JsonValue>(
 ) -> Result<Intent<usize, usize>, JsonFault>
     ensures { Aside JsonFault.Memory result (reads.intent_by forms.Steps contracts.now threads.now (J.json json.now)) }
 {
-    let steps = list_from_json(alloc, &StepItems { threads }, member(json, "steps")?)?;
+    let steps = list_at(alloc, &StepItems { threads }, json, "steps")?;
     let (steps, interval) = beside(steps, interval_from_json(json))?;
     let (steps, pooled) = beside(steps, truth_at(json, "pool"))?;
     Ok(Intent::Steps {
@@ -168,5 +170,5 @@ pub(crate) fn intents_at<J: JsonValue>(
     ensures { Aside JsonFault.Memory result (reading_at (list (reads.intent contracts.now threads.now)) (J.json json.now) key.now) }
 {
     let reader = Intents { contracts, threads };
-    list_from_json(alloc, &reader, member(json, key)?)
+    list_at(alloc, &reader, json, key)
 }

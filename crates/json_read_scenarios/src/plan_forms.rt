@@ -7,12 +7,12 @@ ghost use Rattle.json_read_scenarios.specs.ReadsPlan as reads;
 ghost use Rattle.json_read_scenarios.specs.ReadsPlan.{plan_name};
 
 use crate::intents::intents_at;
+use crate::lists::{ItemReader, list_at};
+use crate::members::text_at;
 use crate::name_list::{NameList, Named, NamedReader, named_at, new_name_at};
 use crate::numbers::calls_at;
 use contract::{Items, Text};
-use json_read_names::{
-    ItemReader, JsonFault, beside, has_two, list_from_json, member, read_text, text_at,
-};
+use json_read_names::{JsonFault, has_two, read_text};
 use json_tree::JsonValue;
 use plans::{NamedContract, NamedThread, Plan};
 use std::alloc::Global;
@@ -39,7 +39,7 @@ impl ItemReader<Text> for Texts {
 fn texts_at<J: JsonValue>(alloc: Global, json: &J, key: &str) -> Result<Items<Text>, JsonFault>
     ensures { Aside JsonFault.Memory result (reading_at (list text) (J.json json.now) key.now) }
 {
-    list_from_json(alloc, &Texts, member(json, key)?)
+    list_at(alloc, &Texts, json, key)
 }
 
 // A plan, beside those before it, of which there are at most 62.
@@ -57,12 +57,10 @@ fn plan_from_json<J: JsonValue>(
         return Err(JsonFault::NoForm);
     }
     let name = new_name_at(alloc, before, json, "name")?;
-    let (name, keys) = beside(name, texts_at(alloc, json, "keys"))?;
-    let (who, change) = beside((name, keys), text_at(alloc, json, "change"))?;
-    let intents = intents_at(alloc, contracts, threads, json, "intents");
-    let (who, intents) = beside((who, change), intents)?;
-    let (all, stop_after) = beside((who, intents), calls_at(json, "stop_after"))?;
-    let (((name, keys), change), intents) = all;
+    let keys = texts_at(alloc, json, "keys")?;
+    let change = text_at(alloc, json, "change")?;
+    let intents = intents_at(alloc, contracts, threads, json, "intents")?;
+    let stop_after = calls_at(json, "stop_after")?;
     Ok(Plan {
         name,
         keys,

@@ -7,11 +7,12 @@ ghost use Rattle.json_read_scenarios.specs.ReadsScenario as reads;
 
 use crate::contracts::Contracts;
 use crate::funds::genesis_at;
+use crate::members::time_at;
 use crate::name_list::named_at;
 use crate::plan_forms::plans_at;
 use crate::threads::threads_at;
 use json::Scratch;
-use json_read_names::{JsonFault, beside, has_three, has_two, json_of, time_at};
+use json_read_names::{JsonFault, has_three, has_two, json_of};
 use json_tree::JsonValue;
 use plans::Scenario;
 use std::alloc::Global;
@@ -29,13 +30,9 @@ pub fn scenario_from_json<J: JsonValue>(alloc: Global, json: &J) -> Result<Scena
     }
     let tick = time_at(json, "tick")?;
     let genesis = genesis_at(alloc, json, "genesis")?;
-    let contracts = named_at(alloc, &Contracts, json, "contracts");
-    let (genesis, contracts) = beside(genesis, contracts)?;
-    let threads = threads_at(alloc, &contracts, json, "threads");
-    let (begun, threads) = beside((genesis, contracts), threads)?;
-    let plans = plans_at(alloc, &begun.1, &threads, json, "plans");
-    let (begun, plans) = beside((begun, threads), plans)?;
-    let ((genesis, contracts), threads) = begun;
+    let contracts = named_at(alloc, &Contracts, json, "contracts")?;
+    let threads = threads_at(alloc, &contracts, json, "threads")?;
+    let plans = plans_at(alloc, &contracts, &threads, json, "plans")?;
     Ok(Scenario {
         tick,
         genesis,

@@ -6,10 +6,11 @@ ghost use Rattle.json_read_scenarios.specs.Names.{place_of, list_in_turn};
 ghost use Rattle.json_read_scenarios.specs.ReadsPlan.{thread_name};
 ghost use Rattle.json_read_scenarios.specs.ReadsScenario as reads;
 
+use crate::members::{text_at, time_at};
 use crate::name_list::{NameList, Named, NamedReader, named_at, new_name_at, place_at};
 use contract::{Entries, State, Text};
 use json_read_inputs::accounts_from_json;
-use json_read_names::{JsonFault, beside, has_three, has_two, member, text_at, time_at};
+use json_read_names::{JsonFault, beside, has_three, has_two, member};
 use json_tree::JsonValue;
 use plans::{NamedContract, NamedThread};
 use std::alloc::Global;

@@ -3,7 +3,6 @@ ghost use Rattle.std.specs.Prelude.{◌≡◌, ◌≤◌, ◌⊎◌, IfOk, IfErr
 ghost use Rattle.compiler.specs.declared.fault.CompileFault.TheVariants as faults;
 ghost use Rattle.eutxo_types.specs.Fitting.{TxFits};
 ghost use Rattle.eutxo_types.specs.Ids.{id_of};
-ghost use Rattle.eutxo.specs.Checks.{BeginWith};
 ghost use Rattle.eutxo.specs.Local.{verdict_of};
 ghost use Rattle.ledger.specs.declared.call.Reply.TheVariants as replies;
 ghost use Rattle.ledger_spec.specs.Replay.{published_at, publication, with_object, World, world};
@@ -17,8 +16,8 @@ ghost use Rattle.ledger_dispatch.specs.DispatchSupport.{fault_in, judged_in, Can
 use chain_index::{Index, IndexAt, index_accepts_alike, index_publishes_alike, index_reads_alike};
 use collections::{Bytes, Items, Memory, TryClone};
 use contract::Contract;
-use eutxo::{Checked, Judged, Shared, checks_of, id_at_hand, verdict_of};
-use eutxo_types::{Tx, TxFault, fits_spelling};
+use eutxo::{Checked, Judged, Shared, verdict_of};
+use eutxo_types::{Tx, TxFault, tx_id};
 use ledger::{Ask, Call, Reply, Ticketed, judge};
 use ledger_kept::Kept;
 use ledger_laws::{accepting_is_sound, publishing_is_sound};
@@ -43,20 +42,19 @@ fn each_is_judged_alike()
 }
 
 // instance below: the judgement on a ledger, at an index.
-// The judgement of a transaction by what is indexed at a tick. Its id and its checks are lent.
+// The judgement of a transaction by what is indexed at a tick. Its id is lent.
 fn judged_at(
     alloc: Global,
     index: &Index,
     tick: &i64,
     tx: &Tx,
     id: &[u8; 32],
-    checks: &[Checked<Published>],
+    cache: &[Checked<Published>],
 ) -> Result<Judged, Memory>
-    requires id { id.now ≡ id_of tx.now }
-    requires checks { BeginWith tx.now checks.now }
+    requires { id.now ≡ id_of tx.now }
     ensures { IfOk result (λ answer. answer ≡ judged_in index.now.present tick.now tx.now) }
 {
-    judge(alloc, &IndexAt { index, tick: *tick }, tx, id, checks)
+    judge(alloc, &IndexAt { index, tick: *tick }, tx, id, cache)
 }
 
 // .. at the ledger's tick.
@@ -66,32 +64,12 @@ fn judged(
     index: &Index,
     tx: &Tx,
     id: &[u8; 32],
-    checks: &[Checked<Published>],
 ) -> Result<Judged, Memory>
-    requires id { id.now ≡ id_of tx.now }
-    requires checks { BeginWith tx.now checks.now }
+    requires { id.now ≡ id_of tx.now }
     ensures { IfOk result (λ answer. answer ≡ judged_in index.now.present (world kept.now).replay.tick tx.now) }
 {
     let tick = kept.tick();
-    judged_at(alloc, index, &tick, tx, id, checks)
-}
-
-// instance below: the checks of a transaction, of those at hand.
-fn checks_at_hand<'a>(kept: &Kept<'a>, tx: &Tx) -> &'a [Checked<Published>]
-    ensures { BeginWith tx.now result.now }
-{
-    checks_of(kept.cache(), tx)
-}
-
-// .. and its id, by these. It fits its spelling.
-fn identified(alloc: Global, tx: &Tx, checks: &[Checked<Published>]) -> Result<[u8; 32], Memory>
-    requires { BeginWith tx.now checks.now }
-    ensures id { IfOk result (λ id. id ≡ id_of tx.now) }
-    ensures fits { TxFits tx.now }
-{
-    // touch: it fits its spelling
-    fits_spelling(tx);
-    id_at_hand(alloc, tx, checks)
+    judged_at(alloc, index, &tick, tx, id, kept.cache())
 }
 
 // Adds a transaction, whose id is lent, where no fault of it was found.
@@ -109,7 +87,7 @@ fn accept_unless(index: &mut Index, tx: &Tx, id: &[u8; 32], judged: &Judged) -> 
 }
 
 // Judges a transaction by what is indexed, and adds it where no rule refuses it. Answers the fault and the
-// transaction's id, which is computed here alone, where no check at hand has it.
+// transaction's id, which is computed here alone.
 #[tactic(auto, using(crate::proofs::TiedLemmas::can_so, crate::proofs::TiedLemmas::places_so))]
 fn judge_and_accept(
     alloc: Global,
@@ -124,9 +102,8 @@ fn judge_and_accept(
     ensures present { OnOk result (index.new.present ≡ accepting_unless index.old.present tx.now (fault_in index.old.present (world kept.now).replay.tick tx.now)) }
     ensures settled { index.new.settled ≡ index.old.settled }
 {
-    let checks = checks_at_hand(kept, tx);
-    let id = identified(alloc, tx, checks)?;
-    let judged = judged(alloc, kept, index, tx, &id, checks)?;
+    let id = tx_id(alloc, tx)?;
+    let judged = judged(alloc, kept, index, tx, &id)?;
     accept_unless(index, tx, &id, &judged)?;
     let Judged { fault, .. } = judged;
     Ok((fault, id))

@@ -4,6 +4,5 @@ pub mod StartsLaws
 pub mod InstanceLaws
 pub mod LegalLaws
 pub mod PublishingLaws
-pub mod StepLaws
 mod StandingLemmas
 mod PublishingLemmas

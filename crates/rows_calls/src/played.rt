@@ -7,7 +7,7 @@ use contract::Contract;
 use contract_json::read_contract;
 use ledger::{Ask, PayoutLock};
 use rows_text::{
-    Known, RowFault, Sent, both, bytes, done, first, named_of, nested, nothing, number, parts, put,
+    Known, RowFault, Sent, both, bytes, first, named_of, nested, nothing, number, parts, put,
     put_in, reference_of, replace, sent_of, take_back, text, wide,
 };
 use std::alloc::Global;
@@ -141,16 +141,11 @@ fn ask_of(alloc: Global, sent: &[Sent], rest: &str) -> Result<Ask, RowFault> {
         keys: Items::new(alloc),
         payouts: Items::new(alloc),
     };
-    let put = put_wishes(alloc, sent, &mut ask, rest);
-    done(ask, put)
-}
-
-fn put_wishes(alloc: Global, sent: &[Sent], ask: &mut Ask, rest: &str) -> Result<(), RowFault> {
     let mut words = rest.split_whitespace();
     while let Some(sort) = words.next() {
-        put_wish(alloc, sent, ask, sort, words.next().unwrap_or(""))?;
+        put_wish(alloc, sent, &mut ask, sort, words.next().unwrap_or(""))?;
     }
-    Ok(())
+    Ok(ask)
 }
 
 fn put_wish(

@@ -12,7 +12,6 @@ use eutxo_types::{Lock, Output, OutputRef, Redeemer, Spend, Tx};
 use ledger::Ask;
 use names::Token;
 use roles::Published;
-use rows_text::{both, list};
 use std::alloc::Global;
 
 /// The payments of a row, told apart by the ticks from which they may happen, with what they find: each spends outputs
@@ -133,6 +132,27 @@ fn are_positive(entries: &[(Token, i128)]) -> bool
         Some((first, rest)) => first.1 > 0 && are_positive(rest),
         None => true,
     }
+}
+
+/// So many items, each made for its place.
+pub fn list<T: Drop, F: Fn(u32) -> Result<T, Memory>>(
+    alloc: Global,
+    count: u32,
+    item: &F,
+) -> Result<Items<T>, Memory>
+    requires { F.IsAlwaysCallable item.now }
+{
+    let mut items = Items::new(alloc);
+    for place in 0..count {
+        items.push(item(place)?)?;
+    }
+    Ok(items)
+}
+
+fn both<A: Drop, B: Drop>(a: Result<A, Memory>, b: Result<B, Memory>) -> Result<(A, B), Memory> {
+    let a = a?;
+    let b = b?;
+    Ok((a, b))
 }
 
 fn some<T>(item: Result<T, Memory>) -> Result<Option<T>, Memory> {

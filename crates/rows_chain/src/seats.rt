@@ -3,7 +3,7 @@ ghost use Rattle.std.specs.Prelude.{◌≡◌, ◌<◌, ◌≤◌};
 
 use crate::calls::{Work, call_all};
 use crate::meeting::Meeting;
-use crate::payments::{found, key_output, payment};
+use crate::payments::{found, key_output, list, payment};
 use crate::row::Row;
 use collections::{Memory, Same};
 use eutxo::{Checked, check_owned};
@@ -11,7 +11,7 @@ use hub::{
     Chain, Closed, Entry, GenesisFault, Hub, Opening, Receipt, Reply, Seat, SeatAtHub, Session,
 };
 use roles::Published;
-use rows_text::{RowFault, both, list};
+use rows_text::RowFault;
 use std::alloc::Global;
 use std::marker::Brand;
 use std::rt::Clock;
@@ -178,13 +178,12 @@ pub fn call<R: Clock + AllocGlobal + Threads + Wait + Sync>(
 // ---- checks at hand
 
 fn checks(alloc: Global, row: Row) -> Result<Vec<Checked<Published>>, Memory> {
-    let checks = list(alloc, row.jobs, &|n| checked(alloc, n, row.inputs))?;
-    Ok(checks.into_vec())
-}
-
-fn checked(alloc: Global, number: u32, inputs: u32) -> Result<Checked<Published>, Memory> {
-    let (tx, found) = both(payment(alloc, number, inputs), found(alloc, inputs))?;
-    check_owned(alloc, tx, found)
+    let mut checks = Vec::new(alloc);
+    for n in 0..row.jobs {
+        let tx = payment(alloc, n, row.inputs)?;
+        checks.push(check_owned(alloc, tx, found(alloc, row.inputs)?)?)?;
+    }
+    Ok(checks)
 }
 
 fn admit_all<J: Session, R: Wait>(

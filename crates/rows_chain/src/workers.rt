@@ -78,12 +78,11 @@ fn check_line<R: AllocGlobal + Threads + Wait + Sync>(
 ) -> Result<String, RowFault> {
     let jobs = payments(rt.alloc(), row)?;
     let gate = Counter::new();
-    let checks = check_all(rt, rt.alloc(), &gate, row.workers(), jobs);
-    let line = line_of(rt.alloc(), row, checks);
+    let checks = called(check_all(rt, rt.alloc(), &gate, row.workers(), jobs));
     if !gate.is_left() {
         return Ok(String::from_str(rt.alloc(), "the gate wasn't left")?);
     }
-    line
+    Ok(line_of(rt.alloc(), row, &checks?)?)
 }
 
 fn time_line<R: Clock + AllocGlobal + Threads + Wait + Sync>(
@@ -92,7 +91,7 @@ fn time_line<R: Clock + AllocGlobal + Threads + Wait + Sync>(
 ) -> io::Result<String> {
     let jobs = payments(rt.alloc(), row)?;
     let start = Instant::now(rt)?;
-    let_go(check_all(rt, rt.alloc(), &NoGate, row.workers(), jobs))?;
+    let _checks = check_all(rt, rt.alloc(), &NoGate, row.workers(), jobs)?;
     let took = start.elapsed(rt)?;
     Ok(format!(in rt.alloc(); "{}", took.as_micros())?)
 }
@@ -139,33 +138,21 @@ fn micros_line<R: AllocGlobal>(rt: &R, played: Played) -> Result<String, RowFaul
     Ok(format!(in rt.alloc(); "{}", played.micros)?)
 }
 
-// Lets checks go. It is generic in them, so that no proof walks through their drop.
-fn let_go<T: Drop>(checks: Result<T, Memory>) -> Result<(), Memory> {
-    let _checks = checks?;
-    Ok(())
-}
-
-// The line for the checks of a row. It is generic in the scripts, so that no proof walks through their drop.
-fn line_of<V: Validator + Drop>(
-    alloc: Global,
-    row: Row,
-    checks: Result<Vec<Checked<V>>, Memory>,
-) -> Result<String, RowFault> {
-    let checks = called(checks)?;
+fn line_of<V: Validator>(alloc: Global, row: Row, checks: &[Checked<V>]) -> Result<String, Memory> {
     let accepted = checks
         .iter()
         .filter(|c| *c.verdict() == Verdict::Accepted)
         .count();
-    let order = if are_in_order(&checks) {
+    let order = if are_in_order(checks) {
         "in order"
     } else {
         "out of order"
     };
-    Ok(format!(in alloc;
+    format!(in alloc;
         "workers {}, payments {}: {accepted} accepted, {order}",
         row.workers(),
         row.jobs
-    )?)
+    )
 }
 
 // Whether each check is of the payment that may happen from its place on.

@@ -2,7 +2,6 @@
 //!
 //! - `let NAME TEXT` names a text for all lines below: in a text `$NAME$` then stands for it;
 //! - `file NAME TEXT` keeps a text as what the file of that name holds from then on;
-//! - `text TEXT` keeps a text that rows below it are about which have none of their own;
 //! - `more TEXT` adds to the text that was kept last, `times N TEXT` adds a text N times, each time with its number from 0 in place of
 //!   `%`, and `hex DIGITS` adds bytes in hexadecimal;
 //! - `contract TEXT` is `file contract.json TEXT`, and analyses start without a state again; `state TEXT` is `file state.json TEXT`, and
@@ -48,7 +47,6 @@ impl Given {
                 let (name, text) = first(rest);
                 self.keep(alloc, name, text)?;
             }
-            "text" => self.keep(alloc, "text", rest)?,
             "contract" => {
                 self.has_state = false;
                 self.keep(alloc, "contract.json", rest)?;

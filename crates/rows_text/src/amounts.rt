@@ -2,9 +2,8 @@
 ghost use Rattle.std.specs.Prelude.{IsTrue};
 ghost use Rattle.bundle.specs.Bundles.{AllPositive};
 
-use crate::carried::{both, done, put_in, put_words};
 use crate::fault::RowFault;
-use crate::words::{bytes, number, text};
+use crate::words::{both, bytes, number, put_in, put_words, text};
 use bundle::Bundle;
 use collections::Entries;
 use names::Token;
@@ -30,17 +29,12 @@ pub fn amounts_of(alloc: Global, words: &str) -> Result<Entries<Token, i128>, Ro
 
 fn entries_of(alloc: Global, words: &str) -> Result<Vec<Entry>, RowFault> {
     let mut entries = Vec::new(alloc);
-    let put = put_entries(alloc, &mut entries, words);
-    done(entries, put)
-}
-
-fn put_entries(alloc: Global, entries: &mut Vec<Entry>, words: &str) -> Result<(), RowFault> {
     let mut words = words.split_whitespace();
     while let Some(token) = words.next() {
         let amount = number(words.next().unwrap_or(""));
-        put_in(entries, both(token_of(alloc, token), amount))?;
+        put_in(&mut entries, both(token_of(alloc, token), amount))?;
     }
-    Ok(())
+    Ok(entries)
 }
 
 /// A token, from `ada` or `SYMBOL.NAME`.

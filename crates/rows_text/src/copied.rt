@@ -1,6 +1,5 @@
 //! Copies beside what they are of. What owns a copy is generic in it, so that no proof walks through its drop.
-use crate::carried::put_words;
-use collections::{Items, Memory, Same, TryClone};
+use collections::{Memory, Same, TryClone};
 use std::alloc::Global;
 use std::fmt::Display;
 
@@ -47,78 +46,97 @@ pub fn put_copies<T: TryClone + PartialEq + Drop>(
 /// Puts ` beside` and for each thing but the first whether it equals the one before it at the end.
 pub fn put_beside<T: PartialEq>(line: &mut String, things: &[T]) -> Result<(), Memory> {
     line.push_str(" beside")?;
-    match things.split_first() {
-        Some((first, rest)) => put_each_beside(line, first, rest),
-        None => Ok(()),
-    }
-}
-
-// Whether each thing equals the one before it.
-fn put_each_beside<T: PartialEq>(line: &mut String, first: &T, rest: &[T]) -> Result<(), Memory> {
-    let mut before = first;
-    for thing in rest {
+    for (before, thing) in things.iter().zip(things.iter().skip(1)) {
         put_same(line, *before == *thing)?;
-        before = thing;
     }
     Ok(())
 }
 
-/// A line of the text of each fault, behind it `again` where it equals the one before it.
-pub fn texts_of<F: Display + PartialEq>(alloc: Global, faults: &[F]) -> Result<String, Memory> {
-    let mut lines = String::new(alloc);
-    let mut last: Option<&F> = None;
-    for fault in faults {
-        let is_again = match last {
-            Some(before) => *before == *fault,
-            None => false,
-        };
-        let again = if is_again { " again" } else { "" };
-        put_words(&mut lines, format!(in alloc; "{fault}{again}\n"))?;
-        last = Some(fault);
+/// A line of the text of each fault, from the first on to the one that none comes after, behind it `again` where it equals the one
+/// before it.
+pub fn texts_of<F: Display + PartialEq + Drop, N: Fn(&F) -> Option<F>>(
+    alloc: Global,
+    first: F,
+    next: &N,
+) -> Result<String, Memory>
+    requires { N.IsAlwaysCallable next.now }
+{
+    let mut lines = text_of(alloc, &first)?;
+    let mut last = first;
+    for _ in 0..64 {
+        match next(&last) {
+            Some(fault) => {
+                put_text(alloc, &mut lines, &fault, fault == last)?;
+                last = fault;
+            }
+            None => return Ok(lines),
+        }
     }
-    lines.pop();
     Ok(lines)
 }
 
-/// For each value ` same` where it equals itself, and before it, but at the first, whether it equals the one before it.
-pub fn apart_of<T: PartialEq>(alloc: Global, values: &[T]) -> Result<String, Memory> {
-    let mut line = String::from_str(alloc, "apart")?;
-    let mut last: Option<&T> = None;
-    for value in values {
-        if let Some(before) = last {
-            put_same(&mut line, *before == *value)?;
+fn put_text<F: Display>(
+    alloc: Global,
+    lines: &mut String,
+    fault: &F,
+    again: bool,
+) -> Result<(), Memory> {
+    let text = text_of(alloc, fault)?;
+    lines.push('\n')?;
+    lines.push_str(text.as_str())?;
+    if again {
+        lines.push_str(" again")?;
+    }
+    Ok(())
+}
+
+fn text_of<F: Display>(alloc: Global, fault: &F) -> Result<String, Memory> {
+    format!(in alloc; "{fault}")
+}
+
+/// The word for a copy of each fault, from the first on to the one that none comes after.
+pub fn fault_copies<F: TryClone + PartialEq + Drop, N: Fn(&F) -> Option<F>>(
+    alloc: Global,
+    first: F,
+    next: &N,
+) -> Result<String, Memory>
+    requires { N.IsAlwaysCallable next.now }
+{
+    let mut line = String::from_str(alloc, "faults")?;
+    put_copy(&mut line, &first)?;
+    let mut last = first;
+    for _ in 0..64 {
+        match next(&last) {
+            Some(fault) => {
+                put_copy(&mut line, &fault)?;
+                last = fault;
+            }
+            None => return Ok(line),
         }
-        put_same(&mut line, *value == *value)?;
-        last = Some(value);
     }
     Ok(line)
 }
 
-/// The same texts, of faults that were put into a list.
-pub fn list_texts<F: Display + PartialEq + Drop>(
+/// For each fault ` same` where it equals itself, and before it, but at the first, whether it equals the one before it.
+pub fn apart_of<F: PartialEq + Drop, N: Fn(&F) -> Option<F>>(
     alloc: Global,
-    faults: Result<Items<F>, Memory>,
-) -> Result<String, Memory> {
-    let faults = faults?;
-    texts_of(alloc, faults.as_slice())
-}
-
-/// Whether values that were put into a list are told apart.
-pub fn list_apart<T: PartialEq + Drop>(
-    alloc: Global,
-    values: Result<Items<T>, Memory>,
-) -> Result<String, Memory> {
-    let values = values?;
-    apart_of(alloc, values.as_slice())
-}
-
-/// The word for a copy of each fault that was put into a list.
-pub fn list_copies<F: TryClone + PartialEq + Drop>(
-    alloc: Global,
-    faults: Result<Items<F>, Memory>,
-) -> Result<String, Memory> {
-    let faults = faults?;
-    let mut line = String::from_str(alloc, "faults")?;
-    put_copies(&mut line, faults.as_slice())?;
+    first: F,
+    next: &N,
+) -> Result<String, Memory>
+    requires { N.IsAlwaysCallable next.now }
+{
+    let mut line = String::from_str(alloc, "apart")?;
+    put_same(&mut line, first == first)?;
+    let mut last = first;
+    for _ in 0..64 {
+        match next(&last) {
+            Some(fault) => {
+                put_same(&mut line, fault == last)?;
+                put_same(&mut line, fault == fault)?;
+                last = fault;
+            }
+            None => return Ok(line),
+        }
+    }
     Ok(line)
 }

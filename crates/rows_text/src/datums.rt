@@ -1,12 +1,11 @@
 //! The data that a transaction brings, as its lines are written: those for inputs before those for outputs.
 ghost use Rattle.std.specs.Prelude.{◌≤◌, length};
 
-use crate::carried::{copies_of, done, put, put_at, replace};
 use crate::fault::RowFault;
 use crate::known::Known;
 use crate::outputs::state_of;
-use crate::words::number;
-use collections::Items;
+use crate::words::{number, put, put_at, replace};
+use collections::{Items, TryClone};
 use eutxo_types::{Cont, Datum, Tx};
 use std::alloc::Global;
 
@@ -19,23 +18,15 @@ pub fn datum_of(alloc: Global, known: &Known, cont: Cont, state: &str) -> Result
 /// Data, from `NUMBER STATE ..`.
 pub fn datums_of(alloc: Global, known: &Known, words: &str) -> Result<Items<Datum>, RowFault> {
     let mut datums = Items::new(alloc);
-    let put = put_datums(alloc, known, &mut datums, words);
-    done(datums, put)
-}
-
-fn put_datums(
-    alloc: Global,
-    known: &Known,
-    datums: &mut Items<Datum>,
-    words: &str,
-) -> Result<(), RowFault> {
     let mut words = words.split_whitespace();
     while let Some(cont) = words.next() {
         let cont = Cont(number(cont)?);
-        let state = words.next().unwrap_or("");
-        put(datums, datum_of(alloc, known, cont, state))?;
+        put(
+            &mut datums,
+            datum_of(alloc, known, cont, words.next().unwrap_or("")),
+        )?;
     }
-    Ok(())
+    Ok(datums)
 }
 
 /// Brings a datum for an input, behind those for the inputs before it.
@@ -46,7 +37,10 @@ pub fn bring_for_input(alloc: Global, tx: &mut Tx, datum: Datum) -> Result<(), R
 
 /// Brings for the inputs nothing any more.
 pub fn bring_for_outputs(alloc: Global, tx: &mut Tx) -> Result<(), RowFault> {
-    let datums = copies_of(alloc, data_for_outputs(tx))?;
+    let mut datums = Items::new(alloc);
+    for datum in data_for_outputs(tx) {
+        datums.push(datum.try_clone()?)?;
+    }
     replace(&mut tx.datums, datums);
     Ok(())
 }

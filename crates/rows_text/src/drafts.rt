@@ -1,11 +1,10 @@
 //! Transactions as they are written.
-use crate::carried::{put, put_option, replace};
 use crate::datums::{bring_for_input, datums_of};
 use crate::fault::RowFault;
 use crate::known::Known;
 use crate::outputs::{Written, written_of};
 use crate::spends::{put_keys, spend_of};
-use crate::words::{number, parts, text};
+use crate::words::{number, parts, put, replace, text};
 use collections::{Items, TryClone};
 use contract::Interval;
 use eutxo_types::{Spend, Tx};
@@ -52,31 +51,21 @@ fn put_spend(
     tx: &mut Tx,
     spend: Result<Spend, RowFault>,
 ) -> Result<(), RowFault> {
-    put(&mut tx.inputs, spend)?;
-    match tx.inputs.as_slice().last() {
-        Some(last) => match known.datum_at(&last.reference) {
-            Some(datum) => bring_for_input(alloc, tx, datum.try_clone()?),
-            None => Ok(()),
-        },
-        None => Ok(()),
+    let spend = spend?;
+    if let Some(datum) = known.datum_at(&spend.reference) {
+        bring_for_input(alloc, tx, datum.try_clone()?)?;
     }
+    put(&mut tx.inputs, Ok(spend))
 }
 
 // Puts an output behind the others, and brings its datum behind the other data.
 fn put_output(tx: &mut Tx, written: Result<Written, RowFault>) -> Result<(), RowFault> {
     let Written { output, datum } = written?;
-    put_both(&mut tx.outputs, output, &mut tx.datums, datum)
-}
-
-// It is generic in what is put, so that no proof walks through its drop.
-fn put_both<A: Drop, B: Drop>(
-    outputs: &mut Items<A>,
-    output: A,
-    datums: &mut Items<B>,
-    datum: Option<B>,
-) -> Result<(), RowFault> {
-    put(outputs, Ok(output))?;
-    put_option(datums, datum)
+    tx.outputs.push(output)?;
+    if let Some(datum) = datum {
+        tx.datums.push(datum)?;
+    }
+    Ok(())
 }
 
 // From `FROM to TO`.

@@ -1,10 +1,9 @@
 //! Outputs of a transaction.
 use crate::amounts::bundle_of;
-use crate::carried::both;
 use crate::datums::datum_of;
 use crate::fault::RowFault;
 use crate::known::Known;
-use crate::words::{bytes, first, id, number, parts, text};
+use crate::words::{both, bytes, first, id, number, parts, text};
 use contract::State;
 use contract_json::read_state;
 use eutxo_types::{Cont, Datum, Lock, Output, datum_hash};
@@ -19,8 +18,7 @@ pub struct Written {
 
 /// An output, from `SORT` and what follows it.
 pub fn output_of(alloc: Global, known: &Known, rest: &str) -> Result<Output, RowFault> {
-    let Written { output, datum } = written_of(alloc, known, rest)?;
-    drop(datum);
+    let Written { output, .. } = written_of(alloc, known, rest)?;
     Ok(output)
 }
 
@@ -64,23 +62,22 @@ fn contract(alloc: Global, known: &Known, rest: &str) -> Result<Written, RowFaul
     let (state, amounts) = first(rest);
     let (script, root) = script_of(known, script)?;
     let cont = cont_of(root, cont)?;
-    let datum = datum_of(alloc, known, cont, state)?;
-    let (output, datum) = both(at_datum(alloc, script, &datum, amounts), Ok(Some(datum)))?;
-    Ok(Written { output, datum })
+    at_datum(alloc, script, datum_of(alloc, known, cont, state)?, amounts)
 }
 
 fn at_datum(
     alloc: Global,
     script: [u8; 32],
-    datum: &Datum,
+    datum: Datum,
     amounts: &str,
-) -> Result<Output, RowFault> {
-    let digest = datum_hash(alloc, datum)?;
+) -> Result<Written, RowFault> {
+    let digest = datum_hash(alloc, &datum)?;
     let lock = Lock::Contract {
         script,
         datum: digest,
     };
-    locked(alloc, lock, amounts)
+    let (output, datum) = both(locked(alloc, lock, amounts), Ok(Some(datum)))?;
+    Ok(Written { output, datum })
 }
 
 // The number of a continuation, or the root's.

@@ -1,5 +1,4 @@
 //! What is published, by name.
-use crate::carried::both;
 use crate::fault::RowFault;
 use crate::known::Known;
 use crate::words::{bytes, parts};
@@ -63,12 +62,9 @@ pub fn named_of(alloc: Global, known: &Known, rest: &str) -> Result<Named, RowFa
     let contract = known.text_of(contract)?;
     let currency = bytes(alloc, currency)?;
     let published = published_of(alloc, read_contract(alloc, contract.as_bytes()), currency);
-    let (name, published) = both(name_of(alloc, name), shared_of(alloc, published))?;
+    let published = shared_of(alloc, published)?;
+    let name = String::from_str(alloc, name)?;
     Ok(Named { name, published })
-}
-
-fn name_of(alloc: Global, name: &str) -> Result<String, RowFault> {
-    Ok(String::from_str(alloc, name)?)
 }
 
 // It is generic in what is shared, so that no proof walks through its drop.

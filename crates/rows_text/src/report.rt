@@ -85,8 +85,8 @@ impl<'t> Report<'t> {
 
     fn put_difference(&mut self, alloc: Global) -> Result<(), AllocError> {
         self.differing = self.differing.saturating_add(1);
-        let place = format!(in alloc; "{}:{}", self.path, self.row);
-        put_text(&mut self.printed, place)?;
+        let place = format!(in alloc; "{}:{}\n", self.path, self.row)?;
+        self.printed.extend_from_slice(place.as_bytes())?;
         put_lines(&mut self.printed, b"  wanted ", self.wanted.as_slice())?;
         put_lines(&mut self.printed, b"  came   ", self.came.as_slice())
     }
@@ -97,8 +97,12 @@ impl<'t> Report<'t> {
         if !self.has_answers {
             return Ok(());
         }
-        let told = told(alloc, self.path, self.rows, self.differing);
-        put_text(&mut self.printed, told)
+        let (path, rows) = (self.path, self.rows);
+        let told = match self.differing {
+            0 => format!(in alloc; "{path} ok {rows} rows")?,
+            differing => format!(in alloc; "{path} {differing} of {rows} rows differ")?,
+        };
+        put_line(&mut self.printed, told.as_bytes())
     }
 
     /// What is printed.
@@ -112,19 +116,6 @@ impl<'t> Report<'t> {
     }
 }
 
-// What is printed of a file once all its rows are compared.
-fn told(alloc: Global, path: &str, rows: u64, differing: u64) -> Result<String, AllocError> {
-    match differing {
-        0 => format!(in alloc; "{path} ok {rows} rows"),
-        _ => format!(in alloc; "{path} {differing} of {rows} rows differ"),
-    }
-}
-
-fn put_text(printed: &mut Vec<u8>, text: Result<String, AllocError>) -> Result<(), AllocError> {
-    let text = text?;
-    put_line(printed, text.as_bytes())
-}
-
 fn put_line(printed: &mut Vec<u8>, line: &[u8]) -> Result<(), AllocError> {
     printed.extend_from_slice(line)?;
     printed.push(b'\n')?;
@@ -133,10 +124,17 @@ fn put_line(printed: &mut Vec<u8>, line: &[u8]) -> Result<(), AllocError> {
 
 // Each line behind a word, and the word `nothing` where there is none.
 fn put_lines(printed: &mut Vec<u8>, word: &[u8], lines: &[u8]) -> Result<(), AllocError> {
-    let lines = lines.strip_suffix(b"\n").unwrap_or(b"nothing");
-    for line in lines.split(|byte| *byte == b'\n') {
-        printed.extend_from_slice(word)?;
-        put_line(printed, line)?;
+    match lines.strip_suffix(b"\n") {
+        Some(lines) => {
+            for line in lines.split(|byte| *byte == b'\n') {
+                printed.extend_from_slice(word)?;
+                put_line(printed, line)?;
+            }
+            Ok(())
+        }
+        None => {
+            printed.extend_from_slice(word)?;
+            put_line(printed, b"nothing")
+        }
     }
-    Ok(())
 }

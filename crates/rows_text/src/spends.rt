@@ -1,10 +1,9 @@
 //! Inputs of a transaction.
 use crate::amounts::token_of;
-use crate::carried::{both, done, list, put};
 use crate::fault::RowFault;
 use crate::known::Known;
 use crate::references::reference_of;
-use crate::words::{first, number, parts, text};
+use crate::words::{both, first, number, parts, put, text};
 use collections::Items;
 use contract::{Input, Party};
 use contract_json::read_input;
@@ -28,31 +27,26 @@ fn redeemer_of(alloc: Global, known: &Known, rest: &str) -> Result<Redeemer, Row
         "none" => Ok(Redeemer::None),
         "claim" => Ok(Redeemer::Claim),
         "step" => Ok(Redeemer::Step(inputs_of(alloc, known, inputs)?)),
-        "notifies" => {
-            let notifies = list(alloc, number(inputs)?, &|_| Ok(Input::Notify))?;
-            Ok(Redeemer::Step(notifies))
-        }
+        "notifies" => Ok(Redeemer::Step(notifies(alloc, number(inputs)?)?)),
         _ => Err(RowFault::NoSuchRow),
     }
+}
+
+fn notifies(alloc: Global, count: u64) -> Result<Items<Input>, RowFault> {
+    let mut inputs = Items::new(alloc);
+    for _ in 0..count {
+        inputs.push(Input::Notify)?;
+    }
+    Ok(inputs)
 }
 
 /// The inputs of a contract that words stand for.
 pub fn inputs_of(alloc: Global, known: &Known, words: &str) -> Result<Items<Input>, RowFault> {
     let mut inputs = Items::new(alloc);
-    let put = put_inputs(alloc, known, &mut inputs, words);
-    done(inputs, put)
-}
-
-fn put_inputs(
-    alloc: Global,
-    known: &Known,
-    inputs: &mut Items<Input>,
-    words: &str,
-) -> Result<(), RowFault> {
     for word in words.split_whitespace() {
-        put_input(alloc, inputs, known.text_of(word)?)?;
+        put_input(alloc, &mut inputs, known.text_of(word)?)?;
     }
-    Ok(())
+    Ok(inputs)
 }
 
 fn put_input(alloc: Global, inputs: &mut Items<Input>, word: &str) -> Result<(), RowFault> {

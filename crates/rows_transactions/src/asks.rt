@@ -1,5 +1,5 @@
 //! How often a script is asked.
-use crate::resolved::copies_of;
+use crate::found::copies_of;
 use crate::stubborn::Stubborn;
 use collections::{Items, Memory};
 use eutxo::{Resolved, Scripts, Shared, check, recheck};

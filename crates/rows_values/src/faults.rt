@@ -6,8 +6,9 @@ use marlowe_cli::{Task, WordsFault};
 use marlowe_io::LoadFault;
 use marlowe_play::PlayFault;
 use marlowe_refusals::{Fault, RunFault, TableFault, refusal};
-use rows_text::{RowFault, apart_of, texts_of};
+use rows_text::{RowFault, put_same};
 use std::alloc::{AllocError, Global};
+use std::fmt::Display;
 
 const SEM_FAULTS: [SemFault; 7] = [
     SemFault::InvalidInterval,
@@ -109,7 +110,7 @@ pub fn texts_row(alloc: Global, name: &str) -> Result<Vec<u8>, RowFault> {
         }
         _ => return Err(RowFault::NoSuchRow),
     };
-    Ok(texts.into_bytes())
+    Ok(texts)
 }
 
 /// Whether the values of that name are told apart.
@@ -121,7 +122,7 @@ pub fn apart_row(alloc: Global, name: &str) -> Result<Vec<u8>, RowFault> {
         "Task" => apart_of(alloc, TASKS.as_slice())?,
         _ => return Err(RowFault::NoSuchRow),
     };
-    Ok(line.into_bytes())
+    Ok(line)
 }
 
 /// The line of the refusal for each fault of that name.
@@ -148,4 +149,36 @@ fn put_refusal(alloc: Global, lines: &mut Vec<u8>, fault: Fault) -> Result<(), A
     lines.extend_from_slice(refusal(alloc, &fault)?.as_slice())?;
     lines.push(b'\n')?;
     Ok(())
+}
+
+// A line of the text of each fault, behind it `again` where the fault equals the one before it.
+fn texts_of<F: Display + PartialEq>(alloc: Global, faults: &[F]) -> Result<Vec<u8>, AllocError> {
+    let mut lines = Vec::new(alloc);
+    let mut last: Option<&F> = None;
+    for fault in faults {
+        let is_again = match last {
+            Some(before) => *before == *fault,
+            None => false,
+        };
+        let again = if is_again { " again" } else { "" };
+        let text = format!(in alloc; "{fault}{again}\n")?;
+        lines.extend_from_slice(text.as_bytes())?;
+        last = Some(fault);
+    }
+    lines.pop();
+    Ok(lines)
+}
+
+// For each value ` same` where it equals itself, and before it, but at the first, whether it equals the one before it.
+fn apart_of<T: PartialEq>(alloc: Global, values: &[T]) -> Result<Vec<u8>, AllocError> {
+    let mut line = String::from_str(alloc, "apart")?;
+    let mut last: Option<&T> = None;
+    for value in values {
+        if let Some(before) = last {
+            put_same(&mut line, *before == *value)?;
+        }
+        put_same(&mut line, *value == *value)?;
+        last = Some(value);
+    }
+    Ok(line.into_bytes())
 }

@@ -7,7 +7,7 @@ use contract_bytes::{
     put_bytes, put_choice_id, put_input, put_length, put_list, put_number, put_party, put_payee,
     put_state, put_text, put_time, put_token,
 };
-use rows_text::{RowFault, bytes, done, first, number, put, text};
+use rows_text::{RowFault, bytes, first, number, put, text};
 use std::alloc::{AllocError, Global};
 
 /// A sort of values that has a spelling in bytes.
@@ -88,15 +88,10 @@ fn put_word(alloc: Global, out: &mut Vec<u8>, sort: &str, rest: &str) -> Result<
 
 fn texts(alloc: Global, rest: &str) -> Result<Items<Text>, RowFault> {
     let mut texts = Items::new(alloc);
-    let put = put_texts(alloc, &mut texts, rest);
-    done(texts, put)
-}
-
-fn put_texts(alloc: Global, texts: &mut Items<Text>, rest: &str) -> Result<(), RowFault> {
     for word in rest.split_whitespace() {
-        put(texts, text(alloc, word))?;
+        put(&mut texts, text(alloc, word))?;
     }
-    Ok(())
+    Ok(texts)
 }
 
 impl Part for Party {

@@ -1,0 +1,2 @@
+pub mod ReadsValue
+pub mod ReadsAction
