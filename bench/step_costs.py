@@ -23,10 +23,10 @@ import tempfile
 
 import plays
 
-FEW, MANY = 512, 1024
+FEW, MANY = 64, 128
 CHAIN = 40
-INSTRUCTIONS = 1
-ROOM = 1
+INSTRUCTIONS = 1_000_000
+ROOM = 9_600
 NAMES = 2_000
 
 
