@@ -1,21 +1,19 @@
 #!/usr/bin/env python3
 """Makes random contracts and states, works out what can be done with each over an interval, and tries candidates by the interpreter.
 
-Needs    nothing for `--apart`; for the program (cd crates/marlowe && rt run -- --version)
-Usage    next.py --apart [COUNT [SEED]]     compares `listed` below with candidates that the interpreter tries: 1000 contracts by seed 1
-         next.py [COUNT [SEED]]             compares what `marlowe next --json` prints with them
+Needs    nothing built: no command prints this yet, so no program is compared
+Usage    next.py [COUNT [SEED]]     compares `listed` below with candidates that the interpreter tries: 1000 contracts by seed 1
 Expect   `1000 contracts agree`, then how many inputs were tried, and how many were taken, left a number or matched nothing.
 Else     `differs` with the seed and the contract, the input, what was wanted and what came, and status 1.
 
 Tried are: a deposit of each account, party and token that a case names, of each amount that a case evaluates to and one more and less;
 numbers about each bound of each choice, and of the same name and another owner; a notify.
 """
-import copy, json, os, subprocess, sys, tempfile
+import copy, json, os, sys
 HERE = os.path.dirname(os.path.abspath(__file__))
 sys.path.insert(0, HERE)
 import compare
-from interpreter import Refused, Transaction, choice_id, has, party, token, wide
-PROGRAM = os.path.join(HERE, "..", "crates", "marlowe", "out", "marlowe")
+from interpreter import Refused, Transaction, choice_id, has, party, token
 ENDS = [-2**63, 2**64 - 1]
 
 
@@ -144,26 +142,6 @@ def has_input(action, offer, given):
 
 # ---- the form that is printed
 
-def told(contract, state, interval):
-    """What `marlowe next --json` should print, as JSON data, or the name of the fault."""
-    try:
-        run, left = opened(contract, state, interval)
-    except Refused as fault:
-        return f"refused {fault}"
-    inputs = {"notify": None, "deposits": [], "choices": []}
-    for index, (case, offer) in enumerate(zip(cases_of(left), listed(run, left))):
-        action = case["case"]
-        if offer and offer[0] == "deposit":
-            inputs["deposits"].append({"party": action["party"], "can_deposit": wide(offer[1]), "of_token": action["of_token"],
-                                       "into_account": action["into_account"], "case_index": index, "is_merkleized_continuation": False})
-        elif offer and offer[0] == "choice":
-            inputs["choices"].append({"for_choice": action["for_choice"], "can_choose_between": [{"from": a, "to": b} for a, b in offer[1]],
-                                      "case_index": index, "is_merkleized_continuation": False})
-        elif offer == ("notify",):
-            inputs["notify"] = {"case_index": index, "is_merkleized_continuation": False}
-    return {"can_reduce": run.turned, "applicable_inputs": inputs, "waits_until": None if left == "close" else left["timeout"] - 1}
-
-
 # ---- the comparison
 
 def crowd(contract):
@@ -222,30 +200,12 @@ def compare_one(seed, n, parts, counts):
         counts[kind] = counts.get(kind, 0) + 1
 
 
-def ask_program(folder, parts, interval):
-    paths = [os.path.join(folder, name) for name in ("contract", "state")]
-    for path, part in zip(paths, parts):
-        with open(path, "w") as file:
-            json.dump(part, file)
-    words = [f"--from={interval['from']}", f"--to={interval['to']}", "--json"]
-    run = subprocess.run([PROGRAM, "next", *paths, *words], capture_output=True, text=True)
-    return json.loads(run.stdout) if run.stdout else run.stderr.rstrip("\n")
-
-
 def main():
     words = sys.argv[1:]
-    apart = words[:1] == ["--apart"]
-    words = words[1:] if apart else words
     count, seed = int(words[0]) if words else 1000, int(words[1]) if words[1:] else 1
     counts = {}
-    with tempfile.TemporaryDirectory() as folder:
-        for n in range(count):
-            parts = case(seed, n)
-            compare_one(seed, n, parts, counts)
-            if not apart:
-                want, got = told(*parts), ask_program(folder, parts[:2], parts[2])
-                if want != got:
-                    differs(seed, n, parts, "want", json.dumps(want), "got", json.dumps(got))
+    for n in range(count):
+        compare_one(seed, n, case(seed, n), counts)
     print(count, "contracts agree")
     for kind in sorted(counts):
         print(f"  {counts[kind]:8} {kind}")
