@@ -5,7 +5,7 @@ unspent outputs, and prints the least processor time and the peak memory of each
 Needs    the program that ledger_program.py makes, Debian's package `time`, and
          (cd bench/plain/ledger && CARGO_TARGET_DIR=/tmp/plain cargo build --release --offline)
 Usage    ledger_beside_plain.py PLAIN PROGRAM [PAYMENTS]   (as /tmp/plain/release/plain_ledger and a copy of ledger_bench)
-Expect   of 100,000 payments, unless it is said how many, one line; at most TIMES times the processor time of the plain ledger and at most SPACE times its memory, in
+Expect   of 100,000 payments, unless it is said how many, one line; of a proved program at most TIMES times the processor time of the plain ledger and at most SPACE times its memory, in
          less than SECONDS of processor time; else status 1. README.md has what was measured.
 Else     what the two print otherwise: how many were accepted, how many outputs are unspent, what they hold, and a digest of all, in order of their making.
 Mind     both keep each call with its reply. A payment spends the output of the one before, pays one lovelace to one of a thousand keys in turn, and the rest
@@ -16,8 +16,8 @@ import sys
 from beside_plain import child
 
 PAYMENTS = 100_000
-RUNS = 5
-TIMES = 4
+RUNS = 15
+TIMES = 1.6
 SPACE = 3
 SECONDS = 60
 

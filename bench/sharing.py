@@ -2,7 +2,7 @@
 """Compiles two contracts of 65,000 equal closes by the program of table rows, as this checkout builds it and as one from before equal nodes were shared
 does, and prints for each the least processor time of a compile and the memory that its table takes while it is made, with the ratios.
 
-Needs    (cd crates/rows_values && rt run -- tables.txt), and in a checkout of 4907a8e^1 (cd crates/rows_tables && rt run); Debian's packages `time` and `libc-devtools`
+Needs    (cd crates/rows_commands && rt run -- values/tables.txt), and in a checkout of 4907a8e^1 (cd crates/rows_tables && rt run); Debian's packages `time` and `libc-devtools`
          4907a8e^1 lacks the row `grid`: bring over `grid` and the arm that names it, of crates/rows_values/src/tables.rt
 Usage    sharing.py EARLIER [OURS]   (as ../earlier/crates/rows_tables/out/rows_tables; OURS is this checkout's unless it is named)
 Expect   at most 1.5 times the time (some 0.7 is usual); of the widest contract a 44th of the memory, of the When of Whens less than a 2,000th
@@ -29,7 +29,7 @@ import tempfile
 from growth import TIME
 
 HERE = os.path.dirname(os.path.abspath(__file__))
-OURS = os.path.join(HERE, "..", "crates", "rows_values", "out", "rows_values")
+OURS = os.path.join(HERE, "..", "crates", "rows_commands", "out", "rows_commands")
 CONTRACTS = (("the widest contract", "wide 65533", "wide 65534"), ("a When of equal Whens", "grid 255 254", "grid 255 255"))
 RUNS = 5
 TIMES = 20

@@ -1,16 +1,18 @@
 #!/usr/bin/env python3
-"""Plays scenarios by the built program, and prints what a step takes in instructions and what it leaves in memory, each beside its bound.
+"""Plays scenarios by the built program, and prints what a step takes in instructions, what it does once, and what it leaves in memory, each beside its bound.
 
 Needs    (cd crates/marlowe && rt run -- --version), and valgrind
 Usage    step_costs.py [PROGRAM]   (another program than the built one)
-Expect   three lines and status 0, in half a minute:
+Expect   seven lines and status 0, in half a minute:
          - a step: what FEW to MANY deposits add to a run, by callgrind. A step is two calls, a look and a submit, with the copies that its seat keeps. Each
-           transaction is encoded a few times, and hashed once; more work than the bound allows is done again and again;
+           transaction is encoded and hashed once, where it is checked; more work than the bound allows is done again and again;
+         - what is done once for each step: its transaction's id, by one encoding and one hash, where the party checks it; at the Submit the comparison of
+           that check, with the transaction, with what is found, and with what is published. Each is a call of one function, which callgrind counts;
          - a step's room: what the same steps add to the peak of the heap. Entries stay, and so do the ids and the moves of their transactions. What was
            spent leaves its place to what comes;
          - locks' names: how much more the peak is where each of CHAIN parties sends its change to the next one than where all are one party, whose name is as
            long. An address without outputs leaves no name.
-Else     `too many` behind what is above its bound, and status 1
+Else     `too many` behind what is above its bound, `not once` behind what is done less or more often, and status 1
 Mind     both are exact, and the same on a busy machine. FEW and MANY are powers of two: so the lists and maps of both have the same share of free room. The
          bounds are of the program as it is built from proofs; one built by `rt try` takes more instructions and room.
 """
@@ -28,6 +30,13 @@ CHAIN = 40
 INSTRUCTIONS = 1_000_000
 ROOM = 9_600
 NAMES = 2_000
+# What each step calls once, by the beginnings of the functions' names.
+ONCE = {
+    "encodes and hashes its transaction": "eutxo_types::id::tx_id",
+    "compares its transaction with a check": "eutxo_types::tx::TxSame::same",
+    "compares what is found with a check": "eutxo::resolved::Resolved::equals",
+    "compares what is published with a check": "roles::published::PublishedSame::same",
+}
 
 
 def chained(own):
@@ -59,30 +68,40 @@ def played(program, told, steps, before):
     return run.stderr
 
 
-def instructions(program, told, steps):
-    said = played(program, told, steps, ["valgrind", "--tool=callgrind", "--callgrind-out-file=/dev/null"])
-    return int(re.search(r"Collected : (\d+)", said)[1])
+def counted(program, told, steps):
+    """The instructions of a play, and how often it calls what each step calls once."""
+    with tempfile.TemporaryDirectory() as folder:
+        path = os.path.join(folder, "calls")
+        said = played(program, told, steps, ["valgrind", "--tool=callgrind", "--compress-strings=no", f"--callgrind-out-file={path}"])
+        with open(path, encoding="utf-8") as file:
+            calls = re.findall(r"^cfn=(.*)\n(?:cfi.*\n|cfl.*\n)*calls=(\d+)", file.read(), re.M)
+    once = [sum(int(count) for name, count in calls if name.startswith(begins)) for begins in ONCE.values()]
+    return int(re.search(r"Collected : (\d+)", said)[1]), *once
 
 
 def peak(program, told, steps):
     """The most bytes of the heap that are taken at once."""
     said = played(program, told, steps, ["valgrind", "--tool=dhat", "--dhat-out-file=/dev/null"])
-    return int(re.search(r"At t-gmax: ([0-9,]+) bytes", said)[1].replace(",", ""))
+    return int(re.search(r"At t-gmax: ([0-9,]+) bytes", said)[1].replace(",", "")),
 
 
-def a_step(measured, program):
-    """What each of the steps that MANY are more than FEW adds."""
-    return (measured(program, plays.scenario(MANY), MANY) - measured(program, plays.scenario(FEW), FEW)) / (MANY - FEW)
+def of_steps(measured, program):
+    """What each of the steps that MANY are more than FEW adds, of each count."""
+    many, few = measured(program, plays.scenario(MANY), MANY), measured(program, plays.scenario(FEW), FEW)
+    return [(more - less) / (MANY - FEW) for more, less in zip(many, few)]
 
 
 def main(words):
     program = os.path.abspath(words[0]) if words else plays.PROGRAM
-    found = [("a step takes", a_step(instructions, program), INSTRUCTIONS, "instructions"),
-             ("a step leaves", a_step(peak, program), ROOM, "bytes"),
-             (f"{CHAIN} names of locks leave", peak(program, chained(True), CHAIN) - peak(program, chained(False), CHAIN), NAMES, "bytes")]
+    takes, *once = of_steps(counted, program)
+    leaves, = of_steps(peak, program)
+    names = peak(program, chained(True), CHAIN)[0] - peak(program, chained(False), CHAIN)[0]
+    found = [("a step takes", takes, INSTRUCTIONS, "instructions"), ("a step leaves", leaves, ROOM, "bytes"), (f"{CHAIN} names of locks leave", names, NAMES, "bytes")]
+    for what, count in zip(ONCE, once):
+        print(f"a step {what} " + ("once" if count == 1 else f"{count:g} times: not once"), flush=True)
     for what, count, most, unit in found:
         print(f"{what} {count:,.0f} {unit}, of at most {most:,}" + ("" if count <= most else ": too many"), flush=True)
-    sys.exit(1 if any(count > most for _, count, most, _ in found) else 0)
+    sys.exit(1 if any(count > most for _, count, most, _ in found) or any(count != 1 for count in once) else 0)
 
 
 if __name__ == "__main__":

@@ -12,8 +12,10 @@ Else     what differs, and a folder with the contract, the state and the transac
 Half of the contracts are made form by form: choices, deposits, Lets, Ifs and Pays of amounts that may be asked for or held, so that some never
 warn. The others are those of rows_commands/data/analyses with a few numbers, parties or comparisons changed. Of each it asks:
 - status 0 and no alarm, or status 3 and alarms;
-- each run that is told is accepted up to its last transaction, which warns of that kind, or is refused with Leaves128;
-- in no random run a warning of a kind comes that no alarm has, nor Leaves128 without its alarm;
+- each run that is told is accepted up to its last transaction, which warns of that kind at that place, or is refused with Leaves128, where the first number
+  that leaves 128 bits is visited there;
+- in no random run a warning of a kind comes at a place without such an alarm, not even in a transaction that is refused, nor Leaves128 without its alarm
+  at the place;
 - in each what a party was paid of a token is never above its `most`, 0 where it has no line, and no less than its `least` once all is closed.
 A random run takes choices at the ends of their bounds and elsewhere, intervals about timeouts, deposits as asked, and now and then others.
 """
@@ -346,6 +348,70 @@ def made_transaction(chance, contract, state):
     return {"tx_inputs": inputs, "tx_interval": interval}
 
 
+class Placed(interpreter.Transaction):
+    """A transaction that notes where in the contract's text it is: the keys to what remained before it, and what it warned of at which place."""
+
+    def __init__(self, state, interval, at):
+        super().__init__(state, interval)
+        self.at, self.here, self.told = list(at), None, []
+
+    def warn(self, warning, **keys):
+        super().warn(warning, **keys)
+        self.told.append((warning, self.here))
+
+    def settle(self, c):
+        while c != "close":
+            form = next(key for key in ("pay", "if", "when", "let", "assert") if key in c)
+            self.here = (*self.at, form)
+            step = "then"
+            if form == "pay":
+                self.pay(c)
+            elif form == "if":
+                step = "then" if self.holds(c["if"]) else "else"
+            elif form == "when":
+                if self.end < c["timeout"]:
+                    return c
+                if self.start < c["timeout"]:
+                    raise interpreter.Refused("Ambiguous")
+                step = "timeout_continuation"
+            elif form == "let":
+                number = self.value(c["be"])
+                if c["let"] in self.bound:
+                    self.warn("Shadowing")
+                self.bound[c["let"]] = number
+            elif not self.holds(c["assert"]):
+                self.warn("AssertionFailed")
+            self.at.append(step)
+            c, self.turned = c[step], True
+        self.close()
+        return c
+
+    def apply(self, given, c):
+        for index, case in enumerate([] if c == "close" else c["when"]):
+            action = next(key for key in ("deposits", "choose_between", "notify_if") if key in case["case"])
+            self.here = (*self.at, "when", index, "case", action)
+            if self.matches(given, case["case"]):
+                self.take(given)
+                self.turned = True
+                self.at += ["when", index, "then"]
+                return case["then"]
+        raise interpreter.Refused("NoMatch")
+
+
+def placed(contract, state, tx, at):
+    """What a transaction tells of at which places, and the keys to what remains: those from before where it is refused."""
+    told = []
+    try:
+        machine = Placed(state, tx["tx_interval"], at)
+        told = machine.told
+        left = machine.settle(contract)
+        for given in tx["tx_inputs"]:
+            left = machine.settle(machine.apply(given, left))
+        return told, machine.at if machine.turned else at
+    except interpreter.Refused as fault:
+        return told + [("Leaves128", machine.here)] * (str(fault) == "Leaves128"), at
+
+
 class Difference(Exception):
     """What the analysis said, and what came."""
 
@@ -375,10 +441,13 @@ def analysis_of(program, contract, state):
 
 def replay(program, contract, state, alarm):
     """Plays a run that is told, up to its warning."""
-    run, start = alarm["run"], contract
+    run, at, place = alarm["run"], [], (alarm["kind"], tuple(alarm["place"]))
     for number, tx in enumerate(run, 1):
         status, out, err = program.ask("run", contract, state, tx)
         is_last = number == len(run)
+        told, at = placed(contract, state, tx, at)
+        if is_last and place not in told:
+            raise Difference(f"the run to {alarm['kind']} at {alarm['place']} ends elsewhere: {told}", run)
         if is_last and alarm["kind"] == "Leaves128":
             if err != "refused Leaves128":
                 raise Difference(f"the run to Leaves128 ends with status {status}: {err}", run)
@@ -397,7 +466,7 @@ def replay(program, contract, state, alarm):
 
 def play(program, chance, contract, state, told, count):
     """Plays a random run, and looks whether all that comes was said."""
-    kinds = {it["kind"] for it in told["alarms"]}
+    kinds, alarms, at = {it["kind"] for it in told["alarms"]}, {(it["kind"], tuple(it["place"])) for it in told["alarms"]}, []
     bounds = {(party(it["party"]), token(it["token"])): (whole(it["least"]), whole(it["most"])) for it in told["ranges"]}
     paid, transactions = collections.Counter(), []
     for _ in range(MOST_TRANSACTIONS):
@@ -405,6 +474,10 @@ def play(program, chance, contract, state, told, count):
         transactions.append(tx)
         status, out, err = program.ask("run", contract, state, tx)
         count["transactions"] += 1
+        come, at = placed(contract, state, tx, at)
+        for kind, place in come:
+            if (kind, place) not in alarms:
+                raise Difference(f"{kind} comes at {list(place)}, without an alarm there", transactions)
         if status:
             count[err] += 1
             if err == "refused Leaves128" and "Leaves128" not in kinds:

@@ -2,7 +2,7 @@
 """Has the built program run the command lines of `rows_commands`, and compares what it prints with the answers that stand below them.
 
 Needs    the built program, crates/marlowe/out/marlowe: (cd crates/marlowe && rt run -- --version); or the path of one.
-Usage    commands.py [PROGRAM]               compares all files that crates/rows_commands/args names
+Usage    commands.py [PROGRAM]               compares all files of command lines that crates/rows_commands/args names
          commands.py --write FILE [PROGRAM]  writes into the file below each row what the program prints, in place of what stood there
          commands.py --apart                 compares them, but for those of `analyse`, with a Marlowe, its tables and a ledger in Python, which share
                                              no code with the program (interpreter.py, tables.py, plays.py); it needs nothing built
@@ -227,7 +227,7 @@ def write(path, streams):
 
 
 def main(words):
-    names = [name for name in rows.lines_of(os.path.join(CRATE, "args")) if name]
+    names = [name for name in rows.lines_of(os.path.join(CRATE, "args")) if name and not name.startswith("values/")]
     if words == ["--apart"]:
         for name in names:
             compare(name, apart)

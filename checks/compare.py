@@ -12,7 +12,7 @@ HERE = os.path.dirname(os.path.abspath(__file__))
 sys.path.insert(0, HERE)
 from interpreter import printed
 PROGRAM = os.path.join(HERE, "..", "crates", "marlowe", "out", "marlowe")
-ROWS = os.path.join(HERE, "..", "crates", "rows_values")
+ROWS = os.path.join(HERE, "..", "crates", "rows_commands", "data", "values")
 TITLE = "# random contracts, as a program written apart answers"
 R = random.Random()
 PARTIES = [{"role_token": "a"}, {"role_token": "b"}, {"address": "x"}]
@@ -94,11 +94,11 @@ def write_rows(count, seed):
         parts = case()
         texts = [json.dumps(part, separators=(",", ":")) for part in parts]
         if sum(map(len, texts)) > 1200: continue
-        lines += [f"{word} {text}" for word, text in zip(("contract", "state", "run"), texts)]
+        lines += [f"{word} {text}" for word, text in zip(("contract", "state", "both"), texts)]
         lines.append("= " + printed(*parts))
         rows += 1
-    with open(os.path.join(ROWS, "data", "compared.txt"), "w") as file: file.write("\n".join(lines) + "\n")
-    print(f"compared.txt ok {rows} rows")
+    with open(os.path.join(ROWS, "compared.txt"), "w") as file: file.write("\n".join(lines) + "\n")
+    print(f"values/compared.txt ok {rows} rows")
 def main():
     if sys.argv[1:2] == ["--rows"]:
         words = sys.argv[2:]

@@ -1,5 +1,5 @@
-"""Judges the transactions of `rows_transactions` by the rules of docs/ledger.md, apart from the programs, and compares that with the verdicts
-in those of its files whose rows are checks.
+"""Judges the transactions of `rows_chain/data/transactions` by the rules of docs/ledger.md, apart from the programs, and compares that with
+the verdicts in those of these files whose rows are checks.
 
 Needs    interpreter.py, ledger.py and transactions.py beside it; nothing built.
 Usage    judged_rows.py
@@ -15,9 +15,8 @@ from collections import namedtuple
 import interpreter
 import ledger
 import transactions
-from transactions import NoSuchRow, wanted, whole
+from transactions import DATA, NoSuchRow, wanted, whole
 
-DATA = os.path.join(transactions.CRATE, "data")
 FILES = ("rules.txt", "starts.txt", "steps.txt", "roles.txt", "order.txt", "blocks.txt", "stubborn.txt")
 CONTRACTS = 8
 
@@ -72,7 +71,7 @@ class Desk:
 
     def take(self, word, rest):
         words = rest.split()
-        if word == "publish":
+        if word == "script":
             contract, currency = json.loads(rest.split(" ", 2)[2]), bytes.fromhex(words[1])
             script = bytes.fromhex(ledger.script_id(contract, currency))
             self.published[words[0]] = Published(script, currency, numbered(contract, []))
@@ -295,7 +294,7 @@ def compare(name):
         elif word == "transaction":
             verdict = None
             desk.begin()
-        elif word not in ("", "#"):
+        elif word not in ("", "-"):
             verdict = None
             desk.take(word, rest)
     print(f"{name} ok {count} verdicts")

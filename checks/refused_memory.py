@@ -214,7 +214,7 @@ build step ann notify
 # A notify of a contract that makes a hundred payments then. The name of a last row, and the rows before it: without a check at hand, and with one.
 LASTS = {
     "submit": ("begin 0", "", "submit 0 s"),
-    "submit, checked": ("begin 0", "check\n", "submit 0 s"),
+    "submit, checked": ("begin 0", "keep\n", "submit 0 s"),
     "submit at a hub": ("hub 1 0", "", "submit 0 s"),
     "admit": ("hub 1 0", "", "admit 0 s"),
     "front and its checks": ("begin 0", "enqueue 0 s\n", "checks 1"),

@@ -31,6 +31,8 @@ class Given:
             self.named[name] = self.whole(text)
         elif word == "file":
             self.keep(name, text)
+        elif word == "text":
+            self.keep(word, rest)
         elif word in ("contract", "state"):
             self.has_state = word == "state"
             self.keep(word + ".json", rest)
@@ -40,7 +42,7 @@ class Given:
             self.files[self.last] += b"".join(self.whole(text).replace(b"%", str(time).encode()) for time in range(int(name)))
         elif word == "hex":
             self.files[self.last] += bytes.fromhex(rest)
-        return word in ("", "#", "let", "file", "contract", "state", "more", "times", "hex")
+        return word in ("", "#", "let", "file", "text", "contract", "state", "more", "times", "hex")
 
 
 def lines_of(path):

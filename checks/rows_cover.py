@@ -32,21 +32,21 @@ PUBLIC = """marlowe_commands marlowe_refusals marlowe_run marlowe_analyse marlow
 # Where the names of an enum's variants are printed, and for a variant that isn't printed by its own name, how.
 PRINTED = {
     "SemFault": (["rows_commands"], {}),
-    "StateFault": (["rows_values"], {"Memory": "Memory$"}),
-    "CompileFault": (["rows_values"], {"Memory": "Memory$"}),
-    "JsonFault": (["rows_values"], {"Memory": "Memory$"}),
-    "WriteFault": (["rows_values"], {"Memory": "Memory$"}),
-    "RunFault": (["rows_values"], {"Contract": "refused contract ", "State": "refused state ", "Transaction": "refused transaction ", "Semantics": "refused Useless$",
+    "StateFault": (["rows_commands/values"], {"Memory": "Memory$"}),
+    "CompileFault": (["rows_commands/values"], {"Memory": "Memory$"}),
+    "JsonFault": (["rows_commands/values"], {"Memory": "Memory$"}),
+    "WriteFault": (["rows_commands/values"], {"Memory": "Memory$"}),
+    "RunFault": (["rows_commands/values"], {"Contract": "refused contract ", "State": "refused state ", "Transaction": "refused transaction ", "Semantics": "refused Useless$",
                                    "Write": "refused OutOfRange$"}),
-    "TableFault": (["rows_values"], {"Contract": "refused contract ", "Compile": "refused TooDeep$"}),
+    "TableFault": (["rows_commands/values"], {"Contract": "refused contract ", "Compile": "refused TooDeep$"}),
     "PlayFault": (["rows_commands"], {"Scenario": "refused scenario ", "Setup": "refused thread "}),
     "SetupFault": (["rows_commands"], {"Refused": "refused thread "}),
     "GenesisFault": (["rows_chain"], {}),
-    "BundleFault": (["rows_transactions"], {}),
-    "TxFault": (["rows_transactions", "rows_chain"], {}),
-    "StepFault": (["rows_transactions"], {}),
+    "BundleFault": (["rows_chain/transactions"], {}),
+    "TxFault": (["rows_chain/transactions", "rows_chain"], {}),
+    "StepFault": (["rows_chain/transactions"], {}),
     "BuildFault": (["rows_chain"], {}),
-    "LoadFault": (["rows_values"], {"Unreadable": "unreadable$", "Memory": "Memory$"}),
+    "LoadFault": (["rows_commands/values"], {"Unreadable": "unreadable$", "Memory": "Memory$"}),
     "Fault": (["rows_commands"], {"Run": "refused NoMatch$", "Table": "refused contract "}),
     "WordsFault": ([], {}),
     "Verdict": (["rows_chain"], {"Accepted": r"\d+ accepted", "Refused": r"\d+ refused "}),
@@ -54,54 +54,54 @@ PRINTED = {
                                "Look": "tick ", "Accepted": "accepted ", "Refused": "refused NoInputs$", "Ticket": "ticket ", "Full": "full$", "Round": r"\d+ accepted"}),
 }
 
-# What copies a type, and compares the copy by `==`: a row program, and how a row of it begins. ROW has what compares only.
+# What copies a type, and compares the copy by `==`: a row program or a folder of its data, and how a row of it begins. ROW has what compares only.
 COPIED = {
-    "rows_values copy contract": "Contract Boxed Items",
-    "rows_values copy value": "Value",
-    "rows_values copy observation": "Observation",
-    "rows_values copy action": "Action",
-    "rows_values copy case": "Case",
-    "rows_values copy input": "Input",
-    "rows_values copy party": "Party Text",
-    "rows_values copy token": "Token Bytes",
-    "rows_values copy choice_id": "ChoiceId",
-    "rows_values copy payee": "Payee",
-    "rows_values copy bound": "Bound",
-    "rows_values copy state": "State Account Entries",
-    "rows_values copy transaction": "Transaction",
-    "rows_values run": "Outcome Warning Payment",
-    "rows_values copies": "Table Entry ValueNode ObservationNode CaseNode ContNode Cont",
-    "rows_transactions copies transaction": "Tx Spend OutputRef Redeemer Output Lock Datum Bundle",
-    "rows_transactions copies found": "Resolved Scripts",
-    "rows_transactions copies published": "Published",
-    "rows_transactions recheck": "Shared",
-    "rows_transactions copies checks": "Checked Verdict",
-    "rows_transactions copies faults": "TxFault",
-    "rows_chain faults": "BuildFault",
-    "rows_chain copies": "Call Reply Ticketed",
+    "rows_commands/values copy contract": "Contract Boxed Items",
+    "rows_commands/values copy value": "Value",
+    "rows_commands/values copy observation": "Observation",
+    "rows_commands/values copy action": "Action",
+    "rows_commands/values copy case": "Case",
+    "rows_commands/values copy input": "Input",
+    "rows_commands/values copy party": "Party Text",
+    "rows_commands/values copy token": "Token Bytes",
+    "rows_commands/values copy choice_id": "ChoiceId",
+    "rows_commands/values copy payee": "Payee",
+    "rows_commands/values copy bound": "Bound",
+    "rows_commands/values copy state": "State Account Entries",
+    "rows_commands/values copy transaction": "Transaction",
+    "rows_commands/values both": "Outcome Warning Payment",
+    "rows_commands/values copies": "Table Entry ValueNode ObservationNode CaseNode ContNode Cont",
+    "rows_chain/transactions copies transaction": "Tx Spend OutputRef Redeemer Output Lock Datum Bundle",
+    "rows_chain/transactions copies found": "Resolved Scripts",
+    "rows_chain/transactions copies published": "Published",
+    "rows_chain/transactions recheck": "Shared",
+    "rows_chain/transactions copies checks": "Checked Verdict",
+    "rows_chain/transactions copies TxFault": "TxFault",
+    "rows_chain copies BuildFault": "BuildFault",
+    "rows_chain copies 9": "Call Reply Ticketed",
     "rows_chain record_copies": "StepRecord",
     "rows_chain look": "Look Ask PayoutLock Unspent ThreadOutput",
 }
 COMPARED = {
-    "rows_values texts SemFault": "SemFault",
-    "rows_values texts StateFault": "StateFault",
-    "rows_values texts CompileFault": "CompileFault",
-    "rows_values texts JsonFault": "JsonFault",
-    "rows_values texts WriteFault": "WriteFault",
-    "rows_values texts RunFault": "RunFault",
-    "rows_values texts TableFault": "TableFault",
-    "rows_values compare transaction": "Interval Transaction",
-    "rows_values texts PlayFault": "PlayFault",
-    "rows_transactions texts BundleFault": "BundleFault",
-    "rows_transactions apart StepFault": "StepFault",
-    "rows_transactions apart StepAnswer": "StepAnswer",
-    "rows_transactions totals": "WideSum",
-    "rows_values apart LoadFault": "LoadFault",
-    "rows_values apart WordsFault": "WordsFault",
-    "rows_values apart Fault": "Fault",
-    "rows_values apart Task": "Task",
+    "rows_commands/values texts SemFault": "SemFault",
+    "rows_commands/values texts StateFault": "StateFault",
+    "rows_commands/values texts CompileFault": "CompileFault",
+    "rows_commands/values texts JsonFault": "JsonFault",
+    "rows_commands/values texts WriteFault": "WriteFault",
+    "rows_commands/values texts RunFault": "RunFault",
+    "rows_commands/values texts TableFault": "TableFault",
+    "rows_commands/values compare transaction": "Interval Transaction",
+    "rows_commands/values texts PlayFault": "PlayFault",
+    "rows_chain/transactions texts BundleFault": "BundleFault",
+    "rows_chain/transactions apart StepFault": "StepFault",
+    "rows_chain/transactions apart StepAnswer": "StepAnswer",
+    "rows_chain/transactions totals": "WideSum",
+    "rows_commands/values apart LoadFault": "LoadFault",
+    "rows_commands/values apart WordsFault": "WordsFault",
+    "rows_commands/values apart Fault": "Fault",
+    "rows_commands/values apart Task": "Task",
     "rows_chain texts GenesisFault": "GenesisFault",
-    "rows_chain copies ": "Entry",
+    "rows_chain copies 2": "Entry",
     "rows_chain record_copies ": "StepRecord",
 }
 
@@ -147,6 +147,7 @@ LEFT = {
     "call evaluation::value": EXACT,
     "call evaluation::holds": EXACT,
     "call semantics::matching_case": EXACT,
+    "call contract_json::read_state_with_texts": "no command and no row calls it yet; docs/PROVED.md says so",
     "call states::State::set_money": "each payment and each deposit of a run that a row prints makes it",
     "call states::State::set_choice": "each choice of a run that a row prints makes it",
     "call states::State::set_bound": "each Let of a run that a row prints makes it",
@@ -154,6 +155,8 @@ LEFT = {
     "call table::Table::push_observation": "each observation of a table that a row prints was put there by it",
     "call table::Table::push_case": "each case of a table that a row prints was put there by it",
     "call table::Table::push_cont": "each continuation of a table that a row prints was put there by it",
+    "call eutxo::id_at_hand": "each Submit and each place of a round of rows_chain has its id by it",
+    "call eutxo::kept_among": "each Submit and each place of a round of rows_chain is judged by it, with a check at hand or without",
     "call eutxo::rejudge": "each row of a check at hand prints what `recheck` makes of its answer",
     "call roles::only": "each output for a payment that a row's built step prints holds it",
     "call roles::put_due": "each built step of a row prints what it puts",
@@ -182,12 +185,16 @@ def code(crates):
     return "".join(read(path) for crate in crates for path in sources(crate))
 
 
-def lines(program):
-    """The lines of a row program's data."""
-    return [line for path in sorted((TOP / "crates" / program / "data").rglob("*.txt")) for line in read(path).splitlines()]
+def lines(part):
+    """The lines of a row program's data, but for those of the folders that are parts of their own, or of such a folder."""
+    program, _, folder = part.partition("/")
+    data = TOP / "crates" / program / "data"
+    paths = [path for path in sorted((data / folder).rglob("*.txt")) if folder or f"{program}/{path.relative_to(data).parts[0]}" not in FOLDERS]
+    return [line for path in paths for line in read(path).splitlines()]
 
 
-LINES = {program: lines(program) for program in ROWS if (TOP / "crates" / program / "data").is_dir()}
+FOLDERS = ["rows_commands/values", "rows_chain/transactions"]
+LINES = {part: lines(part) for part in [program for program in ROWS if (TOP / "crates" / program / "data").is_dir()] + FOLDERS}
 ANSWERS = {program: [line[2:].removeprefix("stderr ") for line in rows if line.startswith("= ")] for program, rows in LINES.items()}
 # `marlowe_commands` is what the command lines of rows_commands call.
 RUN = code(ROWS + TESTS + ["marlowe_commands"])

@@ -1,5 +1,5 @@
 #!/usr/bin/env python3
-"""Reads the scenarios of `rows_values` in plain Python, apart from the program, and compares that with the answers that stand below them; and
+"""Reads the scenarios of `rows_commands` in plain Python, apart from the program, and compares that with the answers that stand below them; and
 writes random scenarios as rows of plays.
 
 Needs    plays.py, readings.py and rows.py beside it, and nothing built. `commands.py --apart` compares the rows of plays.
@@ -21,7 +21,7 @@ import rows
 from ledger import compact
 
 TITLE = "# random scenarios, as a program written apart plays them"
-READ = os.path.join(rows.CRATES, "rows_values", "data", "scenarios.txt")
+READ = os.path.join(rows.CRATES, "rows_commands", "data", "values", "scenarios.txt")
 PLAYED = os.path.join(rows.CRATES, "rows_commands", "data", "plays", "compared.txt")
 ROW = "read scenario"
 
@@ -84,8 +84,6 @@ def answer(given, line):
     """What a row prints, or None for a line that is no row."""
     word, _, rest = line.partition(" ")
     try:
-        if word == "text":
-            return given.keep("text", rest)
         if given.keeps(word, rest):
             return None
         if line != ROW and not line.startswith(ROW + " "):

@@ -1,7 +1,7 @@
 #!/usr/bin/env python3
 """Spoils the texts of the examples and the rows of transactions, and asks the built programs what they make of each.
 
-Needs    (cd crates/marlowe && rt run -- --version); for --rows also (cd crates/rows_transactions && rt run -- data/sums.txt)
+Needs    (cd crates/marlowe && rt run -- --version); for --rows also (cd crates/rows_chain && rt run -- transactions/sums.txt)
 Usage    checks/spoiled.py [--seconds N] [--seed N] [--workers N] [--words WORD,..] [--program FILE] [--slow N] [--rows]
          for N seconds (60) with so many workers (1), each a process; a worker spoils the same texts in the same order again for the same seed;
          --words takes some of run, table, play and analyse in place of all; --program asks another program, which may take --slow N times as long;
@@ -33,7 +33,7 @@ sys.path.append(f"{ROOT}/bench")
 from analysis_growth import SEARCHED, texts_of
 
 PROGRAM = f"{ROOT}/crates/marlowe/out/marlowe"
-ROWS = f"{ROOT}/crates/rows_transactions/out/rows_transactions"
+ROWS = f"{ROOT}/crates/rows_chain/out/rows_chain"
 WORDS = ["run", "table", "play", "analyse"]
 MOST_SECONDS, MOST_KIB, MOST_FAULTS = 1.0, 64 * 1024, 100
 # What an analysis may take: the bound on the work of its search, at 5,000,000,000 instructions a second.
@@ -451,11 +451,11 @@ def text_of(file):
 
 def rows_of_transactions():
     """For each file of rows what common.txt and the file itself publish, and its other lines without the answers."""
-    folder = f"{ROOT}/crates/rows_transactions/data"
+    folder = f"{ROOT}/crates/rows_chain/data/transactions"
     common, found = text_of(f"{folder}/common.txt").split(b"\n"), []
     for file in sorted(glob.glob(f"{folder}/*.txt")):
-        lines = [it for it in text_of(file).split(b"\n") if it and not it.startswith((b"=", b"#", b"use "))]
-        published = [it for it in lines if it.startswith(b"publish ")]
+        lines = [it for it in text_of(file).split(b"\n") if it and not it.startswith((b"=", b"-", b"use "))]
+        published = [it for it in lines if it.startswith(b"script ")]
         if len(published) < len(lines):
             found.append(([*common, *published], [it for it in lines if it not in published]))
     return found

@@ -1,5 +1,5 @@
 """Spells transactions and data in bytes by the tables of docs/formats.md, "Bytes", and adds and subtracts amounts, apart from the
-programs, and compares that with the answers in those files of `rows_transactions` that have no checks.
+programs, and compares that with the answers in those files of transactions of `rows_chain` that have no checks.
 
 Needs    nothing built.
 Usage    transactions.py
@@ -12,7 +12,7 @@ import os
 import re
 import sys
 
-CRATE = os.path.join(os.path.dirname(os.path.abspath(__file__)), "..", "crates", "rows_transactions")
+DATA = os.path.join(os.path.dirname(os.path.abspath(__file__)), "..", "crates", "rows_chain", "data", "transactions")
 ADA = (b"", b"")
 LIMIT = 2**127
 
@@ -213,14 +213,14 @@ def rows(lines):
     for line in lines:
         word, _, rest = line.partition(" ")
         try:
-            if word in ("#", "="):
+            if word in ("-", "="):
                 continue
             if word == "transaction":
                 spelled = transaction.spelled()
                 yield spelled.hex()
                 yield hashlib.sha256(spelled).hexdigest()
                 transaction = Transaction()
-            elif word == "datum":
+            elif word == "datum_hash":
                 spelled = datum(*rest.split())
                 yield spelled.hex()
                 yield hashlib.sha256(spelled).hexdigest()
@@ -234,7 +234,7 @@ def rows(lines):
 
 def compare(name):
     """Compares what the rows of a file answer with what stands below them."""
-    with open(os.path.join(CRATE, "data", name)) as file:
+    with open(os.path.join(DATA, name)) as file:
         lines = file.read().splitlines()
     written, answered = [line[2:] for line in lines if line.startswith("=")], list(rows(lines))
     for place, (theirs, ours) in enumerate(zip(written, answered), 1):

@@ -34,7 +34,7 @@ FACES = [
     ("Bytes and ids", "contract_bytes eutxo_types"),
     ("The check of a transaction, over any script, and its laws", "bundle eutxo parallel_check::check_all"),
     ("Marlowe as a script", "roles"),
-    ("The chain: each call and its reply", "ledger chain::Chain::genesis chain::Chain::step(entry,mine,told,err,stays) chain::Chain::tick chain::Chain::entries chain::Chain::history(all,legal,begins) "
+    ("The chain: each call and its reply", "ledger chain::Chain::genesis chain::Chain::step(entry,mine,told,err,stays) chain::Chain::call(entry,reply,err,stays) chain::Chain::tick chain::Chain::entries chain::Chain::history(all,legal,begins) "
      "chain::Chain::resolve chain::Chain::front chain::Chain::steps_of"),
     ("The headline's first half: what holds after every history", "chain::Chain::history(first,stands,in_use,fits,shown) ledger_spec::starts_are_told"),
     ("Its laws, over every list of accepted transactions", "ledger_laws"),

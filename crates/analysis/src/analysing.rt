@@ -1,7 +1,7 @@
 //! Analyses.
 ghost use Rattle.std.specs.Prelude.{IfOk};
 ghost use Rattle.contract.specs.Tree.{contract_tree};
-ghost use Rattle.analysis_spec.specs.Analysed.{NamesWhatComes, StaysUnlessTold, PaysWithinRanges, PaysOthersNothing};
+ghost use Rattle.analysis_spec.specs.Analysed.{NamesWhatComes, NamesWhereItComes, StaysUnlessTold, NamesWhereItLeaves, PaysWithinRanges, PaysOthersNothing};
 
 use crate::knowing::Expressions;
 use analysis_walk::{Analysis, analyse_by};
@@ -10,12 +10,15 @@ use contract::Contract;
 use states::State;
 use std::alloc::Global;
 
-/// What a contract can warn of, with places, and what it can pay, in whatever runs from a state. A kind of warning that
-/// no alarm names never comes, not even in a transaction that is refused. With no alarm of `Leaves128`, no transaction
-/// whose times JSON can write is refused because a number leaves 128 bits. What a party is paid of a token, in the
+/// What a contract can warn of, with places, and what it can pay, in whatever runs from a state. A kind of warning never
+/// comes at a place where no alarm names it, not even in a transaction that is refused; so one that no alarm names never
+/// comes. In a transaction whose times JSON can write no number first leaves 128 bits at a place without an alarm of
+/// `Leaves128`; with no such alarm none is refused for that. What a party is paid of a token, in the
 /// token's smallest unit, lies in its range: in no run above the most, and in no run that closed the contract below the
 /// least; without a range it is nothing. Refused only for memory.
 pub fn analyse(alloc: Global, contract: &Contract, state: &State) -> Result<Analysis, Memory>
+    ensures places { IfOk result (λ a. NamesWhereItComes a.alarms state.now (contract_tree contract.now)) }
+    ensures leaving { IfOk result (λ a. NamesWhereItLeaves a.alarms state.now (contract_tree contract.now)) }
     ensures alarms { IfOk result (λ a. NamesWhatComes a.alarms state.now (contract_tree contract.now)) }
     ensures numbers { IfOk result (λ a. StaysUnlessTold a.alarms state.now (contract_tree contract.now)) }
     ensures ranges { IfOk result (λ a. PaysWithinRanges a.ranges state.now (contract_tree contract.now)) }

@@ -8,8 +8,8 @@ use Rattle.semantics.specs.Walk.{Standing, Walk, standing, answer_of}
 use Rattle.analysis_spec.specs.declared.kind.AlarmKind.{AlarmKind}
 use Rattle.analysis_spec.specs.declared.kind.AlarmKind.TheVariants.{NonPositiveDeposit, NonPositivePay, PartialPay, Shadowing, AssertionFailed, Leaves128}
 use Rattle.analysis_spec.specs.Runs.{walk_from, standing_after, stands_after}
-use Rattle.analysis_spec.specs.Promises.{kind_of, HasWrittenTimes}
-use Rattle.analysis_spec.specs.CounterRuns.{HasKind, WarnsOf, Tells, EndsIn, WarningsBreakPromises, LeavingBreaksPromises}
+use Rattle.analysis_spec.specs.Promises.{kind_of, HasKind, HasWrittenTimes}
+use Rattle.analysis_spec.specs.CounterRuns.{WarnsOf, Tells, EndsIn, WarningsBreakPromises, LeavingBreaksPromises}
 
 -- where each warning is of another kind, none is of this one
 none_of : (kind : AlarmKind) (ws : List Warning) → HasKind kind ws → AllByRecursion (λ w. kind_of w ≢ kind) ws → ⊥

@@ -1,2 +1,5 @@
 pub mod RowsLemmas
+pub mod MarkLemmas
 mod CounterRunLemmas
+mod PlaceLemmas
+mod PlaceRowsLemmas

@@ -7,7 +7,8 @@ use Rattle.contract.specs.Tree.{ContractTree}
 use Rattle.states.specs.States.{StateMaps}
 use Rattle.analysis_spec.specs.declared.kind.AlarmKind.{AlarmKind}
 use Rattle.analysis_spec.specs.declared.kind.AlarmKind.TheVariants.{Leaves128}
-use Rattle.analysis_spec.specs.Promises.{NeverWarns, StaysWithin128, PaysBetween}
+use Rattle.analysis_spec.specs.declared.path.PathStep.{PathStep}
+use Rattle.analysis_spec.specs.Promises.{NeverWarns, NeverWarnsAt, StaysWithin128, NeverLeavesAt, PaysBetween}
 use Rattle.analysis_spec.specs.declared.alarm.Alarm.{Alarm}
 use Rattle.analysis_spec.specs.declared.paid.PaidRange.{PaidRange}
 
@@ -22,6 +23,18 @@ NamesWhatComes alarms s c = (kind : AlarmKind) → IsSilent alarms kind → Neve
 -- with no alarm of Leaves128 the contract stays within 128 bits
 abbrev pub StaysUnlessTold : List Alarm → StateMaps → ContractTree → Type 0
 StaysUnlessTold alarms s c = IsSilent alarms Leaves128 → StaysWithin128 s c
+
+-- no alarm of this kind is at this place
+abbrev pub IsSilentAt : List Alarm → AlarmKind → List PathStep → Type 0
+IsSilentAt alarms kind place = AllByRecursion (λ (a : Alarm). a.kind ≡ kind → a.place ≢ place) alarms
+
+-- a kind never comes at a place where no alarm names it
+abbrev pub NamesWhereItComes : List Alarm → StateMaps → ContractTree → Type 0
+NamesWhereItComes alarms s c = (kind : AlarmKind) (place : List PathStep) → IsSilentAt alarms kind place → NeverWarnsAt kind place s c
+
+-- and no number first leaves 128 bits at a place without an alarm of Leaves128
+abbrev pub NamesWhereItLeaves : List Alarm → StateMaps → ContractTree → Type 0
+NamesWhereItLeaves alarms s c = (place : List PathStep) → IsSilentAt alarms Leaves128 place → NeverLeavesAt place s c
 
 -- what is paid lies in its range
 abbrev pub PaysWithinRanges : List PaidRange → StateMaps → ContractTree → Type 0

@@ -1,21 +1,15 @@
 -- Runs that end in an alarm, from a contract and a state, transaction by transaction.
-use Rattle.std.specs.Prelude.{◌≡◌, Err, IsOk, List, [], ◌∷◌, ◌⊎◌}
+use Rattle.std.specs.Prelude.{◌≡◌, Err, IsOk, List, [], ◌∷◌}
 use Rattle.std.specs.List.{AllByRecursion}
 use Rattle.contract.specs.declared.fault.SemFault.TheVariants as faults
 use Rattle.contract.specs.declared.transaction.Transaction.{Transaction}
-use Rattle.contract.specs.declared.warning.Warning.{Warning}
 use Rattle.contract.specs.Tree.{ContractTree}
 use Rattle.states.specs.States.{StateMaps}
 use Rattle.semantics.specs.Walk.{Standing, Walk, standing, answer_of}
 use Rattle.analysis_spec.specs.declared.kind.AlarmKind.{AlarmKind}
 use Rattle.analysis_spec.specs.declared.kind.AlarmKind.TheVariants.{NonPositiveDeposit, NonPositivePay, PartialPay, Shadowing, AssertionFailed, Leaves128}
 use Rattle.analysis_spec.specs.Runs.{walk_from, standing_after}
-use Rattle.analysis_spec.specs.Promises.{kind_of, NeverWarns, StaysWithin128, HasWrittenTimes}
-
--- a warning of the kind is among these
-abbrev pub HasKind : AlarmKind → List Warning → Type 0
-HasKind kind [] = ⊥
-HasKind kind (w ∷ ws) = (kind_of w ≡ kind) ⊎ HasKind kind ws
+use Rattle.analysis_spec.specs.Promises.{HasKind, NeverWarns, StaysWithin128, HasWrittenTimes}
 
 -- a transaction is accepted and warns so
 abbrev pub WarnsOf : AlarmKind → Walk → Type 0

@@ -1,5 +1,6 @@
 //! Worked promises: laws, each the contract of a function that does nothing.
 ghost use Rattle.analysis_spec.specs.Rows.{EmptyPayWarns, RefusedPayWarns, ZeroPayWarns, ZeroDepositWarns, SecondLetWarns, FalseAssertWarns, LeastByMinusOneLeaves};
+ghost use Rattle.analysis_spec.specs.Rows.{SecondPaysPartly, FirstPaysAll, FirstActionWarns, WhatFollowsIsSilent, SecondActionIsSilent, TriedCaseLeaves, LaterCaseStays, SecondBindingShadows, FirstBindingIsNew};
 ghost use Rattle.analysis_spec.specs.Rows.{ThreeArePaid, TwoAreTooFew, FourAreTooMany, RefusedPaysNothing};
 
 use semantics::{worked_inputs, worked_reductions};
@@ -18,6 +19,20 @@ pub fn worked_warnings()
     worked_reductions();
     worked_inputs();
 }
+
+/// Runs that end in an alarm at a place, and places at which they don't: before it, behind it, and at a case that doesn't
+/// take the input.
+pub fn worked_places()
+    ensures second_pay { SecondPaysPartly }
+    ensures first_pay { FirstPaysAll }
+    ensures first_action { FirstActionWarns }
+    ensures behind_it { WhatFollowsIsSilent }
+    ensures second_action { SecondActionIsSilent }
+    ensures tried { TriedCaseLeaves }
+    ensures later { LaterCaseStays }
+    ensures second_binding { SecondBindingShadows }
+    ensures first_binding { FirstBindingIsNew }
+{}
 
 /// What a party is paid in a run, and bounds that are broken by it.
 pub fn worked_payments()

@@ -83,6 +83,9 @@ three_put x y z a u v w e f g h = h ∙ ap (λ (t : List AlarmKind). t ++ w) (tw
 
 -- ---- Pay
 
+plus_none : (n : ℤ) → n +ℤ pos 0 ≡ n
+plus_none n = omega (arith, ints)
+
 -- an account that gives and gets nothing
 nothing_moves : (s : StateMaps) (p : Party) (y : Payee) (t : Token) (a : Account) → money_of (credited (debited s p t (pos 0)) y t (pos 0)) a ≡ money_of s a
 nothing_moves s p y t a = by_payee y ∙ of_debit
@@ -106,6 +109,11 @@ nothing_moves s p y t a = by_payee y ∙ of_debit
     by_payee : (y : Payee) → money_of (credited (debited s p t (pos 0)) y t (pos 0)) a ≡ money_of (debited s p t (pos 0)) a
     by_payee (ToAccount q) = by_same (debited s p t (pos 0)) (account_of q t) (balance (debited s p t (pos 0)) q t +ℤ pos 0) (more_none (balance (debited s p t (pos 0)) q t))
     by_payee (ToParty q) = refl
+
+-- then the sums that it makes are what accounts held
+none_allowed : (scope : Scope) (s : StateMaps) (p : Party) (y : Payee) (t : Token) → ((a : Account) → Allowed scope (money_of s a)) → AllByRecursion (Allowed scope) (account_sums (debited s p t (pos 0)) y t (pos 0))
+none_allowed scope s p (ToAccount q) t h = (subst (Allowed scope) (sym (plus_none (balance (debited s p t (pos 0)) q t) ∙ nothing_moves s p (ToParty p) t (account_of q t))) (h (account_of q t)), tt)
+none_allowed scope s p (ToParty q) t h = tt
 
 credited_choices : (s : StateMaps) (y : Payee) (t : Token) (n : ℤ) → (credited s y t n).choices ≡ s.choices
 credited_choices s (ToAccount p) t n = refl
@@ -168,7 +176,7 @@ module _ (k z m : Known) (p : Party) (y : Payee) (t : Token) (v : ValueTree) (l 
           record {
             warned = partly n (λ h. min_is (balance s p t) due h);
             numbers = λ h. all_append (Allowed scope) (visited i s v) (account_sums (debited s p t n) y t n) (said scope i s ps d (goes h).0) (g.sums (goes h).1);
-            known = λ h. (g.known (ps ++ record { from = p; to = y; token = t; amount = n } ∷ []) (pays_one ps p y t n) (goes h).1).described;
+            known = λ h. (g.known (ps ++ record { from = p; to = y; token = t; amount = n } ∷ []) (pays_one ps p y t n) (all_right (Allowed scope) (visited i s v) (account_sums (debited s p t n) y t n) h)).described;
           }
       by_test false f g =
           let low = false_lt (pos 0) due f in
@@ -180,7 +188,7 @@ module _ (k z m : Known) (p : Party) (y : Payee) (t : Token) (v : ValueTree) (l 
             );
             numbers = λ h. said scope i s ps d (goes h).0;
             known = λ h.
-                let a = (g.known (ps ++ []) (pays_none ps y t) (goes h).1).described in
+                let a = (g.known (ps ++ []) (pays_none ps y t) (none_allowed scope s p y t d.seen.money)).described in
                 record {
                   closed = a.closed;
                   below = a.below;
@@ -249,7 +257,7 @@ module _ (k z w m : Known) (p : Party) (t : Token) (v : ValueTree) (l e : Linear
           record {
             warned = tt;
             numbers = λ h. all_append (Allowed scope) (visited i s v) ((balance s p t +ℤ due_in) ∷ []) (said scope i s ps d (goes_in h).0) (g.sum (goes_in h).1, tt);
-            known = λ h. (g.known (goes_in h).1).described;
+            known = λ h. (g.known (all_right (Allowed scope) (visited i s v) ((balance s p t +ℤ due_in) ∷ []) h).0).described;
           }
       by_test false f =
           let low = false_lt (pos 0) due_in f in
@@ -262,7 +270,7 @@ module _ (k z w m : Known) (p : Party) (t : Token) (v : ValueTree) (l e : Linear
             );
             numbers = λ h. all_append (Allowed scope) (visited i s v) [] (said scope i s ps d (goes_in h).0) tt;
             known = λ h.
-                let a = (g.known (goes_in h).1).described in
+                let a = (g.known (subst (Allowed scope) (sym (plus_none (balance s p t))) (d.seen.money (account_of p t)))).described in
                 record {
                   closed = a.closed;
                   below = a.below;
@@ -356,7 +364,7 @@ bind_so k z m x v l shadows fit ks evaluates said is set q scope i s ps c d =
             below = record { accounts = b.accounts; choices = b.choices; bound = (g.below, b.bound); paid = b.paid; start = b.start; end = b.end; times = b.times };
             numbers = g.values;
             valued = g.valued;
-            seen = bound_seen scope g.values z.view i s ps x l n f.seen g.number (number_visited scope i s v (said scope i s ps d (goes h)));
+            seen = bound_seen scope g.values z.view i s ps x l n f.seen g.number (number_visited scope i s v h);
           };
     }))
 

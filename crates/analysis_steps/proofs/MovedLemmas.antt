@@ -117,7 +117,7 @@ grows_by k z m p t l b e fit is sum same stays set scope i s ps n d below number
               below = record { accounts = (g.below, f.below.accounts); choices = f.below.choices; bound = f.below.bound; paid = f.below.paid; start = f.below.start; end = f.below.end; times = f.below.times };
               numbers = g.values;
               valued = g.valued;
-              seen = amount_seen scope g.values i z.view s ps p t e (balance s p t +ℤ n) f.seen total (sum_natural (balance s p t) n (d.seen.natural (account_of p t)) natural) (allowed h);
+              seen = amount_seen scope g.values i z.view s ps p t e (balance s p t +ℤ n) f.seen total (sum_natural (balance s p t) n (d.seen.natural (account_of p t)) natural) h;
             };
             agrees = g.agrees;
           });
@@ -193,7 +193,7 @@ moves_to_account k z m p q t l fit debits grows scope i s ps n d below number na
     record {
       sums = λ h. (b.sum h, tt);
       known = λ qs pays h.
-          let c = reaches_then scope k z m d.numbers i i (debited s p t n) (credited (debited s p t n) (ToAccount q) t n) ps ps a (b.known h) in
+          let c = reaches_then scope k z m d.numbers i i (debited s p t n) (credited (debited s p t n) (ToAccount q) t n) ps ps a (b.known h.0) in
           record {
             grows = c.grows;
             described = record {

@@ -37,7 +37,7 @@ Debits k m p t l =
 -- it gets so much
 pub record IsGrown (scope : Scope) (k : Known) (r : Valuation) (m : Known) (i : Interval) (s : StateMaps) (ps : List Payment) (p : Party) (t : Token) (n : ℤ) (fit : Bool) : Type 0 where
   pub sum : IsSaidToFit scope fit → Allowed scope (balance s p t +ℤ n)
-  pub known : IsSaidToFit scope fit → Reaches scope k r m i (with_money s (account_of p t) (balance s p t +ℤ n)) ps
+  pub known : Allowed scope (balance s p t +ℤ n) → Reaches scope k r m i (with_money s (account_of p t) (balance s p t +ℤ n)) ps
 
 abbrev pub Grows : Known → Known → Party → Token → Linear → Bool → Type 0
 Grows k m p t l fit =
@@ -57,7 +57,7 @@ PaysOut k m p t l =
 -- a payee gets so much
 pub record IsCredited (scope : Scope) (k : Known) (r : Valuation) (m : Known) (i : Interval) (s : StateMaps) (ps : List Payment) (y : Payee) (t : Token) (n : ℤ) (fit : Bool) : Type 0 where
   pub sums : IsSaidToFit scope fit → AllByRecursion (Allowed scope) (account_sums s y t n)
-  pub known : (qs : List Payment) → PaysMore ps qs y t n → IsSaidToFit scope fit → Reaches scope k r m i (credited s y t n) qs
+  pub known : (qs : List Payment) → PaysMore ps qs y t n → AllByRecursion (Allowed scope) (account_sums s y t n) → Reaches scope k r m i (credited s y t n) qs
 
 -- so much moves from the account of a party to a payee, whose account is looked up once the party's is reduced
 abbrev pub Moves : Known → Known → Party → Payee → Token → Linear → Bool → Type 0

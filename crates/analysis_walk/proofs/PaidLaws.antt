@@ -32,7 +32,9 @@ use Rattle.semantics.specs.Computed.{pay_step, settled, all_inputs, from_start, 
 use Rattle.semantics.specs.Laws.{TimeGoesOn}
 use Rattle.evaluation.specs.Numbers.{all_fit}
 use Rattle.analysis_spec.specs.Runs.{walk_from, standing_after, stands_after, payments_of, reaches_party, paid_to}
+use Rattle.analysis_spec.specs.Marks.{leads_after, settling}
 use Rattle.analysis_spec.specs.Promises.{PaysBetween}
+use Rattle.analysis_spec.specs.declared.path.PathStep.{PathStep}
 use Rattle.analysis_spec.specs.declared.paid.PaidRange.{PaidRange}
 use Rattle.analysis_spec.specs.declared.alarm.Alarm.{Alarm}
 use Rattle.analysis_walk.specs.Limits.{any_runs, LiesIn, limits}
@@ -41,7 +43,7 @@ use Rattle.analysis_walk.specs.Laws.{PaymentsLieInRanges}
 use Rattle.analysis_walk.proofs.ListLaws.{all_swap, all_with}
 use Rattle.analysis_walk.proofs.NumberLemmas.{le_itself, max_from, max_after, reaches}
 use Rattle.analysis_walk.proofs.SoundLemmas.{no_entries, ok_answer, Stands, stands, settles}
-use Rattle.analysis_walk.proofs.PromiseLemmas.{may_start_later, all_admitted}
+use Rattle.analysis_walk.proofs.PromiseLemmas.{may_start_later, all_admitted, accepted_pass, any_pass}
 
 abbrev Positive : StateMaps → Type 0
 Positive s = AllPositive (entries s.accounts)
@@ -162,9 +164,9 @@ max_here a b h = by_test (int_lt b a) refl
     by_test false e = same a b e h
 
 -- some more payments, none below 0, close it
-can_close : (alarms : List Alarm) (ranges : List PaidRange) → PaymentsAreNatural → (b : Standing) (ps : List Payment) → Positive b.state → Stands (limits any_runs alarms ranges) b ps
+can_close : (alarms : List Alarm) (ranges : List PaidRange) → PaymentsAreNatural → (here : List PathStep) (b : Standing) (ps : List Payment) → Positive b.state → Stands (limits any_runs alarms ranges) here b ps
     → (qs : List Payment) × AreNatural qs × AllByRecursion (LiesIn (ps ++ qs)) ranges
-can_close alarms ranges N b ps above h =
+can_close alarms ranges N here b ps above h =
     let L = limits any_runs alarms ranges in
     let s = b.state in
     let n = reached_by (last b.contract) s.min_time in
@@ -176,9 +178,9 @@ can_close alarms ranges N b ps above h =
     let v : i.from ≤ℤ i.to = subst (λ m. m ≤ℤ n) (sym same) (le_itself n) in
     let w = settled i u b.contract in
     let c = closes i v u b.contract (subst (HasReached (last b.contract)) (sym same) r.0) in
-    let f = settles L i v tt u ps b.contract h.0 (h.1 i (max_after n s.min_time) v tt) in
+    let f = settles L i v tt u ps b.contract here (h i (max_after n s.min_time) v tt) in
     let natural = subst AreNatural (pays_so j s b.contract (standing c.0 close) (before_itself n) (not_past s.min_time n r.1) c.1) (N j s b.contract [] above) in
-    let end : AllByRecursion (LiesIn ((ps ++ w.payments) ++ map refund_of (entries c.0.accounts))) ranges = f.rests (standing c.0 close) c.1 in
+    let end : AllByRecursion (LiesIn ((ps ++ w.payments) ++ map refund_of (entries c.0.accounts))) ranges = f.rests (any_pass alarms ranges (settling here i u b.contract)) (standing c.0 close) c.1 in
     (w.payments, natural_left w.payments [] natural, subst (λ rs. AllByRecursion (LiesIn rs) ranges) (ap (λ es. (ps ++ w.payments) ++ map refund_of es) c.2 ∙ append-nil (ps ++ w.payments)) end)
 
 -- ---- runs
@@ -192,12 +194,12 @@ stays_positive A b (t ∷ ts) h = stays_positive A (standing_after b t) ts (by_a
     by_answer (Err f) e = h
 
 -- where a contract stands closed, what was paid lies in the ranges
-closed_so : (alarms : List Alarm) (ranges : List PaidRange) (s : StateMaps) (c : ContractTree) (ps : List Payment) → Stands (limits any_runs alarms ranges) (standing s c) ps → IsSpent s c → AllByRecursion (LiesIn ps) ranges
-closed_so alarms ranges s c ps h spent =
+closed_so : (alarms : List Alarm) (ranges : List PaidRange) (here : List PathStep) (s : StateMaps) (c : ContractTree) (ps : List Payment) → Stands (limits any_runs alarms ranges) here (standing s c) ps → IsSpent s c → AllByRecursion (LiesIn ps) ranges
+closed_so alarms ranges here s c ps h spent =
     let L = limits any_runs alarms ranges in
     let i : Interval = record { from = s.min_time; to = s.min_time } in
-    let e : Covers L h.0 i s ps c = h.1 i (le_itself s.min_time) (le_itself s.min_time) tt in
-    let k : AllByRecursion (LiesIn (ps ++ map refund_of (entries s.accounts))) ranges = subst (Covers L h.0 i s ps) spent.0 e in
+    let e : Covers L here i s ps c = h i (le_itself s.min_time) (le_itself s.min_time) tt in
+    let k : AllByRecursion (LiesIn (ps ++ map refund_of (entries s.accounts))) ranges = subst (Covers L here i s ps) spent.0 e in
     subst (λ rs. AllByRecursion (LiesIn rs) ranges) (ap (λ es. ps ++ map refund_of es) spent.1 ∙ append-nil ps) k
 
 below : (o : Option ℤ) (a b : ℤ) → a ≤ℤ b → IfSome o (λ n. b ≤ℤ n) → IfSome o (λ n. a ≤ℤ n)
@@ -208,15 +210,15 @@ pub payments_lie_in_ranges : TimeGoesOn → PaymentsAreNatural → AccountsStayP
 payments_lie_in_ranges T N A alarms ranges s c above h =
     let L = limits any_runs alarms ranges in
     let a = standing s c in
-    let after : (ts : List Transaction) → Stands L (stands_after a ts) (payments_of a ts) = λ ts. stands L (may_start_later any_runs) T a [] ts (all_admitted ts) ([], h) in
+    let after : (ts : List Transaction) → Stands L (leads_after [] a ts) (stands_after a ts) (payments_of a ts) = λ ts. stands L (may_start_later any_runs) (accepted_pass alarms ranges any_runs) T [] a [] ts (all_admitted ts) h in
     all_with (λ (r : PaidRange). (ts : List Transaction) → IfSome r.most (λ n. paid_to r.party r.token (payments_of a ts) ≤ℤ n))
     (λ (r : PaidRange). (ts : List Transaction) → let b = stands_after a ts in IsSpent b.state b.contract → IfSome r.least (λ n. n ≤ℤ paid_to r.party r.token (payments_of a ts)))
     (λ (r : PaidRange). PaysBetween r.party r.token r.least r.most s c)
     (λ r m l. record { always = m; once_closed = l }) ranges
-    (all_swap (λ ts (r : PaidRange). IfSome r.most (λ n. paid_to r.party r.token (payments_of a ts) ≤ℤ n)) ranges (λ ts. at_most ts ranges (can_close alarms ranges N (stands_after a ts) (payments_of a ts) (stays_positive A a ts above) (after ts))))
+    (all_swap (λ ts (r : PaidRange). IfSome r.most (λ n. paid_to r.party r.token (payments_of a ts) ≤ℤ n)) ranges (λ ts. at_most ts ranges (can_close alarms ranges N (leads_after [] a ts) (stands_after a ts) (payments_of a ts) (stays_positive A a ts above) (after ts))))
     (all_swap (λ ts (r : PaidRange). let b = stands_after a ts in IsSpent b.state b.contract → IfSome r.least (λ n. n ≤ℤ paid_to r.party r.token (payments_of a ts))) ranges
     (λ ts. let b = stands_after a ts in all_swap (λ (spent : IsSpent b.state b.contract) (r : PaidRange). IfSome r.least (λ n. n ≤ℤ paid_to r.party r.token (payments_of a ts))) ranges
-    (λ spent. at_least ts ranges (closed_so alarms ranges b.state b.contract (payments_of a ts) (after ts) spent))))
+    (λ spent. at_least ts ranges (closed_so alarms ranges (leads_after [] a ts) b.state b.contract (payments_of a ts) (after ts) spent))))
   where
     at_most : (ts : List Transaction) (rs : List PaidRange) → ((qs : List Payment) × AreNatural qs × AllByRecursion (LiesIn (payments_of (standing s c) ts ++ qs)) rs)
         → AllByRecursion (λ (r : PaidRange). IfSome r.most (λ n. paid_to r.party r.token (payments_of (standing s c) ts) ≤ℤ n)) rs

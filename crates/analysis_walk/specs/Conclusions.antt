@@ -35,11 +35,12 @@ IsAmong (k ∷ ks) kind = (kind ≡ k) ⊎ IsAmong ks kind
 abbrev pub Description : Type 0 → Type 1
 Description K = Scope → K → Interval → StateMaps → List Payment → Type 0
 
--- a conclusion is true of a step that visits these numbers, warns so and leaves this state, and these payments in all
+-- a conclusion is true of a step that visits these numbers, warns so and leaves this state, and these payments in all. What is
+-- known afterwards is so where the numbers are allowed, whatever alarms there are
 pub record Concludes {K : Type 0} (Describes : Description K) (scope : Scope) (x : Conclusion K) (i : Interval) (ns : List ℤ) (ws : List Warning) (s : StateMaps) (ps : List Payment) : Type 0 where
   pub warned : AllByRecursion (λ w. IsAmong x.kinds (kind_of w)) ws
   pub numbers : GoesOn scope x.kinds → AllByRecursion (Allowed scope) ns
-  pub known : GoesOn scope x.kinds → IsSomeAnd x.known (λ m. Describes scope m i s ps)
+  pub known : AllByRecursion (Allowed scope) ns → IsSomeAnd x.known (λ m. Describes scope m i s ps)
 
 -- ---- conclusions that are true wherever what is known is
 

@@ -24,13 +24,17 @@ NoneTakes i s x (a ∷ earlier) = (matches i s x a ≡ false) × NoneTakes i s x
 module _ (L : Limits) where
   -- what is visited and warned of at a place
   abbrev pub Keeps : List PathStep → List ℤ → List Warning → Type 0
-  Keeps here ns ws = AllByRecursion L.Visits ns × AllByRecursion (L.Warns here) ws
+  Keeps here ns ws = L.Visits here ns × AllByRecursion (L.Warns here) ws
+
+  -- and what follows, as far as runs are spoken of behind these numbers
+  abbrev pub KeepsThen : List PathStep → List ℤ → List Warning → Type 0 → Type 0
+  KeepsThen here ns ws Follows = Keeps here ns ws × (L.Passes ns → Follows)
 
   -- an action that is tried, and what follows where an input is taken that no earlier one takes
   abbrev pub CoversAction : List PathStep → Interval → StateMaps → List ActionTree → ActionTree → (StateMaps → Type 0) → Type 0
   CoversAction here i s earlier a Follows =
       (x : Input) → NoneTakes i s x earlier →
-      AllByRecursion L.Visits (tried i s x a) × (matches i s x a ≡ true → Keeps here (taken_numbers s x) (taken_warnings x) × Follows (taken s x))
+      (matches i s x a ≡ false → L.Visits here (tried i s x a)) × (matches i s x a ≡ true → KeepsThen here (tried i s x a ++ taken_numbers s x) (taken_warnings x) (Follows (taken s x)))
 
   abbrev mutual
     -- the contract at a place is about to settle in this interval, in this state and after these payments: whatever comes
@@ -39,18 +43,18 @@ module _ (L : Limits) where
     Covers here i s ps close = L.Pays (ps ++ (refunds s).payments)
     Covers here i s ps (pay p y t v c) =
         let r = pay_step s p y t (eval i s v) (visited i s v) c in
-        Keeps here r.numbers r.warnings × Covers (here ++ Then ∷ []) i r.state (ps ++ r.payments) c
+        KeepsThen here r.numbers r.warnings (Covers (here ++ Then ∷ []) i r.state (ps ++ r.payments) c)
     Covers here i s ps (if_obs o c d) =
-        AllByRecursion L.Visits (looked i s o) × (holds i s o ≡ true → Covers (here ++ Then ∷ []) i s ps c) × (holds i s o ≡ false → Covers (here ++ Else ∷ []) i s ps d)
+        KeepsThen here (looked i s o) [] ((holds i s o ≡ true → Covers (here ++ Then ∷ []) i s ps c) × (holds i s o ≡ false → Covers (here ++ Else ∷ []) i s ps d))
     Covers here i s ps (when ks timeout c) =
         (j : Interval) (now : ℤ) → i.from ≤ℤ j.from → j.from ≤ℤ j.to → L.Admits j → let later : StateMaps = record s { min_time = now } in
         (j.to <ℤ timeout → CoversCases here 0 j later ps [] ks) × (timeout ≤ℤ j.from → Covers (here ++ TimeoutContinuation ∷ []) j later ps c)
     Covers here i s ps (let_be x v c) =
         let r = binding s x (eval i s v) (visited i s v) c in
-        Keeps here r.numbers r.warnings × Covers (here ++ Then ∷ []) i r.state ps c
+        KeepsThen here r.numbers r.warnings (Covers (here ++ Then ∷ []) i r.state ps c)
     Covers here i s ps (assert o c) =
         let r = asserting s (holds i s o) (looked i s o) c in
-        Keeps here r.numbers r.warnings × Covers (here ++ Then ∷ []) i s ps c
+        KeepsThen here r.numbers r.warnings (Covers (here ++ Then ∷ []) i s ps c)
 
     -- each case, after the actions of earlier ones, of which there are so many
     pub CoversCases : List PathStep → ℕ → Interval → StateMaps → List Payment → List ActionTree → CaseTrees → Type 0

@@ -1,13 +1,15 @@
 //! Analyses.
 ghost use Rattle.std.specs.Prelude.{IfOk};
 ghost use Rattle.contract.specs.Tree.{contract_tree};
-ghost use Rattle.analysis_spec.specs.Analysed.{NamesWhatComes, StaysUnlessTold, PaysWithinRanges, PaysOthersNothing};
+ghost use Rattle.analysis_spec.specs.Analysed.{NamesWhatComes, NamesWhereItComes, StaysUnlessTold, NamesWhereItLeaves, PaysWithinRanges, PaysOthersNothing};
 
 use crate::found::Found;
 use crate::knowledge::Knowledge;
-use crate::laws::{alarms_name_what_comes, numbers_stay_within_128, payments_lie_in_ranges};
+use crate::laws::{
+    alarms_name_where_it_comes, alarms_name_where_it_leaves, payments_lie_in_ranges,
+};
 use crate::walk::walk;
-use analysis_spec::{Alarm, PaidRange};
+use analysis_spec::{Alarm, PaidRange, leaving_has_a_place, warnings_have_places};
 use collections::{Items, Memory};
 use contract::Contract;
 use states::State;
@@ -20,23 +22,28 @@ pub struct Analysis {
     pub ranges: Items<PaidRange>,
 }
 
-/// What a contract can warn of and pay in whatever runs from a state, by what is known of them. A kind of warning that
-/// no alarm names never comes. With no alarm of `Leaves128`, no transaction whose times JSON can write is refused
-/// because a number leaves 128 bits. What a party is paid of a token lies in its range, and without one it is nothing.
+/// What a contract can warn of and pay in whatever runs from a state, by what is known of them. A kind of warning never
+/// comes at a place where no alarm names it, and one that no alarm names never comes. In a transaction whose times JSON
+/// can write no number first leaves 128 bits at a place without an alarm of `Leaves128`; with no such alarm none is
+/// refused for that. What a party is paid of a token lies in its range, and without one it is nothing.
 /// Refused only for memory.
 pub fn analyse_by<K: Knowledge>(
     alloc: Global,
     contract: &Contract,
     state: &State,
 ) -> Result<Analysis, Memory>
+    ensures places { IfOk result (λ a. NamesWhereItComes a.alarms state.now (contract_tree contract.now)) }
+    ensures leaving { IfOk result (λ a. NamesWhereItLeaves a.alarms state.now (contract_tree contract.now)) }
     ensures alarms { IfOk result (λ a. NamesWhatComes a.alarms state.now (contract_tree contract.now)) }
     ensures numbers { IfOk result (λ a. StaysUnlessTold a.alarms state.now (contract_tree contract.now)) }
     ensures ranges { IfOk result (λ a. PaysWithinRanges a.ranges state.now (contract_tree contract.now)) }
     ensures others { IfOk result (λ a. PaysOthersNothing a.ranges state.now (contract_tree contract.now)) }
 {
-    alarms_name_what_comes();
-    numbers_stay_within_128();
+    alarms_name_where_it_comes();
+    alarms_name_where_it_leaves();
     payments_lie_in_ranges();
+    warnings_have_places();
+    leaving_has_a_place();
     let _accounts = state.accounts();
     let known = K::start(alloc, state)?;
     let mut found = Found::new(alloc);

@@ -1,19 +1,20 @@
 //! What a contract that keeps limits promises: laws, each the contract of a function that does nothing.
-ghost use Rattle.analysis_walk.specs.Laws.{AlarmsNameWhatComes, NumbersStayWithin128, PaymentsLieInRanges};
+ghost use Rattle.analysis_walk.specs.Laws.{AlarmsNameWhereItComes, AlarmsNameWhereItLeaves, PaymentsLieInRanges};
 
 use semantics::{accounts_stay_above_zero, payments_are_natural, time_never_goes_back};
 
-/// A contract whose runs have no warning without an alarm never gives a warning of a kind that no alarm names.
-pub fn alarms_name_what_comes()
-    ensures { AlarmsNameWhatComes }
+/// A contract whose runs have no warning without an alarm at its place never gives a warning of a kind at a place where no
+/// alarm names it.
+pub fn alarms_name_where_it_comes()
+    ensures { AlarmsNameWhereItComes }
 {
     time_never_goes_back();
 }
 
-/// A contract whose numbers fit, in runs whose times JSON can write and up to the first number that doesn't, stays
-/// within 128 bits in all of these runs.
-pub fn numbers_stay_within_128()
-    ensures { NumbersStayWithin128 }
+/// A contract in which numbers fit where no alarm stands, in runs whose times JSON can write and up to the first number
+/// that doesn't fit, leaves 128 bits first at no place without an alarm.
+pub fn alarms_name_where_it_leaves()
+    ensures { AlarmsNameWhereItLeaves }
 {
     time_never_goes_back();
 }

@@ -24,6 +24,6 @@ mod weight;
 pub use analysing::{Analysis, analyse_by};
 pub use conclusion::{Branches, Conclusion};
 pub use knowledge::Knowledge;
-pub use laws::{alarms_name_what_comes, numbers_stay_within_128, payments_lie_in_ranges};
+pub use laws::{alarms_name_where_it_comes, alarms_name_where_it_leaves, payments_lie_in_ranges};
 pub use parts::part_behind;
 pub use span::Span;

@@ -6,17 +6,17 @@ use crate::beside::beside;
 use crate::inputs::copies_of;
 use collections::{Items, Memory, Text};
 use contract::Interval;
-use eutxo_types::{Datum, Output, Spend, Tx, encode_tx};
+use eutxo_types::{Datum, Output, Spend, Tx, fits_spelling};
 use std::alloc::Global;
 
-// The transaction itself, which fits its spelling. It is spelled once, and refused only for memory.
-fn fitting(alloc: Global, tx: Tx) -> Result<Tx, Memory>
-    ensures same { IfOk result (λ fits. fits ≡ tx) }
-    ensures fits { IfOk result TxFits }
+// The transaction itself, which fits its spelling.
+fn fitting(tx: Tx) -> Tx
+    ensures same { result ≡ tx }
+    ensures fits { TxFits result }
 {
     // touch: it fits its spelling
-    let _ = encode_tx(alloc, &tx)?;
-    Ok(tx)
+    fits_spelling(&tx);
+    tx
 }
 
 /// The transaction of these parts, signed by these addresses. It fits its spelling, and is refused only for memory.
@@ -46,5 +46,5 @@ pub(crate) fn tx_of(
         signers,
         datums,
     };
-    fitting(alloc, tx)
+    Ok(fitting(tx))
 }

@@ -3,12 +3,12 @@ ghost use Rattle.std.specs.Prelude.{IfOk};
 ghost use Rattle.collections.specs.Answers.{Aside};
 ghost use Rattle.eutxo_types.specs.Fitting.{TxFits};
 ghost use Rattle.builder_spec.specs.Built.{build_answer};
-ghost use Rattle.builder_spec.specs.Steps.{hinders_step, layout_step};
+ghost use Rattle.builder_spec.specs.Parts.{hinders_step, layout_step};
 ghost use Rattle.builder_spec.specs.Requests.{request};
 
 use crate::parts::Part;
 use crate::steps::build_steps;
-use builder_spec::{BuildFault, one_part_is_one_step};
+use builder_spec::BuildFault;
 use collections::Text;
 use contract::{Input, Interval};
 use eutxo_types::Tx;
@@ -40,8 +40,6 @@ pub fn build_step(
         Aside BuildFault.Memory result (build_answer (hinders_step look.now r) (layout_step look.now r)) }
     ensures fits { IfOk result TxFits }
 {
-    // touch: steps of one part are a step
-    one_part_is_one_step();
     let parts = [Part { look, inputs }];
     build_steps(alloc, &parts, interval, signers, offered, change)
 }

@@ -19,7 +19,8 @@ use Rattle.builder_spec.specs.declared.fault.BuildFault.TheVariants.{Semantics, 
 use Rattle.builder_spec.specs.Requests.{StepRequest}
 use Rattle.builder_spec.specs.Holding.{sums, amount_in}
 use Rattle.builder_spec.specs.Causes.{is_much}
-use Rattle.builder_spec.specs.Steps.{Thread, thread_terms, step_walk, own_output, hinders_thread, hinders_on}
+use Rattle.builder_spec.specs.Steps.{Thread, thread_terms, step_walk, own_output}
+use Rattle.builder_spec.proofs.OnePartLaws.{hinders_thread, hinders_on, hinders_step_on}
 use Rattle.builder_spec.proofs.HoldingLaws.{entries-empty, most}
 use Rattle.builder_spec.proofs.FundsLaws.{amount_of-sums_in}
 use Rattle.builder_spec.specs.Closings.{closing, Closes}
@@ -69,8 +70,8 @@ not_much m h = not_any (λ e. int_lt most e.1) (entries m) (each_so HoldingFits 
 pub anyone_closes : ClosesAfterLast → AnyoneCloses
 anyone_closes law look e i signers change shown fits h g m =
     let r = closing i signers change in
-    subst (Closes r e) (sym (ap (hinders_on r) shown ∙ after_is i signers change e (answer_of (step_walk r e)) refl))
+    subst (Closes r e) (sym (hinders_step_on look r ∙ ap (hinders_on r) shown ∙ after_is i signers change e (answer_of (step_walk r e)) refl))
     (closes_by r e (answer_of (step_walk r e)) (is_much e.shown.output.amount) refl (not_much e.shown.output.amount fits.1) (thread_so look e shown) refl (law i e.datum.state ((thread_terms e).tree e.datum.cont) h g m))
 
 pub no_thread_hinders : NoThreadHinders
-no_thread_hinders look i signers change none = ap (hinders_on (closing i signers change)) none
+no_thread_hinders look i signers change none = hinders_step_on look (closing i signers change) ∙ ap (hinders_on (closing i signers change)) none

@@ -17,7 +17,8 @@ use Rattle.roles.specs.Sums.{sums_of}
 use Rattle.builder_spec.specs.Requests.{StepRequest}
 use Rattle.builder_spec.specs.Holding.{sums, amount_in, AreBundles}
 use Rattle.builder_spec.specs.Laying.{rest}
-use Rattle.builder_spec.specs.Steps.{Thread, step_walk, step_outputs_of, step_front, step_spent, step_outputs, hinders_thread, hinders_on}
+use Rattle.builder_spec.specs.Steps.{Thread, step_walk, step_outputs_of, step_front, step_spent, step_outputs}
+use Rattle.builder_spec.proofs.OnePartLaws.{hinders_thread, hinders_on, hinders_step_on}
 use Rattle.builder_spec.specs.Starts.{accounts_of, fresh_state, start_front, start_output}
 use Rattle.builder_spec.proofs.FundsLaws.{funded, all_covered, wanted-accounts, amount_of-sums_in}
 use Rattle.builder_spec.proofs.HoldingLaws.{amount_of-sums}
@@ -44,7 +45,7 @@ of_thread money quiet natural r e t is clear above offered =
 
 pub step_change_is_the_rest : MoneyIsKept → EndsQuiet → PaymentsAreNatural → StepChangeIsTheRest
 step_change_is_the_rest money quiet natural look r e t shown clear above offered =
-    of_thread money quiet natural r e t (thread_so look e shown) (ap (hinders_on r) (sym shown) ∙ clear) above offered
+    of_thread money quiet natural r e t (thread_so look e shown) (ap (hinders_on r) (sym shown) ∙ sym (hinders_step_on look r) ∙ clear) above offered
 
 -- ---- of a start
 

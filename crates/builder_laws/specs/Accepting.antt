@@ -7,11 +7,10 @@ use Rattle.eutxo.specs.Found.{script_at, whole}
 use Rattle.eutxo.specs.Judgement.{Moment, judge}
 use Rattle.eutxo.specs.Local.{local}
 use Rattle.roles.specs.declared.published.Published.{Published}
-use Rattle.ledger.specs.declared.look.Look.{Look}
 use Rattle.ledger.specs.declared.look.Unspent.{Unspent}
-use Rattle.builder_spec.specs.Requests.{StepRequest, StepsRequest, StartRequest, ClaimRequest}
+use Rattle.builder_spec.specs.Requests.{StepsRequest, StartRequest, ClaimRequest}
 use Rattle.builder_spec.specs.Parts.{threads_of, parts_spent, ArePublished, hinders_steps, layout_steps}
-use Rattle.builder_spec.specs.Steps.{Thread, Stepped, look_thread, step_spent, hinders_step, layout_step}
+use Rattle.builder_spec.specs.Steps.{Stepped}
 use Rattle.builder_spec.specs.Starts.{start_front, hinders_start, layout_start}
 use Rattle.builder_spec.specs.Claims.{claim_front, hinders_claim, layout_claim}
 use Rattle.roles.specs.Steps.{marlowe}
@@ -27,12 +26,7 @@ contents spent = map (λ u. Some u.output) spent
 abbrev pub Passes : Tx → Resolved Published → Type 0
 Passes tx found = (is_some (whole tx found) ≡ true) × (local marlowe tx found ≡ None)
 
--- a step that nothing hinders passes on what was handed in: the outputs that it spends, and the thread's script
-abbrev pub StepsPass : Type 0
-StepsPass = (look : Look) (r : StepRequest) (e : Thread) (found : Resolved Published) → look_thread look ≡ Some e → hinders_step look r ≡ None →
-    found.outputs ≡ contents (step_spent r e) → script_at found.scripts e.shown.published.id ≡ Some e.shown.published → Passes (layout_step look r) found
-
--- so do steps of several threads, with the scripts of all
+-- steps of threads that nothing hinders pass on what was handed in: the outputs that they spend, and the scripts of all threads
 abbrev pub PartsPass : Type 0
 PartsPass = (r : StepsRequest) (ss : List Stepped) (found : Resolved Published) → threads_of r.parts ≡ Some ss → hinders_steps r ≡ None →
     found.outputs ≡ contents (parts_spent r ss) → ArePublished (script_at found.scripts) ss → Passes (layout_steps r) found
@@ -48,12 +42,8 @@ ClaimsPass = (r : ClaimRequest) (found : Resolved Published) → hinders_claim r
 
 -- ---- on a ledger
 
--- A STEP THAT NOTHING HINDERS IS ACCEPTED at every such moment at which the thread's script is published as the look shows it
-abbrev pub StepsAreAccepted : Type 0
-StepsAreAccepted = (look : Look) (r : StepRequest) (e : Thread) (m : Moment Published) → look_thread look ≡ Some e → hinders_step look r ≡ None →
-    m.published e.shown.published.id ≡ Some e.shown.published → Admits m (step_spent r e) (layout_step look r) → judge marlowe m (layout_step look r) ≡ None
-
--- SO ARE STEPS OF SEVERAL THREADS, where each thread's script is published as its look shows it
+-- STEPS THAT NOTHING HINDERS ARE ACCEPTED, be they of one thread or of several, at every such moment at which each thread's script is published as its look
+-- shows it
 abbrev pub PartsAreAccepted : Type 0
 PartsAreAccepted = (r : StepsRequest) (ss : List Stepped) (m : Moment Published) → threads_of r.parts ≡ Some ss → hinders_steps r ≡ None →
     ArePublished m.published ss → Admits m (parts_spent r ss) (layout_steps r) → judge marlowe m (layout_steps r) ≡ None

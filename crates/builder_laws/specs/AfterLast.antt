@@ -7,7 +7,8 @@ use Rattle.eutxo_types.specs.Fitting.{OutputFits}
 use Rattle.ledger.specs.declared.look.Look.{Look}
 use Rattle.builder_spec.specs.declared.fault.BuildFault.TheVariants.{NoThread}
 use Rattle.builder_spec.specs.Closings.{closing, Closes}
-use Rattle.builder_spec.specs.Steps.{Thread, thread_terms, look_thread, hinders_step}
+use Rattle.builder_spec.specs.Parts.{hinders_step}
+use Rattle.builder_spec.specs.Steps.{Thread, thread_terms, look_thread}
 
 -- ANYONE CLOSES A THREAD from the last timeout on, in an interval that ends neither before its start nor before the minimum time. (Its
 -- output fits its spelling, as all do that are made.)

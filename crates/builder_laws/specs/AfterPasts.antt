@@ -5,10 +5,9 @@ use Rattle.eutxo_types.specs.Fitting.{TxFits}
 use Rattle.eutxo_types.specs.Spelling.{tx_bytes}
 use Rattle.eutxo.specs.Judgement.{judge}
 use Rattle.roles.specs.declared.published.Published.{Published}
-use Rattle.ledger.specs.declared.look.Look.{Look}
-use Rattle.builder_spec.specs.Requests.{StepRequest, StepsRequest, StartRequest, ClaimRequest}
+use Rattle.builder_spec.specs.Requests.{StepsRequest, StartRequest, ClaimRequest}
 use Rattle.builder_spec.specs.Parts.{threads_of, parts_spent, ArePublished, hinders_steps, layout_steps}
-use Rattle.builder_spec.specs.Steps.{Thread, Stepped, look_thread, step_spent, hinders_step, layout_step}
+use Rattle.builder_spec.specs.Steps.{Stepped}
 use Rattle.builder_spec.specs.Starts.{start_front, hinders_start, layout_start}
 use Rattle.builder_spec.specs.Claims.{claim_front, hinders_claim, layout_claim}
 use Rattle.ledger_laws.specs.Past.{Past}
@@ -25,12 +24,7 @@ pub record Fit (past : Past) (tx : Tx) : Type 0 where
 abbrev pub BytesTellApart : Type 0
 BytesTellApart = (past : Past) (tx other : Tx) (n : ℕ) → Fit past tx → slice_get past.accepted n ≡ Some other → tx_bytes other ≡ tx_bytes tx → other ≡ tx
 
--- a step that nothing hinders is accepted then, where the thread's script is published as the look shows it
-abbrev pub StepsAreAcceptedAfter : Type 0
-StepsAreAcceptedAfter = (look : Look) (r : StepRequest) (e : Thread) (published : List ℕ → Option Published) (past : Past) (tick : ℤ) → look_thread look ≡ Some e → hinders_step look r ≡ None →
-    published e.shown.published.id ≡ Some e.shown.published → Fit past (layout_step look r) → IsOpen past tick (step_spent r e) (layout_step look r) → judge marlowe (moment published past tick) (layout_step look r) ≡ None
-
--- so are steps of several threads, where each thread's script is published as its look shows it
+-- steps that nothing hinders are accepted then, where each thread's script is published as its look shows it
 abbrev pub PartsAreAcceptedAfter : Type 0
 PartsAreAcceptedAfter = (r : StepsRequest) (ss : List Stepped) (published : List ℕ → Option Published) (past : Past) (tick : ℤ) → threads_of r.parts ≡ Some ss → hinders_steps r ≡ None →
     ArePublished published ss → Fit past (layout_steps r) → IsOpen past tick (parts_spent r ss) (layout_steps r) → judge marlowe (moment published past tick) (layout_steps r) ≡ None

@@ -1,29 +1,16 @@
 //! That layouts are accepted.
-ghost use Rattle.builder_laws.specs.Accepting.{StepsPass, PartsPass, StartsPass, ClaimsPass, StepsAreAccepted, PartsAreAccepted, StartsAreAccepted, ClaimsAreAccepted};
-ghost use Rattle.builder_laws.specs.AfterPasts.{StepsAreAcceptedAfter, PartsAreAcceptedAfter, StartsAreAcceptedAfter, ClaimsAreAcceptedAfter, BytesTellApart};
+ghost use Rattle.builder_laws.specs.Accepting.{PartsPass, StartsPass, ClaimsPass, PartsAreAccepted, StartsAreAccepted, ClaimsAreAccepted};
+ghost use Rattle.builder_laws.specs.AfterPasts.{PartsAreAcceptedAfter, StartsAreAcceptedAfter, ClaimsAreAcceptedAfter, BytesTellApart};
 
-use builder_spec::one_part_is_one_step;
 use eutxo::found_is_enough;
 use eutxo_types::no_transaction_begins_another;
 use roles::Published;
 
-/// The layout of a step that nothing hinders is accepted by every ledger at every moment at which what it spends is
-/// unspent with the contents that were handed in, the thread's script is published as the look shows it, its id is
-/// unused and the tick lies in its interval. Its id is unused where no accepted transaction of other bytes has it, and
-/// the layout and all that were accepted fit their spelling. And no rule refuses it on any resolution that has what was
-/// handed in.
-pub fn steps_are_accepted()
-    ensures passes { StepsPass }
-    ensures accepted { StepsAreAccepted }
-    ensures after { StepsAreAcceptedAfter }
-{
-    one_part_is_one_step();
-    found_is_enough::<Published>();
-    no_transaction_begins_another();
-}
-
-/// So is the layout of steps of several threads that nothing hinders, where each thread's script is published as its
-/// look shows it.
+/// The layout of steps that nothing hinders, of one thread or of several, is accepted by every ledger at every moment at
+/// which what it spends is unspent with the contents that were handed in, each thread's script is published as its look
+/// shows it, its id is unused and the tick lies in its interval. Its id is unused where no accepted transaction of other
+/// bytes has it, and the layout and all that were accepted fit their spelling. And no rule refuses it on any resolution
+/// that has what was handed in.
 pub fn parts_are_accepted()
     ensures passes { PartsPass }
     ensures accepted { PartsAreAccepted }

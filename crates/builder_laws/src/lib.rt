@@ -8,7 +8,6 @@ mod threads;
 
 pub use accepted::{
     bytes_tell_accepted_apart, claims_are_accepted, parts_are_accepted, starts_are_accepted,
-    steps_are_accepted,
 };
 pub use change::change_is_the_rest;
 pub use threads::{anyone_closes_after_the_last_timeout, shown_threads_are_current};

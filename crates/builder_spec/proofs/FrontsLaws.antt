@@ -1,5 +1,5 @@
 -- The shortest beginning that passes a test.
-use Rattle.std.proofs.Common.{◌≡◌, ℕ, zero, suc, ◌<◌, ◌≤◌, Bool, true, false, if◌then◌else◌, List, [], ◌∷◌, length, take, refl, sym, ◌∙◌, ap, subst, ◌⊎◌, inl, inr, arith}
+use Rattle.std.proofs.Common.{◌≡◌, ℕ, zero, suc, Bool, true, false, if◌then◌else◌, List, [], ◌∷◌, length, take, refl, sym, ◌∙◌, ap, ◌⊎◌, inl, inr, arith}
 use Rattle.builder_spec.specs.Fronts.{shortest}
 use Rattle.builder_spec.specs.FrontsSupport.{IsShortest}
 

@@ -1,5 +1,5 @@
 -- What the front holds funds what is made.
-use Rattle.std.proofs.Common.{◌≡◌, ℕ, ℤ, pos, ◌+ℤ◌, ◌-ℤ◌, ◌≤ℤ◌, ◌<ℤ◌, int_lt, Bool, true, false, cond, not, List, [], ◌∷◌, ◌++◌, map, filter, is_none, refl, sym, ◌∙◌, ap, subst, Option, Some, None, Result, Ok, Err, inl, inr, ◌⊎◌, arith}
+use Rattle.std.proofs.Common.{◌≡◌, ℕ, ℤ, pos, ◌+ℤ◌, ◌-ℤ◌, ◌≤ℤ◌, ◌<ℤ◌, int_lt, Bool, true, false, cond, not, List, [], ◌∷◌, map, is_none, refl, sym, ◌∙◌, ap, subst, Option, Some, Result, Ok, Err, inl, inr, ◌⊎◌, arith}
 use Rattle.std.proofs.lemmas.Int.{ints}
 use Rattle.std.specs.List.{list_all}
 use Rattle.std.specs.Option.{unwrap_or}
@@ -28,19 +28,19 @@ use Rattle.semantics.specs.Walk.{Standing, Walk, answer_of}
 use Rattle.semantics.specs.Laws.{EndsQuiet}
 use Rattle.semantics.specs.Money.{brought, deposited, taken_out, paid_out, MoneyIsKept}
 use Rattle.semantics.specs.Naturals.{AreNatural, PaymentsAreNatural}
-use Rattle.bundle.specs.Bundles.{Amounts, amount_of, minus}
+use Rattle.bundle.specs.Bundles.{Amounts, amount_of}
 use Rattle.bundle.specs.Totals.{total_of}
-use Rattle.bundle.proofs.AmountLaws.{amount_of-with_amount, sums_are_of_each_token, rests_are_of_each_token}
+use Rattle.bundle.proofs.AmountLaws.{amount_of-with_amount, rests_are_of_each_token}
 use Rattle.machine.specs.declared.datum.Datum.{Datum}
 use Rattle.eutxo_types.specs.declared.output.Output.{Output}
 use Rattle.table.specs.Flat.{is_close}
-use Rattle.roles.specs.Steps.{only, owed_output, due_above, due_to, and_owed_output, due_outputs, continuation, next_datum}
+use Rattle.roles.specs.Steps.{only, due_above, and_owed_output, due_outputs, continuation, next_datum}
 use Rattle.roles.specs.Sums.{sums_in, sums_of}
 use Rattle.ledger.specs.declared.look.Unspent.{Unspent}
 use Rattle.builder_spec.specs.Requests.{StepRequest}
 use Rattle.builder_spec.specs.Holding.{sums, amount_in, wanted, lacks, least_lacking, AreBundles}
 use Rattle.builder_spec.specs.Laying.{rest}
-use Rattle.builder_spec.specs.Steps.{Thread, thread_terms, step_walk, deposit_of, deposits, own_output, continuing_outputs, step_outputs_of}
+use Rattle.builder_spec.specs.Steps.{Thread, thread_terms, step_walk, deposits, own_output, continuing_outputs, step_outputs_of}
 use Rattle.builder_spec.specs.Starts.{accounts_of}
 use Rattle.builder_spec.proofs.HoldingLaws.{amount_of-empty, amount_of-sums, total_of-append, total_of-natural}
 use Rattle.builder_spec.proofs.SufficesLaws.{and_so, none_least}

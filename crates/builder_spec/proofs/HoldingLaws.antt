@@ -1,15 +1,14 @@
 -- What several hold together, token by token.
-use Rattle.std.proofs.Common.{◌≡◌, ℤ, pos, ◌+ℤ◌, ◌<ℤ◌, ◌≤ℤ◌, ◌-◌, ◌^◌, int_lt, Bool, true, false, cond, ◌||◌, List, [], ◌∷◌, ◌++◌, Option, Some, None, refl, sym, ◌∙◌, ap, subst, arith}
+use Rattle.std.proofs.Common.{◌≡◌, ℤ, pos, ◌+ℤ◌, ◌<ℤ◌, ◌≤ℤ◌, ◌-◌, ◌^◌, int_lt, Bool, true, false, cond, ◌||◌, List, [], ◌∷◌, ◌++◌, Some, refl, sym, ◌∙◌, ap, subst, arith}
 use Rattle.std.proofs.Math.Dec.{T}
 use Rattle.std.proofs.lemmas.Int.{ints}
 use Rattle.std.specs.List.{list_any}
 use Rattle.std.specs.Option.{unwrap_or}
-use Rattle.std.specs.Ordering.{is_eq, eq_by_cmp}
+use Rattle.std.specs.Ordering.{is_eq}
 use Rattle.std.specs.Cmp.{tied_itself}
 use Rattle.std.specs.declared.cmp.Ordering.TheVariants.{Less, Equal, Greater}
-use Rattle.std.specs.FinMap.{FinMap, empty, entries, entries_sorted, insert, remove, entries-insert, entries-from_sorted, get-empty, get-entries}
+use Rattle.std.specs.FinMap.{empty, entries, entries_sorted, insert, entries-insert, entries-from_sorted, get-empty, get-entries}
 use Rattle.std.specs.FinMap.Entries.{find, is_sorted}
-use Rattle.collections.specs.Total.{total}
 use Rattle.collections.proofs.Maps.{no_entries}
 use Rattle.collections.proofs.Places.{second, third, find_below, below_equal}
 use Rattle.names.specs.declared.token.Token.{Token}

@@ -2,4 +2,4 @@ pub mod FrontsLaws
 pub mod HoldingLaws
 pub mod SufficesLaws
 pub mod FundsLaws
-pub mod OnePartLemmas
+pub mod OnePartLaws

@@ -11,7 +11,8 @@ use Rattle.ledger.specs.declared.look.Look.{Look}
 use Rattle.builder_spec.specs.Requests.{StepRequest, StartRequest}
 use Rattle.builder_spec.specs.Holding.{amount_in, AreBundles}
 use Rattle.builder_spec.specs.Laying.{rest}
-use Rattle.builder_spec.specs.Steps.{Thread, look_thread, step_front, step_spent, step_outputs, hinders_step}
+use Rattle.builder_spec.specs.Parts.{hinders_step}
+use Rattle.builder_spec.specs.Steps.{Thread, look_thread, step_front, step_spent, step_outputs}
 use Rattle.builder_spec.specs.Starts.{start_front, start_output, hinders_start}
 
 -- THE CHANGE OF A STEP that nothing hinders is, token by token, what its front holds above the deposits, and that is never below 0. (The

@@ -1,5 +1,5 @@
--- Steps of several threads in one transaction: what hinders a request of parts, and how it is laid out. Each clause is the clause of a
--- step, asked of all parts.
+-- Steps of threads in one transaction: what hinders a request of parts, and how it is laid out. Each clause is asked of all parts. A step of one
+-- thread is steps of one part.
 use Rattle.std.specs.Prelude.{◌≡◌, ℕ, ℤ, nat_lt, Bool, false, not, ◌&&◌, ◌||◌, if◌then◌else◌, List, [], ◌∷◌, ◌++◌, map, length, All, Option, Some, None, option_map}
 use Rattle.std.specs.List.{list_any, flat_map}
 use Rattle.collections.specs.Same.{same_by}
@@ -24,7 +24,7 @@ use Rattle.builder_spec.specs.Requests.{StepRequest, Part, StepsRequest, one_par
 use Rattle.builder_spec.specs.Fronts.{front}
 use Rattle.builder_spec.specs.Causes.{signature_cause, funds_cause, limit_cause, repeat_cause}
 use Rattle.builder_spec.specs.Laying.{by_key, by_step, paid_to, rest}
-use Rattle.builder_spec.specs.Steps.{Thread, Stepped, look_thread, stepped_walk, semantics_cause, authority_cause, roles_of, deposits, own_output, step_outputs_of, next_data_of, hinders_step, layout_step}
+use Rattle.builder_spec.specs.Steps.{Thread, Stepped, look_thread, stepped_walk, semantics_cause, authority_cause, roles_of, deposits, own_output, step_outputs_of, next_data_of}
 
 -- ---- 1: the threads, where there are parts, each shows one that stands, and no two show different publications under one script
 
@@ -146,14 +146,13 @@ layout_parts r (Some ss) = layout_threads r ss
 abbrev pub layout_steps : StepsRequest → Tx
 layout_steps r = layout_parts r (threads_of r.parts)
 
--- ---- ONE PART IS ONE STEP: fault by fault, and layout by layout
+-- ---- A STEP of the thread that a look shows is steps of one part
 
-pub record IsOneStep (look : Look) (r : StepRequest) : Type 0 where
-  pub hinders : hinders_steps (one_part look r) ≡ hinders_step look r
-  pub layout : layout_steps (one_part look r) ≡ layout_step look r
+abbrev pub hinders_step : Look → StepRequest → Option BuildFault
+hinders_step look r = hinders_steps (one_part look r)
 
-abbrev pub OnePartIsOneStep : Type 0
-OnePartIsOneStep = (look : Look) (r : StepRequest) → IsOneStep look r
+abbrev pub layout_step : Look → StepRequest → Tx
+layout_step look r = layout_steps (one_part look r)
 
 -- ---- what the looks of parts hold of what the rules read of a ledger: of each output and script what the first part shows that shows it
 

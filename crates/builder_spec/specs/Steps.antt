@@ -1,5 +1,5 @@
--- Steps of a thread: what hinders one, and how it is laid out.
-use Rattle.std.specs.Prelude.{ℕ, ℤ, pos, int_lt, nat_lt, Bool, not, ◌&&◌, if◌then◌else◌, List, [], ◌∷◌, ◌++◌, map, length, Option, Some, None, option_map, Result, Ok, Err}
+-- A thread, and what a step of it needs, spends and makes.
+use Rattle.std.specs.Prelude.{ℕ, ℤ, pos, int_lt, Bool, not, ◌&&◌, if◌then◌else◌, List, [], ◌∷◌, ◌++◌, map, Option, Some, None, option_map, Result, Ok, Err}
 use Rattle.std.specs.List.{filter_map, find}
 use Rattle.names.specs.declared.party.Party.{Party}
 use Rattle.names.specs.declared.party.Party.TheVariants.{Address, Role}
@@ -13,10 +13,8 @@ use Rattle.semantics.specs.Computed.{computed}
 use Rattle.table.specs.Flat.{is_close}
 use Rattle.machine.specs.declared.datum.Datum.{Datum}
 use Rattle.eutxo_types.specs.declared.output.Output.{Output}
-use Rattle.eutxo_types.specs.declared.tx.Tx.{Tx}
 use Rattle.eutxo_types.specs.Digests.{datum_hash}
 use Rattle.eutxo_types.specs.Parts.{same_bytes, contract_in, ContractLock}
-use Rattle.eutxo.specs.Faults.{first_of}
 use Rattle.eutxo.specs.Rules.{has_signed}
 use Rattle.roles.specs.Sums.{sums_of}
 use Rattle.roles.specs.Terms.{Terms, terms_of}
@@ -25,12 +23,10 @@ use Rattle.ledger.specs.declared.look.Look.{Look}
 use Rattle.ledger.specs.declared.look.ThreadOutput.{ThreadOutput}
 use Rattle.ledger.specs.declared.look.Unspent.{Unspent}
 use Rattle.builder_spec.specs.declared.fault.BuildFault.{BuildFault}
-use Rattle.builder_spec.specs.declared.fault.BuildFault.TheVariants.{NoThread, Semantics, NotAuthorised, TooMany}
+use Rattle.builder_spec.specs.declared.fault.BuildFault.TheVariants.{Semantics, NotAuthorised}
 use Rattle.builder_spec.specs.Requests.{StepRequest}
 use Rattle.builder_spec.specs.Holding.{holds_token}
 use Rattle.builder_spec.specs.Fronts.{front}
-use Rattle.builder_spec.specs.Causes.{signature_cause, funds_cause, limit_cause, repeat_cause}
-use Rattle.builder_spec.specs.Laying.{by_key, by_step, paid_to, rest}
 
 -- ---- the thread
 
@@ -125,32 +121,7 @@ own_output e = record { reference = e.shown.reference; output = e.shown.output }
 abbrev pub step_spent : StepRequest → Thread → List Unspent
 step_spent r e = own_output e ∷ step_front r e
 
--- 6, with the limit on the contract's inputs
-abbrev pub step_limit_cause : List Input → List Unspent → Option BuildFault
-step_limit_cause xs spent = if nat_lt 256 (length xs) then Some TooMany else limit_cause spent
-
--- ---- WHAT HINDERS A STEP: the first of seven clauses that fails
-
-abbrev pub hinders_thread : StepRequest → Thread → Option BuildFault
-hinders_thread r e =
-    first_of
-    (semantics_cause (answer_of (step_walk r e))
-    ∷ signature_cause r.signers r.offered
-    ∷ authority_cause e.shown.published.currency r.signers r.offered r.inputs
-    ∷ funds_cause (deposits r.inputs) r.offered
-    ∷ step_limit_cause r.inputs (step_spent r e)
-    ∷ repeat_cause (own_output e ∷ r.offered)
-    ∷ [])
-
-abbrev pub hinders_on : StepRequest → Option Thread → Option BuildFault
-hinders_on r None = Some NoThread
-hinders_on r (Some e) = hinders_thread r e
-
-abbrev pub hinders_step : Look → StepRequest → Option BuildFault
-hinders_step look r = hinders_on r (look_thread look)
-
--- ---- ITS LAYOUT: the thread's output and the front are spent; the contract goes on, unless it is Close, the payments
--- that are due follow, and then the change. The thread's datum is brought, and then the one from which the contract goes on
+-- ---- what is made: the contract goes on, unless it is Close, and the payments follow that are due
 
 -- the datum from which the contract goes on, unless it is Close
 abbrev pub next_data : Thread → Walk → Standing → List Datum
@@ -169,23 +140,3 @@ step_outputs r e = step_outputs_of e (step_walk r e) (answer_of (step_walk r e))
 abbrev pub next_data_of : Thread → Walk → Result Standing SemFault → List Datum
 next_data_of e w (Ok a) = next_data e w a
 next_data_of e w (Err f) = []
-
-abbrev pub step_data : StepRequest → Thread → List Datum
-step_data r e = e.datum ∷ next_data_of e (step_walk r e) (answer_of (step_walk r e))
-
-abbrev pub layout_thread : StepRequest → Thread → Tx
-layout_thread r e = record {
-  inputs = by_step r.inputs (own_output e) ∷ map by_key (step_front r e);
-  outputs = step_outputs r e ++ paid_to r.change (rest (step_spent r e) (step_outputs r e));
-  interval = r.interval;
-  signers = r.signers;
-  datums = step_data r e;
-}
-
--- where there is no thread, nothing is laid out
-abbrev pub layout_on : StepRequest → Option Thread → Tx
-layout_on r None = record { inputs = []; outputs = []; interval = r.interval; signers = r.signers; datums = [] }
-layout_on r (Some e) = layout_thread r e
-
-abbrev pub layout_step : Look → StepRequest → Tx
-layout_step look r = layout_on r (look_thread look)

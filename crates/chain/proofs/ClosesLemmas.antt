@@ -20,10 +20,13 @@ use Rattle.builder_spec.specs.Closings.{closing}
 use Rattle.builder_spec.specs.Steps.{Thread, thread_of, look_thread}
 use Rattle.builder_laws.specs.AfterLast.{AnyoneCloses}
 use Rattle.builder_laws.specs.ShownThreads.{IsShown, ShownThreadsAreCurrent}
-use Rattle.ledger_spec.specs.Headline.{AcceptsBuilt, Accepts, IsOpenAfter, AnyoneClosesShown}
+use Rattle.ledger_spec.specs.AcceptedAt.{Accepts, IsOpenAfter}
+use Rattle.ledger_spec.specs.ThreadsShown.{AnyoneClosesShown}
+use Rattle.ledger_spec.specs.Headline.{AcceptsBuilt}
 use Rattle.ledger_spec.specs.Replay.{Course, world, past_of, published, published_at}
 use Rattle.ledger_spec.specs.Views.{thread_shown, look}
 use Rattle.ledger_spec.proofs.PublishingLaws.{found_under}
+use Rattle.ledger_spec.proofs.StepLaws.{step_accepted}
 use Rattle.chain.proofs.HeadlineLemmas.{IsSoundCourse, shown_so}
 
 all_at : {A : Type 0} (P : A → Type 0) (xs : List A) (n : ℕ) (x : A) → All P xs → slice_get xs n ≡ Some x → P x
@@ -63,5 +66,5 @@ module _ (current : ShownThreadsAreCurrent) (c : Course) (kept : IsSoundCourse c
       let named : known e.shown.published.id ≡ Some e.shown.published = ap known (found_under (published c.entries) s.lock.script e.shown.published s.named) ∙ s.named in
       record {
         outcome = law (look (world c) ask) e i signers change shown (output_fits past kept.sound.keys kept.fits e.shown.reference e.shown.output s.unspent is) reached order late;
-        accepted = λ clear free. built.steps (look (world c) ask) (closing i signers change) e shown clear named free;
+        accepted = λ clear free. step_accepted built (look (world c) ask) (closing i signers change) e shown clear named free;
       }

@@ -15,7 +15,7 @@ use Rattle.ledger_laws.proofs.PartLaws.{script_so}
 use Rattle.ledger_laws.proofs.PlainLaws.{same_some}
 use Rattle.builder_spec.specs.Steps.{Thread, thread_terms, thread_of, look_thread}
 use Rattle.builder_laws.specs.ShownThreads.{ShownThreadsAreCurrent}
-use Rattle.ledger_spec.specs.Headline.{ShowsWhereThreadsStand, ShowsWhatIsNotOver}
+use Rattle.ledger_spec.specs.ThreadsShown.{ShowsWhereThreadsStand, ShowsWhatIsNotOver}
 use Rattle.ledger_spec.specs.Replay.{Course, World, world, past_of, published, published_at}
 use Rattle.ledger_spec.specs.Views.{EachStartIsTold, end_of, made_datum, object_under, thread_output_at, thread_shown, look}
 use Rattle.ledger_spec.proofs.InstanceLaws.{made_instance}

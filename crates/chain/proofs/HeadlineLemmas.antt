@@ -23,18 +23,19 @@ use Rattle.ledger_laws.proofs.PlainLaws.{same_some}
 use Rattle.ledger_laws.specs.Past.{Past, unspent_at}
 use Rattle.ledger_laws.specs.Sound.{IsSound}
 use Rattle.builder_spec.specs.Parts.{ArePublished, layout_steps}
-use Rattle.builder_spec.specs.Steps.{layout_step}
 use Rattle.builder_spec.specs.Starts.{layout_start}
 use Rattle.builder_spec.specs.Claims.{layout_claim}
-use Rattle.builder_laws.specs.Accepting.{StepsAreAccepted, PartsAreAccepted, StartsAreAccepted, ClaimsAreAccepted}
-use Rattle.builder_laws.specs.AfterPasts.{StepsAreAcceptedAfter, PartsAreAcceptedAfter, StartsAreAcceptedAfter, ClaimsAreAcceptedAfter}
+use Rattle.builder_laws.specs.Accepting.{PartsAreAccepted, StartsAreAccepted, ClaimsAreAccepted}
+use Rattle.builder_laws.specs.AfterPasts.{PartsAreAcceptedAfter, StartsAreAcceptedAfter, ClaimsAreAcceptedAfter}
 use Rattle.builder_laws.specs.ShownThreads.{IsShown, ShownThreadsAreCurrent}
 use Rattle.ledger_spec.specs.Replay.{Course, Pending, pending_entry, World, world, past_of, published, published_at, moment_of}
 use Rattle.ledger_spec.specs.Views.{instance_at, thread_output, object_under, thread_output_in, thread_output_at, end_of, thread_shown, look}
 use Rattle.ledger_spec.specs.Calls.{fault_on, submit_reply, with_accepted_unless, round_verdicts, after_places}
 use Rattle.ledger_spec.proofs.InstanceLaws.{instance_made}
 use Rattle.ledger_spec.proofs.PublishingLaws.{found_under}
-use Rattle.ledger_spec.specs.Headline.{AcceptsBuilt, Accepts, IsOpenAfter, AcceptsPlace, IsOpenAtPlace, ShowsCurrentThreads}
+use Rattle.ledger_spec.specs.AcceptedAt.{Accepts, IsOpenAfter, AcceptsPlace, IsOpenAtPlace}
+use Rattle.ledger_spec.specs.ThreadsShown.{ShowsCurrentThreads}
+use Rattle.ledger_spec.specs.Headline.{AcceptsBuilt}
 
 -- what a course accepted is sound and fits its spelling, and what it published are tables
 pub record IsSoundCourse (c : Course) : Type 0 where
@@ -44,9 +45,8 @@ pub record IsSoundCourse (c : Course) : Type 0 where
 
 -- ---- what is built, by a Submit
 
-pub accepts_built : StepsAreAcceptedAfter → PartsAreAcceptedAfter → StartsAreAcceptedAfter → ClaimsAreAcceptedAfter → (c : Course) → IsSoundCourse c → AcceptsBuilt (published_at (world c).published) (IsOpenAfter c) (Accepts c)
-accepts_built steps parts starts claims c kept = record {
-  steps = λ look r e shown clear script is. ap (submit_reply (layout_step look r)) (steps look r e named past tick shown clear script (record { fits = is.0; accepted = kept.fits }) is.1);
+pub accepts_built : PartsAreAcceptedAfter → StartsAreAcceptedAfter → ClaimsAreAcceptedAfter → (c : Course) → IsSoundCourse c → AcceptsBuilt (published_at (world c).published) (IsOpenAfter c) (Accepts c)
+accepts_built parts starts claims c kept = record {
   parts = λ r ss shown clear scripts is. ap (submit_reply (layout_steps r)) (parts r ss named past tick shown clear scripts (record { fits = is.0; accepted = kept.fits }) is.1);
   starts = λ r clear script is. ap (submit_reply (layout_start r)) (starts r named past tick clear script (record { fits = is.0; accepted = kept.fits }) is.1);
   claims = λ r clear is. ap (submit_reply (layout_claim r)) (claims r named past tick clear (record { fits = is.0; accepted = kept.fits }) is.1);
@@ -92,9 +92,8 @@ accepts_there : (c : Course) (n t : ℕ) (tx : Tx) → slice_get (world c).repla
 accepts_there c n t tx waits free k vs v reply told =
     verdict_there (world c) (world c).replay.pending k n (pending_entry t tx) v waits (ap (λ (us : List Ticketed). slice_get us n) (same_round _ vs reply) ∙ told) ∙ ap verdict_of free
 
-pub accepts_places : StepsAreAccepted → PartsAreAccepted → StartsAreAccepted → ClaimsAreAccepted → (c : Course) (n : ℕ) → AcceptsBuilt (published_at (world c).published) (IsOpenAtPlace c n) (λ tx. AcceptsPlace c n)
-accepts_places steps parts starts claims c n = record {
-  steps = λ look r e shown clear script is. accepts_there c n is.0 (layout_step look r) is.1 (steps look r e m shown clear (there e.shown.published.id e.shown.published script) is.2);
+pub accepts_places : PartsAreAccepted → StartsAreAccepted → ClaimsAreAccepted → (c : Course) (n : ℕ) → AcceptsBuilt (published_at (world c).published) (IsOpenAtPlace c n) (λ tx. AcceptsPlace c n)
+accepts_places parts starts claims c n = record {
   parts = λ r ss shown clear scripts is. accepts_there c n is.0 (layout_steps r) is.1 (parts r ss m shown clear (subst (λ (ps : List Published). ArePublished (published_at ps) ss) (sym still) scripts) is.2);
   starts = λ r clear script is. accepts_there c n is.0 (layout_start r) is.1 (starts r m clear (there r.published.id r.published script) is.2);
   claims = λ r clear is. accepts_there c n is.0 (layout_claim r) is.1 (claims r m clear is.2);

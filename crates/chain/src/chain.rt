@@ -5,7 +5,7 @@ ghost use Rattle.eutxo.specs.Judgement.{found};
 ghost use Rattle.ledger_spec.specs.Genesis.{SumsFit, RefusesGenesis};
 ghost use Rattle.eutxo_types.specs.Fitting.{TxFits};
 ghost use Rattle.ledger_spec.specs.Replay.{Course, past_of, world, published, published_at, moment_of};
-ghost use Rattle.ledger_spec.specs.Headline.{FirstHalf, SecondHalf, BothHalves};
+ghost use Rattle.ledger_spec.specs.Headline.{StepsAreRuns, BuildsAreAccepted, BothHalves};
 ghost use Rattle.ledger_spec.specs.Calls.{reply_to};
 ghost use Rattle.ledger_spec.specs.Legal.{entry_of, with_entry, before_entry, IsLegal};
 ghost use Rattle.ledger_spec.specs.Records.{AreSteps};
@@ -146,7 +146,8 @@ fn answer_or_cut(
 fn add_entry(entries: &mut Vec<Entry>, tally: &mut Tally, entry: Entry) -> Result<(), Memory>
     requires { (c : Course) × (c.entries ≡ entries.old.items) × IsTally tally.old c }
     ensures entries { OnOk result (entries.new.items ≡ entries.old.items ++ entry ∷ []) }
-    ensures tally { OnOk result ((c : Course) → c.entries ≡ entries.old.items → IsTally tally.old c → IsTally tally.new (with_entry c entry)) }
+    ensures tally { OnOk result ((c : Course) → c.entries ≡ entries.old.items
+        → IsTally tally.old c → IsTally tally.new (with_entry c entry)) }
     ensures err { OnErr result (entries.new.items ≡ entries.old.items) }
     ensures still { OnErr result ((c : Course) → IsTally tally.old c → IsTally tally.new c) }
 {
@@ -187,9 +188,9 @@ impl Chain {
         )
     }
 
-    // The headline's second half, of this history. It does nothing.
+    // What is built is accepted, after this history. It does nothing.
     fn layouts_are_accepted(&self)
-        ensures { SecondHalf self.now }
+        ensures { BuildsAreAccepted self.now }
     {
         both_halves_hold_of_legal_histories();
         // touch: brings the invariant
@@ -210,8 +211,7 @@ impl Chain {
     /// that stands, at its end, in its current state. From the last timeout on anyone closes a
     /// thread that a Look shows, without inputs and offers, in an interval that ends neither before its start nor
     /// before the minimum time: the parties are paid all that the thread's output held, and what is built is accepted
-    /// like any step, unless a number leaves 128 bits or nothing is left to do. The change of a step is what its front
-    /// holds above the deposits. What is published stays published.
+    /// like any step, unless a number leaves 128 bits or nothing is left to do. What is published stays published.
     pub fn step(
         &mut self,
         alloc: Global,
@@ -224,7 +224,7 @@ impl Chain {
         ensures told { IfOk result (λ r. r.1 ≡ (entry_of self.old seat call).reply) }
         ensures err { OnErr result (self.new ≡ self.old) }
         ensures stays { IsMore (published_at (published self.old.entries)) (published_at (published self.new.entries)) }
-        ensures second { SecondHalf self.old }
+        ensures second { BuildsAreAccepted self.old }
     {
         // touch: the law of what stands now
         self.layouts_are_accepted();
@@ -256,6 +256,19 @@ impl Chain {
         }
     }
 
+    /// Makes the entry of one call, and answers its reply. It is `step` for a caller who has no checks at hand and keeps
+    /// no second copy, and promises the same.
+    pub fn call(&mut self, alloc: Global, seat: u64, call: Call) -> Result<Reply, Memory>
+        ensures entry { OnOk result (self.new ≡ with_entry self.old (entry_of self.old seat call)) }
+        ensures reply { IfOk result (λ reply. reply ≡ (entry_of self.old seat call).reply) }
+        ensures err { OnErr result (self.new ≡ self.old) }
+        ensures stays { IsMore (published_at (published self.old.entries)) (published_at (published self.new.entries)) }
+        ensures second { BuildsAreAccepted self.old }
+    {
+        let (reply, _copy) = self.step(alloc, seat, call, &[])?;
+        Ok(reply)
+    }
+
     /// The tick: the last that it was advanced to, else the first, in POSIX milliseconds. Takes no memory.
     pub fn tick(&self) -> i64
         ensures { result ≡ (world self.now).replay.tick }
@@ -270,33 +283,13 @@ impl Chain {
         &self.entries
     }
 
-    /// The entries, in order. Takes no memory.
-    ///
-    /// They are legal, and what stands after them is what they say (`StandsAsTold`): the tick, the pool and what was
-    /// accepted. What is published under an id is what a Publish call published, one contract with one currency; an id
-    /// is answered to be in use only where an earlier call published another contract or currency under it. What is
-    /// published stays so: before any later entry, the same stands under its id.
-    ///
-    /// And whatever was called, this holds of what was accepted. The thread of each start output is exactly one run of
-    /// the contract that was published under its script: each member is what the transaction function gives from the
-    /// datum that its transaction brings for the output that it spends, and where the thread has an end, its datum says
-    /// where the last member left it. That each member goes on from where the one before ended needs that the thread's
-    /// transactions bring what was made, as they do where no two different data that accepted transactions bring have
-    /// one digest. Nothing else needs that of digests. Every input that spends a contract output stands on exactly one
-    /// thread; a contract output is spent by a step alone, and a step spends one. One output never serves two
-    /// contracts. Each party that a step's
-    /// inputs need is authorised: an address among the signers, or a role whose token a key input's output holds. Each
-    /// unspent contract output is the end of exactly one thread, and each thread's end is an unspent contract output.
-    /// Such an output holds just the sums of its accounts, and stands at a number of the table that was published under
-    /// its script. No two outputs ever had one reference, no two accepted transactions one id, and no output is spent
-    /// twice. Of each token the unspent outputs hold together what the first outputs held. The first outputs are keys,
-    /// whose sums fit an amount; the accepted transactions fit their spelling.
-    ///
-    /// What is built of a request that nothing hinders is accepted now where it is open, as `step` says. All of this
-    /// held before each entry too (`throughout`): a Look in the middle of the history showed each thread that wasn't
-    /// over, in its current state, and what was built of it was accepted where it was open at its Submit, or at its
-    /// place of a Round. And a Look that comes after an accepted Submit shows what that made, where it asks for it and nothing
-    /// that was accepted between the two spent it.
+    /// The entries, in order, with all that holds of them. Takes no memory. They are legal, and what stands after them is
+    /// what they say. The ledger began with key outputs whose sums fit an amount, and what it accepted fits its spelling.
+    /// What is published under an id is what a Publish published, one contract with one currency, and stays so; an id is
+    /// answered to be in use only where an earlier entry published another under it. Steps are runs, and builds are
+    /// accepted (`Headline` of `ledger_spec` says what that is, promise by promise), now and before each entry
+    /// (`throughout`). And a Look that comes after an accepted Submit shows what that made, where it asks for it and
+    /// nothing that was accepted between the two spent it.
     pub fn history(&self) -> &[Entry]
         ensures all { result.now ≡ self.now.entries }
         ensures legal { IsLegal self.now }
@@ -306,8 +299,8 @@ impl Chain {
         ensures stays { (n m : ℕ) → n ≤ m →
             IsMore (published_at (published (before_entry self.now n).entries)) (published_at (published (before_entry self.now m).entries)) }
         ensures fits { All TxFits (past_of (world self.now)).accepted }
-        ensures first { FirstHalf self.now }
-        ensures second { SecondHalf self.now }
+        ensures first { StepsAreRuns self.now }
+        ensures second { BuildsAreAccepted self.now }
         ensures throughout { (n : ℕ) → BothHalves (before_entry self.now n) }
         ensures shown { ShowsWhatWasMade self.now }
     {
@@ -350,7 +343,8 @@ impl Chain {
         alloc: Global,
         reference: &OutputRef,
     ) -> Result<Items<StepRecord>, Memory>
-        ensures { IfOk result (λ records. AreSteps (published_at (published self.now.entries)) (past_of (world self.now)) reference.now records) }
+        ensures { IfOk result (λ records.
+            AreSteps (published_at (published self.now.entries)) (past_of (world self.now)) reference.now records) }
     {
         publications_are_entries();
         // touch: brings the invariant
@@ -362,7 +356,8 @@ impl Chain {
     /// one isn't a key output (`NotKey`), else outputs of which the sum of a token is above 2^127 - 1
     /// (`TooLarge`); else only a growth that was refused gives `Memory`.
     pub fn genesis(alloc: Global, outputs: Items<Output>, tick: i64) -> Result<Chain, GenesisFault>
-        ensures ok { IfOk result (λ chain. (chain ≡ record { genesis = outputs; first_tick = tick; entries = [] }) × AreKeys outputs × SumsFit outputs) }
+        ensures ok { IfOk result (λ chain. (chain ≡ record { genesis = outputs; first_tick = tick; entries = [] })
+            × AreKeys outputs × SumsFit outputs) }
         ensures err { IfErr result (λ fault. RefusesGenesis outputs fault) }
     {
         check_genesis(alloc, outputs.as_slice())?;

@@ -2,9 +2,8 @@
 ghost use Rattle.ledger_spec.specs.Headline.{LegalHistoriesHaveBothHalves};
 
 use builder_laws::{
-    anyone_closes_after_the_last_timeout, bytes_tell_accepted_apart, change_is_the_rest,
-    claims_are_accepted, parts_are_accepted, shown_threads_are_current, starts_are_accepted,
-    steps_are_accepted,
+    anyone_closes_after_the_last_timeout, bytes_tell_accepted_apart, claims_are_accepted,
+    parts_are_accepted, shown_threads_are_current, starts_are_accepted,
 };
 use eutxo::found_is_enough;
 use ledger_laws::{
@@ -14,7 +13,7 @@ use ledger_laws::{
     tokens_are_preserved,
 };
 use ledger_spec::{publications_are_entries, starts_are_told};
-use roles::{Published, sums_are_of_each_token};
+use roles::Published;
 
 /// Both halves of the headline hold of every legal history that began with key outputs and whose accepted transactions
 /// fit their spelling: after the whole of it, and before each of its entries. So they hold of the history of a closed
@@ -32,12 +31,10 @@ pub fn both_halves_hold_of_legal_histories()
     contracts_end_threads::<Published>();
     parties_are_authorised();
     contracts_are_funded();
-    sums_are_of_each_token();
     names_are_single::<Published>();
     outputs_are_spent_once::<Published>();
     outputs_serve_one_contract::<Published>();
     tokens_are_preserved::<Published>();
-    steps_are_accepted();
     parts_are_accepted();
     starts_are_accepted();
     claims_are_accepted();
@@ -45,5 +42,4 @@ pub fn both_halves_hold_of_legal_histories()
     shown_threads_are_current();
     starts_are_told();
     anyone_closes_after_the_last_timeout();
-    change_is_the_rest();
 }

@@ -9,6 +9,7 @@ use Rattle.contract.specs.declared.value.Observation.{Observation}
 use Rattle.contract.specs.declared.tree.Action.{Action}
 use Rattle.contract.specs.declared.tree.Case.{Case}
 use Rattle.contract.specs.declared.tree.Contract.{Contract}
+use Rattle.states.specs.States.{StateMaps}
 use Rattle.collections.specs.Answers.{◌>>=◌}
 use Rattle.contract.specs.Tree.{value_tree, observation_tree, action_tree, case_tree, contract_tree}
 use Rattle.contract.specs.TreeInverse.{action_of, contract_of}
@@ -22,11 +23,12 @@ use Rattle.json_read_contracts.specs.ReadsContract.{contract, case}
 use Rattle.json_write_contracts.specs.Symbols.{ValueSymbols, ObservationSymbols, ActionSymbols, CaseSymbols, ContractSymbols}
 use Rattle.json_write_contracts.specs.WrittenValues.{value_json, observation_json}
 use Rattle.json_write_contracts.specs.WrittenContract.{action_json, action_fits, case_json, case_fits, contract_json, contract_fits}
+use Rattle.contract_json.specs.ReadsOutcome.{state_of_outcome}
 use Rattle.contract_json.proofs.ReturnsNames.{party-party_json, payee-payee_json, choice_id-choice_id_json, bound-bound_json}
 use Rattle.contract_json.proofs.ReturnsValue.{value-back, observation-back}
 use Rattle.contract_json.proofs.ReturnsContract.{action-back, case-back, contract-back}
 use Rattle.contract_json.proofs.ReturnsInput.{input-back, transaction-back}
-use Rattle.contract_json.proofs.ReturnsState.{state-back}
+use Rattle.contract_json.proofs.ReturnsState.{state-back, state-texts-back}
 
 pub value-returned : (v : Value) → ValueSymbols (value_tree v) → value (value_json (value_tree v)) ≡ Ok v
 value-returned v s = value-back (value_tree v) s ∙ ap Ok (value_of-value_tree v)
@@ -53,6 +55,10 @@ pub contract-text : (text : List ℕ) (c : Contract) → IsUtf8 text → read te
 contract-text text c utf8 reads back short =
     ap (λ (r : Reading Data). r >>= contract) (json_of-read text (contract_json (contract_tree c)) short utf8 reads) ∙ back
 
+-- the state in the text of an outcome
+pub state-text : (text : List ℕ) (d : Data) (s : StateMaps) → IsUtf8 text → read text ≡ Some d → state_of_outcome d ≡ Ok s → length text ≤ 1048576 → of_text state_of_outcome text ≡ Ok s
+state-text text d s utf8 reads back short = ap (λ (r : Reading Data). r >>= state_of_outcome) (json_of-read text d short utf8 reads) ∙ back
+
 pub ruleset names_returned = (party-party_json, payee-payee_json, choice_id-choice_id_json, bound-bound_json)
 
 pub ruleset values_returned = (value-returned, observation-returned)
@@ -62,3 +68,5 @@ pub ruleset contracts_returned = (action-returned, contract-returned, case-retur
 pub ruleset inputs_returned = (input-back, transaction-back)
 
 pub ruleset state_returned = (state-back)
+
+pub ruleset texts_returned = (state-texts-back)

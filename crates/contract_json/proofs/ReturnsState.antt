@@ -1,8 +1,10 @@
 -- A map that was written is read as it was, and so is a state.
-use Rattle.std.proofs.Common.{◌≡◌, ℤ, pos, ◌<ℤ◌, Bool, true, false, cond, ◌&&◌, ◌||◌, List, [], ◌∷◌, ◌++◌, ℕ, map, Option, None, Ok, Err, refl, sym, ap, ◌∙◌, append_assoc, append-nil, arith}
+use Rattle.std.proofs.Common.{◌≡◌, ℤ, pos, ◌<ℤ◌, Bool, true, false, cond, ◌&&◌, ◌||◌, List, [], ◌∷◌, ◌++◌, ℕ, map, Option, None, Ok, Err, FitsSigned, refl, sym, ap, ◌∙◌, append_assoc, append-nil, arith}
 use Rattle.std.proofs.lemmas.Int.{ints}
 use Rattle.std.specs.Prelude.{codes, int_lt}
-use Rattle.std.specs.List.{list_all}
+use Rattle.std.specs.Int.{w128}
+use Rattle.std.specs.List.{list_all, All, AllByRecursion}
+use Rattle.std.proofs.lemmas.List.Elements.{recursion_from_All}
 use Rattle.std.proofs.Math.Dec.{T}
 use Rattle.std.specs.declared.cmp.Ordering.{Ordering}
 use Rattle.std.specs.declared.cmp.Ordering.TheVariants.{Less, Equal, Greater}
@@ -21,7 +23,8 @@ use Rattle.serde_json.specs.Data.{Data, string, Items, no_items, item}
 use Rattle.serde_json.specs.Find.{as_array}
 use Rattle.collections.specs.Answers.{◌>>=◌}
 use Rattle.json_read_names.specs.Parts.{Reading, needed, all_items, list, time}
-use Rattle.json_read_inputs.specs.ReadsState.{account_row, choice_row, bound_row, rows_into, rows, state}
+use Rattle.json_read_inputs.specs.ReadsState.{account_row_by, choice_row_by, bound_row_by, rows_into, rows, state_by, state, state_with_texts}
+use Rattle.json_read_inputs.specs.ReadsNumber.{number_or_text}
 use Rattle.json_read_inputs.specs.Rows.{and_then, until_fault}
 use Rattle.names.specs.declared.choice_id.ChoiceId.{ChoiceId}
 use Rattle.serde_json.specs.Data.{array}
@@ -31,10 +34,12 @@ use Rattle.json_read_names.specs.ReadsNames.{party, token, choice_id}
 use Rattle.json_write_contracts.specs.WrittenNames.{four, pair_json, number_json, wide_json, party_json, token_json, choice_id_json, number_fits, time_fits}
 use Rattle.json_write_outcomes.specs.Each.{Each, HasBytes}
 use Rattle.json_write_outcomes.specs.WrittenOutcome.{account_row_json, choice_row_json, bound_row_json, state_json, state_fits}
+use Rattle.contract_json.specs.Readable.{HasBits}
 use Rattle.contract_json.proofs.Hexes.{token-token_json}
 use Rattle.contract_json.proofs.ReturnsNames.{time-number_json, whole-number_json, party-party_json, choice_id-choice_id_json}
 use Rattle.json_read_names.specs.declared.fault.JsonFault.{JsonFault}
 use Rattle.json_read_names.specs.declared.fault.JsonFault.TheVariants.{BadState}
+use Rattle.json_read_inputs.proofs.DigitLaws.{text-written}
 use Rattle.json_read_inputs.proofs.RowLaws.{looked_at, rows_into-until_fault}
 
 both : (a b : Bool) → (a && b) ≡ true → (a ≡ true) × (b ≡ true)
@@ -95,64 +100,93 @@ module _ {K : Type 0} (R : K → K → Ordering) (o : IsTotalOrder R) (exact : I
 above : (n : ℤ) → pos 0 <ℤ n → int_lt (pos 0) n ≡ true
 above n h = elim (int_lt (pos 0) n) as (λ b. int_lt (pos 0) n ≡ b → b ≡ true) [ true ↦ λ is. refl | false ↦ λ is. absurd (omega (arith, ints, is)) ] refl
 
--- accounts that have more than 0 can be read where JSON has their numbers
-accounts_fit : (es : List (Account × ℤ)) → AllPositive es → list_all (λ e. number_fits e.1) es ≡ true → list_all (λ e. number_fits e.1 && int_lt (pos 0) e.1) es ≡ true
-accounts_fit [] p h = refl
-accounts_fit (e ∷ es) p h =
-    let parts = both (number_fits e.1) (list_all (λ x. number_fits x.1) es) h in
-    λ i. (parts.0 i && above e.1 p.0 i) && accounts_fit es p.1 parts.1 i
+-- the reading of a number reads what was written for an entry's
+abbrev IsReadBack : {K : Type 0} → (Data → Reading ℤ) → K × ℤ → Type 0
+IsReadBack number e = number (wide_json e.1) ≡ Ok e.1
 
 wide-back : (n : ℤ) → number_fits n ≡ true → whole_number (wide_json n) ≡ Ok n
 wide-back n h = ap (λ b. whole_number (cond b (number_json n) (string (signed_decimal n)))) h ∙ whole-number_json n
 
-account-pair : (o t n : Data) (e : Account × ℤ) → party o ≡ Ok e.0.owner → token t ≡ Ok e.0.token → whole_number n ≡ Ok e.1 → int_lt (pos 0) e.1 ≡ true → account_row (pair_json (pair_json o t) n) ≡ Ok e
-unfolding account_row
-account-pair o t n e h k l m = rw (h, k, l, m) refl
+-- as whole numbers, where JSON has them
+fitting-back : {K : Type 0} (es : List (K × ℤ)) → list_all (λ e. number_fits e.1) es ≡ true → Each (IsReadBack whole_number) es
+fitting-back [] h = tt
+fitting-back (e ∷ es) h = let p = both (number_fits e.1) (list_all (λ x. number_fits x.1) es) h in (wide-back e.1 p.0, fitting-back es p.1)
 
-choice-pair : (i n : Data) (e : ChoiceId × ℤ) → choice_id i ≡ Ok e.0 → whole_number n ≡ Ok e.1 → choice_row (pair_json i n) ≡ Ok e
-unfolding choice_row
-choice-pair i n e h k = rw (h, k) refl
+wide-text-back : (n : ℤ) → FitsSigned w128 n → number_or_text (wide_json n) ≡ Ok n
+wide-text-back n h =
+    elim (number_fits n) as (λ b. number_or_text (cond b (number_json n) (string (signed_decimal n))) ≡ Ok n) [ true ↦ whole-number_json n | false ↦ text-written n h ]
 
-bound-pair : (t n : Data) (e : List ℕ × ℤ) → text t ≡ Ok e.0 → whole_number n ≡ Ok e.1 → bound_row (pair_json t n) ≡ Ok e
-unfolding bound_row
-bound-pair t n e h k = rw (h, k) refl
+-- and as texts, where they have 128 bits
+texts-back : {K : Type 0} (es : List (K × ℤ)) → Each HasBits es → Each (IsReadBack number_or_text) es
+texts-back [] h = tt
+texts-back (e ∷ es) h = (wide-text-back e.1 h.0, texts-back es h.1)
+
+module _ (number : Data → Reading ℤ) where
+  account-pair : (o t n : Data) (e : Account × ℤ) → party o ≡ Ok e.0.owner → token t ≡ Ok e.0.token → number n ≡ Ok e.1 → int_lt (pos 0) e.1 ≡ true → account_row_by number (pair_json (pair_json o t) n) ≡ Ok e
+  unfolding account_row_by
+  account-pair o t n e h k l m = rw (h, k, l, m) refl
+
+  choice-pair : (i n : Data) (e : ChoiceId × ℤ) → choice_id i ≡ Ok e.0 → number n ≡ Ok e.1 → choice_row_by number (pair_json i n) ≡ Ok e
+  unfolding choice_row_by
+  choice-pair i n e h k = rw (h, k) refl
+
+  bound-pair : (t n : Data) (e : List ℕ × ℤ) → text t ≡ Ok e.0 → number n ≡ Ok e.1 → bound_row_by number (pair_json t n) ≡ Ok e
+  unfolding bound_row_by
+  bound-pair t n e h k = rw (h, k) refl
 
 -- a list that was written is read as it was, where its items are
 each-back : {X : Type 0} (reading : Data → Reading X) (json : X → Data) (x : X) (xs : List X) → reading (json x) ≡ Ok x → all_items reading (items_of (map json xs)) ≡ Ok xs → all_items reading (items_of (map json (x ∷ xs))) ≡ Ok (x ∷ xs)
 each-back reading json x xs h i = rw (h, i) refl
 
-accounts-back : (es : List (Account × ℤ)) → Each HasBytes es → list_all (λ e. number_fits e.1 && int_lt (pos 0) e.1) es ≡ true → list account_row (array (items_of (map account_row_json es))) ≡ Ok es
-accounts-back [] s h = refl
-accounts-back (e ∷ es) s h =
-    let parts = both (number_fits e.1 && int_lt (pos 0) e.1) (list_all (λ x. number_fits x.1 && int_lt (pos 0) x.1) es) h in
-    let here = both (number_fits e.1) (int_lt (pos 0) e.1) parts.0 in
-    each-back account_row account_row_json e es
-    (account-pair (party_json e.0.owner) (token_json e.0.token) (wide_json e.1) e (party-party_json e.0.owner) (token-token_json (token_json e.0.token) e.0.token refl s.0) (wide-back e.1 here.0) here.1)
-    (accounts-back es s.1 parts.1)
+module _ (number : Data → Reading ℤ) where
+  accounts-back : (es : List (Account × ℤ)) → Each HasBytes es → AllPositive es → Each (IsReadBack number) es → list (account_row_by number) (array (items_of (map account_row_json es))) ≡ Ok es
+  accounts-back [] s p h = refl
+  accounts-back (e ∷ es) s p h =
+      each-back (account_row_by number) account_row_json e es
+      (account-pair number (party_json e.0.owner) (token_json e.0.token) (wide_json e.1) e (party-party_json e.0.owner) (token-token_json (token_json e.0.token) e.0.token refl s.0) h.0 (above e.1 p.0))
+      (accounts-back es s.1 p.1 h.1)
 
-choices-back : (es : List (ChoiceId × ℤ)) → list_all (λ e. number_fits e.1) es ≡ true → list choice_row (array (items_of (map choice_row_json es))) ≡ Ok es
-choices-back [] h = refl
-choices-back (e ∷ es) h =
-    let parts = both (number_fits e.1) (list_all (λ x. number_fits x.1) es) h in
-    each-back choice_row choice_row_json e es (choice-pair (choice_id_json e.0) (wide_json e.1) e (choice_id-choice_id_json e.0) (wide-back e.1 parts.0)) (choices-back es parts.1)
+  choices-back : (es : List (ChoiceId × ℤ)) → Each (IsReadBack number) es → list (choice_row_by number) (array (items_of (map choice_row_json es))) ≡ Ok es
+  choices-back [] h = refl
+  choices-back (e ∷ es) h = each-back (choice_row_by number) choice_row_json e es (choice-pair number (choice_id_json e.0) (wide_json e.1) e (choice_id-choice_id_json e.0) h.0) (choices-back es h.1)
 
-bounds-back : (es : List (List ℕ × ℤ)) → list_all (λ e. number_fits e.1) es ≡ true → list bound_row (array (items_of (map bound_row_json es))) ≡ Ok es
-bounds-back [] h = refl
-bounds-back (e ∷ es) h =
-    let parts = both (number_fits e.1) (list_all (λ x. number_fits x.1) es) h in
-    each-back bound_row bound_row_json e es (bound-pair (string e.0) (wide_json e.1) e refl (wide-back e.1 parts.0)) (bounds-back es parts.1)
+  bounds-back : (es : List (List ℕ × ℤ)) → Each (IsReadBack number) es → list (bound_row_by number) (array (items_of (map bound_row_json es))) ≡ Ok es
+  bounds-back [] h = refl
+  bounds-back (e ∷ es) h = each-back (bound_row_by number) bound_row_json e es (bound-pair number (string e.0) (wide_json e.1) e refl h.0) (bounds-back es h.1)
 
-state-four : (a b c t : Data) (s : StateMaps) → rows account_cmp account_row a ≡ Ok s.accounts → rows choice_id_cmp choice_row c ≡ Ok s.choices → rows bytes_cmp bound_row b ≡ Ok s.bound_values → time t ≡ Ok s.min_time
-    → state (four (codes "accounts") a (codes "boundValues") b (codes "choices") c (codes "minTime") t) ≡ Ok s
-state-four a b c t s h i j k = rw (h, i, j, k) refl
+  state-four : (a b c t : Data) (s : StateMaps) → rows account_cmp (account_row_by number) a ≡ Ok s.accounts → rows choice_id_cmp (choice_row_by number) c ≡ Ok s.choices → rows bytes_cmp (bound_row_by number) b ≡ Ok s.bound_values → time t ≡ Ok s.min_time
+      → state_by number (four (codes "accounts") a (codes "boundValues") b (codes "choices") c (codes "minTime") t) ≡ Ok s
+  state-four a b c t s h i j k = rw (h, i, j, k) refl
+
+  -- a state that was written is read as it was, where its numbers are
+  state_by-back : (s : StateMaps) → Each HasBytes (entries s.accounts) → AllPositive (entries s.accounts) → time_fits s.min_time ≡ true
+      → Each (IsReadBack number) (entries s.accounts) → Each (IsReadBack number) (entries s.choices) → Each (IsReadBack number) (entries s.bound_values) → state_by number (state_json s) ≡ Ok s
+  state_by-back s bytes positive time accounts choices bounds =
+      state-four (array (items_of (map account_row_json (entries s.accounts)))) (array (items_of (map bound_row_json (entries s.bound_values)))) (array (items_of (map choice_row_json (entries s.choices)))) (number_json s.min_time) s
+      (rows-list account_cmp account_total account_exact (account_row_by number) (array (items_of (map account_row_json (entries s.accounts)))) s.accounts (accounts-back (entries s.accounts) bytes positive accounts))
+      (rows-list choice_id_cmp choice_id_total choice_id_exact (choice_row_by number) (array (items_of (map choice_row_json (entries s.choices)))) s.choices (choices-back (entries s.choices) choices))
+      (rows-list bytes_cmp bytes_total bytes_exact (bound_row_by number) (array (items_of (map bound_row_json (entries s.bound_values)))) s.bound_values (bounds-back (entries s.bound_values) bounds))
+      (time-number_json s.min_time time)
 
 -- a state that was written is read as it was, where JSON has its numbers
 pub state-back : (s : StateMaps) → Each HasBytes (entries s.accounts) → AllPositive (entries s.accounts) → time_fits s.min_time ≡ true → state_fits s ≡ true → state (state_json s) ≡ Ok s
 state-back s bytes positive time fits =
     let parts = both (list_all (λ e. number_fits e.1) (entries s.accounts)) _ fits in
     let others = both (list_all (λ e. number_fits e.1) (entries s.choices)) (list_all (λ e. number_fits e.1) (entries s.bound_values)) parts.1 in
-    state-four (array (items_of (map account_row_json (entries s.accounts)))) (array (items_of (map bound_row_json (entries s.bound_values)))) (array (items_of (map choice_row_json (entries s.choices)))) (number_json s.min_time) s
-    (rows-list account_cmp account_total account_exact account_row (array (items_of (map account_row_json (entries s.accounts)))) s.accounts (accounts-back (entries s.accounts) bytes (accounts_fit (entries s.accounts) positive parts.0)))
-    (rows-list choice_id_cmp choice_id_total choice_id_exact choice_row (array (items_of (map choice_row_json (entries s.choices)))) s.choices (choices-back (entries s.choices) others.0))
-    (rows-list bytes_cmp bytes_total bytes_exact bound_row (array (items_of (map bound_row_json (entries s.bound_values)))) s.bound_values (bounds-back (entries s.bound_values) others.1))
-    (time-number_json s.min_time time)
+    state_by-back whole_number s bytes positive time (fitting-back (entries s.accounts) parts.0) (fitting-back (entries s.choices) others.0) (fitting-back (entries s.bound_values) others.1)
+
+each-of : {X : Type 0} (P : X → Type 0) (xs : List X) → AllByRecursion P xs → Each P xs
+each-of P [] h = tt
+each-of P (x ∷ xs) h = (h.0, each-of P xs h.1)
+
+each-of-all : {X : Type 0} (P : X → Type 0) (xs : List X) → All P xs → Each P xs
+each-of-all P xs h = each-of P xs (recursion_from_All P xs h)
+
+-- any state that was written is read as it was, where texts may be numbers
+pub state-texts-back : (s : StateMaps) → All HasBytes (entries s.accounts) → AllPositive (entries s.accounts) → time_fits s.min_time ≡ true
+    → All HasBits (entries s.accounts) → All HasBits (entries s.choices) → All HasBits (entries s.bound_values) → state_with_texts (state_json s) ≡ Ok s
+state-texts-back s bytes positive time accounts choices bounds =
+    state_by-back number_or_text s (each-of-all HasBytes (entries s.accounts) bytes) positive time
+    (texts-back (entries s.accounts) (each-of-all HasBits (entries s.accounts) accounts))
+    (texts-back (entries s.choices) (each-of-all HasBits (entries s.choices) choices))
+    (texts-back (entries s.bound_values) (each-of-all HasBits (entries s.bound_values) bounds))

@@ -1,3 +1,4 @@
 pub mod WrittenInput
 pub mod Readable
 pub mod InputSymbols
+pub mod ReadsOutcome

@@ -1,6 +1,7 @@
 -- No reader needs this file: it serves the proofs of this crate and those above it.
 -- JSON values that read as they were once they were written.
-use Rattle.std.specs.Prelude.{◌≡◌, pos, negsuc, ◌^◌, ◌<◌, ⊤}
+use Rattle.std.specs.Prelude.{◌≡◌, ℤ, pos, negsuc, ◌^◌, ◌<◌, ⊤, FitsSigned}
+use Rattle.std.specs.Int.{w128}
 use Rattle.serde_json.specs.Data.{Num, unsigned, negative, float, Data, null, boolean, number, string, array, object, Items, no_items, item, Members, no_members, member, put}
 
 -- the members go in one after another
@@ -32,3 +33,7 @@ abbrev mutual
   pub MembersReadable : Members → Type 0
   MembersReadable no_members = ⊤
   MembersReadable (member k d ms) = Readable d × MembersReadable ms
+
+-- the number of an entry has 128 bits
+abbrev pub HasBits : {K : Type 0} → K × ℤ → Type 0
+HasBits e = FitsSigned w128 e.1

@@ -6,11 +6,14 @@ mod inputs;
 mod laws;
 mod put_json;
 mod puts;
+mod read_back;
 mod texts;
 
 pub use contract::Transaction;
 pub use json_read_contracts::{case_from_json, contract_from_json, contracts_are_read_by_form};
-pub use json_read_inputs::{input_from_json, state_from_json, transaction_from_json};
+pub use json_read_inputs::{
+    input_from_json, state_from_json, state_with_texts_from_json, transaction_from_json,
+};
 pub use json_read_names::{
     JsonFault, bound_from_json, choice_id_from_json, party_from_json, payee_from_json,
     token_from_json,
@@ -22,6 +25,8 @@ pub use json_tree::JsonValue;
 pub use json_write_contracts::WriteFault;
 pub use laws::what_is_read_can_be_written;
 pub use put_json::{PutJson, fitting_to_json, to_json};
+pub use read_back::state_is_read_back;
 pub use texts::{
-    read_contract, read_input, read_state, read_transaction, write_contract, write_outcome,
+    read_contract, read_input, read_state, read_state_with_texts, read_transaction, write_contract,
+    write_outcome,
 };

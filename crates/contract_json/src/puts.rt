@@ -242,7 +242,7 @@ impl PutJson for Warning {
 }
 
 /// A state, the rows of each map in the order of their keys. A number that JSON doesn't have is a text of its decimal
-/// digits; such a state isn't read again.
+/// digits; such a state is read again where texts may be numbers (`state_is_read_back`).
 impl PutJson for State {
     ghost json = { state_json };
 

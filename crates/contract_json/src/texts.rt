@@ -13,12 +13,16 @@ ghost use Rattle.json_write_contracts.specs.WrittenContract as written_contracts
 ghost use Rattle.json_write_contracts.specs.WrittenContract.{contract_fits};
 ghost use Rattle.json_write_contracts.specs.Written.{in_range};
 ghost use Rattle.json_write_outcomes.specs.WrittenOutcome.{outcome_json};
+ghost use Rattle.contract_json.specs.ReadsOutcome.{state_of_outcome};
 
 use crate::put_json::text_of;
+use crate::read_back::state_is_read_back;
 use contract::{Contract, Input, Outcome, State, Transaction};
 use json::Scratch;
 use json_read_contracts::contract_from_json;
-use json_read_inputs::{input_from_json, state_from_json, transaction_from_json};
+use json_read_inputs::{
+    input_from_json, state_from_json, state_with_texts_from_json, transaction_from_json,
+};
 use json_read_names::{JsonFault, json_of};
 use json_write_contracts::WriteFault;
 use std::alloc::Global;
@@ -59,6 +63,16 @@ pub fn read_state(alloc: Global, text: &[u8]) -> Result<State, JsonFault>
     state_from_json(alloc, &json)
 }
 
+/// Reads the text of a state, in which a number of an account, a choice or a bound value may also be the text of a number from
+/// -2^127 to 2^127 - 1: its decimal digits as they are written, with `-` before one below 0. Another text is `NoForm`.
+pub fn read_state_with_texts(alloc: Global, text: &[u8]) -> Result<State, JsonFault>
+    ensures reading { Aside JsonFault.Memory result (of_text state_reads.state_with_texts text.now) }
+{
+    let mut scratch = Scratch::new(alloc);
+    let json = json_of(alloc, text, &mut scratch)?;
+    state_with_texts_from_json(alloc, &json)
+}
+
 /// The text of a contract: compact, with each object's keys in the order of their bytes.
 pub fn write_contract(alloc: Global, contract: &Contract) -> Result<Vec<u8>, WriteFault>
     ensures written { AsideBy WriteFault.Memory (λ text. text.items) result
@@ -71,11 +85,17 @@ pub fn write_contract(alloc: Global, contract: &Contract) -> Result<Vec<u8>, Wri
 }
 
 /// The text of an outcome: compact, with each object's keys in the order of their bytes. A number of
-/// the payments, the warnings and the state that JSON doesn't have is a text of its decimal digits.
+/// the payments, the warnings and the state that JSON doesn't have is a text of its decimal digits. The state is read as it
+/// was, where texts may be numbers.
 pub fn write_outcome(alloc: Global, outcome: &Outcome<&Contract>) -> Result<Vec<u8>, WriteFault>
     ensures written { AsideBy WriteFault.Memory (λ text. text.items) result (in_range (contract_fits (contract_tree outcome.now.place.now))
         (compact_text (outcome_json outcome.now.warnings outcome.now.payments outcome.now.state (contract_tree outcome.now.place.now)))) }
+    ensures reads_back { IfOk result (λ text. length text.items ≤ 1048576
+        → depth (outcome_json outcome.now.warnings outcome.now.payments outcome.now.state (contract_tree outcome.now.place.now)) ≤ max_depth
+        → of_text state_of_outcome text.items ≡ Ok outcome.now.state) }
 {
+    // touch: the state that is written is read
+    state_is_read_back(&outcome.state);
     let text = text_of(alloc, outcome)?;
     Ok(text)
 }

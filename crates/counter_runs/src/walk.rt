@@ -18,7 +18,7 @@ use contract::{
     Token, Transaction, Value,
 };
 use evaluation::{holds, value};
-use semantics::{Plain, matching_case};
+use replay::matches;
 use std::alloc::Global;
 
 // What a try takes, and what the beginning of a transaction takes, beside what the contract asks for.
@@ -234,7 +234,7 @@ impl Walk<'_> {
         if !self.is_early(*timeout) || !self.begin(way, now, until)? {
             return Ok(Brought::Nothing);
         }
-        self.take_case(way, at, case, index > 0)
+        self.take_case(way, cases.as_slice(), index, case)
     }
 
     // Whether a When with this timeout still waits at the end of the transaction that is open, if one is.
@@ -378,23 +378,23 @@ impl Walk<'_> {
         }
     }
 
-    // Takes a case of a When, by one of the inputs that its action waits for, where no earlier case takes that.
+    // Takes a case of a When, of which so many stand before it, by one of the inputs that its action waits for, where none of
+    // these takes it.
     fn take_case(
         &mut self,
         way: &Way,
-        at: &Contract,
+        cases: &[Case],
+        index: usize,
         case: &Case,
-        has_earlier: bool,
     ) -> Result<Brought, Memory> {
-        match self.offer(way, &case.action)? {
+        let offer = self.offer(way, &case.action)?;
+        if !self.is_left_by(cases, index) {
+            return Ok(Brought::Nothing);
+        }
+        match offer {
             Offer::None => Ok(Brought::Nothing),
             Offer::Leaving => Ok(Brought::Leaving),
-            Offer::Input(number) => {
-                if has_earlier && !self.is_taken_by(at, &case.then) {
-                    return Ok(Brought::Nothing);
-                }
-                self.apply(&case.action, number)
-            }
+            Offer::Input(number) => self.apply(&case.action, number),
         }
     }
 
@@ -464,18 +464,22 @@ impl Walk<'_> {
         Ok(offer)
     }
 
-    // Whether the first case that takes the input that is offered goes on with a contract.
-    fn is_taken_by(&self, at: &Contract, then: &Contract) -> bool {
+    // Whether none of the first cases, of so many, takes the input that is offered, and no number leaves 128 bits where they
+    // are tried.
+    fn is_left_by(&self, cases: &[Case], count: usize) -> bool {
         let Some(interval) = self.open else {
             return false;
         };
         let Some(input) = self.inputs.as_slice().last() else {
             return false;
         };
-        match matching_case(&Plain::new(), input, at, &self.state, interval) {
-            Ok(Some(next)) => *next == *then,
-            _ => false,
+        for case in cases.iter().take(count) {
+            match matches(input, &case.action, &self.state, interval) {
+                Ok(false) => {}
+                _ => return false,
+            }
         }
+        true
     }
 
     // Does what an input of an action and a number does to the state.

@@ -80,26 +80,20 @@ impl Way {
         let mut waits = Vec::new(alloc);
         let mut at = contract;
         for step in steps {
-            self.add_step(alloc, at, Some(*step), looks, left)?;
+            self.add_step(at, Some(*step), looks, left)?;
             waits.push(wait_of(at, *step))?;
             match part_behind(at, *step) {
                 Some(next) => at = next,
                 None => return Ok(waits),
             }
         }
-        self.add_end(alloc, at, looks, left)?;
+        self.add_end(at, looks, left)?;
         Ok(waits)
     }
 
     // Adds what a run looks at where it ends.
-    fn add_end(
-        &mut self,
-        alloc: Global,
-        here: &Contract,
-        looks: u64,
-        left: &mut u64,
-    ) -> Result<(), Memory> {
-        self.add_step(alloc, here, None, looks, left)?;
+    fn add_end(&mut self, here: &Contract, looks: u64, left: &mut u64) -> Result<(), Memory> {
+        self.add_step(here, None, looks, left)?;
         self.behind = self
             .behind
             .saturating_add(weigh_settling(here, looks, left));
@@ -109,14 +103,13 @@ impl Way {
     // Adds what a run looks at where it goes on from a contract by a step.
     fn add_step(
         &mut self,
-        alloc: Global,
         here: &Contract,
         step: Option<PathStep>,
         looks: u64,
         left: &mut u64,
     ) -> Result<(), Memory> {
         let before = *left;
-        if weigh_step(alloc, here, step, looks, left)? {
+        if weigh_step(here, step, looks, left) {
             gather_at(here, step, &mut self.constants)?;
         }
         self.weights.push(before.saturating_sub(*left))?;

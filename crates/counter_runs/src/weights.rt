@@ -2,11 +2,9 @@
 use crate::way::entries_of;
 use crate::work::spend;
 use analysis_spec::PathStep;
-use collections::Memory;
 use contract::{
     Action, Bound, Case, ChoiceId, Contract, Observation, Party, Payee, State, Token, Value,
 };
-use std::alloc::Global;
 
 // What a Pay, a Let, a deposit and a choice take beside their values and names.
 const PAY: u64 = 5;
@@ -26,20 +24,19 @@ const BOUNDS: u64 = 4;
 /// Weighs what a run looks at where it goes on from a contract by a step, or where it ends there. A look-up compares
 /// no more than `looks` names. Tells whether there was as much work left.
 pub(crate) fn weigh_step(
-    alloc: Global,
     contract: &Contract,
     step: Option<PathStep>,
     looks: u64,
     left: &mut u64,
-) -> Result<bool, Memory> {
+) -> bool {
     match contract {
         Contract::When(cases, _, _) => match step {
             Some(PathStep::Case(index)) | Some(PathStep::Action(index)) => {
-                weigh_case(alloc, cases.as_slice(), index, looks, left)
+                weigh_case(cases.as_slice(), index, looks, left)
             }
-            _ => Ok(spend(left, 1)),
+            _ => spend(left, 1),
         },
-        _ => Ok(weigh_own(contract, looks, left)),
+        _ => weigh_own(contract, looks, left),
     }
 }
 
@@ -60,28 +57,12 @@ fn weigh_own(contract: &Contract, looks: u64, left: &mut u64) -> bool {
     }
 }
 
-// Weighs a case: the actions of those before it, which an input is tried against, and what follows it, with which what
-// follows the case that takes the input is compared.
-fn weigh_case(
-    alloc: Global,
-    cases: &[Case],
-    index: usize,
-    looks: u64,
-    left: &mut u64,
-) -> Result<bool, Memory> {
+// Weighs a case, and the actions of those before it, which an input is tried against.
+fn weigh_case(cases: &[Case], index: usize, looks: u64, left: &mut u64) -> bool {
     let Some(case) = cases.get(index) else {
-        return Ok(spend(left, 1));
+        return spend(left, 1);
     };
-    if !weigh_action(&case.action, looks, left)
-        || !weigh_trials(cases, index, &case.action, looks, left)
-    {
-        return Ok(false);
-    }
-    if index > 0 {
-        weigh_all(alloc, &case.then, left)
-    } else {
-        Ok(true)
-    }
+    weigh_action(&case.action, looks, left) && weigh_trials(cases, index, &case.action, looks, left)
 }
 
 // Weighs the actions of the cases before one, which an input for its action is tried against.
@@ -184,82 +165,6 @@ fn weigh_observation(observation: &Observation, looks: u64, left: &mut u64) -> b
 #[cycle(weigh)]
 fn weigh_observations(a: &Observation, b: &Observation, looks: u64, left: &mut u64) -> bool {
     weigh_observation(a, looks, left) && weigh_observation(b, looks, left)
-}
-
-// Weighs a whole contract, which is compared with another.
-fn weigh_all(alloc: Global, contract: &Contract, left: &mut u64) -> Result<bool, Memory> {
-    let mut rest = Vec::new(alloc);
-    rest.push(contract)?;
-    let most = *left;
-    for _ in 0..most {
-        match rest.pop() {
-            Some(at) => {
-                if !weigh_part(&mut rest, at, left)? {
-                    return Ok(false);
-                }
-            }
-            None => return Ok(true),
-        }
-    }
-    Ok(false)
-}
-
-// Weighs a part, and puts its own parts to the rest.
-fn weigh_part<'c>(
-    rest: &mut Vec<&'c Contract>,
-    part: &'c Contract,
-    left: &mut u64,
-) -> Result<bool, Memory> {
-    if weigh_own(part, 1, left) {
-        put_parts(rest, part, left)
-    } else {
-        Ok(false)
-    }
-}
-
-// Puts the parts of a contract to the rest, and weighs the actions that it waits for.
-fn put_parts<'c>(
-    rest: &mut Vec<&'c Contract>,
-    contract: &'c Contract,
-    left: &mut u64,
-) -> Result<bool, Memory> {
-    match contract {
-        Contract::Close => Ok(true),
-        Contract::Pay(_, _, _, _, then) => put_part(rest, then.get()),
-        Contract::Let(_, _, then) => put_part(rest, then.get()),
-        Contract::Assert(_, then) => put_part(rest, then.get()),
-        Contract::If(_, then, otherwise) => put_two(rest, then.get(), otherwise.get()),
-        Contract::When(cases, _, then) => put_cases(rest, cases.as_slice(), then.get(), left),
-    }
-}
-
-fn put_part<'c>(rest: &mut Vec<&'c Contract>, part: &'c Contract) -> Result<bool, Memory> {
-    rest.push(part)?;
-    Ok(true)
-}
-
-fn put_two<'c>(
-    rest: &mut Vec<&'c Contract>,
-    part: &'c Contract,
-    other: &'c Contract,
-) -> Result<bool, Memory> {
-    rest.push(part)?;
-    put_part(rest, other)
-}
-
-fn put_cases<'c>(
-    rest: &mut Vec<&'c Contract>,
-    cases: &'c [Case],
-    then: &'c Contract,
-    left: &mut u64,
-) -> Result<bool, Memory> {
-    for case in cases {
-        if !weigh_trial(&case.action, &case.action, 1, left) {
-            return Ok(false);
-        }
-        rest.push(&case.then)?;
-    }
-    put_part(rest, then)
 }
 
 /// Weighs what a contract does until it waits or is closed, and returns the weight of its heaviest way there.

@@ -11,8 +11,8 @@ use Rattle.eutxo.specs.Found.{script_at, whole}
 use Rattle.eutxo.specs.declared.judged.Judged.{Judged}
 use Rattle.eutxo.specs.declared.resolved.Resolved.{Resolved}
 use Rattle.eutxo.specs.Asked.{Judges}
-use Rattle.eutxo.specs.Blocks.{step_fault_unless, blocks_on, places_in}
-use Rattle.eutxo.specs.Rules.{no_inputs, too_many, repeated_input, not_signed, too_many_contracts, wrong_redeemer, role_missing, not_preserved, wrong_datum}
+use Rattle.eutxo.specs.Blocks.{step_fault, step_fault_unless, blocks, blocks_on, places_in}
+use Rattle.eutxo.specs.Rules.{no_inputs, too_many, repeated_input, not_signed, too_many_contracts, wrong_redeemer, role_missing, not_preserved, wrong_datum, steps_of}
 
 -- the rules of the transaction alone, in their order: 1 to 3
 abbrev pub tx_fault : Tx → Option TxFault
@@ -55,6 +55,22 @@ unless_refused (Some fault) places = []
 
 abbrev pub judged_as : Option TxFault → List (Option ℕ) → Judged
 judged_as fault places = record { fault = fault; places = unless_refused fault places }
+
+-- the judgement by 12 to 17 alone
+abbrev pub rules_12_to_17 : {V : Type 0} → Judges V → (List ℕ → Option V) → Tx → List (Spend × Output) → Judged
+rules_12_to_17 j named tx spent =
+    judged_as (step_fault j named tx spent (steps_of spent tx.datums)) (places_in (blocks j named tx spent (steps_of spent tx.datums) 0))
+
+-- by 12 to 19, but 12 to 17 only where 19 doesn't stand
+abbrev pub rules_12_to_19 : {V : Type 0} → Judges V → (List ℕ → Option V) → Tx → List (Spend × Output) → Judged
+rules_12_to_19 j named tx spent =
+    judged_as
+    (first_of (step_fault_unless (wrong_datum tx spent) j named tx spent ∷ not_preserved spent tx.outputs ∷ wrong_datum tx spent ∷ []))
+    (places_in (blocks_on j named tx (Some spent)))
+
+-- and by 8 to 19
+abbrev pub rules_8_to_19 : {V : Type 0} → Judges V → (List ℕ → Option V) → Tx → List (Spend × Output) → Judged
+rules_8_to_19 j named tx spent = judged_as (spent_fault j named tx spent) (places_in (blocks_on j named tx (Some spent)))
 
 -- THE LOCAL JUDGEMENT: the local verdict's fault, and where there is none, the places in which contracts go on
 abbrev pub judged : {V : Type 0} → Judges V → Tx → Resolved V → Judged

@@ -1,5 +1,6 @@
 //! Checked transactions.
 ghost use Rattle.std.specs.Prelude.{◌≡◌, ◌↔◌, IsTrue, IfOk};
+ghost use Rattle.eutxo_types.specs.Ids.{id_of};
 ghost use Rattle.eutxo.specs.Local.{verdict_of};
 ghost use Rattle.eutxo.specs.Checks.{check_of, IsCheck, IsOf};
 
@@ -117,9 +118,10 @@ impl<V: Validator> Checked<V> {
         &self.tx
     }
 
-    /// Its id: the SHA-256 of its spelling.
+    /// Its id: the SHA-256 of its spelling, which was made once, where it was checked.
     pub fn id(&self) -> &[u8; 32]
-        ensures { result.now ≡ self.now.id }
+        ensures kept { result.now ≡ self.now.id }
+        ensures id { result.now ≡ id_of self.now.tx }
     {
         &self.id
     }

@@ -32,7 +32,7 @@ mod steps;
 mod tx_rules;
 mod validator;
 
-pub use at_hand::{recheck, rejudge};
+pub use at_hand::{checks_of, id_at_hand, kept_among, recheck, rejudge};
 pub use checked::{Checked, check, check_owned, verdict_of};
 pub use judged::Judged;
 pub use laws::{

@@ -1,9 +1,8 @@
 //! The local judgement.
 ghost use Rattle.std.specs.Prelude.{◌≡◌, ◌∷◌, [], None, Some, IfOk};
-ghost use Rattle.eutxo.specs.Blocks.{blocks_on, places_in, step_fault_unless};
 ghost use Rattle.eutxo.specs.Faults.{first_of};
 ghost use Rattle.eutxo.specs.Found.{script_at, whole};
-ghost use Rattle.eutxo.specs.Local.{spent_fault, whole_fault, places_of, judged_as, judged};
+ghost use Rattle.eutxo.specs.Local.{rules_12_to_19, rules_8_to_19, whole_fault, places_of, judged_as, judged};
 ghost use Rattle.eutxo.specs.Rules.{too_many_contracts, not_preserved, wrong_datum};
 
 use crate::datum_rule::wrong_datum;
@@ -31,7 +30,7 @@ fn judge_steps<V: Validator>(
 ) -> Result<Judged, Memory>
     requires few { too_many_contracts spent.now ≡ None }
     requires data { wrong_datum tx.now spent.now ≡ None }
-    ensures { IfOk result (λ judged. judged ≡ judged_as (first_of (step_fault_unless (wrong_datum tx.now spent.now) V.judges (script_at scripts.now) tx.now spent.now ∷ not_preserved spent.now tx.now.outputs ∷ wrong_datum tx.now spent.now ∷ [])) (places_in (blocks_on V.judges (script_at scripts.now) tx.now (Some spent.now)))) }
+    ensures { IfOk result (λ judged. judged ≡ rules_12_to_19 V.judges (script_at scripts.now) tx.now spent.now) }
 {
     let judged = step_fault(alloc, scripts, tx, spent)?;
     if judged.fault.is_some() {
@@ -66,7 +65,7 @@ fn judge_data_and_steps<V: Validator>(
     spent: &[Spent<'_>],
 ) -> Result<Judged, Memory>
     requires { too_many_contracts spent.now ≡ None }
-    ensures { IfOk result (λ judged. judged ≡ judged_as (first_of (step_fault_unless (wrong_datum tx.now spent.now) V.judges (script_at scripts.now) tx.now spent.now ∷ not_preserved spent.now tx.now.outputs ∷ wrong_datum tx.now spent.now ∷ [])) (places_in (blocks_on V.judges (script_at scripts.now) tx.now (Some spent.now)))) }
+    ensures { IfOk result (λ judged. judged ≡ rules_12_to_19 V.judges (script_at scripts.now) tx.now spent.now) }
 {
     match wrong_datum(alloc, tx, spent)? {
         None => judge_steps(alloc, scripts, tx, spent),
@@ -81,7 +80,7 @@ fn judge_whole<V: Validator>(
     tx: &Tx,
     spent: &[Spent<'_>],
 ) -> Result<Judged, Memory>
-    ensures { IfOk result (λ judged. judged ≡ judged_as (spent_fault V.judges (script_at scripts.now) tx.now spent.now) (places_in (blocks_on V.judges (script_at scripts.now) tx.now (Some spent.now)))) }
+    ensures { IfOk result (λ judged. judged ≡ rules_8_to_19 V.judges (script_at scripts.now) tx.now spent.now) }
 {
     if let Some(fault) = not_signed(tx.signers.as_slice(), spent) {
         return Ok(Judged::refused(fault));

@@ -1,11 +1,10 @@
 //! The rule of starts, and the choice between it and the rules of steps.
 ghost use Rattle.std.specs.Prelude.{◌≡◌, ◌<◌, length, take, IfOk, None, option_map, slice_get};
-ghost use Rattle.eutxo.specs.Blocks.{blocks, places_in, step_fault};
 ghost use Rattle.eutxo.specs.Faults.{first_index};
 ghost use Rattle.eutxo.specs.Found.{script_at};
 ghost use Rattle.eutxo_types.specs.Parts.{contract_in, contract_count, made_datums, contract_at};
-ghost use Rattle.eutxo.specs.Local.{judged_as};
-ghost use Rattle.eutxo.specs.Rules.{too_many_contracts, steps_of, starts_wrong, wrong_start};
+ghost use Rattle.eutxo.specs.Local.{rules_12_to_17};
+ghost use Rattle.eutxo.specs.Rules.{too_many_contracts, starts_wrong, wrong_start};
 
 use crate::block_rules::{block_fault, walk};
 use crate::judged::{Judged, judged_as};
@@ -94,7 +93,7 @@ pub fn step_fault<V: Validator>(
     spent: &[Spent<'_>],
 ) -> Result<Judged, Memory>
     requires { too_many_contracts spent.now ≡ None }
-    ensures { IfOk result (λ judged. judged ≡ judged_as (step_fault V.judges (script_at scripts.now) tx.now spent.now (steps_of spent.now tx.now.datums)) (places_in (blocks V.judges (script_at scripts.now) tx.now spent.now (steps_of spent.now tx.now.datums) 0))) }
+    ensures { IfOk result (λ judged. judged ≡ rules_12_to_17 V.judges (script_at scripts.now) tx.now spent.now) }
 {
     let walked = walk(alloc, scripts, tx, spent)?;
     // no contract is spent: there are as many places as steps

@@ -9,6 +9,7 @@
 mod encode;
 mod equal;
 mod fault;
+mod fits;
 mod id;
 mod laws;
 mod lock;
@@ -21,6 +22,7 @@ mod verdict;
 
 pub use encode::encode_tx;
 pub use fault::TxFault;
+pub use fits::fits_spelling;
 pub use id::{datum_hash, tx_id};
 pub use laws::{no_transaction_begins_another, worked_transactions};
 pub use lock::{ContractLock, Lock, PayoutRole};

@@ -18,9 +18,9 @@ use Rattle.serde_json.specs.Data.{Data, Items, no_items, item}
 use Rattle.serde_json.specs.Find.{as_array}
 use Rattle.serde_json.specs.View.{items_of}
 use Rattle.collections.specs.Answers.{◌>>=◌}
-use Rattle.json_read_names.specs.Parts.{Reading, needed, pair, whole_number}
+use Rattle.json_read_names.specs.Parts.{Reading, needed, pair}
 use Rattle.json_read_names.specs.ReadsNames.{token}
-use Rattle.json_read_inputs.specs.ReadsState.{account, account_row, amount_row, rows_into, rows}
+use Rattle.json_read_inputs.specs.ReadsState.{account, account_row_by, amount_row_by, rows_into, rows}
 use Rattle.json_read_inputs.specs.Rows.{and_then, until_fault}
 use Rattle.json_read_names.specs.declared.fault.JsonFault.{JsonFault}
 use Rattle.json_read_names.specs.declared.fault.JsonFault.TheVariants as faults
@@ -178,25 +178,25 @@ module _ {K : Type 0} where
           subst AllPositive (entries-from_sorted R es sorted) (all_positive empty (from_sorted es) needed.0 no_rows needed.1)
 
 -- an account that is read has more than 0
-account_row-positive : (d : Data) (e : Account × ℤ) → account_row d ≡ Ok e → pos 0 <ℤ e.1
-unfolding account_row
-account_row-positive d e h =
+account_row-positive : (number : Data → Reading ℤ) (d : Data) (e : Account × ℤ) → account_row_by number d ≡ Ok e → pos 0 <ℤ e.1
+unfolding account_row_by
+account_row-positive number d e h =
     let p = bind_ok (pair d) _ e h in
     let a = bind_ok (account p.0.0) _ e p.1 in
-    let n = bind_ok (whole_number p.0.1) _ e a.1 in
+    let n = bind_ok (number p.0.1) _ e a.1 in
     row_positive a.0 n.0 e n.1
 
 -- and so has an amount
-amount_row-positive : (d : Data) (e : Token × ℤ) → amount_row d ≡ Ok e → pos 0 <ℤ e.1
-unfolding amount_row
-amount_row-positive d e h =
+amount_row-positive : (number : Data → Reading ℤ) (d : Data) (e : Token × ℤ) → amount_row_by number d ≡ Ok e → pos 0 <ℤ e.1
+unfolding amount_row_by
+amount_row-positive number d e h =
     let p = bind_ok (pair d) _ e h in
     let t = bind_ok (token p.0.0) _ e p.1 in
-    let n = bind_ok (whole_number p.0.1) _ e t.1 in
+    let n = bind_ok (number p.0.1) _ e t.1 in
     row_positive t.0 n.0 e n.1
 
-pub accounts_positive : (d : Data) (es : List (Account × ℤ)) → T (is_sorted account_cmp es) → rows account_cmp account_row d ≡ Ok (from_sorted es) → AllPositive es
-accounts_positive = rows-positive account_cmp account_total account_row account_row-positive
+pub accounts_positive : (number : Data → Reading ℤ) (d : Data) (es : List (Account × ℤ)) → T (is_sorted account_cmp es) → rows account_cmp (account_row_by number) d ≡ Ok (from_sorted es) → AllPositive es
+accounts_positive number = rows-positive account_cmp account_total (account_row_by number) (account_row-positive number)
 
-pub amounts_positive : (d : Data) (es : List (Token × ℤ)) → T (is_sorted token_cmp es) → rows token_cmp amount_row d ≡ Ok (from_sorted es) → AllPositive es
-amounts_positive = rows-positive token_cmp token_total amount_row amount_row-positive
+pub amounts_positive : (number : Data → Reading ℤ) (d : Data) (es : List (Token × ℤ)) → T (is_sorted token_cmp es) → rows token_cmp (amount_row_by number) d ≡ Ok (from_sorted es) → AllPositive es
+amounts_positive number = rows-positive token_cmp token_total (amount_row_by number) (amount_row-positive number)

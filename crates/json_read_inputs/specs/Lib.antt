@@ -1,3 +1,4 @@
 pub mod ReadsInput
+pub mod ReadsNumber
 pub mod ReadsState
 pub mod Rows

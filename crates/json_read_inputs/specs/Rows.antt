@@ -1,9 +1,17 @@
 -- No reader needs this file: it serves the proofs of this crate and those above it.
--- How the rows of a map are read in one pass, and their keys looked at after it.
-use Rattle.std.specs.Prelude.{List, [], ◌∷◌, ◌++◌, Option, Some, None, Ok, Err}
+-- How the rows of a map are read in one pass, and their keys looked at after it; and how their numbers are read.
+use Rattle.std.specs.Prelude.{ℤ, List, [], ◌∷◌, ◌++◌, Option, Some, None, Ok, Err}
 use Rattle.serde_json.specs.Data.{Data, Items, no_items, item}
-use Rattle.json_read_names.specs.Parts.{Reading}
+use Rattle.json_read_names.specs.Parts.{Reading, whole_number}
 use Rattle.json_read_names.specs.declared.fault.JsonFault.{JsonFault}
+use Rattle.json_read_inputs.specs.ReadsNumber.{number_or_text}
+use Rattle.json_read_inputs.specs.declared.numbers.Numbers.{Numbers}
+use Rattle.json_read_inputs.specs.declared.numbers.Numbers.TheVariants as numbers
+
+-- the reading of a number
+abbrev pub number_by : Numbers → Data → Reading ℤ
+number_by numbers.Whole = whole_number
+number_by numbers.OrTexts = number_or_text
 
 -- with a row behind those before, or at a fault
 abbrev pub and_then : {E : Type 0} → List E → Reading E → (List E → List E × Option JsonFault) → List E × Option JsonFault

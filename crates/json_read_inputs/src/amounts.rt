@@ -5,12 +5,27 @@ ghost use Rattle.collections.specs.Answers.{AsideBy};
 ghost use Rattle.collections.specs.Positive.{AllPositive};
 ghost use Rattle.names.specs.Orders.{account_cmp, token_cmp};
 ghost use Rattle.json_read_inputs.specs.ReadsState as reads;
+ghost use Rattle.json_read_inputs.specs.Rows.{number_by};
 
+use crate::numbers::Numbers;
 use crate::rows::entries_from_json;
 use contract::{Account, Entries, Token};
 use json_read_names::JsonFault;
 use json_tree::JsonValue;
 use std::alloc::Global;
+
+// What accounts hold, by the reading of a number.
+pub(crate) fn accounts_by<J: JsonValue>(
+    alloc: Global,
+    json: &J,
+    numbers: Numbers,
+) -> Result<Entries<Account, i128>, JsonFault>
+    ensures reading { AsideBy JsonFault.Memory from_sorted result (reads.rows account_cmp (reads.account_row_by (number_by numbers)) (J.json json.now)) }
+    ensures positive { IfOk result AllPositive }
+{
+    let accounts = entries_from_json::<J, Account>(alloc, json, numbers)?;
+    Ok(accounts)
+}
 
 /// What accounts hold, above 0 and in the token's smallest unit, by the list that a JSON value is: of each account its
 /// party, its token and the number. A number of 0 or less, or an account that is given twice, is `BadState`.
@@ -21,8 +36,7 @@ pub fn accounts_from_json<J: JsonValue>(
     ensures reading { AsideBy JsonFault.Memory from_sorted result (reads.rows account_cmp reads.account_row (J.json json.now)) }
     ensures positive { IfOk result AllPositive }
 {
-    let accounts = entries_from_json::<J, Account>(alloc, json)?;
-    Ok(accounts)
+    accounts_by(alloc, json, Numbers::Whole)
 }
 
 /// The amounts of tokens, above 0 and in the token's smallest unit, by the list that a JSON value is: of each token
@@ -34,6 +48,6 @@ pub fn amounts_from_json<J: JsonValue>(
     ensures reading { AsideBy JsonFault.Memory from_sorted result (reads.rows token_cmp reads.amount_row (J.json json.now)) }
     ensures positive { IfOk result AllPositive }
 {
-    let amounts = entries_from_json::<J, Token>(alloc, json)?;
+    let amounts = entries_from_json::<J, Token>(alloc, json, Numbers::Whole)?;
     Ok(amounts)
 }

@@ -9,22 +9,27 @@ ghost use Rattle.serde_json.specs.View.{items_of};
 ghost use Rattle.json_read_names.specs.Parts.{Reading};
 ghost use Rattle.json_read_names.specs.declared.fault.JsonFault.TheVariants as faults;
 ghost use Rattle.json_read_inputs.specs.ReadsState as reads;
-ghost use Rattle.json_read_inputs.specs.Rows.{until_fault};
+ghost use Rattle.json_read_inputs.specs.Rows.{number_by, until_fault};
 
+use crate::numbers::{Numbers, read_number};
 use contract::{Account, ChoiceId, Entries, Text, Token};
 use json_read_names::{
-    JsonFault, choice_id_from_json, pair, party_from_json, read_text, read_whole, token_from_json,
+    JsonFault, choice_id_from_json, pair, party_from_json, read_text, token_from_json,
 };
 use json_tree::JsonValue;
 use std::alloc::Global;
 
 // A key of a map, by how a row of the map is read.
 pub(crate) trait RowKey: Ord {
-    // What a row stands for.
-    ghost reading: { Data → Reading (Self × ℤ) };
+    // What a row stands for, by the reading of its number.
+    ghost reading: { (Data → Reading ℤ) → Data → Reading (Self × ℤ) };
 
-    fn row_from_json<J: JsonValue>(alloc: Global, json: &J) -> Result<(Self, i128), JsonFault>
-        ensures { Aside JsonFault.Memory result (reading (J.json json.now)) };
+    fn row_from_json<J: JsonValue>(
+        alloc: Global,
+        json: &J,
+        numbers: Numbers,
+    ) -> Result<(Self, i128), JsonFault>
+        ensures { Aside JsonFault.Memory result (reading (number_by numbers) (J.json json.now)) };
 
     // Only equal keys tie.
     ghost exact: { IsAntisymmetric Self.cmp };
@@ -40,13 +45,17 @@ fn account_from_json<J: JsonValue>(alloc: Global, json: &J) -> Result<Account, J
 }
 
 impl RowKey for Account {
-    ghost reading = { reads.account_row };
+    ghost reading = { reads.account_row_by };
 
-    #[tactic(auto, unfolding(crate::specs::ReadsState::account_row))]
-    fn row_from_json<J: JsonValue>(alloc: Global, json: &J) -> Result<(Account, i128), JsonFault> {
+    #[tactic(auto, unfolding(crate::specs::ReadsState::account_row_by))]
+    fn row_from_json<J: JsonValue>(
+        alloc: Global,
+        json: &J,
+        numbers: Numbers,
+    ) -> Result<(Account, i128), JsonFault> {
         let (key, number) = pair(json)?;
         let account = account_from_json(alloc, key)?;
-        let amount = read_whole(number)?;
+        let amount = read_number(alloc, number, numbers)?;
         if amount > 0 {
             Ok((account, amount))
         } else {
@@ -58,13 +67,17 @@ impl RowKey for Account {
 }
 
 impl RowKey for Token {
-    ghost reading = { reads.amount_row };
+    ghost reading = { reads.amount_row_by };
 
-    #[tactic(auto, unfolding(crate::specs::ReadsState::amount_row))]
-    fn row_from_json<J: JsonValue>(alloc: Global, json: &J) -> Result<(Token, i128), JsonFault> {
+    #[tactic(auto, unfolding(crate::specs::ReadsState::amount_row_by))]
+    fn row_from_json<J: JsonValue>(
+        alloc: Global,
+        json: &J,
+        numbers: Numbers,
+    ) -> Result<(Token, i128), JsonFault> {
         let (key, number) = pair(json)?;
         let token = token_from_json(alloc, key)?;
-        let amount = read_whole(number)?;
+        let amount = read_number(alloc, number, numbers)?;
         if amount > 0 {
             Ok((token, amount))
         } else {
@@ -76,13 +89,17 @@ impl RowKey for Token {
 }
 
 impl RowKey for ChoiceId {
-    ghost reading = { reads.choice_row };
+    ghost reading = { reads.choice_row_by };
 
-    #[tactic(auto, unfolding(crate::specs::ReadsState::choice_row))]
-    fn row_from_json<J: JsonValue>(alloc: Global, json: &J) -> Result<(ChoiceId, i128), JsonFault> {
+    #[tactic(auto, unfolding(crate::specs::ReadsState::choice_row_by))]
+    fn row_from_json<J: JsonValue>(
+        alloc: Global,
+        json: &J,
+        numbers: Numbers,
+    ) -> Result<(ChoiceId, i128), JsonFault> {
         let (key, number) = pair(json)?;
         let id = choice_id_from_json(alloc, key)?;
-        let number = read_whole(number)?;
+        let number = read_number(alloc, number, numbers)?;
         Ok((id, number))
     }
 
@@ -90,13 +107,17 @@ impl RowKey for ChoiceId {
 }
 
 impl RowKey for Text {
-    ghost reading = { reads.bound_row };
+    ghost reading = { reads.bound_row_by };
 
-    #[tactic(auto, unfolding(crate::specs::ReadsState::bound_row))]
-    fn row_from_json<J: JsonValue>(alloc: Global, json: &J) -> Result<(Text, i128), JsonFault> {
+    #[tactic(auto, unfolding(crate::specs::ReadsState::bound_row_by))]
+    fn row_from_json<J: JsonValue>(
+        alloc: Global,
+        json: &J,
+        numbers: Numbers,
+    ) -> Result<(Text, i128), JsonFault> {
         let (key, number) = pair(json)?;
         let name = read_text(alloc, key)?;
-        let value = read_whole(number)?;
+        let value = read_number(alloc, number, numbers)?;
         Ok((name, value))
     }
 
@@ -107,13 +128,14 @@ impl RowKey for Text {
 fn rows_until_fault<J: JsonValue, K: RowKey + Drop>(
     alloc: Global,
     items: &[J],
+    numbers: Numbers,
 ) -> Result<(Vec<(K, i128)>, Option<JsonFault>), JsonFault>
-    ensures ok { IfOk result (λ read. (read.0.items, read.1) ≡ until_fault K.reading [] (items_of (map J.json items.now))) }
+    ensures ok { IfOk result (λ read. (read.0.items, read.1) ≡ until_fault (K.reading (number_by numbers)) [] (items_of (map J.json items.now))) }
     ensures err { IfErr result (λ fault. fault ≡ faults.Memory) }
 {
     let mut rows = Vec::with_capacity(alloc, items.len())?;
     for item in items {
-        match K::row_from_json(alloc, item) {
+        match K::row_from_json(alloc, item, numbers) {
             Ok(row) => rows.push(row)?,
             Err(JsonFault::Memory) => return Err(JsonFault::Memory),
             Err(fault) => return Ok((rows, Some(fault))),
@@ -126,12 +148,13 @@ fn rows_until_fault<J: JsonValue, K: RowKey + Drop>(
 pub(crate) fn entries_from_json<J: JsonValue, K: RowKey + Drop>(
     alloc: Global,
     json: &J,
+    numbers: Numbers,
 ) -> Result<Entries<K, i128>, JsonFault>
-    ensures reading { AsideBy JsonFault.Memory from_sorted result (reads.rows K.cmp K.reading (J.json json.now)) }
+    ensures reading { AsideBy JsonFault.Memory from_sorted result (reads.rows K.cmp (K.reading (number_by numbers)) (J.json json.now)) }
     ensures sorted { IfOk result (λ entries. T (is_sorted K.cmp entries)) }
 {
     let items = json.items().ok_or(JsonFault::NoForm)?;
-    let (rows, fault) = rows_until_fault::<J, K>(alloc, items)?;
+    let (rows, fault) = rows_until_fault::<J, K>(alloc, items, numbers)?;
     match Entries::from_vec(rows) {
         None => Err(JsonFault::BadState),
         Some(entries) => match fault {

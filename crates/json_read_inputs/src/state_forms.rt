@@ -1,24 +1,42 @@
 //! States as JSON values.
 ghost use Rattle.collections.specs.Answers.{Aside};
 ghost use Rattle.json_read_inputs.specs.ReadsState as reads;
+ghost use Rattle.json_read_inputs.specs.Rows.{number_by};
 
-use crate::amounts::accounts_from_json;
+use crate::amounts::accounts_by;
+use crate::numbers::Numbers;
 use crate::rows::entries_from_json;
 use contract::{ChoiceId, State, Text};
 use json_read_names::{JsonFault, has_two, member, read_time};
 use json_tree::JsonValue;
 use std::alloc::Global;
 
-/// The state that a JSON value stands for.
-pub fn state_from_json<J: JsonValue>(alloc: Global, json: &J) -> Result<State, JsonFault>
-    ensures reading { Aside JsonFault.Memory result (reads.state (J.json json.now)) }
+// The state that a JSON value stands for, by the reading of a number.
+fn state_by<J: JsonValue>(alloc: Global, json: &J, numbers: Numbers) -> Result<State, JsonFault>
+    ensures { Aside JsonFault.Memory result (reads.state_by (number_by numbers) (J.json json.now)) }
 {
     if !(has_two(json, "accounts", "choices") && has_two(json, "boundValues", "minTime")) {
         return Err(JsonFault::NoForm);
     }
-    let accounts = accounts_from_json(alloc, member(json, "accounts")?)?;
-    let choices = entries_from_json::<J, ChoiceId>(alloc, member(json, "choices")?)?;
-    let bound_values = entries_from_json::<J, Text>(alloc, member(json, "boundValues")?)?;
+    let accounts = accounts_by(alloc, member(json, "accounts")?, numbers)?;
+    let choices = entries_from_json::<J, ChoiceId>(alloc, member(json, "choices")?, numbers)?;
+    let bound_values = entries_from_json::<J, Text>(alloc, member(json, "boundValues")?, numbers)?;
     let min_time = read_time(member(json, "minTime")?)?;
     Ok(State::from_entries(accounts, choices, bound_values, min_time))
+}
+
+/// The state that a JSON value stands for.
+pub fn state_from_json<J: JsonValue>(alloc: Global, json: &J) -> Result<State, JsonFault>
+    ensures reading { Aside JsonFault.Memory result (reads.state (J.json json.now)) }
+{
+    state_by(alloc, json, Numbers::Whole)
+}
+
+/// The state that a JSON value stands for, where a number of an account, a choice or a bound value may also be the text of
+/// a number from -2^127 to 2^127 - 1: its decimal digits as they are written, with `-` before one below 0. Another text is
+/// `NoForm`. The minimum time is a number.
+pub fn state_with_texts_from_json<J: JsonValue>(alloc: Global, json: &J) -> Result<State, JsonFault>
+    ensures reading { Aside JsonFault.Memory result (reads.state_with_texts (J.json json.now)) }
+{
+    state_by(alloc, json, Numbers::OrTexts)
 }

@@ -2,6 +2,7 @@
 ghost use Rattle.std.specs.Prelude.{◌≡◌, None, IfOk, position, is_none};
 ghost use Rattle.eutxo_types.specs.declared.fault.TxFault.TheVariants as TxFault;
 ghost use Rattle.eutxo_types.specs.Ids.{id_of};
+ghost use Rattle.eutxo.specs.Checks.{BeginWith};
 ghost use Rattle.eutxo.specs.Found.{is_known};
 ghost use Rattle.eutxo.specs.Local.{tx_fault, judged};
 ghost use Rattle.eutxo.specs.Faults.{fault_at};
@@ -11,7 +12,7 @@ ghost use Rattle.ledger.specs.ResolveSupport.{moment_fault};
 use crate::found::{outputs_found, with_scripts};
 use crate::ledger::{Ledger, Resolves};
 use collections::Memory;
-use eutxo::{Checked, Judged, Resolved, Validator, judge_spent, rejudge, tx_fault};
+use eutxo::{Checked, Judged, Resolved, Validator, judge_spent, kept_among, tx_fault};
 use eutxo_types::{Lock, Output, Tx, TxFault};
 use std::alloc::Global;
 
@@ -91,26 +92,27 @@ fn moment_fault<V, L: Ledger<V>>(
     unknown_script(ledger, tx)
 }
 
-// The local judgement on what was found, where rules 1 to 3 don't refuse: by the checks at hand, where one is of it,
-// else by the rules after the resolution alone.
+// The local judgement on what was found, where rules 1 to 3 don't refuse: by the transaction's checks at hand, where one
+// is of it, else by the rules after the resolution alone.
 fn judge_found<V: Validator>(
     alloc: Global,
     tx: &Tx,
     found: &Resolved<V>,
-    cache: &[Checked<V>],
+    checks: &[Checked<V>],
 ) -> Result<Judged, Memory>
-    requires { tx_fault tx.now ≡ None }
+    requires fault { tx_fault tx.now ≡ None }
+    requires checks { BeginWith tx.now checks.now }
     ensures { IfOk result (λ answer. answer ≡ judged V.judges tx.now found.now) }
 {
-    match cache.iter().position(|c| c.is_of(tx, found)) {
-        Some(i) => rejudge(alloc, tx, found, &cache[i..]),
+    match kept_among(checks, tx, found)? {
+        Some(kept) => Ok(kept),
         None => judge_spent(alloc, tx, found),
     }
 }
 
 /// The judgement of a transaction, whose id is lent, on a ledger: the fault of the first of all rules that refuses, if
-/// one does, and else the places in which the contracts go on that it spends. `cache` has checks that were made before:
-/// where one is of this transaction with a resolution equal to what is found here, no script is asked again. They
+/// one does, and else the places in which the contracts go on that it spends. `checks` are those that were made of it
+/// before (`eutxo::checks_of`): where one has a resolution equal to what is found here, no script is asked again. They
 /// change no answer. Answers `Memory` only where a growth was refused, or where a script counts more payments than
 /// outputs can have places.
 #[tactic(auto, using(crate::proofs::MomentLemmas::judged_first, crate::proofs::MomentLemmas::judged_last))]
@@ -119,9 +121,10 @@ pub fn judge<V: Validator + Drop, L: Ledger<V>>(
     ledger: &L,
     tx: &Tx,
     id: &[u8; 32],
-    cache: &[Checked<V>],
+    checks: &[Checked<V>],
 ) -> Result<Judged, Memory>
-    requires { id.now ≡ id_of tx.now }
+    requires id { id.now ≡ id_of tx.now }
+    requires checks { BeginWith tx.now checks.now }
     ensures { IfOk result (λ answer. answer ≡ judgement V.judges (L.moment ledger.now) tx.now) }
 {
     if let Some(fault) = tx_fault(tx) {
@@ -132,5 +135,5 @@ pub fn judge<V: Validator + Drop, L: Ledger<V>>(
         return Ok(Judged::refused(fault));
     }
     let found = with_scripts(alloc, ledger, tx, outputs)?;
-    judge_found(alloc, tx, &found, cache)
+    judge_found(alloc, tx, &found, checks)
 }

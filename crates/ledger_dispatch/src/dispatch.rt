@@ -3,6 +3,7 @@ ghost use Rattle.std.specs.Prelude.{◌≡◌, ◌≤◌, ◌⊎◌, IfOk, IfErr
 ghost use Rattle.compiler.specs.declared.fault.CompileFault.TheVariants as faults;
 ghost use Rattle.eutxo_types.specs.Fitting.{TxFits};
 ghost use Rattle.eutxo_types.specs.Ids.{id_of};
+ghost use Rattle.eutxo.specs.Checks.{BeginWith};
 ghost use Rattle.eutxo.specs.Local.{verdict_of};
 ghost use Rattle.ledger.specs.declared.call.Reply.TheVariants as replies;
 ghost use Rattle.ledger_spec.specs.Replay.{published_at, publication, with_object, World, world};
@@ -16,8 +17,8 @@ ghost use Rattle.ledger_dispatch.specs.DispatchSupport.{fault_in, judged_in, Can
 use chain_index::{Index, IndexAt, index_accepts_alike, index_publishes_alike, index_reads_alike};
 use collections::{Bytes, Items, Memory, TryClone};
 use contract::Contract;
-use eutxo::{Checked, Judged, Shared, verdict_of};
-use eutxo_types::{Tx, TxFault, tx_id};
+use eutxo::{Checked, Judged, Shared, checks_of, id_at_hand, verdict_of};
+use eutxo_types::{Tx, TxFault, fits_spelling};
 use ledger::{Ask, Call, Reply, Ticketed, judge};
 use ledger_kept::Kept;
 use ledger_laws::{accepting_is_sound, publishing_is_sound};
@@ -42,19 +43,20 @@ fn each_is_judged_alike()
 }
 
 // instance below: the judgement on a ledger, at an index.
-// The judgement of a transaction by what is indexed at a tick. Its id is lent.
+// The judgement of a transaction by what is indexed at a tick. Its id and its checks are lent.
 fn judged_at(
     alloc: Global,
     index: &Index,
     tick: &i64,
     tx: &Tx,
     id: &[u8; 32],
-    cache: &[Checked<Published>],
+    checks: &[Checked<Published>],
 ) -> Result<Judged, Memory>
-    requires { id.now ≡ id_of tx.now }
+    requires id { id.now ≡ id_of tx.now }
+    requires checks { BeginWith tx.now checks.now }
     ensures { IfOk result (λ answer. answer ≡ judged_in index.now.present tick.now tx.now) }
 {
-    judge(alloc, &IndexAt { index, tick: *tick }, tx, id, cache)
+    judge(alloc, &IndexAt { index, tick: *tick }, tx, id, checks)
 }
 
 // .. at the ledger's tick.
@@ -64,12 +66,32 @@ fn judged(
     index: &Index,
     tx: &Tx,
     id: &[u8; 32],
+    checks: &[Checked<Published>],
 ) -> Result<Judged, Memory>
-    requires { id.now ≡ id_of tx.now }
+    requires id { id.now ≡ id_of tx.now }
+    requires checks { BeginWith tx.now checks.now }
     ensures { IfOk result (λ answer. answer ≡ judged_in index.now.present (world kept.now).replay.tick tx.now) }
 {
     let tick = kept.tick();
-    judged_at(alloc, index, &tick, tx, id, kept.cache())
+    judged_at(alloc, index, &tick, tx, id, checks)
+}
+
+// instance below: the checks of a transaction, of those at hand.
+fn checks_at_hand<'a>(kept: &Kept<'a>, tx: &Tx) -> &'a [Checked<Published>]
+    ensures { BeginWith tx.now result.now }
+{
+    checks_of(kept.cache(), tx)
+}
+
+// .. and its id, by these. It fits its spelling.
+fn identified(alloc: Global, tx: &Tx, checks: &[Checked<Published>]) -> Result<[u8; 32], Memory>
+    requires { BeginWith tx.now checks.now }
+    ensures id { IfOk result (λ id. id ≡ id_of tx.now) }
+    ensures fits { TxFits tx.now }
+{
+    // touch: it fits its spelling
+    fits_spelling(tx);
+    id_at_hand(alloc, tx, checks)
 }
 
 // Adds a transaction, whose id is lent, where no fault of it was found.
@@ -87,7 +109,7 @@ fn accept_unless(index: &mut Index, tx: &Tx, id: &[u8; 32], judged: &Judged) -> 
 }
 
 // Judges a transaction by what is indexed, and adds it where no rule refuses it. Answers the fault and the
-// transaction's id, which is computed here alone.
+// transaction's id, which is computed here alone, where no check at hand has it.
 #[tactic(auto, using(crate::proofs::TiedLemmas::can_so, crate::proofs::TiedLemmas::places_so))]
 fn judge_and_accept(
     alloc: Global,
@@ -95,15 +117,18 @@ fn judge_and_accept(
     index: &mut Index,
     tx: &Tx,
 ) -> Result<(Option<TxFault>, [u8; 32]), Memory>
-    requires { fault_in index.old.present (world kept.now).replay.tick tx.now ≡ None → CanBeTaken index.old.present (world kept.now).replay.tick tx.now }
+    requires { fault_in index.old.present (world kept.now).replay.tick tx.now ≡ None
+        → CanBeTaken index.old.present (world kept.now).replay.tick tx.now }
     ensures fault { IfOk result (λ r. r.0 ≡ fault_in index.old.present (world kept.now).replay.tick tx.now) }
     ensures id { IfOk result (λ r. r.1 ≡ id_of tx.now) }
     ensures fits { IfOk result (λ r. TxFits tx.now) }
-    ensures present { OnOk result (index.new.present ≡ accepting_unless index.old.present tx.now (fault_in index.old.present (world kept.now).replay.tick tx.now)) }
+    ensures present { OnOk result (index.new.present
+        ≡ accepting_unless index.old.present tx.now (fault_in index.old.present (world kept.now).replay.tick tx.now)) }
     ensures settled { index.new.settled ≡ index.old.settled }
 {
-    let id = tx_id(alloc, tx)?;
-    let judged = judged(alloc, kept, index, tx, &id)?;
+    let checks = checks_at_hand(kept, tx);
+    let id = identified(alloc, tx, checks)?;
+    let judged = judged(alloc, kept, index, tx, &id, checks)?;
     accept_unless(index, tx, &id, &judged)?;
     let Judged { fault, .. } = judged;
     Ok((fault, id))
@@ -112,7 +137,8 @@ fn judge_and_accept(
 fn submit(alloc: Global, kept: &Kept<'_>, index: &mut Index, tx: &Tx) -> Result<Reply, Memory>
     requires tied { IsIndexOf index.old.present (world kept.now) }
     ensures reply { IfOk result (λ reply. reply ≡ submit_reply tx.now (fault_on (world kept.now) tx.now)) }
-    ensures tied { OnOk result (IsIndexOf index.new.present (with_accepted_unless (world kept.now) tx.now (fault_on (world kept.now) tx.now))) }
+    ensures tied { OnOk result (IsIndexOf index.new.present
+        (with_accepted_unless (world kept.now) tx.now (fault_on (world kept.now) tx.now))) }
     ensures settled { index.new.settled ≡ index.old.settled }
 {
     each_is_judged_alike();
@@ -131,10 +157,15 @@ fn judge_one(
     ticket: u64,
     tx: &Tx,
 ) -> Result<Ticketed, Memory>
-    requires { fault_in index.old.present (world kept.now).replay.tick tx.now ≡ None → CanBeTaken index.old.present (world kept.now).replay.tick tx.now }
-    ensures verdict { IfOk result (λ t. t ≡ record { ticket = ticket; verdict = verdict_of (fault_in index.old.present (world kept.now).replay.tick tx.now) }) }
+    requires { fault_in index.old.present (world kept.now).replay.tick tx.now ≡ None
+        → CanBeTaken index.old.present (world kept.now).replay.tick tx.now }
+    ensures verdict { IfOk result (λ t. t ≡ record {
+      ticket = ticket;
+      verdict = verdict_of (fault_in index.old.present (world kept.now).replay.tick tx.now);
+    }) }
     ensures fits { IfOk result (λ t. TxFits tx.now) }
-    ensures present { OnOk result (index.new.present ≡ accepting_unless index.old.present tx.now (fault_in index.old.present (world kept.now).replay.tick tx.now)) }
+    ensures present { OnOk result (index.new.present
+        ≡ accepting_unless index.old.present tx.now (fault_in index.old.present (world kept.now).replay.tick tx.now)) }
     ensures settled { index.new.settled ≡ index.old.settled }
 {
     let (fault, _) = judge_and_accept(alloc, kept, index, tx)?;
@@ -165,7 +196,8 @@ fn round(
 ) -> Result<Items<Ticketed>, Memory>
     requires tied { IsIndexOf index.old.present (world kept.now) }
     ensures places { IfOk result (λ places. places ≡ round_verdicts (world kept.now) (take count (world kept.now).replay.pending)) }
-    ensures tied { OnOk result (IsIndexOf index.new.present (with_places (world kept.now) (round_verdicts (world kept.now) (take count (world kept.now).replay.pending)))) }
+    ensures tied { OnOk result (IsIndexOf index.new.present
+        (with_places (world kept.now) (round_verdicts (world kept.now) (take count (world kept.now).replay.pending)))) }
     ensures settled { index.new.settled ≡ index.old.settled }
 {
     each_is_judged_alike();
@@ -244,7 +276,8 @@ fn shared<T: Drop>(alloc: Global, object: T) -> Result<Shared<T>, Memory>
 // Adds an object where it is new, and answers the reply.
 fn publish_object(alloc: Global, index: &mut Index, object: Published) -> Result<Reply, Memory>
     ensures reply { IfOk result (λ reply. reply ≡ publish_reply_beside object (published_at index.old.present.published object.id)) }
-    ensures present { OnOk result (index.new.present ≡ record index.old.present { published = with_object index.old.present.published (Ok object) }) }
+    ensures present { OnOk result (index.new.present
+        ≡ record index.old.present { published = with_object index.old.present.published (Ok object) }) }
     ensures settled { index.new.settled ≡ index.old.settled }
 {
     let (reply, is_new) = publish_reply(index, &object);
@@ -261,8 +294,10 @@ fn publish_as(
     contract: &Contract,
     currency: &Bytes,
 ) -> Result<Reply, Memory>
-    ensures reply { IfOk result (λ reply. (w : World) → IsIndexOf index.old.present w → reply ≡ publish_reply w (publication contract.now currency.now)) }
-    ensures tied { OnOk result ((w : World) → IsIndexOf index.old.present w → IsIndexOf index.new.present (record w { published = with_object w.published (publication contract.now currency.now) })) }
+    ensures reply { IfOk result (λ reply. (w : World) → IsIndexOf index.old.present w
+        → reply ≡ publish_reply w (publication contract.now currency.now)) }
+    ensures tied { OnOk result ((w : World) → IsIndexOf index.old.present w → IsIndexOf index.new.present
+        (record w { published = with_object w.published (publication contract.now currency.now) })) }
     ensures settled { index.new.settled ≡ index.old.settled }
 {
     publishing_is_sound::<Published>();

@@ -8,4 +8,6 @@ pub mod Publishing
 pub mod Standing
 pub mod Shown
 pub mod Open
+pub mod AcceptedAt
+pub mod ThreadsShown
 pub mod Headline

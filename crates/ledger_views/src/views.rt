@@ -108,8 +108,8 @@ fn look_at(alloc: Global, index: &Index, tick: i64, ask: &Ask) -> Result<Look, M
     })
 }
 
-/// What a look shows. The asked thread costs one look-up for each of its steps; the outputs under locks cost one walk
-/// over the unspent outputs for keys and one for payouts. Answers `Memory` only where a growth was refused.
+/// What a look shows. The asked thread costs one look-up for each of its steps; the outputs under locks cost what is asked
+/// and what is shown. Answers `Memory` only where a growth was refused.
 pub fn show(alloc: Global, kept: &Kept<'_>, index: &Index, ask: &Ask) -> Result<Look, Memory>
     requires tied { IsIndexOf index.now.present (world kept.now) }
     ensures { IfOk result (λ shown. shown ≡ look (world kept.now) ask.now) }

@@ -1,6 +1,7 @@
 -- What is printed of a contract and a state.
 use Rattle.std.proofs.Common.{◌≡◌, ◌≢◌, ℕ, suc, arith, Bool, true, List, [], ◌∷◌, length, map, refl, sym, ap, ◌∙◌, subst}
 use Rattle.std.specs.Prelude.{Contains, ◌↔◌, ◌==◌}
+use Rattle.std.specs.List.{AllByRecursion}
 use Rattle.std.proofs.lemmas.List.Elements.{All-from_recursion, recursion_from_All, All-contains, All-contains_itself, All-weaker}
 use Rattle.std.proofs.lemmas.Bool.Decides.{Decides-eqb}
 use Rattle.contract.specs.Tree.{ContractTree}
@@ -9,7 +10,7 @@ use Rattle.analysis_spec.specs.declared.kind.AlarmKind.{AlarmKind}
 use Rattle.analysis_spec.specs.declared.kind.AlarmKind.TheVariants.{Leaves128}
 use Rattle.analysis_spec.specs.declared.alarm.Alarm.{Alarm}
 use Rattle.analysis_spec.specs.declared.paid.PaidRange.{PaidRange}
-use Rattle.analysis_spec.specs.Analysed.{IsSilent, NamesWhatComes, StaysUnlessTold, PaysWithinRanges, PaysOthersNothing}
+use Rattle.analysis_spec.specs.Analysed.{IsSilent, NamesWhatComes, NamesWhereItComes, StaysUnlessTold, NamesWhereItLeaves, PaysWithinRanges, PaysOthersNothing}
 use Rattle.marlowe_analyse.specs.declared.analysed.Reader.{Reader}
 use Rattle.marlowe_analyse.specs.declared.told.ToldAlarm.{ToldAlarm}
 use Rattle.marlowe_analyse.specs.Told.{Alarms, without_runs, NeverAlarms}
@@ -17,10 +18,9 @@ use Rattle.marlowe_analyse.specs.ToldLines.{Line, line_at, line_of}
 use Rattle.marlowe_analyse.specs.Printed.{printed, TellsOfTree}
 use Rattle.marlowe_analyse.specs.RunsSupport.{TellsAll}
 
--- where no alarm of these is of a kind, none of fewer is
-silent : (all alarms : List Alarm) (kind : AlarmKind) → ((a : Alarm) → Contains alarms a → Contains all a) → IsSilent all kind → IsSilent alarms kind
-silent all alarms kind h z =
-    let P : Alarm → Type 0 = λ a. a.kind ≢ kind in
+-- what is so of each alarm of these is so of each of fewer
+fewer : (P : Alarm → Type 0) (all alarms : List Alarm) → ((a : Alarm) → Contains alarms a → Contains all a) → AllByRecursion P all → AllByRecursion P alarms
+fewer P all alarms h z =
     let whole = All-from_recursion P all z in
     recursion_from_All P alarms (All-weaker (Contains alarms) P (λ a p. All-contains P all a whole (h a p)) alarms (All-contains_itself alarms))
 
@@ -36,15 +36,17 @@ same_empty f g [] [] e h = refl
 same_empty f g [] (y ∷ ys) e h = absurd (cc)
 same_empty f g (x ∷ xs) ys e h = absurd (cc)
 
-pub tells_of_tree : (reader : Reader) (s : StateMaps) (c : ContractTree) (alarms : List Alarm) (ranges : List PaidRange) (told : List ToldAlarm) (clear : Bool) (out : List ℕ) → NamesWhatComes alarms s c → StaysUnlessTold alarms s c
+pub tells_of_tree : (reader : Reader) (s : StateMaps) (c : ContractTree) (alarms : List Alarm) (ranges : List PaidRange) (told : List ToldAlarm) (clear : Bool) (out : List ℕ) → NamesWhereItComes alarms s c → NamesWhereItLeaves alarms s c → NamesWhatComes alarms s c → StaysUnlessTold alarms s c
     → PaysWithinRanges ranges s c → PaysOthersNothing ranges s c → TellsAll s c alarms told → (clear ≡ true ↔ told ≡ []) → out ≡ printed reader (map line_of told) ranges → TellsOfTree reader s c clear out
-tells_of_tree reader s c alarms ranges told clear out names stays paid unpaid t k e =
+tells_of_tree reader s c alarms ranges told clear out places leaving names stays paid unpaid t k e =
     let all = t.0 in (
       all,
       ranges,
       record {
-        warnings = λ kind z. names kind (silent (without_runs all) alarms kind t.2 z);
-        numbers = λ z. stays (silent (without_runs all) alarms Leaves128 t.2 z);
+        places = λ kind place z. places kind place (fewer (λ (a : Alarm). a.kind ≡ kind → a.place ≢ place) (without_runs all) alarms t.2 z);
+        leaving = λ place z. leaving place (fewer (λ (a : Alarm). a.kind ≡ Leaves128 → a.place ≢ place) (without_runs all) alarms t.2 z);
+        warnings = λ kind z. names kind (fewer (λ (a : Alarm). a.kind ≢ kind) (without_runs all) alarms t.2 z);
+        numbers = λ z. stays (fewer (λ (a : Alarm). a.kind ≢ Leaves128) (without_runs all) alarms t.2 z);
         runs = t.1.ends;
         paid = paid;
         unpaid = unpaid;

@@ -13,7 +13,7 @@ use Rattle.analysis_spec.specs.declared.kind.AlarmKind.{AlarmKind}
 use Rattle.analysis_spec.specs.Promises.{NeverWarns, StaysWithin128}
 use Rattle.analysis_spec.specs.declared.alarm.Alarm.{Alarm}
 use Rattle.analysis_spec.specs.declared.paid.PaidRange.{PaidRange}
-use Rattle.analysis_spec.specs.Analysed.{NamesWhatComes, StaysUnlessTold, PaysWithinRanges, PaysOthersNothing}
+use Rattle.analysis_spec.specs.Analysed.{NamesWhatComes, NamesWhereItComes, StaysUnlessTold, NamesWhereItLeaves, PaysWithinRanges, PaysOthersNothing}
 use Rattle.analysis_spec.specs.CounterRuns.{EndsIn}
 
 -- alarms, and of each a run that ends in it where one is known
@@ -27,8 +27,11 @@ without_runs = map (λ (a : Alarm × Option (List Transaction)). a.0)
 abbrev pub EndSo : StateMaps → ContractTree → Alarms → Type 0
 EndSo s c = AllByRecursion (λ (a : Alarm × Option (List Transaction)). IfSome a.1 (EndsIn a.0.kind (standing s c)))
 
--- a kind without an alarm never comes, each run ends in its alarm, and what is paid lies in its range, or is nothing
+-- a kind never comes at a place without an alarm of it, and one without any alarm never comes; each run ends in its alarm, and
+-- what is paid lies in its range, or is nothing
 pub record IsSo (s : StateMaps) (c : ContractTree) (alarms : Alarms) (ranges : List PaidRange) : Type 0 where
+  pub places : NamesWhereItComes (without_runs alarms) s c
+  pub leaving : NamesWhereItLeaves (without_runs alarms) s c
   pub warnings : NamesWhatComes (without_runs alarms) s c
   pub numbers : StaysUnlessTold (without_runs alarms) s c
   pub runs : EndSo s c alarms

@@ -6,4 +6,5 @@ pub mod Putting
 pub mod Shares
 pub mod Offering
 pub mod OneInput
+pub mod Openings
 pub mod Worked

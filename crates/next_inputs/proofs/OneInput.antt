@@ -37,7 +37,7 @@ abbrev by_tests : Bool → Bool → Walk → Walk
 by_tests b d w = cond b (ended (Err InvalidInterval)) (cond d (ended (Err IntervalInPast)) w)
 
 -- an opening that ends well: the interval is fixed, and the contract settles
-opened : (i : Interval) (s : StateMaps) (c : ContractTree) (a : Standing) → answer_of (opening i s c) ≡ Ok a
+pub opened : (i : Interval) (s : StateMaps) (c : ContractTree) (a : Standing) → answer_of (opening i s c) ≡ Ok a
     → (Ok (trimmed i s) ≡ fixed i s) × (answer_of (settled (trimmed i s) (begun i s) c) ≡ Ok a) × (opening i s c ≡ settled (trimmed i s) (begun i s) c)
 opened i s c a h = by (int_lt i.to i.from) (int_lt i.to s.min_time) h
   where

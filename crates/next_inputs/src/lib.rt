@@ -5,11 +5,15 @@ mod cases;
 mod claiming;
 mod lane;
 mod laws;
+mod next;
 mod offer;
+mod reduction;
 mod sharing;
 mod waiting;
 
 pub use cases::offers;
 pub use laws::{a_when_waits_to_the_last, one_input_is_computed_so, worked_inputs_next};
+pub use next::{NextInputs, next_inputs};
 pub use offer::Offer;
+pub use reduction::{Opened, opening};
 pub use waiting::waits_until;

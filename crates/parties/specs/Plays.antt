@@ -14,8 +14,7 @@ use Rattle.ledger.specs.declared.look.Unspent.{Unspent}
 use Rattle.builder_spec.specs.declared.fault.BuildFault.{BuildFault}
 use Rattle.builder_spec.specs.Built.{build_answer}
 use Rattle.builder_spec.specs.Requests.{Part, StepRequest, request, StepsRequest, steps_request, ClaimRequest, claim_request}
-use Rattle.builder_spec.specs.Parts.{hinders_steps, layout_steps}
-use Rattle.builder_spec.specs.Steps.{hinders_step, layout_step}
+use Rattle.builder_spec.specs.Parts.{hinders_steps, layout_steps, hinders_step, layout_step}
 use Rattle.builder_spec.specs.Claims.{hinders_claim, layout_claim}
 use Rattle.plans.specs.declared.intent.Intent.{Intent}
 use Rattle.plans.specs.declared.intent.Intent.TheVariants.{Step, Steps, Claim, Round, Advance}

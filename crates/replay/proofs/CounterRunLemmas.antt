@@ -7,7 +7,8 @@ use Rattle.semantics.specs.Walk.{Walk, Standing, answer_of}
 use Rattle.analysis_spec.specs.declared.kind.AlarmKind.{AlarmKind}
 use Rattle.analysis_spec.specs.declared.kind.AlarmKind.TheVariants.{NonPositiveDeposit, NonPositivePay, PartialPay, Shadowing, AssertionFailed, Leaves128}
 use Rattle.analysis_spec.specs.Runs.{walk_from}
-use Rattle.analysis_spec.specs.CounterRuns.{HasKind, Tells, EndsIn}
+use Rattle.analysis_spec.specs.Promises.{HasKind}
+use Rattle.analysis_spec.specs.CounterRuns.{Tells, EndsIn}
 
 -- one transaction more, before a run that ends so
 pub one_more : (kind : AlarmKind) (a : Standing) (t : Transaction) (b : Standing) (ts : List Transaction) → answer_of (walk_from a t) ≡ Ok b → EndsIn kind b ts → EndsIn kind a (t ∷ ts)

@@ -1,7 +1,6 @@
 //! The kinds of warnings.
 ghost use Rattle.std.specs.Prelude.{◌≡◌, true};
-ghost use Rattle.analysis_spec.specs.Promises.{kind_of};
-ghost use Rattle.analysis_spec.specs.CounterRuns.{HasKind};
+ghost use Rattle.analysis_spec.specs.Promises.{kind_of, HasKind};
 
 use analysis_spec::AlarmKind;
 use contract::Warning;

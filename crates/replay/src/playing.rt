@@ -5,7 +5,8 @@ ghost use Rattle.collections.specs.Answers.{AsideBy};
 ghost use Rattle.semantics.specs.Walk.{standing, answer_of};
 ghost use Rattle.analysis_spec.specs.declared.kind.AlarmKind.TheVariants.{Leaves128};
 ghost use Rattle.analysis_spec.specs.Runs.{walk_from};
-ghost use Rattle.analysis_spec.specs.CounterRuns.{EndsIn, HasKind, Tells};
+ghost use Rattle.analysis_spec.specs.CounterRuns.{EndsIn, Tells};
+ghost use Rattle.analysis_spec.specs.Promises.{HasKind};
 
 use crate::kinds::has_kind;
 use analysis_spec::AlarmKind;

@@ -1,6 +1,7 @@
 -- What the accounts of a state hold together, token by token.
 use Rattle.std.specs.Prelude.{◌≡◌, ℤ, ◌+ℤ◌, List, [], ◌∷◌}
 use Rattle.std.specs.FinMap as map
+use Rattle.collections.specs.Positive.{AllPositive}
 use Rattle.names.specs.declared.account.Account.{Account}
 use Rattle.names.specs.declared.token.Token.{Token}
 use Rattle.states.specs.States.{StateMaps, total_of}
@@ -16,3 +17,7 @@ sums_of s = sums_in (map.entries s.accounts)
 -- these are the totals by which money is kept
 abbrev pub SumsAreTotals : Type 0
 SumsAreTotals = (s : StateMaps) (t : Token) → amount_of (sums_of s) t ≡ total_of t s
+
+-- of accounts above 0 the sums are above 0, of each token that they hold
+abbrev pub SumsArePositive : Type 0
+SumsArePositive = (s : StateMaps) → AllPositive (map.entries s.accounts) → AllPositive (map.entries (sums_of s))

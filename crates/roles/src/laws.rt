@@ -1,6 +1,6 @@
 //! What holds of every published contract: laws, each the contract of a function that does nothing.
 ghost use Rattle.roles.specs.Publications.{PublishedAreTables, PublishedTellApart};
-ghost use Rattle.roles.specs.Sums.{SumsAreTotals};
+ghost use Rattle.roles.specs.Sums.{SumsAreTotals, SumsArePositive};
 ghost use Rattle.roles.specs.Owed.{GoesOnWhereMade, MadeAreContinuations, PaidInDueOutputs};
 ghost use Rattle.roles.specs.Worked.{EqualPaymentsAreTwo, OneServesOne, NothingIsDue, PaidUnderLocks, TokensGrantInKeys, EmptyStartsHoldNothing};
 
@@ -27,9 +27,10 @@ pub fn published_tell_contracts_apart()
 }
 
 /// The sums that a contract's output has to hold (rules 14 and 17) are, token by token, the totals of the accounts by
-/// which the transaction function keeps money.
+/// which the transaction function keeps money; and of accounts above 0 they are above 0.
 pub fn sums_are_of_each_token()
-    ensures { SumsAreTotals }
+    ensures totals { SumsAreTotals }
+    ensures positive { SumsArePositive }
 {}
 
 /// What a step owes is recognised exactly where it stands as it is made: the output in which a contract goes on from

@@ -1,5 +1,7 @@
 //! Steps.
 ghost use Rattle.std.specs.Prelude.{◌≡◌, IfOk};
+ghost use Rattle.machine.specs.declared.datum.Datum.{Datum};
+ghost use Rattle.eutxo.specs.Asked.{Stepping};
 ghost use Rattle.roles.specs.Terms.{terms_of};
 ghost use Rattle.roles.specs.Steps.{payments_from, outcome_fault, outcome_answer, step_of};
 
@@ -45,7 +47,16 @@ fn outcome_fault(
     closed: bool,
     outcome: &Outcome<Cont>,
 ) -> Result<Option<StepFault>, Memory>
-    ensures { IfOk result (λ fault. fault ≡ outcome_fault currency.now closed (record { cont = outcome.now.place; state = outcome.now.state }) outcome.now.payments (record { script = asked.entry.script.now; datum = asked.entry.datum.now; inputs = asked.entry.inputs.now; from = asked.entry.from; tx = asked.entry.tx.now; spent = spent.now })) }
+    ensures { let next : Datum = record { cont = outcome.now.place; state = outcome.now.state } in
+        let step : Stepping = record {
+          script = asked.entry.script.now;
+          datum = asked.entry.datum.now;
+          inputs = asked.entry.inputs.now;
+          from = asked.entry.from;
+          tx = asked.entry.tx.now;
+          spent = spent.now;
+        } in
+        IfOk result (λ fault. fault ≡ outcome_fault currency.now closed next outcome.now.payments step) }
 {
     let tx = asked.tx;
     let outputs = tx.outputs.as_slice();
@@ -79,7 +90,16 @@ fn outcome_answer(
     closed: bool,
     outcome: &Outcome<Cont>,
 ) -> Result<StepAnswer, Memory>
-    ensures { IfOk result (λ answer. answer ≡ outcome_answer currency.now closed (record { cont = outcome.now.place; state = outcome.now.state }) outcome.now.payments (record { script = asked.entry.script.now; datum = asked.entry.datum.now; inputs = asked.entry.inputs.now; from = asked.entry.from; tx = asked.entry.tx.now; spent = spent.now })) }
+    ensures { let next : Datum = record { cont = outcome.now.place; state = outcome.now.state } in
+        let step : Stepping = record {
+          script = asked.entry.script.now;
+          datum = asked.entry.datum.now;
+          inputs = asked.entry.inputs.now;
+          from = asked.entry.from;
+          tx = asked.entry.tx.now;
+          spent = spent.now;
+        } in
+        IfOk result (λ answer. answer ≡ outcome_answer currency.now closed next outcome.now.payments step) }
 {
     let fault = outcome_fault(alloc, currency, asked, spent, closed, outcome)?;
     Ok(StepAnswer::Takes {
@@ -98,7 +118,15 @@ pub fn step_of(
     asked: StepParts<'_>,
     spent: &[Spent<'_>],
 ) -> Result<StepAnswer, Memory>
-    ensures { IfOk result (λ answer. answer ≡ step_of (terms_of published.now) (record { script = asked.entry.script.now; datum = asked.entry.datum.now; inputs = asked.entry.inputs.now; from = asked.entry.from; tx = asked.entry.tx.now; spent = spent.now })) }
+    ensures { let step : Stepping = record {
+      script = asked.entry.script.now;
+      datum = asked.entry.datum.now;
+      inputs = asked.entry.inputs.now;
+      from = asked.entry.from;
+      tx = asked.entry.tx.now;
+      spent = spent.now;
+    } in
+        IfOk result (λ answer. answer ≡ step_of (terms_of published.now) step) }
 {
     let table = &published.table;
     let datum = asked.datum;

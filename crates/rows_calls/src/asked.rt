@@ -5,7 +5,7 @@ use chain::Entry;
 use collections::Memory;
 use eutxo::{Resolved, Scripts};
 use eutxo_types::{Output, OutputRef, Spend, Tx};
-use rows_text::{Known, RowFault, called, put_words, word_of_reference};
+use rows_text::{Identified, Known, RowFault, called, put_words, word_of_reference};
 use std::alloc::{AllocError, Global};
 
 /// A line for each entry: its place, its seat and number, the call, and the first line of the reply.

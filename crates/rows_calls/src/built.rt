@@ -1,7 +1,7 @@
 //! Transactions that are built.
 use crate::desk::Desk;
 use crate::offers::Handed;
-use crate::parts::{WrittenPart, lent};
+use crate::parts::{WrittenPart, lent_parts};
 use crate::shown::put_output;
 use builder::{BuildFault, Part, build_claim, build_start, build_step, build_steps};
 use collections::{Items, Text};
@@ -155,7 +155,7 @@ fn steps_of<'a>(
     change: &str,
 ) -> Result<StepsRequest<'a>, RowFault> {
     let change = text(alloc, change)?;
-    let parts = lent(alloc, parts)?;
+    let parts = lent_parts(alloc, parts)?;
     Ok(StepsRequest { parts, change })
 }
 

@@ -1,7 +1,7 @@
 //! Copies of calls and replies, beside what they are of.
 use chain::{Call, Entry, Reply};
 use collections::Memory;
-use rows_text::{put_copy, put_same};
+use rows_text::{done, put_beside, put_copy, put_same};
 use std::alloc::{AllocError, Global};
 
 /// Of each of the last so many entries, whether a copy of its call is the same, and of its reply; and whether each call, reply and
@@ -20,22 +20,37 @@ pub fn history_copies(
     for entry in entries {
         put_copy::<Reply>(&mut lines, &entry.reply)?;
     }
-    put_pairs(&mut lines, entries)?;
-    Ok(lines)
+    let put = put_pairs(&mut lines, entries);
+    done(lines, put)
 }
 
 fn put_pairs(lines: &mut String, entries: &[Entry]) -> Result<(), Memory> {
     lines.push_str("\ncalls beside")?;
-    for (before, entry) in entries.iter().zip(entries.iter().skip(1)) {
-        put_same(lines, before.call == entry.call)?;
-    }
+    put_calls_beside(lines, entries)?;
     lines.push_str("\nreplies beside")?;
-    for (before, entry) in entries.iter().zip(entries.iter().skip(1)) {
-        put_same(lines, before.reply == entry.reply)?;
+    put_replies_beside(lines, entries)?;
+    lines.push_str("\nentries")?;
+    put_beside(lines, entries)
+}
+
+fn put_calls_beside(lines: &mut String, entries: &[Entry]) -> Result<(), Memory> {
+    let mut last: Option<&Entry> = None;
+    for entry in entries {
+        if let Some(before) = last {
+            put_same(lines, before.call == entry.call)?;
+        }
+        last = Some(entry);
     }
-    lines.push_str("\nentries beside")?;
-    for (before, entry) in entries.iter().zip(entries.iter().skip(1)) {
-        put_same(lines, *before == *entry)?;
+    Ok(())
+}
+
+fn put_replies_beside(lines: &mut String, entries: &[Entry]) -> Result<(), Memory> {
+    let mut last: Option<&Entry> = None;
+    for entry in entries {
+        if let Some(before) = last {
+            put_same(lines, before.reply == entry.reply)?;
+        }
+        last = Some(entry);
     }
     Ok(())
 }

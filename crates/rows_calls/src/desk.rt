@@ -10,13 +10,15 @@ use rows_text::{
     Known, RowFault, datum_of, named_text_of, nothing, number, output_of, parts, put, put_in,
     replace, write,
 };
+use rows_transactions::{Finds, is_of_finds, put_finds};
 use std::alloc::Global;
 
-/// What is written so far: the outputs to begin with, a transaction, what is handed in to build one, what has a name, the last
-/// look, parts, and checks at hand.
+/// What is written so far: the outputs to begin with, a transaction, what it finds where no chain is begun, what is handed in to build
+/// one, what has a name, the last look, parts, and checks at hand.
 pub struct Desk {
     pub genesis: Items<Output>,
     pub tx: Tx,
+    pub finds: Finds,
     pub handed: Handed,
     pub known: Known,
     pub look: Option<Look>,
@@ -30,6 +32,7 @@ impl Drop for Desk {
         let Desk {
             genesis: _,
             tx: _,
+            finds: _,
             handed: _,
             known: _,
             look: _,
@@ -44,6 +47,7 @@ pub fn empty_desk(alloc: Global) -> Desk {
     Desk {
         genesis: Items::new(alloc),
         tx: nothing(alloc),
+        finds: Finds::new(alloc),
         handed: Handed::new(alloc),
         known: Known::new(alloc),
         look: None,
@@ -58,11 +62,11 @@ pub fn is_written(word: &str) -> bool {
         "let" | "genesis" | "geneses" | "datum" | "part" | "parts" => true,
         "offer" | "offers" | "claim" => true,
         "in" | "keys" | "out" | "from" | "signer" | "datums" => true,
-        _ => false,
+        _ => is_of_finds(word),
     }
 }
 
-/// Writes a text with a name, a line of what the chain begins with, of a transaction, or of what is handed in.
+/// Writes a text with a name, a line of what the chain begins with, of a transaction, of what it finds, or of what is handed in.
 pub fn written(alloc: Global, desk: &mut Desk, word: &str, rest: &str) -> Result<(), RowFault> {
     match word {
         "let" => put_in(&mut desk.known.texts, named_text_of(alloc, rest)),
@@ -79,6 +83,14 @@ pub fn written(alloc: Global, desk: &mut Desk, word: &str, rest: &str) -> Result
             &desk.known,
             &desk.look,
             &mut desk.handed,
+            word,
+            rest,
+        ),
+        _ if is_of_finds(word) => put_finds(
+            alloc,
+            &mut desk.known,
+            &mut desk.tx,
+            &mut desk.finds,
             word,
             rest,
         ),

@@ -1,46 +1,48 @@
-//! Faults one after another, their texts and their copies.
+//! The values of faults, one after another: their texts and their copies.
 use builder::BuildFault;
 use chain::GenesisFault;
 use collections::{Bytes, Text};
 use contract::{Party, SemFault, Token};
-use rows_text::{RowFault, fault_copies, texts_of};
+use rows_text::{RowFault, Values, texts_of, value_copies, value_texts};
 use std::alloc::Global;
+
+const GENESIS_FAULTS: [GenesisFault; 3] = [
+    GenesisFault::NotKey,
+    GenesisFault::TooLarge,
+    GenesisFault::Memory,
+];
+
+const COUNT_OF_BUILD_FAULTS: u32 = 8;
+
+struct BuildFaults;
 
 /// A line of the text of each fault of that name.
 pub fn texts_row(alloc: Global, name: &str) -> Result<String, RowFault> {
-    match name {
-        "BuildFault" => {
-            Ok(texts_of(
-                alloc,
-                BuildFault::NoThread,
-                &|fault: &BuildFault| after_build(alloc, fault),
-            )?)
-        }
-        "GenesisFault" => {
-            Ok(texts_of(
-                alloc,
-                GenesisFault::NotKey,
-                &|fault: &GenesisFault| after_genesis(*fault),
-            )?)
-        }
-        _ => Err(RowFault::NoSuchRow),
-    }
+    let texts = match name {
+        "BuildFault" => value_texts::<BuildFault, BuildFaults>(alloc, COUNT_OF_BUILD_FAULTS),
+        "GenesisFault" => texts_of(alloc, GENESIS_FAULTS.as_slice()),
+        _ => return rows_transactions::texts_row(alloc, name),
+    };
+    Ok(texts?)
 }
 
 /// Whether a copy of each fault of a builder is the same.
 pub fn fault_copies_line(alloc: Global) -> Result<String, RowFault> {
-    Ok(fault_copies(
-        alloc,
-        BuildFault::NoThread,
-        &|fault: &BuildFault| after_build(alloc, fault),
-    )?)
+    Ok(value_copies::<BuildFault, BuildFaults>(alloc, COUNT_OF_BUILD_FAULTS)?)
 }
 
-fn after_genesis(fault: GenesisFault) -> Option<GenesisFault> {
-    match fault {
-        GenesisFault::NotKey => Some(GenesisFault::TooLarge),
-        GenesisFault::TooLarge => Some(GenesisFault::Memory),
-        GenesisFault::Memory => None,
+impl Values<BuildFault> for BuildFaults {
+    fn at(alloc: Global, place: u32) -> BuildFault {
+        match place {
+            0 => BuildFault::NoThread,
+            1 => BuildFault::Semantics(SemFault::NoMatch),
+            2 => BuildFault::NotSigned,
+            3 => BuildFault::NotAuthorised(Party::Role(no_text(alloc))),
+            4 => BuildFault::NoFunds(ada(alloc)),
+            5 => BuildFault::TooMany,
+            6 => BuildFault::Repeated,
+            _ => BuildFault::Memory,
+        }
     }
 }
 
@@ -54,18 +56,5 @@ fn ada(alloc: Global) -> Token {
     Token {
         symbol: Bytes::from_vec(Vec::new(alloc)),
         name: no_text(alloc),
-    }
-}
-
-fn after_build(alloc: Global, fault: &BuildFault) -> Option<BuildFault> {
-    match fault {
-        BuildFault::NoThread => Some(BuildFault::Semantics(SemFault::NoMatch)),
-        BuildFault::Semantics(_) => Some(BuildFault::NotSigned),
-        BuildFault::NotSigned => Some(BuildFault::NotAuthorised(Party::Role(no_text(alloc)))),
-        BuildFault::NotAuthorised(_) => Some(BuildFault::NoFunds(ada(alloc))),
-        BuildFault::NoFunds(_) => Some(BuildFault::TooMany),
-        BuildFault::TooMany => Some(BuildFault::Repeated),
-        BuildFault::Repeated => Some(BuildFault::Memory),
-        BuildFault::Memory => None,
     }
 }

@@ -87,7 +87,12 @@ fn copy_at(outputs: &[Unspent], reference: &OutputRef) -> Result<Unspent, RowFau
 }
 
 fn unspent_at<'a>(outputs: &'a [Unspent], reference: &OutputRef) -> Option<&'a Unspent> {
-    outputs.iter().find(|x| x.reference == *reference)
+    for unspent in outputs {
+        if unspent.reference == *reference {
+            return Some(unspent);
+        }
+    }
+    None
 }
 
 // From `COUNT OUTPUT`: the first outputs that the ledger began with, each as it is written.

@@ -3,7 +3,7 @@ use builder::Part;
 use collections::{Items, Memory, TryClone};
 use contract::Input;
 use ledger::Look;
-use rows_text::{Known, RowFault, inputs_of};
+use rows_text::{Known, RowFault, both, inputs_of, put_in};
 use std::alloc::Global;
 
 /// A part that is written: a look that shows a thread, and the inputs that it is given.
@@ -29,17 +29,19 @@ pub fn put_part(
 ) -> Result<(), RowFault> {
     match look {
         Some(look) => {
-            let inputs = inputs_of(alloc, known, words)?;
-            let look = look.try_clone()?;
-            parts.push(WrittenPart { look, inputs })?;
-            Ok(())
+            let (look, inputs) = both(copy_of(look), inputs_of(alloc, known, words))?;
+            put_in(parts, Ok(WrittenPart { look, inputs }))
         }
         None => Err(RowFault::NoSuchRow),
     }
 }
 
+fn copy_of(look: &Look) -> Result<Look, RowFault> {
+    Ok(look.try_clone()?)
+}
+
 /// The parts, lent.
-pub fn lent(alloc: Global, parts: &[WrittenPart]) -> Result<Vec<Part<'_>>, Memory> {
+pub fn lent_parts(alloc: Global, parts: &[WrittenPart]) -> Result<Vec<Part<'_>>, Memory> {
     let mut lent = Vec::new(alloc);
     for part in parts {
         lent.push(Part {

@@ -7,8 +7,8 @@ use contract::Contract;
 use contract_json::read_contract;
 use ledger::{Ask, PayoutLock};
 use rows_text::{
-    Known, RowFault, Sent, both, bytes, first, named_of, nested, nothing, number, parts, put,
-    put_in, reference_of, replace, sent_of, take_back, text, wide,
+    Known, RowFault, Sent, both, bytes, done, first, named_of, nested, nothing, number, parts, put,
+    put_in, reference_of, replace, sent_of, sides, take_back, text, wide,
 };
 use std::alloc::Global;
 
@@ -141,11 +141,16 @@ fn ask_of(alloc: Global, sent: &[Sent], rest: &str) -> Result<Ask, RowFault> {
         keys: Items::new(alloc),
         payouts: Items::new(alloc),
     };
+    let put = put_wishes(alloc, sent, &mut ask, rest);
+    done(ask, put)
+}
+
+fn put_wishes(alloc: Global, sent: &[Sent], ask: &mut Ask, rest: &str) -> Result<(), RowFault> {
     let mut words = rest.split_whitespace();
     while let Some(sort) = words.next() {
-        put_wish(alloc, sent, &mut ask, sort, words.next().unwrap_or(""))?;
+        put_wish(alloc, sent, ask, sort, words.next().unwrap_or(""))?;
     }
-    Ok(ask)
+    Ok(())
 }
 
 fn put_wish(
@@ -167,7 +172,7 @@ fn put_wish(
 }
 
 fn payout_lock(alloc: Global, word: &str) -> Result<PayoutLock, RowFault> {
-    let (currency, role) = word.split_once('.').ok_or(RowFault::NoSuchRow)?;
+    let (currency, role) = sides(word, '.')?;
     let (currency, role) = both(bytes(alloc, currency), text(alloc, role))?;
     Ok(PayoutLock { currency, role })
 }

@@ -4,7 +4,7 @@ use chain::StepRecord;
 use collections::{Items, Memory, TryClone};
 use contract::{Input, Payment, Warning};
 use contract_json::fitting_to_json;
-use rows_text::{RowFault, called, put_copy, put_same, put_words};
+use rows_text::{RowFault, called, put_beside, put_copies, put_words};
 use std::alloc::{AllocError, Global};
 
 /// What was recorded of a step. Dropped once: who owns it is generic in it, so that no proof walks through its drop.
@@ -32,13 +32,9 @@ pub fn record_copies<T: TryClone + PartialEq + Drop>(
 ) -> Result<String, RowFault> {
     let steps = called(steps)?;
     let mut lines = String::from_str(alloc, "records")?;
-    for step in steps.as_slice() {
-        put_copy::<T>(&mut lines, step)?;
-    }
-    lines.push_str("\nrecords beside")?;
-    for (before, step) in steps.as_slice().iter().zip(steps.as_slice().iter().skip(1)) {
-        put_same(&mut lines, *before == *step)?;
-    }
+    put_copies(&mut lines, steps.as_slice())?;
+    lines.push_str("\nrecords")?;
+    put_beside(&mut lines, steps.as_slice())?;
     Ok(lines)
 }
 

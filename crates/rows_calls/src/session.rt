@@ -9,9 +9,10 @@ use crate::started::started;
 use crate::taking::{Calls, taken};
 use chain::{Call, Chain};
 use collections::Items;
-use rows_text::{
-    RowFault, called, first, in_bytes, keep_check, number, recheck_line, reference_of, replace,
-};
+use eutxo::Resolved;
+use roles::Published;
+use rows_text::{RowFault, called, first, in_bytes, number, reference_of, replace};
+use rows_transactions::{found, judged};
 use std::alloc::Global;
 use std::mem;
 
@@ -98,10 +99,43 @@ impl Calls for Option<Chain> {
         word: &str,
         rest: &str,
     ) -> Result<String, RowFault> {
+        if is_judged(word, rest) {
+            let found = found_by(alloc, self, desk, word);
+            return judged(
+                alloc,
+                &mut desk.tx,
+                &mut desk.finds,
+                &mut desk.checks,
+                found,
+                word,
+            );
+        }
         match self {
             Some(chain) => asked(alloc, chain, desk, word, rest),
             None => Err(RowFault::NoSuchRow),
         }
+    }
+}
+
+// Whether a question is about the transaction that is written and what it finds.
+fn is_judged(word: &str, rest: &str) -> bool {
+    match word {
+        "check" | "keep" | "recheck" | "local" | "spent" => rest.is_empty(),
+        "copies" => rest == "found",
+        _ => false,
+    }
+}
+
+// What the transaction that is written finds: by the chain, or where none is begun, as is said.
+fn found_by(
+    alloc: Global,
+    chain: &Option<Chain>,
+    desk: &Desk,
+    word: &str,
+) -> Result<Resolved<Published>, RowFault> {
+    match chain {
+        Some(chain) => called(chain.resolve(alloc, &desk.tx)),
+        None => found(alloc, &desk.finds, &desk.known, word),
     }
 }
 
@@ -126,31 +160,6 @@ fn asked(
             record_copies(alloc, chain.steps_of(alloc, &start))
         }
         "resolve" => resolved_lines(alloc, &desk.known, &desk.tx, chain.resolve(alloc, &desk.tx)),
-        _ => judged(alloc, chain, desk, word, rest),
-    }
-}
-
-// What is printed for a question that judges, or is of what a round would judge.
-fn judged(
-    alloc: Global,
-    chain: &Chain,
-    desk: &mut Desk,
-    word: &str,
-    rest: &str,
-) -> Result<String, RowFault> {
-    match word {
-        "check" => keep_check(
-            alloc,
-            &mut desk.checks,
-            &desk.tx,
-            called(chain.resolve(alloc, &desk.tx)),
-        ),
-        "recheck" => recheck_line(
-            alloc,
-            &desk.checks,
-            &desk.tx,
-            called(chain.resolve(alloc, &desk.tx)),
-        ),
         "front" => front_lines(alloc, &desk.known, chain.front(alloc, number(rest)?)),
         "checks" => keep_checks(
             alloc,

@@ -3,11 +3,12 @@ use crate::asked::resolved_lines;
 use crate::built::build;
 use crate::desk::{Desk, is_written, written};
 use crate::faults::{fault_copies_line, texts_row};
-use crate::parts::lent;
+use crate::parts::lent_parts;
 use crate::played::played;
 use builder::resolve_parts;
 use chain::Call;
-use rows_text::{RowFault, check_copies};
+use rows_text::RowFault;
+use rows_transactions::{copied, judged_stubbornly};
 use std::alloc::Global;
 
 /// Who answers calls: a chain, or the seats of a hub.
@@ -69,10 +70,39 @@ fn answered<C: Calls>(
         "build" => build(alloc, desk, rest),
         "seen" => seen_lines(alloc, desk),
         "seen_by_parts" => seen_by_parts_lines(alloc, desk),
-        "check_copies" => Ok(check_copies(alloc, &desk.checks)?),
         "texts" => texts_row(alloc, rest),
-        "faults" => fault_copies_line(alloc),
+        "copies" => copies(alloc, calls, desk, rest),
+        "check" if rest == "stubborn" => {
+            judged_stubbornly(alloc, &mut desk.tx, &mut desk.finds, &desk.known)
+        }
+        "transaction"
+        | "asks"
+        | "datum_hash"
+        | "sums"
+        | "totals"
+        | "add"
+        | "subtract"
+        | "room"
+        | "apart" => {
+            rows_transactions::answered(alloc, &mut desk.tx, &desk.finds, &desk.known, word, rest)
+        }
         _ => calls.question(alloc, desk, word, rest),
+    }
+}
+
+// Whether copies are the same, from what of.
+fn copies<C: Calls>(
+    alloc: Global,
+    calls: &mut C,
+    desk: &mut Desk,
+    sort: &str,
+) -> Result<String, RowFault> {
+    match sort {
+        "BuildFault" => fault_copies_line(alloc),
+        "transaction" | "rooms" | "published" | "checks" | "TxFault" => {
+            copied(alloc, &desk.tx, &desk.known, &desk.checks, sort)
+        }
+        _ => calls.question(alloc, desk, "copies", sort),
     }
 }
 
@@ -89,7 +119,7 @@ fn seen_lines(alloc: Global, desk: &Desk) -> Result<String, RowFault> {
 
 // What the looks of the parts hold of what the transaction names.
 fn seen_by_parts_lines(alloc: Global, desk: &Desk) -> Result<String, RowFault> {
-    let parts = lent(alloc, &desk.parts)?;
+    let parts = lent_parts(alloc, &desk.parts)?;
     let found = resolve_parts(alloc, &parts, &desk.tx);
     resolved_lines(alloc, &desk.known, &desk.tx, found)
 }

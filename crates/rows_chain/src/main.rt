@@ -1,15 +1,18 @@
-//! `rows_chain`: worked rows of a chain, of a hub's seats, of many checks and of many callers at once, as data. It plays the files
-//! that its arguments name, line by line, as `rows_text` says: below each row stands its answer.
+//! `rows_chain`: worked rows of calls of the library, as data: of transactions and their checks, of a chain, of a hub's seats, of many
+//! checks and of many callers at once. It plays the files that its arguments name, line by line, as `rows_text` says: below each row
+//! stands its answer.
 //!
-//! A paragraph is a session of its own. It begins with a line `# SUBJECT`. Then `genesis` and an output, a
-//! line each, have the outputs that the chain begins with, `geneses COUNT` and an output has it so many times, and `begin TICK`
-//! begins it; from there on each line is a call, a question, or one that writes a transaction.
+//! A paragraph is a session of its own. It begins with a line `# SUBJECT`. `let NAME TEXT` names a text, for all paragraphs below it:
+//! `$NAME` then stands for it in place of a contract, a state or an input. `use NAME` has the lines of the file of that name beside this
+//! one stand in its place: texts that several files name. A line that begins with `- ` says what follows.
 //!
-//! `let NAME TEXT` names a text, for all paragraphs below it: `$NAME` then stands for it in place of a contract, a state or an
-//! input.
+//! Transactions and outputs are written as `rows_text` says, and `rows_transactions` has the rows of a transaction that is written: its
+//! bytes, its checks, its copies. A file of such rows alone, as those of `data/transactions`, begins no chain.
 //!
-//! Transactions and outputs are written as `rows_text` says. A transaction has the name that it was handed in under,
-//! as the origin of what it made, and a script that of its first publishing.
+//! Where there is one, `genesis` and an output, a line each, have the outputs that the chain begins with, `geneses COUNT` and an output
+//! has it so many times, and `begin TICK` begins it; from there on each line is a call, a question, or one that writes a transaction.
+//! What a transaction finds is from then on what the chain has. A transaction has the name that it was handed in under, as the origin of
+//! what it made, and a script that of its first publishing.
 //!
 //! A request for a transaction has the interval and the signers that are written, and what these lines put behind the others:
 //!
@@ -45,9 +48,6 @@
 //! - `resolve` prints what is found of what the transaction names that is written: a line for each input, a contract's with the
 //!   datum that it was made with, and one for each script; it leaves the transaction as it is;
 //! - `seen` prints, of the same, what the last look holds, and `seen_by_parts` what the looks of the parts hold together;
-//! - `check` prints the verdict on that transaction and what is found, and keeps both at hand for the calls below, as a cache;
-//! - `recheck` prints the verdict on the same by the checks at hand, behind `at hand` where one is of this transaction with an equal
-//!   resolution, else `anew`;
 //! - `front COUNT` prints how many of the pending transactions a round would take out, each by its name with what is found of
 //!   what it names, as `resolve` does; `checks COUNT` checks these, prints the verdicts, and keeps the checks at hand;
 //! - `steps_of REFERENCE` prints the number of steps of the thread that starts there, and for each its interval and the number
@@ -59,11 +59,10 @@
 //! - `copies COUNT` prints for each of the last so many entries whether a copy of its call is the `same`, and of its reply; and for
 //!   each of these but the first whether its call, its reply and the entry are the `same` as those before or an `other`;
 //! - `record_copies REFERENCE` prints for each step of the thread that starts there whether a copy of its record is the `same`, and for
-//!   each but the first whether its record is the `same` as the one before or an `other`;
-//! - `check_copies` prints whether a copy of each check at hand is the `same`, with the copy's verdict.
+//!   each but the first whether its record is the `same` as the one before or an `other`.
 //!
-//! `texts ENUM` prints the text of each fault of that name, a line for each, in their order, and `faults` whether a copy of each
-//! fault of a builder is the `same`. They need no chain.
+//! `texts ENUM` prints the text of each fault of that name, a line for each, in their order, and `copies BuildFault` whether a copy of
+//! each fault of a builder is the `same`. They need no chain.
 //!
 //! `hub SEATS TICK` begins a chain in place of `begin` and opens a hub with so many seats (the nearest number from 1 to 64): it prints
 //! `begun`, and the lines below it are for its seats, up to a line `close`, which prints what `history` would. There are no questions
@@ -95,7 +94,7 @@
 //!   and the number that the call had, and whether the pool was full at times. So where there are as many entries as calls, each
 //!   belongs to one receipt. To run longer than `data/workers.txt`, play a file of one line, as `calls 64 100000`.
 //!
-//! A line that begins with `- ` says what follows, and an empty line is nothing. Any other line prints `no such row`.
+//! An empty line is nothing. Any other line prints `no such row`.
 #![tactic(auto)]
 
 mod calls;
@@ -130,8 +129,7 @@ fn main(rt: HostRuntime) -> ExitCode {
     }
 }
 
-// Whether the rows of each file that the command line names are answered as it says. The files are read here and not by `print_rows`:
-// no proof of its trait's method knows that the runtime can be lent to threads.
+// Whether the rows of each file that the command line names are answered as it says.
 fn print_files<R: Env + Files + Clock + Print + AllocGlobal + Threads + Wait + Sync>(
     rt: &R,
 ) -> io::Result<bool> {

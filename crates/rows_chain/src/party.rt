@@ -3,26 +3,33 @@ use collections::{Bytes, Items, Memory, Text};
 use contract::{Input, Interval};
 use eutxo_types::OutputRef;
 use parties::{Intent, Party, Plan};
+use rows_text::{both, done, one};
 use std::alloc::Global;
 
 const SOON: Interval = Interval { from: 0, to: 10 };
 
 /// Who steps a thread by one notification, or several by one each in one transaction, from 0 to 10, as the one of that name.
 pub fn stepper(alloc: Global, name: &str, threads: &[OutputRef]) -> Result<Party, Memory> {
-    let mut intents = Items::new(alloc);
-    match threads {
-        [thread] => intents.push(step(alloc, *thread)?)?,
-        _ => intents.push(steps(alloc, threads)?)?,
-    }
+    let names = both(text(alloc, name), text(alloc, name));
+    let keys = one(alloc, text(alloc, name));
+    let intents = one(alloc, intent(alloc, threads));
+    let ((name, change), (keys, intents)) = both(names, both(keys, intents))?;
     Ok(Party {
         plan: Plan {
-            name: text(alloc, name)?,
-            keys: one_text(alloc, name)?,
-            change: text(alloc, name)?,
+            name,
+            keys,
+            change,
             intents,
             stop_after: None,
         },
     })
+}
+
+fn intent(alloc: Global, threads: &[OutputRef]) -> Result<Intent<OutputRef, Bytes>, Memory> {
+    match threads {
+        [thread] => step(alloc, *thread),
+        _ => steps(alloc, threads),
+    }
 }
 
 fn step(alloc: Global, thread: OutputRef) -> Result<Intent<OutputRef, Bytes>, Memory> {
@@ -36,28 +43,29 @@ fn step(alloc: Global, thread: OutputRef) -> Result<Intent<OutputRef, Bytes>, Me
 
 fn steps(alloc: Global, threads: &[OutputRef]) -> Result<Intent<OutputRef, Bytes>, Memory> {
     let mut steps = Items::new(alloc);
-    for thread in threads {
-        steps.push((*thread, notify(alloc)?))?;
-    }
+    let put = put_steps(alloc, &mut steps, threads);
     Ok(Intent::Steps {
-        steps,
+        steps: done(steps, put)?,
         interval: SOON,
         pooled: false,
     })
 }
 
+fn put_steps(
+    alloc: Global,
+    steps: &mut Items<(OutputRef, Items<Input>)>,
+    threads: &[OutputRef],
+) -> Result<(), Memory> {
+    for thread in threads {
+        steps.push((*thread, notify(alloc)?))?;
+    }
+    Ok(())
+}
+
 fn notify(alloc: Global) -> Result<Items<Input>, Memory> {
-    let mut inputs = Items::new(alloc);
-    inputs.push(Input::Notify)?;
-    Ok(inputs)
+    one(alloc, Ok(Input::Notify))
 }
 
 fn text(alloc: Global, letters: &str) -> Result<Text, Memory> {
     Ok(Text::from_string(String::from_str(alloc, letters)?))
-}
-
-fn one_text(alloc: Global, letters: &str) -> Result<Items<Text>, Memory> {
-    let mut texts = Items::new(alloc);
-    texts.push(text(alloc, letters)?)?;
-    Ok(texts)
 }

@@ -12,6 +12,7 @@ use eutxo_types::{Lock, Output, OutputRef, Redeemer, Spend, Tx};
 use ledger::Ask;
 use names::Token;
 use roles::Published;
+use rows_text::{both, done, list, one, put_keys};
 use std::alloc::Global;
 
 /// The payments of a row, told apart by the ticks from which they may happen, with what they find: each spends outputs
@@ -27,20 +28,19 @@ pub fn payments(alloc: Global, row: Row) -> Result<Vec<(Tx, Resolved<Published>)
 
 /// The payment of a number: of the outputs that come after those of the payments before it.
 pub fn payment(alloc: Global, number: u32, inputs: u32) -> Result<Tx, Memory> {
-    let first = u64::from(number) * u64::from(inputs);
-    let spends = list(
-        alloc,
-        inputs,
-        &|place| Ok(spend(OutputRef::Genesis {
-            index: first.saturating_add(u64::from(place)),
-        })),
-    );
-    payment_by(alloc, number, inputs, spends)
+    let count = u64::from(inputs);
+    let mut spends = Items::new(alloc);
+    let put = put_keys(&mut spends, u64::from(number) * count, count);
+    payment_by(alloc, number, inputs, done(spends, put))
 }
 
 /// The payment of a number, of one output.
 pub fn payment_of(alloc: Global, number: u32, reference: OutputRef) -> Result<Tx, Memory> {
-    payment_by(alloc, number, 1, list(alloc, 1, &|_| Ok(spend(reference))))
+    let spend = Spend {
+        reference,
+        redeemer: Redeemer::None,
+    };
+    payment_by(alloc, number, 1, one(alloc, Ok(spend)))
 }
 
 // The payment of a number, by so many spends.
@@ -50,8 +50,8 @@ fn payment_by(
     inputs: u32,
     spends: Result<Items<Spend>, Memory>,
 ) -> Result<Tx, Memory> {
-    let outputs = list(alloc, 1, &|_| key_output(alloc, inputs));
-    let signers = list(alloc, 1, &|_| key(alloc));
+    let outputs = one(alloc, key_output(alloc, inputs));
+    let signers = one(alloc, key(alloc));
     let (inputs, (outputs, signers)) = both(spends, both(outputs, signers))?;
     Ok(Tx {
         inputs,
@@ -74,18 +74,11 @@ pub fn found<V: Drop>(alloc: Global, inputs: u32) -> Result<Resolved<V>, Memory>
     })
 }
 
-fn spend(reference: OutputRef) -> Spend {
-    Spend {
-        reference,
-        redeemer: Redeemer::None,
-    }
-}
-
 /// What asks for all that is under the key of the payments.
 pub fn ask(alloc: Global) -> Result<Ask, Memory> {
     Ok(Ask {
         thread: None,
-        keys: list(alloc, 1, &|_| key(alloc))?,
+        keys: one(alloc, key(alloc))?,
         payouts: Items::new(alloc),
     })
 }
@@ -132,27 +125,6 @@ fn are_positive(entries: &[(Token, i128)]) -> bool
         Some((first, rest)) => first.1 > 0 && are_positive(rest),
         None => true,
     }
-}
-
-/// So many items, each made for its place.
-pub fn list<T: Drop, F: Fn(u32) -> Result<T, Memory>>(
-    alloc: Global,
-    count: u32,
-    item: &F,
-) -> Result<Items<T>, Memory>
-    requires { F.IsAlwaysCallable item.now }
-{
-    let mut items = Items::new(alloc);
-    for place in 0..count {
-        items.push(item(place)?)?;
-    }
-    Ok(items)
-}
-
-fn both<A: Drop, B: Drop>(a: Result<A, Memory>, b: Result<B, Memory>) -> Result<(A, B), Memory> {
-    let a = a?;
-    let b = b?;
-    Ok((a, b))
 }
 
 fn some<T>(item: Result<T, Memory>) -> Result<Option<T>, Memory> {

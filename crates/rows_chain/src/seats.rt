@@ -3,7 +3,7 @@ ghost use Rattle.std.specs.Prelude.{◌≡◌, ◌<◌, ◌≤◌};
 
 use crate::calls::{Work, call_all};
 use crate::meeting::Meeting;
-use crate::payments::{found, key_output, list, payment};
+use crate::payments::{found, key_output, payment};
 use crate::row::Row;
 use collections::{Memory, Same};
 use eutxo::{Checked, check_owned};
@@ -11,7 +11,7 @@ use hub::{
     Chain, Closed, Entry, GenesisFault, Hub, Opening, Receipt, Reply, Seat, SeatAtHub, Session,
 };
 use roles::Published;
-use rows_text::RowFault;
+use rows_text::{RowFault, both, list, times};
 use std::alloc::Global;
 use std::marker::Brand;
 use std::rt::Clock;
@@ -34,12 +34,23 @@ pub struct Played {
     pub micros: u128,
 }
 
-fn is_full(entry: &Entry) -> bool {
-    matches!(&entry.reply, Reply::Full)
+fn was_full(entries: &[Entry]) -> bool {
+    for entry in entries {
+        if matches!(&entry.reply, Reply::Full) {
+            return true;
+        }
+    }
+    false
 }
 
-fn is_accepted(entry: &Entry) -> bool {
-    matches!(&entry.reply, Reply::Accepted(_))
+fn accepted_among(entries: &[Entry]) -> usize {
+    let mut count = 0usize;
+    for entry in entries {
+        if matches!(&entry.reply, Reply::Accepted(_)) {
+            count = count.saturating_add(1);
+        }
+    }
+    count
 }
 
 // Whether a seat's receipt at this place says what its entry says. The entry is of that seat and has that number, so no
@@ -82,8 +93,8 @@ fn closed_after<J: Session>(
     let entries = closed.chain().entries();
     Ok(Played {
         entries: entries.len(),
-        accepted: entries.iter().filter(|e| is_accepted(e)).count(),
-        was_full: entries.iter().any(|e| is_full(e)),
+        accepted: accepted_among(entries),
+        was_full: was_full(entries),
         amiss: amiss_in(&closed, told),
         micros,
     })
@@ -149,7 +160,7 @@ fn opening_of(alloc: Global, outputs: u32, tick: i64, seats: u32) -> Result<Open
     requires some { 0 < seats }
     requires few { seats ≤ 64 }
 {
-    let outputs = list(alloc, outputs, &|_| key_output(alloc, 1))?;
+    let outputs = times(alloc, outputs, key_output(alloc, 1))?;
     match Chain::genesis(alloc, outputs, tick) {
         Ok(chain) => Ok(Opening::new(chain, u64::from(seats))),
         Err(GenesisFault::Memory) => Err(RowFault::Memory),
@@ -178,12 +189,13 @@ pub fn call<R: Clock + AllocGlobal + Threads + Wait + Sync>(
 // ---- checks at hand
 
 fn checks(alloc: Global, row: Row) -> Result<Vec<Checked<Published>>, Memory> {
-    let mut checks = Vec::new(alloc);
-    for n in 0..row.jobs {
-        let tx = payment(alloc, n, row.inputs)?;
-        checks.push(check_owned(alloc, tx, found(alloc, row.inputs)?)?)?;
-    }
-    Ok(checks)
+    let checks = list(alloc, row.jobs, &|n| checked(alloc, n, row.inputs))?;
+    Ok(checks.into_vec())
+}
+
+fn checked(alloc: Global, number: u32, inputs: u32) -> Result<Checked<Published>, Memory> {
+    let (tx, found) = both(payment(alloc, number, inputs), found(alloc, inputs))?;
+    check_owned(alloc, tx, found)
 }
 
 fn admit_all<J: Session, R: Wait>(

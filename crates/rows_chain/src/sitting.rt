@@ -157,11 +157,21 @@ fn admit<J: Session, R: Wait>(
 ) -> Result<String, RowFault> {
     let (seat, name) = parts(rest)?;
     let seat = seat_at(seats, number(seat)?)?;
-    let checked = checked(alloc, desk)?;
     name_written(alloc, desk, name)?;
-    let told = told(alloc, desk, hub.admit(rt, alloc, seat, checked));
+    let told = admitted(rt, alloc, hub, seat, desk);
     finish(alloc, desk, &told);
     told
+}
+
+fn admitted<J: Session, R: Wait>(
+    rt: &R,
+    alloc: Global,
+    hub: &Hub<J>,
+    seat: &mut Seat<J>,
+    desk: &mut Desk,
+) -> Result<String, RowFault> {
+    let checked = checked(alloc, desk)?;
+    told(alloc, desk, hub.admit(rt, alloc, seat, checked))
 }
 
 fn checked(alloc: Global, desk: &Desk) -> Result<Checked<Published>, RowFault> {

@@ -78,11 +78,12 @@ fn check_line<R: AllocGlobal + Threads + Wait + Sync>(
 ) -> Result<String, RowFault> {
     let jobs = payments(rt.alloc(), row)?;
     let gate = Counter::new();
-    let checks = called(check_all(rt, rt.alloc(), &gate, row.workers(), jobs));
+    let checks = check_all(rt, rt.alloc(), &gate, row.workers(), jobs);
+    let line = line_of(rt.alloc(), row, checks);
     if !gate.is_left() {
         return Ok(String::from_str(rt.alloc(), "the gate wasn't left")?);
     }
-    Ok(line_of(rt.alloc(), row, &checks?)?)
+    line
 }
 
 fn time_line<R: Clock + AllocGlobal + Threads + Wait + Sync>(
@@ -91,7 +92,7 @@ fn time_line<R: Clock + AllocGlobal + Threads + Wait + Sync>(
 ) -> io::Result<String> {
     let jobs = payments(rt.alloc(), row)?;
     let start = Instant::now(rt)?;
-    let _checks = check_all(rt, rt.alloc(), &NoGate, row.workers(), jobs)?;
+    let_go(check_all(rt, rt.alloc(), &NoGate, row.workers(), jobs))?;
     let took = start.elapsed(rt)?;
     Ok(format!(in rt.alloc(); "{}", took.as_micros())?)
 }
@@ -138,21 +139,40 @@ fn micros_line<R: AllocGlobal>(rt: &R, played: Played) -> Result<String, RowFaul
     Ok(format!(in rt.alloc(); "{}", played.micros)?)
 }
 
-fn line_of<V: Validator>(alloc: Global, row: Row, checks: &[Checked<V>]) -> Result<String, Memory> {
-    let accepted = checks
-        .iter()
-        .filter(|c| *c.verdict() == Verdict::Accepted)
-        .count();
-    let order = if are_in_order(checks) {
+// Lets checks go. It is generic in them, so that no proof walks through their drop.
+fn let_go<T: Drop>(checks: Result<T, Memory>) -> Result<(), Memory> {
+    let _checks = checks?;
+    Ok(())
+}
+
+// The line for the checks of a row. It is generic in the scripts, so that no proof walks through their drop.
+fn line_of<V: Validator + Drop>(
+    alloc: Global,
+    row: Row,
+    checks: Result<Vec<Checked<V>>, Memory>,
+) -> Result<String, RowFault> {
+    let checks = called(checks)?;
+    let accepted = accepted_among(&checks);
+    let order = if are_in_order(&checks) {
         "in order"
     } else {
         "out of order"
     };
-    format!(in alloc;
+    Ok(format!(in alloc;
         "workers {}, payments {}: {accepted} accepted, {order}",
         row.workers(),
         row.jobs
-    )
+    )?)
+}
+
+fn accepted_among<V: Validator>(checks: &[Checked<V>]) -> usize {
+    let mut count = 0usize;
+    for checked in checks {
+        if matches!(checked.verdict(), Verdict::Accepted) {
+            count = count.saturating_add(1);
+        }
+    }
+    count
 }
 
 // Whether each check is of the payment that may happen from its place on.

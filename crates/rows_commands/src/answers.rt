@@ -1,11 +1,14 @@
 //! What is printed for a row.
 use crate::asked::what_is_asked;
 use crate::examples::example;
+use crate::faults::play_faults;
+use crate::files::{loaded, removed, saved};
 use crate::folder::Folder;
 use crate::shown::shown;
 use marlowe_commands::{NoWatch, Printed, command};
 use rows_given::Given;
 use rows_text::{RowFault, first};
+use rows_values::answer_of;
 use std::rt::Files;
 use std::sync::Wait;
 use std::thread::Threads;
@@ -20,12 +23,30 @@ pub fn answer<R: Files + AllocGlobal + Threads + Wait + Sync>(
     if given.keeps(rt.alloc(), word, rest)? {
         return Ok(None);
     }
-    if word == "example" {
-        return Ok(Some(example(rt, given, rest)?));
-    }
+    let answer = match word {
+        "marlowe" | "run" | "table" | "play" | "last" | "threads" => {
+            command_row(rt, given, word, rest)
+        }
+        "analyse" | "alarms" | "json" => command_row(rt, given, word, rest),
+        "example" => example(rt, given, rest),
+        "save" => saved(rt, given, rest),
+        "remove" => removed(rt, rest),
+        "load" => loaded(rt, given, rest),
+        "texts" if rest == "PlayFault" => play_faults(rt.alloc()),
+        _ => answer_of(rt.alloc(), given, word, rest),
+    };
+    Ok(Some(answer?))
+}
+
+fn command_row<R: Files + AllocGlobal + Threads + Wait + Sync>(
+    rt: &R,
+    given: &mut Given,
+    word: &str,
+    rest: &str,
+) -> Result<Vec<u8>, RowFault> {
     let asked = what_is_asked(rt.alloc(), given, word, rest)?;
     let printed = printed(rt, given, asked.line)?;
-    Ok(Some(shown(rt.alloc(), &printed, asked.part)?))
+    Ok(shown(rt.alloc(), &printed, asked.part)?)
 }
 
 /// What the program prints for the words behind its name.

@@ -1,9 +1,8 @@
-//! `rows_commands`: command lines of `marlowe` as data. It plays the files that its arguments name, line by line, as
-//! `rows_text` says: below each row stands what the program prints for it.
+//! `rows_commands`: worked rows of command lines of `marlowe` and of values, as data. It plays the files that its arguments name, line
+//! by line, as `rows_text` says: below each row stands its answer.
 //!
-//! The lines before a row say what files hold, as `rows_given` says, in place of those that lie here.
-//!
-//! These are rows:
+//! The lines before a row say what files hold, as `rows_given` says, in place of those that lie here. `rows_values` has the rows of what
+//! only calls of the libraries say, as those of `data/values`: JSON, bytes, copies, texts of faults. These are rows of command lines:
 //!
 //! - `marlowe WORDS` is a command line whose words have no spaces in them;
 //! - `run TEXT` keeps a text in `transaction.json` and is `marlowe run contract.json state.json transaction.json`;
@@ -16,13 +15,20 @@
 //! - `example FOLDER` runs the three files of an example and prints its table: `as written`, or what is printed that isn't written there,
 //!   or `another table`.
 //!
-//! A row prints the lines of standard output as they are, each line of standard error behind `stderr`, and `status N` where that isn't 0.
+//! Such a row prints the lines of standard output as they are, each line of standard error behind `stderr`, and `status N` where that
+//! isn't 0. `texts PlayFault` prints the text of each fault of `play`, a line for each, in their order. And these are of files:
+//!
+//! - `save PATH` writes the text of the last line `text`, and what was added to it, to a file, and `remove PATH` removes it;
+//! - `load PATH` prints how many bytes are read of a file, which are that text from then on, or `unreadable`.
+//!
 //! `#` begins a comment, and an empty line is nothing. Any other line prints `no such row`.
 #![tactic(auto)]
 
 mod answers;
 mod asked;
 mod examples;
+mod faults;
+mod files;
 mod folder;
 mod shown;
 
@@ -43,8 +49,7 @@ fn main(rt: HostRuntime) -> ExitCode {
     }
 }
 
-// Whether the rows of each file that the command line names are answered as it says. The files are read here and not by
-// `print_rows`: no proof of its trait's method knows that the runtime can be lent to threads.
+// Whether the rows of each file that the command line names are answered as it says.
 fn print_files<R: Env + Files + Print + AllocGlobal + Threads + Wait + Sync>(
     rt: &R,
 ) -> io::Result<bool> {

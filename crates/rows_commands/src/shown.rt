@@ -1,6 +1,7 @@
 //! What is printed, as the lines of a row.
 use collections::Memory;
 use marlowe_commands::Printed;
+use rows_text::{put_line, put_lines, without_end};
 use std::alloc::Global;
 
 /// Which lines of standard output a row prints.
@@ -17,65 +18,55 @@ pub enum Part {
 pub fn shown(alloc: Global, printed: &Printed, part: Part) -> Result<Vec<u8>, Memory> {
     let mut lines = Vec::new(alloc);
     put_output(&mut lines, printed.output.as_slice(), part)?;
-    put_errors(&mut lines, printed.errors.as_slice())?;
-    if printed.status != 0 {
-        let status = format!(in alloc; "status {}", printed.status)?;
-        put_line(&mut lines, b"", status.as_bytes())?;
+    if !printed.errors.is_empty() {
+        put_lines(&mut lines, b"stderr", printed.errors.as_slice())?;
     }
+    put_status(alloc, &mut lines, printed.status)?;
     lines.pop();
     Ok(lines)
 }
 
+fn put_status(alloc: Global, lines: &mut Vec<u8>, status: u8) -> Result<(), Memory> {
+    if status == 0 {
+        return Ok(());
+    }
+    let status = format!(in alloc; "status {status}")?;
+    put_line(lines, status.as_bytes())
+}
+
 fn put_output(lines: &mut Vec<u8>, output: &[u8], part: Part) -> Result<(), Memory> {
+    if output.is_empty() {
+        return Ok(());
+    }
     let left_out = match part {
         Part::Last(most) => count_of(output).saturating_sub(most),
         Part::All | Part::Alarms => 0,
     };
-    if output.is_empty() {
-        return Ok(());
+    let mut place = 0usize;
+    for line in without_end(output).split(|byte| *byte == b'\n') {
+        if place >= left_out && !is_left_out(part, line) {
+            put_line(lines, line)?;
+        }
+        place = place.saturating_add(1);
     }
-    for line in without_end(output)
-        .split(|byte| *byte == b'\n')
-        .skip(left_out)
-    {
-        if !matches!(part, Part::Alarms) || !is_of_range(line) {
-            put_line(lines, b"", line)?;
+    Ok(())
+}
+
+// How many lines a text has.
+fn count_of(text: &[u8]) -> usize {
+    let mut count = 1usize;
+    for byte in without_end(text) {
+        if *byte == b'\n' {
+            count = count.saturating_add(1);
         }
     }
-    Ok(())
+    count
 }
 
-fn put_errors(lines: &mut Vec<u8>, errors: &[u8]) -> Result<(), Memory> {
-    if errors.is_empty() {
-        return Ok(());
+// Whether a line of an analysis tells what a party is paid, which begins with the party, and alarms alone are wanted.
+fn is_left_out(part: Part, line: &[u8]) -> bool {
+    match part {
+        Part::Alarms => line.starts_with(b"{\"address\"") || line.starts_with(b"{\"role_token\""),
+        _ => false,
     }
-    for line in without_end(errors).split(|byte| *byte == b'\n') {
-        let word: &[u8] = if line.is_empty() {
-            b"stderr"
-        } else {
-            b"stderr "
-        };
-        put_line(lines, word, line)?;
-    }
-    Ok(())
-}
-
-fn count_of(output: &[u8]) -> usize {
-    without_end(output).split(|byte| *byte == b'\n').count()
-}
-
-fn without_end(text: &[u8]) -> &[u8] {
-    text.strip_suffix(b"\n").unwrap_or(text)
-}
-
-// Whether a line of an analysis tells what a party is paid: it begins with the party.
-fn is_of_range(line: &[u8]) -> bool {
-    line.starts_with(b"{\"address\"") || line.starts_with(b"{\"role_token\"")
-}
-
-fn put_line(lines: &mut Vec<u8>, before: &[u8], line: &[u8]) -> Result<(), Memory> {
-    lines.extend_from_slice(before)?;
-    lines.extend_from_slice(line)?;
-    lines.push(b'\n')?;
-    Ok(())
 }

@@ -2,6 +2,7 @@
 //!
 //! - `let NAME TEXT` names a text for all lines below: in a text `$NAME$` then stands for it;
 //! - `file NAME TEXT` keeps a text as what the file of that name holds from then on;
+//! - `text TEXT` keeps a text that rows below it are about which have none of their own;
 //! - `more TEXT` adds to the text that was kept last, `times N TEXT` adds a text N times, each time with its number from 0 in place of
 //!   `%`, and `hex DIGITS` adds bytes in hexadecimal;
 //! - `contract TEXT` is `file contract.json TEXT`, and analyses start without a state again; `state TEXT` is `file state.json TEXT`, and
@@ -47,6 +48,7 @@ impl Given {
                 let (name, text) = first(rest);
                 self.keep(alloc, name, text)?;
             }
+            "text" => self.keep(alloc, "text", rest)?,
             "contract" => {
                 self.has_state = false;
                 self.keep(alloc, "contract.json", rest)?;
@@ -149,8 +151,12 @@ impl Given {
 }
 
 fn text_of<'a>(texts: &'a [Named], name: &str) -> Option<&'a [u8]> {
-    let found = texts.iter().find(|each| each.name.as_str() == name);
-    found.map(|each| each.text.as_slice())
+    for named in texts {
+        if named.name.as_str() == name {
+            return Some(named.text.as_slice());
+        }
+    }
+    None
 }
 
 // Adds a text, with a number in place of each `%`.
@@ -161,13 +167,11 @@ fn put_numbered(
     number: u32,
 ) -> Result<(), RowFault> {
     let number = format!(in alloc; "{number}")?;
-    let mut is_first = true;
-    for piece in text.split(|byte| *byte == b'%') {
-        if !is_first {
-            place.extend_from_slice(number.as_bytes())?;
+    for byte in text {
+        match *byte {
+            b'%' => place.extend_from_slice(number.as_bytes())?,
+            byte => place.push(byte)?,
         }
-        place.extend_from_slice(piece)?;
-        is_first = false;
     }
     Ok(())
 }

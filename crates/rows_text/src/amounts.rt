@@ -2,8 +2,9 @@
 ghost use Rattle.std.specs.Prelude.{IsTrue};
 ghost use Rattle.bundle.specs.Bundles.{AllPositive};
 
+use crate::carried::{both, done, put_in, put_words};
 use crate::fault::RowFault;
-use crate::words::{both, bytes, number, put_in, put_words, text};
+use crate::words::{bytes, number, sides, text};
 use bundle::Bundle;
 use collections::Entries;
 use names::Token;
@@ -29,19 +30,24 @@ pub fn amounts_of(alloc: Global, words: &str) -> Result<Entries<Token, i128>, Ro
 
 fn entries_of(alloc: Global, words: &str) -> Result<Vec<Entry>, RowFault> {
     let mut entries = Vec::new(alloc);
+    let put = put_entries(alloc, &mut entries, words);
+    done(entries, put)
+}
+
+fn put_entries(alloc: Global, entries: &mut Vec<Entry>, words: &str) -> Result<(), RowFault> {
     let mut words = words.split_whitespace();
     while let Some(token) = words.next() {
         let amount = number(words.next().unwrap_or(""));
-        put_in(&mut entries, both(token_of(alloc, token), amount))?;
+        put_in(entries, both(token_of(alloc, token), amount))?;
     }
-    Ok(entries)
+    Ok(())
 }
 
 /// A token, from `ada` or `SYMBOL.NAME`.
 pub fn token_of(alloc: Global, word: &str) -> Result<Token, RowFault> {
     let (symbol, name) = match word {
         "ada" => ("", ""),
-        _ => word.split_once('.').ok_or(RowFault::NoSuchRow)?,
+        _ => sides(word, '.')?,
     };
     let (symbol, name) = both(bytes(alloc, symbol), text(alloc, name))?;
     Ok(Token { symbol, name })

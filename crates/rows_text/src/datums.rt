@@ -1,12 +1,13 @@
 //! The data that a transaction brings, as its lines are written: those for inputs before those for outputs.
 ghost use Rattle.std.specs.Prelude.{◌≤◌, length};
 
+use crate::carried::{copies_of, done, put, put_at, replace};
 use crate::fault::RowFault;
 use crate::known::Known;
 use crate::outputs::state_of;
-use crate::words::{number, put, put_at, replace};
-use collections::{Items, TryClone};
-use eutxo_types::{Cont, Datum, Tx};
+use crate::words::number;
+use collections::Items;
+use eutxo_types::{Cont, Datum, Output, Tx};
 use std::alloc::Global;
 
 /// A datum, from the number of a continuation and a state.
@@ -18,15 +19,23 @@ pub fn datum_of(alloc: Global, known: &Known, cont: Cont, state: &str) -> Result
 /// Data, from `NUMBER STATE ..`.
 pub fn datums_of(alloc: Global, known: &Known, words: &str) -> Result<Items<Datum>, RowFault> {
     let mut datums = Items::new(alloc);
+    let put = put_datums(alloc, known, &mut datums, words);
+    done(datums, put)
+}
+
+fn put_datums(
+    alloc: Global,
+    known: &Known,
+    datums: &mut Items<Datum>,
+    words: &str,
+) -> Result<(), RowFault> {
     let mut words = words.split_whitespace();
     while let Some(cont) = words.next() {
         let cont = Cont(number(cont)?);
-        put(
-            &mut datums,
-            datum_of(alloc, known, cont, words.next().unwrap_or("")),
-        )?;
+        let state = words.next().unwrap_or("");
+        put(datums, datum_of(alloc, known, cont, state))?;
     }
-    Ok(datums)
+    Ok(())
 }
 
 /// Brings a datum for an input, behind those for the inputs before it.
@@ -37,10 +46,7 @@ pub fn bring_for_input(alloc: Global, tx: &mut Tx, datum: Datum) -> Result<(), R
 
 /// Brings for the inputs nothing any more.
 pub fn bring_for_outputs(alloc: Global, tx: &mut Tx) -> Result<(), RowFault> {
-    let mut datums = Items::new(alloc);
-    for datum in data_for_outputs(tx) {
-        datums.push(datum.try_clone()?)?;
-    }
+    let datums = copies_of(alloc, data_for_outputs(tx))?;
     replace(&mut tx.datums, datums);
     Ok(())
 }
@@ -54,11 +60,18 @@ pub fn data_for_outputs(tx: &Tx) -> &[Datum] {
 fn for_inputs(tx: &Tx) -> usize
     ensures { result ≤ length tx.now.datums }
 {
-    let made = tx
-        .outputs
-        .as_slice()
-        .iter()
-        .filter(|o| o.lock.is_contract())
-        .count();
-    tx.datums.len().saturating_sub(made)
+    tx.datums
+        .len()
+        .saturating_sub(contracts_among(tx.outputs.as_slice()))
+}
+
+// How many of these outputs are contracts.
+fn contracts_among(outputs: &[Output]) -> usize {
+    let mut count = 0usize;
+    for output in outputs {
+        if output.lock.is_contract() {
+            count = count.saturating_add(1);
+        }
+    }
+    count
 }

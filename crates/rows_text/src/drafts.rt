@@ -1,10 +1,11 @@
 //! Transactions as they are written.
+use crate::carried::{put, put_option, replace};
 use crate::datums::{bring_for_input, datums_of};
 use crate::fault::RowFault;
 use crate::known::Known;
 use crate::outputs::{Written, written_of};
 use crate::spends::{put_keys, spend_of};
-use crate::words::{number, parts, put, replace, text};
+use crate::words::{number, parts, text};
 use collections::{Items, TryClone};
 use contract::Interval;
 use eutxo_types::{Spend, Tx};
@@ -31,7 +32,7 @@ pub fn write(
 ) -> Result<(), RowFault> {
     match word {
         "in" => put_spend(alloc, known, tx, spend_of(alloc, known, rest)),
-        "keys" => put_keys(&mut tx.inputs, number(rest)?),
+        "keys" => Ok(put_keys(&mut tx.inputs, 0, number(rest)?)?),
         "out" => put_output(tx, written_of(alloc, known, rest)),
         "from" => set_interval(tx, rest),
         "signer" => put(&mut tx.signers, text(alloc, rest)),
@@ -51,21 +52,31 @@ fn put_spend(
     tx: &mut Tx,
     spend: Result<Spend, RowFault>,
 ) -> Result<(), RowFault> {
-    let spend = spend?;
-    if let Some(datum) = known.datum_at(&spend.reference) {
-        bring_for_input(alloc, tx, datum.try_clone()?)?;
+    put(&mut tx.inputs, spend)?;
+    match tx.inputs.as_slice().last() {
+        Some(last) => match known.datum_at(&last.reference) {
+            Some(datum) => bring_for_input(alloc, tx, datum.try_clone()?),
+            None => Ok(()),
+        },
+        None => Ok(()),
     }
-    put(&mut tx.inputs, Ok(spend))
 }
 
 // Puts an output behind the others, and brings its datum behind the other data.
 fn put_output(tx: &mut Tx, written: Result<Written, RowFault>) -> Result<(), RowFault> {
     let Written { output, datum } = written?;
-    tx.outputs.push(output)?;
-    if let Some(datum) = datum {
-        tx.datums.push(datum)?;
-    }
-    Ok(())
+    put_both(&mut tx.outputs, output, &mut tx.datums, datum)
+}
+
+// It is generic in what is put, so that no proof walks through its drop.
+fn put_both<A: Drop, B: Drop>(
+    outputs: &mut Items<A>,
+    output: A,
+    datums: &mut Items<B>,
+    datum: Option<B>,
+) -> Result<(), RowFault> {
+    put(outputs, Ok(output))?;
+    put_option(datums, datum)
 }
 
 // From `FROM to TO`.

@@ -1,5 +1,6 @@
 //! What has a name.
 use crate::fault::RowFault;
+use crate::identified::{Identified, by_id, by_name};
 use crate::publications::Named;
 use crate::references::{Sent, datum_among};
 use crate::words::parts;
@@ -65,19 +66,17 @@ impl Known {
     }
 
     fn text_named(&self, name: &str) -> Result<&str, RowFault> {
-        let found = self.texts.iter().find(|x| x.name.as_str() == name);
-        match found {
-            Some(x) => Ok(x.text.as_str()),
-            None => Err(RowFault::NoSuchRow),
+        for named in &self.texts {
+            if named.name.as_str() == name {
+                return Ok(named.text.as_str());
+            }
         }
+        Err(RowFault::NoSuchRow)
     }
 
     /// What is published under a name.
     pub fn by_name(&self, word: &str) -> Result<&Named, RowFault> {
-        self.published
-            .iter()
-            .find(|named| named.name() == word)
-            .ok_or(RowFault::NoSuchRow)
+        by_name(&self.published, word).ok_or(RowFault::NoSuchRow)
     }
 
     /// The datum with which a transaction that has a name made an output, if one did.
@@ -87,7 +86,7 @@ impl Known {
 
     /// The word for a script: `@` and the name that it was first published under, else its id.
     pub fn word_of_script(&self, alloc: Global, id: &[u8; 32]) -> Result<String, AllocError> {
-        match self.published.iter().find(|named| named.id() == *id) {
+        match by_id(&self.published, id) {
             Some(named) => {
                 let name = named.name();
                 format!(in alloc; "@{name}")

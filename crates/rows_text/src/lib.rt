@@ -1,13 +1,9 @@
 //! Rows beside their answers, and transactions as text: how the row programs read a file, and what its lines say.
 //!
-//! A program plays each file that its arguments name (`print_rows`), a session for each. Of these lines every file may have some:
+//! A program plays each file that its arguments name, a session for each. A line `= TEXT` is what the row before must answer; a row that
+//! answers several lines has several of them below it. One that begins with `#` is the subject of the rows below it.
 //!
-//! - `= TEXT` is what the row before must answer. A row that answers several lines has several of them below it;
-//! - `use NAME` has the lines of the file of that name beside this one stand in its place: texts that several files name. They
-//!   answer nothing;
-//! - `#` begins a comment, most often the subject of the rows below it.
-//!
-//! Any other line is the session's (`Answers`): one that answers is a row. Of each file is printed `FILE ok N rows`, and where
+//! Any other line is the session's: one that answers is a row. Of each file is printed `FILE ok N rows`, and where
 //! a row answers otherwise, or a row has no answer, its `FILE:LINE` with what was wanted and what came; then the status is 1.
 //! Of a file without any `=` all that its rows answer is printed: so one sees what rows that are still to be written down answer.
 //!
@@ -37,11 +33,13 @@
 
 mod amounts;
 mod answers;
+mod carried;
 mod checks;
 mod copied;
 mod datums;
 mod drafts;
 mod fault;
+mod identified;
 mod known;
 mod large;
 mod outputs;
@@ -53,23 +51,26 @@ mod verdicts;
 mod words;
 
 pub use amounts::{amounts_of, bundle_of, put_amounts, token_of, word_of};
-pub use answers::{Answers, in_bytes, print_rows, put_answer, text_beside};
+pub use answers::{in_bytes, put_answer, text_beside};
+pub use carried::{
+    both, copies_of, done, lent, list, one, put, put_at, put_in, put_option, put_words, replace,
+    take_back, times,
+};
 pub use checks::{check_copies, keep_check, recheck_line};
 pub use copied::{
-    apart_of, fault_copies, put_beside, put_copies, put_copy, put_same, put_same_copy,
-    same_or_other, texts_of,
+    Values, apart_of, put_beside, put_copies, put_copy, put_same, put_same_copy, same_or_other,
+    texts_of, value_copies, value_texts, values_apart,
 };
 pub use datums::{bring_for_input, bring_for_outputs, data_for_outputs, datum_of};
 pub use drafts::{nothing, write};
 pub use fault::{RowFault, called};
+pub use identified::Identified;
 pub use known::{Known, NamedText, named_text_of};
-pub use large::{nested, wide};
+pub use large::{nested, notify_and, waiting, wide};
 pub use outputs::{Written, locked, output_of, state_of, written_of};
 pub use publications::{Named, named_of};
 pub use references::{Sent, reference_of, sent_of, word_of_id, word_of_reference};
-pub use report::Report;
+pub use report::{Report, put_line, put_lines, without_end};
 pub use spends::{inputs_of, put_keys};
 pub use verdicts::{refusal_line, verdict_line};
-pub use words::{
-    both, bytes, first, number, parts, put, put_in, put_words, replace, take_back, text,
-};
+pub use words::{bytes, first, number, parts, sides, text};

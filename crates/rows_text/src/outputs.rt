@@ -1,9 +1,11 @@
 //! Outputs of a transaction.
 use crate::amounts::bundle_of;
+use crate::carried::both;
 use crate::datums::datum_of;
 use crate::fault::RowFault;
+use crate::identified::Identified;
 use crate::known::Known;
-use crate::words::{both, bytes, first, id, number, parts, text};
+use crate::words::{bytes, first, id, number, parts, text};
 use contract::State;
 use contract_json::read_state;
 use eutxo_types::{Cont, Datum, Lock, Output, datum_hash};
@@ -18,7 +20,8 @@ pub struct Written {
 
 /// An output, from `SORT` and what follows it.
 pub fn output_of(alloc: Global, known: &Known, rest: &str) -> Result<Output, RowFault> {
-    let Written { output, .. } = written_of(alloc, known, rest)?;
+    let Written { output, datum } = written_of(alloc, known, rest)?;
+    drop(datum);
     Ok(output)
 }
 
@@ -62,22 +65,23 @@ fn contract(alloc: Global, known: &Known, rest: &str) -> Result<Written, RowFaul
     let (state, amounts) = first(rest);
     let (script, root) = script_of(known, script)?;
     let cont = cont_of(root, cont)?;
-    at_datum(alloc, script, datum_of(alloc, known, cont, state)?, amounts)
+    let datum = datum_of(alloc, known, cont, state)?;
+    let (output, datum) = both(at_datum(alloc, script, &datum, amounts), Ok(Some(datum)))?;
+    Ok(Written { output, datum })
 }
 
 fn at_datum(
     alloc: Global,
     script: [u8; 32],
-    datum: Datum,
+    datum: &Datum,
     amounts: &str,
-) -> Result<Written, RowFault> {
-    let digest = datum_hash(alloc, &datum)?;
+) -> Result<Output, RowFault> {
+    let digest = datum_hash(alloc, datum)?;
     let lock = Lock::Contract {
         script,
         datum: digest,
     };
-    let (output, datum) = both(locked(alloc, lock, amounts), Ok(Some(datum)))?;
-    Ok(Written { output, datum })
+    locked(alloc, lock, amounts)
 }
 
 // The number of a continuation, or the root's.

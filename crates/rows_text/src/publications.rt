@@ -1,5 +1,7 @@
 //! What is published, by name.
+use crate::carried::both;
 use crate::fault::RowFault;
+use crate::identified::Identified;
 use crate::known::Known;
 use crate::words::{bytes, parts};
 use collections::{Bytes, Memory, TryClone};
@@ -28,20 +30,20 @@ impl Drop for Named {
     }
 }
 
-impl Named {
-    /// Its name.
-    pub fn name(&self) -> &str {
+impl Identified for Named {
+    fn name(&self) -> &str {
         self.name.as_str()
     }
 
+    fn id(&self) -> [u8; 32] {
+        self.published().id
+    }
+}
+
+impl Named {
     /// What is published.
     pub fn published(&self) -> &Published {
         self.published.get()
-    }
-
-    /// The id of its script.
-    pub fn id(&self) -> [u8; 32] {
-        self.published().id
     }
 
     /// The number of its root.
@@ -62,9 +64,12 @@ pub fn named_of(alloc: Global, known: &Known, rest: &str) -> Result<Named, RowFa
     let contract = known.text_of(contract)?;
     let currency = bytes(alloc, currency)?;
     let published = published_of(alloc, read_contract(alloc, contract.as_bytes()), currency);
-    let published = shared_of(alloc, published)?;
-    let name = String::from_str(alloc, name)?;
+    let (name, published) = both(name_of(alloc, name), shared_of(alloc, published))?;
     Ok(Named { name, published })
+}
+
+fn name_of(alloc: Global, name: &str) -> Result<String, RowFault> {
+    Ok(String::from_str(alloc, name)?)
 }
 
 // It is generic in what is shared, so that no proof walks through its drop.

@@ -1,6 +1,7 @@
 //! References of outputs.
 use crate::fault::RowFault;
-use crate::words::{id, number};
+use crate::identified::{Identified, by_id, by_name};
+use crate::words::{id, number, sides};
 use collections::TryClone;
 use eutxo_types::{Datum, OutputRef, Tx, tx_id};
 use std::alloc::{AllocError, Global};
@@ -20,6 +21,16 @@ impl Drop for Sent {
             id: _,
             tx: _,
         } = self;
+    }
+}
+
+impl Identified for Sent {
+    fn name(&self) -> &str {
+        self.name.as_str()
+    }
+
+    fn id(&self) -> [u8; 32] {
+        self.id
     }
 }
 
@@ -45,7 +56,7 @@ pub fn sent_of(alloc: Global, name: &str, tx: &Tx) -> Result<Sent, RowFault> {
 pub fn datum_among<'a>(sent: &'a [Sent], reference: &OutputRef) -> Option<&'a Datum> {
     match reference {
         OutputRef::Genesis { .. } => None,
-        OutputRef::Made { id, index } => match sent.iter().find(|x| x.id == *id) {
+        OutputRef::Made { id, index } => match by_id(sent, id) {
             Some(maker) => maker.datum_at(*index),
             None => None,
         },
@@ -54,7 +65,7 @@ pub fn datum_among<'a>(sent: &'a [Sent], reference: &OutputRef) -> Option<&'a Da
 
 /// An output, from `ORIGIN.PLACE`: the origin is `genesis`, the name of a transaction, or an id.
 pub fn reference_of(sent: &[Sent], word: &str) -> Result<OutputRef, RowFault> {
-    let (origin, index) = word.split_once('.').ok_or(RowFault::NoSuchRow)?;
+    let (origin, index) = sides(word, '.')?;
     let index = number(index)?;
     match origin {
         "genesis" => Ok(OutputRef::Genesis { index }),
@@ -67,16 +78,16 @@ pub fn reference_of(sent: &[Sent], word: &str) -> Result<OutputRef, RowFault> {
 
 // The id of the transaction of that name, or the one that the word spells.
 fn id_of(sent: &[Sent], word: &str) -> Result<[u8; 32], RowFault> {
-    match sent.iter().find(|x| x.name.as_str() == word) {
-        Some(x) => Ok(x.id),
+    match by_name(sent, word) {
+        Some(named) => Ok(named.id),
         None => id(word),
     }
 }
 
 /// The word for a transaction: its first name, else its id.
 pub fn word_of_id(alloc: Global, sent: &[Sent], id: &[u8; 32]) -> Result<String, AllocError> {
-    match sent.iter().find(|x| x.id == *id) {
-        Some(x) => String::from_str(alloc, x.name.as_str()),
+    match by_id(sent, id) {
+        Some(named) => String::from_str(alloc, named.name.as_str()),
         None => hex::encode(alloc, id.as_slice()),
     }
 }

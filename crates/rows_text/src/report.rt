@@ -22,7 +22,7 @@ impl<'t> Report<'t> {
     pub fn new(alloc: Global, path: &'t str, text: &str) -> Report<'t> {
         Report {
             path,
-            has_answers: text.lines().any(|line| line.starts_with('=')),
+            has_answers: has_answers(text),
             line: 0,
             rows: 0,
             differing: 0,
@@ -85,10 +85,10 @@ impl<'t> Report<'t> {
 
     fn put_difference(&mut self, alloc: Global) -> Result<(), AllocError> {
         self.differing = self.differing.saturating_add(1);
-        let place = format!(in alloc; "{}:{}\n", self.path, self.row)?;
-        self.printed.extend_from_slice(place.as_bytes())?;
-        put_lines(&mut self.printed, b"  wanted ", self.wanted.as_slice())?;
-        put_lines(&mut self.printed, b"  came   ", self.came.as_slice())
+        let place = format!(in alloc; "{}:{}", self.path, self.row);
+        put_text(&mut self.printed, place)?;
+        put_lines(&mut self.printed, b"  wanted", or_nothing(&self.wanted))?;
+        put_lines(&mut self.printed, b"  came  ", or_nothing(&self.came))
     }
 
     /// Closes the last row, and puts the line for the file at the end.
@@ -97,12 +97,8 @@ impl<'t> Report<'t> {
         if !self.has_answers {
             return Ok(());
         }
-        let (path, rows) = (self.path, self.rows);
-        let told = match self.differing {
-            0 => format!(in alloc; "{path} ok {rows} rows")?,
-            differing => format!(in alloc; "{path} {differing} of {rows} rows differ")?,
-        };
-        put_line(&mut self.printed, told.as_bytes())
+        let told = told(alloc, self.path, self.rows, self.differing);
+        put_text(&mut self.printed, told)
     }
 
     /// What is printed.
@@ -116,25 +112,54 @@ impl<'t> Report<'t> {
     }
 }
 
-fn put_line(printed: &mut Vec<u8>, line: &[u8]) -> Result<(), AllocError> {
+// Whether a line of a file is an answer.
+fn has_answers(text: &str) -> bool {
+    for line in text.lines() {
+        if line.starts_with('=') {
+            return true;
+        }
+    }
+    false
+}
+
+// What is printed of a file once all its rows are compared.
+fn told(alloc: Global, path: &str, rows: u64, differing: u64) -> Result<String, AllocError> {
+    match differing {
+        0 => format!(in alloc; "{path} ok {rows} rows"),
+        _ => format!(in alloc; "{path} {differing} of {rows} rows differ"),
+    }
+}
+
+// Lines, or the word `nothing` where there is none.
+fn or_nothing(lines: &[u8]) -> &[u8] {
+    if lines.is_empty() { b"nothing" } else { lines }
+}
+
+fn put_text(printed: &mut Vec<u8>, text: Result<String, AllocError>) -> Result<(), AllocError> {
+    let text = text?;
+    put_line(printed, text.as_bytes())
+}
+
+/// Puts a line at the end.
+pub fn put_line(printed: &mut Vec<u8>, line: &[u8]) -> Result<(), AllocError> {
     printed.extend_from_slice(line)?;
     printed.push(b'\n')?;
     Ok(())
 }
 
-// Each line behind a word, and the word `nothing` where there is none.
-fn put_lines(printed: &mut Vec<u8>, word: &[u8], lines: &[u8]) -> Result<(), AllocError> {
-    match lines.strip_suffix(b"\n") {
-        Some(lines) => {
-            for line in lines.split(|byte| *byte == b'\n') {
-                printed.extend_from_slice(word)?;
-                put_line(printed, line)?;
-            }
-            Ok(())
+/// Puts each line behind a word, which stands alone where a line is empty; a text without any is one empty line.
+pub fn put_lines(printed: &mut Vec<u8>, word: &[u8], lines: &[u8]) -> Result<(), AllocError> {
+    for line in without_end(lines).split(|byte| *byte == b'\n') {
+        printed.extend_from_slice(word)?;
+        if !line.is_empty() {
+            printed.push(b' ')?;
         }
-        None => {
-            printed.extend_from_slice(word)?;
-            put_line(printed, b"nothing")
-        }
+        put_line(printed, line)?;
     }
+    Ok(())
+}
+
+/// A text without the line feed at its end.
+pub fn without_end(text: &[u8]) -> &[u8] {
+    text.strip_suffix(b"\n").unwrap_or(text)
 }

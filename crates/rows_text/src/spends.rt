@@ -1,10 +1,11 @@
 //! Inputs of a transaction.
 use crate::amounts::token_of;
+use crate::carried::{both, done, put, times};
 use crate::fault::RowFault;
 use crate::known::Known;
 use crate::references::reference_of;
-use crate::words::{both, first, number, parts, put, text};
-use collections::Items;
+use crate::words::{first, number, parts, sides, text};
+use collections::{Items, Memory};
 use contract::{Input, Party};
 use contract_json::read_input;
 use eutxo_types::{OutputRef, Redeemer, Spend};
@@ -27,26 +28,31 @@ fn redeemer_of(alloc: Global, known: &Known, rest: &str) -> Result<Redeemer, Row
         "none" => Ok(Redeemer::None),
         "claim" => Ok(Redeemer::Claim),
         "step" => Ok(Redeemer::Step(inputs_of(alloc, known, inputs)?)),
-        "notifies" => Ok(Redeemer::Step(notifies(alloc, number(inputs)?)?)),
+        "notifies" => {
+            let notifies = times(alloc, number(inputs)?, Ok(Input::Notify))?;
+            Ok(Redeemer::Step(notifies))
+        }
         _ => Err(RowFault::NoSuchRow),
     }
-}
-
-fn notifies(alloc: Global, count: u64) -> Result<Items<Input>, RowFault> {
-    let mut inputs = Items::new(alloc);
-    for _ in 0..count {
-        inputs.push(Input::Notify)?;
-    }
-    Ok(inputs)
 }
 
 /// The inputs of a contract that words stand for.
 pub fn inputs_of(alloc: Global, known: &Known, words: &str) -> Result<Items<Input>, RowFault> {
     let mut inputs = Items::new(alloc);
+    let put = put_inputs(alloc, known, &mut inputs, words);
+    done(inputs, put)
+}
+
+fn put_inputs(
+    alloc: Global,
+    known: &Known,
+    inputs: &mut Items<Input>,
+    words: &str,
+) -> Result<(), RowFault> {
     for word in words.split_whitespace() {
-        put_input(alloc, &mut inputs, known.text_of(word)?)?;
+        put_input(alloc, inputs, known.text_of(word)?)?;
     }
-    Ok(inputs)
+    Ok(())
 }
 
 fn put_input(alloc: Global, inputs: &mut Items<Input>, word: &str) -> Result<(), RowFault> {
@@ -65,17 +71,17 @@ fn input_of(alloc: Global, word: &str) -> Result<Input, RowFault> {
 
 // From `PARTY:ACCOUNT:AMOUNT`.
 fn deposit_of(alloc: Global, rest: &str) -> Result<Input, RowFault> {
-    let (party, rest) = rest.split_once(':').ok_or(RowFault::NoSuchRow)?;
-    let (account, amount) = rest.split_once(':').ok_or(RowFault::NoSuchRow)?;
+    let (party, rest) = sides(rest, ':')?;
+    let (account, amount) = sides(rest, ':')?;
     let amount = number(amount)?;
     let parties = both(text(alloc, party), text(alloc, account));
     let ((party, account), ada) = both(parties, token_of(alloc, "ada"))?;
     Ok(Input::Deposit(Party::Address(account), Party::Address(party), ada, amount))
 }
 
-/// Puts so many inputs behind the others, which give nothing: the first outputs that the ledger began with.
-pub fn put_keys(inputs: &mut Items<Spend>, count: u64) -> Result<(), RowFault> {
-    for index in 0..count {
+/// Puts so many inputs behind the others, which give nothing: outputs that the ledger began with, from a place on.
+pub fn put_keys(inputs: &mut Items<Spend>, first: u64, count: u64) -> Result<(), Memory> {
+    for index in first..first.saturating_add(count) {
         inputs.push(Spend {
             reference: OutputRef::Genesis { index },
             redeemer: Redeemer::None,

@@ -1,10 +1,10 @@
 //! How often a script is asked.
-use crate::found::copies_of;
+use crate::resolved::copies_of;
 use crate::stubborn::Stubborn;
 use collections::{Items, Memory};
-use eutxo::{Resolved, Scripts, Shared, check, recheck};
+use eutxo::{Checked, Resolved, Scripts, Shared, Validator, check, recheck};
 use eutxo_types::{Output, Tx};
-use rows_text::{Named, RowFault};
+use rows_text::{Identified, Named, RowFault};
 use std::alloc::Global;
 use std::sync::Arc;
 use std::sync::atomic::{AtomicU64, Ordering};
@@ -18,24 +18,44 @@ pub fn asks_line(
     names: &[Named],
 ) -> Result<String, RowFault> {
     let asked = Arc::new(alloc, AtomicU64::new(0))?;
-    let checked = check(alloc, tx, found_by(alloc, outputs, names, 0, &asked)?)?;
+    let checked = checked(alloc, tx, found_by(alloc, outputs, names, 0, &asked))?;
     let at_first = asked.load(Ordering::SeqCst);
     let at_hand = std::slice::from_ref(&checked);
-    let _ = recheck(
+    check_again(
         alloc,
         tx,
-        &found_by(alloc, outputs, names, 0, &asked)?,
+        found_by(alloc, outputs, names, 0, &asked),
         at_hand,
     )?;
     let again = asked.load(Ordering::SeqCst);
-    let _ = recheck(
+    check_again(
         alloc,
         tx,
-        &found_by(alloc, outputs, names, 1, &asked)?,
+        found_by(alloc, outputs, names, 1, &asked),
         at_hand,
     )?;
     let otherwise = asked.load(Ordering::SeqCst);
     Ok(format!(in alloc; "asked {at_first}, {again}, {otherwise}")?)
+}
+
+// A check. It is generic in the scripts, so that no proof walks through their drop, and so is the next one.
+fn checked<V: Validator + Drop>(
+    alloc: Global,
+    tx: &Tx,
+    found: Result<Resolved<V>, Memory>,
+) -> Result<Checked<V>, Memory> {
+    check(alloc, tx, found?)
+}
+
+fn check_again<V: Validator + Drop>(
+    alloc: Global,
+    tx: &Tx,
+    found: Result<Resolved<V>, Memory>,
+    at_hand: &[Checked<V>],
+) -> Result<(), Memory> {
+    let found = found?;
+    let _verdict = recheck(alloc, tx, &found, at_hand)?;
+    Ok(())
 }
 
 fn found_by(

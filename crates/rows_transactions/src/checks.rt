@@ -1,11 +1,12 @@
 //! Checks of transactions.
+use crate::resolved::copies_of;
 use crate::stubborn::Stubborn;
 use collections::{Items, Memory};
 use eutxo::{Resolved, Scripts, Shared, Validator, check, judge_local, judge_spent, verdict_of};
 use eutxo_types::{Output, Tx};
 use roles::Published;
-use rows_text::{Named, RowFault, verdict_line};
-use std::alloc::{AllocError, Global};
+use rows_text::{Identified, Named, RowFault, called, verdict_line};
+use std::alloc::Global;
 use std::sync::Arc;
 use std::sync::atomic::AtomicU64;
 
@@ -27,44 +28,40 @@ impl Asked for Stubborn {
     }
 }
 
-/// The line for the verdict on a transaction whose inputs find these outputs, and where all that has a name is published: by
-/// Marlowe's validator, or, with the word `stubborn`, by the other one under the same ids.
-pub fn check_line(
+/// The line for the verdict on a transaction and what it finds. It is generic in the scripts, so that no proof walks through their drop.
+pub fn check_line<V: Validator + Drop>(
     alloc: Global,
     tx: &Tx,
-    outputs: Items<Option<Output>>,
-    names: &[Named],
-    word: &str,
+    found: Result<Resolved<V>, RowFault>,
 ) -> Result<String, RowFault> {
-    match word {
-        "" => line_by::<Published>(alloc, tx, outputs, names),
-        "stubborn" => line_by::<Stubborn>(alloc, tx, outputs, names),
-        _ => Err(RowFault::NoSuchRow),
-    }
+    let checked = called(check(alloc, tx, found?))?;
+    Ok(verdict_line(alloc, checked.verdict())?)
 }
 
-fn line_by<V: Asked>(
+/// The line for the verdict on a transaction whose inputs find these outputs, by the stubborn script under each id of what has a name.
+pub fn stubborn_line(
     alloc: Global,
     tx: &Tx,
-    outputs: Items<Option<Output>>,
+    outputs: &Items<Option<Output>>,
     names: &[Named],
 ) -> Result<String, RowFault> {
-    let scripts = scripts_of::<V>(alloc, names)?;
-    Ok(judged(alloc, tx, Resolved { outputs, scripts })?)
+    check_line(alloc, tx, found_under::<Stubborn>(alloc, outputs, names))
 }
 
-fn judged<V: Asked>(alloc: Global, tx: &Tx, found: Resolved<V>) -> Result<String, AllocError> {
-    let checked = check(alloc, tx, found)?;
-    verdict_line(alloc, checked.verdict())
-}
-
-/// All that has a name, under its id.
-pub fn scripts_of<V: Asked>(alloc: Global, names: &[Named]) -> Result<Scripts<V>, Memory> {
+/// What a transaction finds: these outputs, and a script for all that has a name.
+pub fn found_under<V: Asked>(
+    alloc: Global,
+    outputs: &Items<Option<Output>>,
+    names: &[Named],
+) -> Result<Resolved<V>, RowFault> {
     let mut scripts = Scripts::new(alloc);
     for named in names {
         scripts.insert(named.id(), V::of(alloc, named)?)?;
     }
-    Ok(scripts)
+    Ok(Resolved {
+        outputs: copies_of(alloc, outputs.as_slice())?,
+        scripts,
+    })
 }
 
 /// The verdict by what a transaction and its resolution decide, or with the word `spent` by the rules of what it spends alone. It is

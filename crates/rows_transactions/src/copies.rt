@@ -82,8 +82,12 @@ pub fn published_copies(alloc: Global, names: &[Named]) -> Result<String, AllocE
         put_copy(&mut line, named.published())?;
     }
     line.push_str(" beside")?;
-    for (before, named) in names.iter().zip(names.iter().skip(1)) {
-        put_same(&mut line, *before.published() == *named.published())?;
+    let mut last: Option<&Named> = None;
+    for named in names {
+        if let Some(before) = last {
+            put_same(&mut line, *before.published() == *named.published())?;
+        }
+        last = Some(named);
     }
     Ok(line)
 }

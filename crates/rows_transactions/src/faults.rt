@@ -1,51 +1,77 @@
-//! Faults one after another, their texts and their copies.
+//! The values of faults, one after another: their texts and their copies.
 use bundle::BundleFault;
-use collections::{Bytes, Text};
+use collections::{Bytes, Memory, Text};
 use contract::{Party, SemFault, Token};
 use eutxo::{StepAnswer, StepFault};
 use eutxo_types::TxFault;
-use rows_text::{RowFault, apart_of, fault_copies, texts_of};
+use rows_text::{RowFault, Values, value_copies, value_texts, values_apart};
 use std::alloc::Global;
+
+const COUNT_OF_TX_FAULTS: u32 = 19;
+
+struct TxFaults;
+
+struct BundleFaults;
+
+struct StepFaults;
+
+struct StepAnswers;
 
 /// A line of the text of each fault of that name.
 pub fn texts_row(alloc: Global, name: &str) -> Result<String, RowFault> {
-    match name {
-        "TxFault" => Ok(texts_of(
-            alloc,
-            TxFault::NoInputs,
-            &|fault: &TxFault| after_tx(alloc, fault),
-        )?),
-        "BundleFault" => {
-            Ok(texts_of(
-                alloc,
-                BundleFault::Short(ada(alloc)),
-                &|fault: &BundleFault| after_bundle(fault),
-            )?)
-        }
-        _ => Err(RowFault::NoSuchRow),
-    }
+    let texts = match name {
+        "TxFault" => value_texts::<TxFault, TxFaults>(alloc, COUNT_OF_TX_FAULTS),
+        "BundleFault" => value_texts::<BundleFault, BundleFaults>(alloc, 3),
+        _ => return Err(RowFault::NoSuchRow),
+    };
+    Ok(texts?)
 }
 
 /// Whether the values of that name are told apart.
 pub fn apart_row(alloc: Global, name: &str) -> Result<String, RowFault> {
-    match name {
-        "StepFault" => {
-            let first = StepFault::NotAuthorised(Party::Role(no_text(alloc)));
-            Ok(apart_of(alloc, first, &|fault: &StepFault| after_step(fault))?)
+    let line = match name {
+        "StepFault" => values_apart::<StepFault, StepFaults>(alloc, 3),
+        "StepAnswer" => values_apart::<StepAnswer, StepAnswers>(alloc, 5),
+        _ => return Err(RowFault::NoSuchRow),
+    };
+    Ok(line?)
+}
+
+/// Whether a copy of each fault of a transaction is the same.
+pub fn copies_row(alloc: Global) -> Result<String, Memory> {
+    value_copies::<TxFault, TxFaults>(alloc, COUNT_OF_TX_FAULTS)
+}
+
+impl Values<BundleFault> for BundleFaults {
+    fn at(alloc: Global, place: u32) -> BundleFault {
+        match place {
+            0 => BundleFault::Short(ada(alloc)),
+            1 => BundleFault::TooLarge,
+            _ => BundleFault::Memory,
         }
-        "StepAnswer" => {
-            let first = StepAnswer::Refused(SemFault::NoMatch);
-            Ok(apart_of(alloc, first, &|answer: &StepAnswer| after_answer(answer))?)
-        }
-        _ => Err(RowFault::NoSuchRow),
     }
 }
 
-fn after_step(fault: &StepFault) -> Option<StepFault> {
-    match fault {
-        StepFault::NotAuthorised(_) => Some(StepFault::WrongContinuation),
-        StepFault::WrongContinuation => Some(StepFault::WrongPayment(7)),
-        StepFault::WrongPayment(_) => None,
+impl Values<StepFault> for StepFaults {
+    fn at(alloc: Global, place: u32) -> StepFault {
+        match place {
+            0 => StepFault::NotAuthorised(Party::Role(no_text(alloc))),
+            1 => StepFault::WrongContinuation,
+            _ => StepFault::WrongPayment(7),
+        }
+    }
+}
+
+/// Each differs from the one before in one of its parts.
+impl Values<StepAnswer> for StepAnswers {
+    fn at(_alloc: Global, place: u32) -> StepAnswer {
+        match place {
+            0 => StepAnswer::Refused(SemFault::NoMatch),
+            1 => takes(None, false, 0),
+            2 => takes(None, true, 0),
+            3 => takes(None, true, 1),
+            _ => takes(Some(StepFault::WrongContinuation), true, 1),
+        }
     }
 }
 
@@ -57,24 +83,31 @@ fn takes(fault: Option<StepFault>, goes_on: bool, payments: usize) -> StepAnswer
     }
 }
 
-// Each differs from the one before in one of its parts.
-fn after_answer(answer: &StepAnswer) -> Option<StepAnswer> {
-    match answer {
-        StepAnswer::Refused(_) => Some(takes(None, false, 0)),
-        StepAnswer::Takes { fault: Some(_), .. } => None,
-        StepAnswer::Takes { goes_on: false, .. } => Some(takes(None, true, 0)),
-        StepAnswer::Takes { payments: 0, .. } => Some(takes(None, true, 1)),
-        StepAnswer::Takes { .. } => Some(takes(Some(StepFault::WrongContinuation), true, 1)),
+/// Places count on, so that each text shows its own.
+impl Values<TxFault> for TxFaults {
+    fn at(alloc: Global, place: u32) -> TxFault {
+        match place {
+            0 => TxFault::NoInputs,
+            1 => TxFault::TooMany,
+            2 => TxFault::RepeatedInput(1),
+            3 => TxFault::NotUnspent(2),
+            4 => TxFault::IdInUse,
+            5 => TxFault::OutsideInterval,
+            6 => TxFault::UnknownScript(3),
+            7 => TxFault::NotSigned(4),
+            8 => TxFault::TooManyContracts,
+            9 => TxFault::WrongRedeemer(5),
+            10 => TxFault::RoleMissing(6),
+            11 => TxFault::Semantics(SemFault::NoMatch),
+            12 => TxFault::NotAuthorised(Party::Role(no_text(alloc))),
+            13 => TxFault::WrongContinuation,
+            14 => TxFault::WrongPayment(7),
+            15 => TxFault::StrayContract(8),
+            16 => TxFault::WrongStart(9),
+            17 => TxFault::NotPreserved(ada(alloc)),
+            _ => TxFault::WrongDatum(10),
+        }
     }
-}
-
-/// Whether a copy of each fault of a transaction is the same.
-pub fn copies_row(alloc: Global) -> Result<String, RowFault> {
-    Ok(fault_copies(
-        alloc,
-        TxFault::NoInputs,
-        &|fault: &TxFault| after_tx(alloc, fault),
-    )?)
 }
 
 // Takes no memory.
@@ -88,37 +121,4 @@ fn ada(alloc: Global) -> Token {
 // Takes no memory.
 fn no_text(alloc: Global) -> Text {
     Text::from_string(String::new(alloc))
-}
-
-fn after_bundle(fault: &BundleFault) -> Option<BundleFault> {
-    match fault {
-        BundleFault::Short(_) => Some(BundleFault::TooLarge),
-        BundleFault::TooLarge => Some(BundleFault::Memory),
-        BundleFault::Memory => None,
-    }
-}
-
-// Places count on, so that each text shows its own.
-fn after_tx(alloc: Global, fault: &TxFault) -> Option<TxFault> {
-    match fault {
-        TxFault::NoInputs => Some(TxFault::TooMany),
-        TxFault::TooMany => Some(TxFault::RepeatedInput(1)),
-        TxFault::RepeatedInput(_) => Some(TxFault::NotUnspent(2)),
-        TxFault::NotUnspent(_) => Some(TxFault::IdInUse),
-        TxFault::IdInUse => Some(TxFault::OutsideInterval),
-        TxFault::OutsideInterval => Some(TxFault::UnknownScript(3)),
-        TxFault::UnknownScript(_) => Some(TxFault::NotSigned(4)),
-        TxFault::NotSigned(_) => Some(TxFault::TooManyContracts),
-        TxFault::TooManyContracts => Some(TxFault::WrongRedeemer(5)),
-        TxFault::WrongRedeemer(_) => Some(TxFault::RoleMissing(6)),
-        TxFault::RoleMissing(_) => Some(TxFault::Semantics(SemFault::NoMatch)),
-        TxFault::Semantics(_) => Some(TxFault::NotAuthorised(Party::Role(no_text(alloc)))),
-        TxFault::NotAuthorised(_) => Some(TxFault::WrongContinuation),
-        TxFault::WrongContinuation => Some(TxFault::WrongPayment(7)),
-        TxFault::WrongPayment(_) => Some(TxFault::StrayContract(8)),
-        TxFault::StrayContract(_) => Some(TxFault::WrongStart(9)),
-        TxFault::WrongStart(_) => Some(TxFault::NotPreserved(ada(alloc))),
-        TxFault::NotPreserved(_) => Some(TxFault::WrongDatum(10)),
-        TxFault::WrongDatum(_) => None,
-    }
 }

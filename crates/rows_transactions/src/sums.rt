@@ -3,8 +3,8 @@ use bundle::{Bundle, BundleFault, total_of};
 use collections::TryClone;
 use roles::holds_sums;
 use rows_text::{
-    Known, RowFault, bundle_of, first, parts, put_amounts, same_or_other, state_of, token_of,
-    word_of,
+    Known, RowFault, bundle_of, first, parts, put_amounts, same_or_other, sides, state_of,
+    token_of, word_of,
 };
 use std::alloc::{AllocError, Global};
 
@@ -44,7 +44,7 @@ pub fn totals(alloc: Global, rest: &str) -> Result<String, RowFault> {
 }
 
 fn both(alloc: Global, rest: &str) -> Result<(Bundle, Bundle), RowFault> {
-    let (held, other) = rest.split_once('/').ok_or(RowFault::NoSuchRow)?;
+    let (held, other) = sides(rest, '/')?;
     let held = bundle_of(alloc, held)?;
     let other = bundle_of(alloc, other)?;
     Ok((held, other))

@@ -1,6 +1,5 @@
 //! Rows and what is printed for them.
 use crate::faults::{apart_row, refused_row, texts_row};
-use crate::files::{loaded, removed, saved};
 use crate::lines::line_row;
 use crate::numbers::{constant_row, large_row};
 use crate::on_tables::run_row;
@@ -10,48 +9,23 @@ use crate::starts::start_row;
 use crate::tables::table_row;
 use crate::texts::text_row;
 use rows_given::Given;
-use rows_text::{Answers, RowFault, first};
+use rows_text::{RowFault, first};
 use std::alloc::Global;
-use std::rt::Files;
 
-/// What the lines so far have given.
-#[derive(Drop)]
-pub struct Rows {
-    given: Given,
-}
-
-impl<R: Files + AllocGlobal> Answers<R> for Rows {
-    fn begin(rt: &R) -> Rows {
-        Rows {
-            given: Given::new(rt.alloc()),
-        }
-    }
-
-    fn take(&mut self, rt: &R, line: &str) -> Result<Option<Vec<u8>>, RowFault> {
-        let (word, rest) = first(line);
-        let given = &mut self.given;
-        match word {
-            "text" => {
-                given.keep(rt.alloc(), "text", rest)?;
-                Ok(None)
-            }
-            "save" => Ok(Some(saved(rt, given, rest)?)),
-            "remove" => Ok(Some(removed(rt, rest)?)),
-            "load" => Ok(Some(loaded(rt, given, rest)?)),
-            _ if given.keeps(rt.alloc(), word, rest)? => Ok(None),
-            _ => Ok(Some(answer(rt.alloc(), given, word, rest)?)),
-        }
-    }
-}
-
-fn answer(alloc: Global, given: &Given, word: &str, rest: &str) -> Result<Vec<u8>, RowFault> {
+/// The answer to a row, from its word and what follows.
+pub fn answer_of(
+    alloc: Global,
+    given: &Given,
+    word: &str,
+    rest: &str,
+) -> Result<Vec<u8>, RowFault> {
     match word {
         "read" | "back" | "form" | "copy" | "compare" | "spell" => {
             let (sort, text) = first(rest);
             let text = text_of(alloc, given, text)?;
             value_row(alloc, given, word, sort, text.as_slice())
         }
-        "run" => {
+        "both" => {
             let text = text_of(alloc, given, rest)?;
             run_row(alloc, given, text.as_slice())
         }

@@ -4,11 +4,9 @@ use contract::{SemFault, StateFault};
 use contract_json::{JsonFault, WriteFault};
 use marlowe_cli::{Task, WordsFault};
 use marlowe_io::LoadFault;
-use marlowe_play::PlayFault;
 use marlowe_refusals::{Fault, RunFault, TableFault, refusal};
-use rows_text::{RowFault, put_same};
+use rows_text::{RowFault, apart_of, texts_of};
 use std::alloc::{AllocError, Global};
-use std::fmt::Display;
 
 const SEM_FAULTS: [SemFault; 7] = [
     SemFault::InvalidInterval,
@@ -92,37 +90,28 @@ const TASKS: [Task<'static>; 4] = [
 /// A line of the text of each fault of that name.
 pub fn texts_row(alloc: Global, name: &str) -> Result<Vec<u8>, RowFault> {
     let texts = match name {
-        "SemFault" => texts_of(alloc, SEM_FAULTS.as_slice())?,
-        "StateFault" => texts_of(alloc, STATE_FAULTS.as_slice())?,
-        "CompileFault" => texts_of(alloc, COMPILE_FAULTS.as_slice())?,
-        "JsonFault" => texts_of(alloc, JSON_FAULTS.as_slice())?,
-        "WriteFault" => texts_of(alloc, WRITE_FAULTS.as_slice())?,
-        "RunFault" => texts_of(alloc, RUN_FAULTS.as_slice())?,
-        "TableFault" => texts_of(alloc, TABLE_FAULTS.as_slice())?,
-        "PlayFault" => {
-            let setup = PlayFault::Setup(Vec::new(alloc));
-            let faults = [
-                PlayFault::Scenario(JsonFault::NoForm),
-                setup,
-                PlayFault::Memory,
-            ];
-            texts_of(alloc, faults.as_slice())?
-        }
+        "SemFault" => texts_of(alloc, SEM_FAULTS.as_slice()),
+        "StateFault" => texts_of(alloc, STATE_FAULTS.as_slice()),
+        "CompileFault" => texts_of(alloc, COMPILE_FAULTS.as_slice()),
+        "JsonFault" => texts_of(alloc, JSON_FAULTS.as_slice()),
+        "WriteFault" => texts_of(alloc, WRITE_FAULTS.as_slice()),
+        "RunFault" => texts_of(alloc, RUN_FAULTS.as_slice()),
+        "TableFault" => texts_of(alloc, TABLE_FAULTS.as_slice()),
         _ => return Err(RowFault::NoSuchRow),
     };
-    Ok(texts)
+    Ok(texts?.into_bytes())
 }
 
 /// Whether the values of that name are told apart.
 pub fn apart_row(alloc: Global, name: &str) -> Result<Vec<u8>, RowFault> {
     let line = match name {
-        "LoadFault" => apart_of(alloc, LOAD_FAULTS.as_slice())?,
-        "WordsFault" => apart_of(alloc, WORDS_FAULTS.as_slice())?,
-        "Fault" => apart_of(alloc, FAULTS.as_slice())?,
-        "Task" => apart_of(alloc, TASKS.as_slice())?,
+        "LoadFault" => apart_of(alloc, LOAD_FAULTS.as_slice()),
+        "WordsFault" => apart_of(alloc, WORDS_FAULTS.as_slice()),
+        "Fault" => apart_of(alloc, FAULTS.as_slice()),
+        "Task" => apart_of(alloc, TASKS.as_slice()),
         _ => return Err(RowFault::NoSuchRow),
     };
-    Ok(line)
+    Ok(line?.into_bytes())
 }
 
 /// The line of the refusal for each fault of that name.
@@ -149,36 +138,4 @@ fn put_refusal(alloc: Global, lines: &mut Vec<u8>, fault: Fault) -> Result<(), A
     lines.extend_from_slice(refusal(alloc, &fault)?.as_slice())?;
     lines.push(b'\n')?;
     Ok(())
-}
-
-// A line of the text of each fault, behind it `again` where the fault equals the one before it.
-fn texts_of<F: Display + PartialEq>(alloc: Global, faults: &[F]) -> Result<Vec<u8>, AllocError> {
-    let mut lines = Vec::new(alloc);
-    let mut last: Option<&F> = None;
-    for fault in faults {
-        let is_again = match last {
-            Some(before) => *before == *fault,
-            None => false,
-        };
-        let again = if is_again { " again" } else { "" };
-        let text = format!(in alloc; "{fault}{again}\n")?;
-        lines.extend_from_slice(text.as_bytes())?;
-        last = Some(fault);
-    }
-    lines.pop();
-    Ok(lines)
-}
-
-// For each value ` same` where it equals itself, and before it, but at the first, whether it equals the one before it.
-fn apart_of<T: PartialEq>(alloc: Global, values: &[T]) -> Result<Vec<u8>, AllocError> {
-    let mut line = String::from_str(alloc, "apart")?;
-    let mut last: Option<&T> = None;
-    for value in values {
-        if let Some(before) = last {
-            put_same(&mut line, *before == *value)?;
-        }
-        put_same(&mut line, *value == *value)?;
-        last = Some(value);
-    }
-    Ok(line.into_bytes())
 }

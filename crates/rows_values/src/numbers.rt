@@ -1,18 +1,18 @@
 //! What no text of the greatest length stands for: numbers that JSON lacks, and large contracts.
-use crate::lending::lent;
 use crate::sorts::text_or_fault;
 use crate::spellings::in_hex;
 use contract::{Boxed, Contract, Text, TryClone, Value};
 use contract_bytes::encode_contract;
 use contract_json::write_contract;
-use rows_text::{RowFault, number, same_or_other, wide};
+use rows_text::{RowFault, lent, number, same_or_other, wide};
 use std::alloc::{AllocError, Global};
 
 /// The bytes of the contract that binds `x` to a number, and a line for its text or the fault of writing it.
 pub fn constant_row(alloc: Global, text: &str) -> Result<Vec<u8>, RowFault> {
-    let close = Boxed::new(alloc, Contract::Close)?;
+    let value = Value::Constant(number(text)?);
     let name = Text::from_string(String::from_str(alloc, "x")?);
-    let contract = Contract::Let(name, Value::Constant(number(text)?), close);
+    let close = Boxed::new(alloc, Contract::Close)?;
+    let contract = Contract::Let(name, value, close);
     Ok(lent(contract, |contract| bytes_and_text(alloc, contract))?)
 }
 

@@ -1,5 +1,4 @@
 //! Runs on the tree of a contract and on its table.
-use crate::lending::lent;
 use compiler::compile;
 use contract::{Contract, Outcome, SemFault, TryClone};
 use contract_json::{Transaction, read_contract, read_state, read_transaction, write_outcome};
@@ -7,7 +6,7 @@ use machine::{Datum, compute};
 use marlowe_refusals::{Fault, RunFault, refusal};
 use marlowe_run::run;
 use rows_given::Given;
-use rows_text::RowFault;
+use rows_text::{RowFault, both, lent};
 use std::alloc::{AllocError, Global};
 use table::{Cont, Table};
 
@@ -108,10 +107,14 @@ fn outcome_text(
     state: &[u8],
     transaction: &[u8],
 ) -> Result<Vec<u8>, RunFault> {
-    let state = read_state(alloc, state).map_err(RunFault::of_state)?;
+    let state = read_state(alloc, state).map_err(RunFault::of_state);
+    let transaction = read_transaction(alloc, transaction).map_err(RunFault::of_transaction);
+    let (state, transaction) = both(state, transaction)?;
     let datum = Datum { cont: root, state };
-    let transaction = read_transaction(alloc, transaction).map_err(RunFault::of_transaction)?;
-    computed_text(alloc, table, &datum, &transaction)
+    lent(
+        (datum, transaction),
+        |given| computed_text(alloc, table, &given.0, &given.1),
+    )
 }
 
 fn computed_text(
@@ -145,16 +148,14 @@ fn copied<T: TryClone + PartialEq + Drop>(thing: T) -> Result<T, RunFault> {
 
 // The text of an outcome, whose contract is what its number stands for.
 fn written(alloc: Global, table: &Table, outcome: Outcome<Cont>) -> Result<Vec<u8>, RunFault> {
+    let contract = contract_at(alloc, table, outcome.place);
+    let (outcome, contract) = both(Ok(outcome), contract)?;
     let Outcome {
         warnings,
         payments,
         state,
-        place,
+        place: _,
     } = outcome;
-    if !table.contains(place) {
-        return Err(RunFault::Semantics(SemFault::NoMatch));
-    }
-    let contract = table.decompile(alloc, place)?;
     lent(contract, |contract| {
         let outcome = Outcome {
             warnings,
@@ -164,4 +165,12 @@ fn written(alloc: Global, table: &Table, outcome: Outcome<Cont>) -> Result<Vec<u
         };
         Ok(write_outcome(alloc, &outcome)?)
     })
+}
+
+fn contract_at(alloc: Global, table: &Table, place: Cont) -> Result<Contract, RunFault> {
+    if table.contains(place) {
+        Ok(table.decompile(alloc, place)?)
+    } else {
+        Err(RunFault::Semantics(SemFault::NoMatch))
+    }
 }

@@ -28,22 +28,22 @@ pub fn sort_row(
     asked: Asked<'_>,
 ) -> Result<Vec<u8>, RowFault> {
     let told = match sort {
-        "contract" => told::<Contract>(alloc, text, asked)?,
-        "input" => told::<Input>(alloc, text, asked)?,
-        "transaction" => told::<Transaction>(alloc, text, asked)?,
-        "state" => told::<State>(alloc, text, asked)?,
-        "value" => told::<Value>(alloc, text, asked)?,
-        "observation" => told::<Observation>(alloc, text, asked)?,
-        "action" => told::<Action>(alloc, text, asked)?,
-        "case" => told::<Case>(alloc, text, asked)?,
-        "party" => told::<Party>(alloc, text, asked)?,
-        "token" => told::<Token>(alloc, text, asked)?,
-        "choice_id" => told::<ChoiceId>(alloc, text, asked)?,
-        "payee" => told::<Payee>(alloc, text, asked)?,
-        "bound" => told::<Bound>(alloc, text, asked)?,
-        _ => no_such_sort(alloc)?,
+        "contract" => told::<Contract>(alloc, text, asked),
+        "input" => told::<Input>(alloc, text, asked),
+        "transaction" => told::<Transaction>(alloc, text, asked),
+        "state" => told::<State>(alloc, text, asked),
+        "value" => told::<Value>(alloc, text, asked),
+        "observation" => told::<Observation>(alloc, text, asked),
+        "action" => told::<Action>(alloc, text, asked),
+        "case" => told::<Case>(alloc, text, asked),
+        "party" => told::<Party>(alloc, text, asked),
+        "token" => told::<Token>(alloc, text, asked),
+        "choice_id" => told::<ChoiceId>(alloc, text, asked),
+        "payee" => told::<Payee>(alloc, text, asked),
+        "bound" => told::<Bound>(alloc, text, asked),
+        _ => no_such_sort(alloc),
     };
-    Ok(told)
+    Ok(told?)
 }
 
 fn told<T: Form + TryClone + PartialEq>(

@@ -7,7 +7,7 @@ use contract_bytes::{
     put_bytes, put_choice_id, put_input, put_length, put_list, put_number, put_party, put_payee,
     put_state, put_text, put_time, put_token,
 };
-use rows_text::{RowFault, bytes, first, number, put, text};
+use rows_text::{RowFault, bytes, done, first, number, put, text};
 use std::alloc::{AllocError, Global};
 
 /// A sort of values that has a spelling in bytes.
@@ -23,14 +23,14 @@ trait Part: Form {
 /// The bytes of a value in hexadecimal.
 pub fn spell_row(alloc: Global, sort: &str, text: &[u8]) -> Result<Vec<u8>, RowFault> {
     let told = match sort {
-        "contract" => spelling::<Contract>(alloc, text)?,
-        "party" => spelling::<Party>(alloc, text)?,
-        "token" => spelling::<Token>(alloc, text)?,
-        "input" => spelling::<Input>(alloc, text)?,
-        "state" => spelling::<State>(alloc, text)?,
-        _ => no_such_sort(alloc)?,
+        "contract" => spelling::<Contract>(alloc, text),
+        "party" => spelling::<Party>(alloc, text),
+        "token" => spelling::<Token>(alloc, text),
+        "input" => spelling::<Input>(alloc, text),
+        "state" => spelling::<State>(alloc, text),
+        _ => no_such_sort(alloc),
     };
-    Ok(told)
+    Ok(told?)
 }
 
 fn spelling<T: Spelled>(alloc: Global, text: &[u8]) -> Result<Vec<u8>, AllocError> {
@@ -88,10 +88,15 @@ fn put_word(alloc: Global, out: &mut Vec<u8>, sort: &str, rest: &str) -> Result<
 
 fn texts(alloc: Global, rest: &str) -> Result<Items<Text>, RowFault> {
     let mut texts = Items::new(alloc);
+    let put = put_texts(alloc, &mut texts, rest);
+    done(texts, put)
+}
+
+fn put_texts(alloc: Global, texts: &mut Items<Text>, rest: &str) -> Result<(), RowFault> {
     for word in rest.split_whitespace() {
-        put(&mut texts, text(alloc, word))?;
+        put(texts, text(alloc, word))?;
     }
-    Ok(texts)
+    Ok(())
 }
 
 impl Part for Party {

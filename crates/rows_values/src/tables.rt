@@ -1,18 +1,20 @@
 //! Tables of contracts.
-use crate::lending::lent;
-use collections::{Boxed, Items, TryClone};
+use collections::TryClone;
 use compiler::{CompileFault, compile};
-use contract::{Action, Case, Contract, Observation};
+use contract::{Case, Contract};
 use contract_json::read_contract;
 use marlowe_refusals::compile_fault_name;
-use rows_text::{RowFault, nested, number, parts, put_beside, put_copies, put_copy, wide};
+use rows_text::{
+    RowFault, lent, nested, notify_and, number, parts, put_beside, put_copies, put_copy, times,
+    waiting, wide,
+};
 use std::alloc::{AllocError, Global};
 use table::{Cont, Entry, Table};
 
 /// The answer to a row about a table.
 pub fn table_row(alloc: Global, word: &str, text: &str) -> Result<Vec<u8>, RowFault> {
     let answer = match word {
-        "last" => asked_row(alloc, text, Asked::LastTimeout)?,
+        "last_timeout" => asked_row(alloc, text, Asked::LastTimeout)?,
         "copies" => asked_row(alloc, text, Asked::Copies)?,
         "nested" => made_row(alloc, nested(alloc, number(text)?)?, Asked::Height)?,
         "wide" => made_row(alloc, wide(alloc, number(text)?)?, Asked::Root)?,
@@ -57,15 +59,12 @@ fn made_row(alloc: Global, contract: Contract, asked: Asked) -> Result<Vec<u8>, 
 // A contract that waits for so many notifies of what is true, each followed by an equal one that waits for so many more, and each
 // of these by close. Nothing is shared in it.
 fn grid(alloc: Global, outer: u32, inner: u32) -> Result<Contract, AllocError> {
-    let mut cases = Items::new(alloc);
-    for _ in 0..outer {
-        cases.push(Case {
-            action: Action::Notify(Observation::TrueObs),
-            then: wide(alloc, inner)?,
-        })?;
-    }
-    let close = Boxed::new(alloc, Contract::Close)?;
-    Ok(Contract::When(cases, 100, close))
+    waiting(alloc, times(alloc, outer, wide_case(alloc, inner)))
+}
+
+fn wide_case(alloc: Global, inner: u32) -> Result<Case, AllocError> {
+    let then = wide(alloc, inner)?;
+    Ok(notify_and(then))
 }
 
 fn compiled(alloc: Global, contract: &Contract, asked: Asked) -> Result<Vec<u8>, AllocError> {

@@ -21,14 +21,14 @@ trait Text: PartialEq + Sized + Drop {
 /// What is written for the value of a sort that is read from a text; or `back`, what comes of reading that again.
 pub fn text_row(alloc: Global, sort: &str, text: &[u8], back: bool) -> Result<Vec<u8>, RowFault> {
     let told = match sort {
-        "contract" => told::<Contract>(alloc, text, back)?,
-        "input" => told::<Input>(alloc, text, back)?,
-        "transaction" => told::<Transaction>(alloc, text, back)?,
-        "state" => told::<State>(alloc, text, back)?,
-        "scenario" => reading(alloc, read_scenario(alloc, text))?,
-        _ => no_such_sort(alloc)?,
+        "contract" => told::<Contract>(alloc, text, back),
+        "input" => told::<Input>(alloc, text, back),
+        "transaction" => told::<Transaction>(alloc, text, back),
+        "state" => told::<State>(alloc, text, back),
+        "scenario" => return reading(alloc, read_scenario(alloc, text)),
+        _ => no_such_sort(alloc),
     };
-    Ok(told)
+    Ok(told?)
 }
 
 fn told<T: Text>(alloc: Global, text: &[u8], back: bool) -> Result<Vec<u8>, AllocError> {

@@ -13,11 +13,11 @@ use Rattle.ledger.specs.declared.look.Unspent.{Unspent}
 use Rattle.ledger_spec.specs.Replay.{Course, world}
 use Rattle.ledger_spec.specs.Views.{look}
 use Rattle.ledger_spec.specs.Calls.{reply_to}
-use Rattle.ledger_spec.specs.Headline.{SecondHalf}
+use Rattle.ledger_spec.specs.Headline.{BuildsAreAccepted}
 use Rattle.builder_spec.specs.declared.fault.BuildFault.{BuildFault}
 use Rattle.builder_spec.specs.Requests.{StepRequest, ClaimRequest, request, claim_request}
 use Rattle.builder_spec.specs.Built.{build_answer}
-use Rattle.builder_spec.specs.Steps.{hinders_step, layout_step}
+use Rattle.builder_spec.specs.Parts.{hinders_step, layout_step}
 use Rattle.builder_spec.specs.Claims.{hinders_claim, layout_claim}
 use Rattle.uses.specs.Uses.{called, thread_ask, thread_look, at_tick, step_asked, IsStepped, after_step, OnlyLooked, claim_asked, IsClaimed, after_claim}
 use Rattle.uses.proofs.SteppedLemmas.{stepped, after_stepped, claimed, after_claimed, not_built}
@@ -40,7 +40,7 @@ as_asked c start inputs signers offered change now ask l answer n o a k b =
     ∙ b
 
 pub stepped_by : (c looked : Course) (seat : ℕ) (start : OutputRef) (inputs : List Input) (signers : List (List ℕ)) (offered : List Unspent) (change : List ℕ) (now : Interval) (ask : Ask) (l : Look) (tx : Tx) (reply : Reply) →
-    now ≡ at_tick c → offered ≡ [] → ask ≡ thread_ask start → l ≡ look (world c) ask → looked ≡ called c seat (on.Look ask) → SecondHalf c → step_answer l (request now inputs signers offered change) ≡ Ok tx → TxFits tx →
+    now ≡ at_tick c → offered ≡ [] → ask ≡ thread_ask start → l ≡ look (world c) ask → looked ≡ called c seat (on.Look ask) → BuildsAreAccepted c → step_answer l (request now inputs signers offered change) ≡ Ok tx → TxFits tx →
     reply ≡ reply_to (world looked) (on.Submit tx) → IsStepped c start (step_asked c inputs signers change) reply
 stepped_by c looked seat start inputs signers offered change now ask l tx reply n o a k m second b fits h =
     stepped c seat start inputs signers change tx reply second (as_asked c start inputs signers offered change now ask l (Ok tx) n o a k b) fits
@@ -71,7 +71,7 @@ claim_as_asked : (c : Course) (payouts : List Unspent) (signers : List (List ℕ
 claim_as_asked c payouts signers offered to now answer n b = sym (ap (λ (i : Interval). claim_answer (claim_request payouts i signers offered to to)) n) ∙ b
 
 pub claimed_by : (c : Course) (payouts : List Unspent) (signers : List (List ℕ)) (offered : List Unspent) (to : List ℕ) (now : Interval) (tx : Tx) (reply : Reply) →
-    now ≡ at_tick c → SecondHalf c → claim_answer (claim_request payouts now signers offered to to) ≡ Ok tx → TxFits tx → reply ≡ reply_to (world c) (on.Submit tx) → IsClaimed c (claim_asked c payouts signers offered to) reply
+    now ≡ at_tick c → BuildsAreAccepted c → claim_answer (claim_request payouts now signers offered to to) ≡ Ok tx → TxFits tx → reply ≡ reply_to (world c) (on.Submit tx) → IsClaimed c (claim_asked c payouts signers offered to) reply
 claimed_by c payouts signers offered to now tx reply n second b fits h = claimed c payouts signers offered to tx reply second (claim_as_asked c payouts signers offered to now (Ok tx) n b) fits h
 
 pub after_claimed_by : (c new : Course) (seat : ℕ) (payouts : List Unspent) (signers : List (List ℕ)) (offered : List Unspent) (to : List ℕ) (now : Interval) (tx : Tx) →

@@ -28,12 +28,16 @@ use Rattle.ledger_spec.specs.Replay.{Replay, Course, World, replay, count_of, pu
 use Rattle.ledger_spec.specs.Legal.{entry_of}
 use Rattle.ledger_spec.specs.Views.{thread_output, made_datum, object_under, thread_output_in, thread_output_at, end_of, thread_shown}
 use Rattle.ledger_spec.specs.Calls.{submit_reply, reply_to}
-use Rattle.ledger_spec.specs.Headline.{SecondHalf, IsOpenAfter}
+use Rattle.ledger_spec.specs.AcceptedAt.{IsOpenAfter}
+use Rattle.ledger_spec.specs.Headline.{BuildsAreAccepted}
+use Rattle.ledger_spec.proofs.StepLaws.{step_accepted}
 use Rattle.ledger_spec.proofs.ReplayLaws.{replay_after}
 use Rattle.builder_spec.specs.declared.fault.BuildFault.{BuildFault}
 use Rattle.builder_spec.specs.Requests.{StepRequest, ClaimRequest}
 use Rattle.builder_spec.specs.Built.{build_answer}
-use Rattle.builder_spec.specs.Steps.{Thread, is_current, thread_in, thread_of, look_thread, own_output, step_spent, hinders_on, hinders_step, layout_on, layout_step}
+use Rattle.builder_spec.specs.Steps.{Thread, is_current, thread_in, thread_of, look_thread, own_output, step_spent}
+use Rattle.builder_spec.specs.Parts.{hinders_step, layout_step}
+use Rattle.builder_spec.proofs.OnePartLaws.{hinders_on, layout_on, hinders_step_on, layout_step_on}
 use Rattle.builder_spec.specs.Closings.{Closes}
 use Rattle.builder_spec.specs.Claims.{hinders_claim, layout_claim}
 use Rattle.uses.specs.Uses.{called, thread_ask, thread_look, at_tick, step_asked, IsStepped, after_step, closing_asked, IsThreadClosed, NeedNotClose, claim_asked, IsClaimed, after_claim}
@@ -136,7 +140,7 @@ opened : (c : Course) (start : OutputRef) (inputs : List Input) (signers : List 
     IsOpenAfter c (step_spent (step_asked c inputs signers change) e) (layout_step (thread_look c start) (step_asked c inputs signers change))
 opened c start inputs signers change e h fits alone =
     let P : Unspent → Type 0 = λ u. unspent_at (past_of (world c)) u.reference ≡ Some u.output in
-    let same = interval_is (step_asked c inputs signers change) (look_thread (thread_look c start)) in (
+    let same = ap (λ (x : Tx). x.interval) (layout_step_on (thread_look c start) (step_asked c inputs signers change)) ∙ interval_is (step_asked c inputs signers change) (look_thread (thread_look c start)) in (
       fits,
       record {
         unspent = All-cons P (own_output e) [] (there c start e h).unspent (All-nil P);
@@ -146,21 +150,21 @@ opened c start inputs signers change e h fits alone =
       },
     )
 
-pub stepped : (c : Course) (seat : ℕ) (start : OutputRef) (inputs : List Input) (signers : List (List ℕ)) (change : List ℕ) (tx : Tx) (reply : Reply) → SecondHalf c →
+pub stepped : (c : Course) (seat : ℕ) (start : OutputRef) (inputs : List Input) (signers : List (List ℕ)) (change : List ℕ) (tx : Tx) (reply : Reply) → BuildsAreAccepted c →
     build_answer (hinders_step (thread_look c start) (step_asked c inputs signers change)) (layout_step (thread_look c start) (step_asked c inputs signers change)) ≡ Ok tx → TxFits tx →
     reply ≡ reply_to (world (called c seat (on.Look (thread_ask start)))) (on.Submit tx) → IsStepped c start (step_asked c inputs signers change) reply
 stepped c seat start inputs signers change tx reply second b fits h =
     let l = thread_look c start in
     let r = step_asked c inputs signers change in
     let clear = built (hinders_step l r) (layout_step l r) tx b in
-    let t = thread_there r (look_thread l) clear.0 in
+    let t = thread_there r (look_thread l) (sym (hinders_step_on l r) ∙ clear.0) in
     record {
       thread = t.0;
       shown = t.1;
       clear = clear.0;
       accepted =
           λ alone. h ∙ after_look c seat (thread_ask start) tx ∙ ap (λ (x : Tx). reply_to (world c) (on.Submit x)) clear.1
-          ∙ (second.built).steps l r t.0 t.1 clear.0 (there c start t.0 t.1).named (opened c start inputs signers change t.0 t.1 (subst (λ (x : Tx). TxFits x) clear.1 fits) alone);
+          ∙ step_accepted second.built l r t.0 t.1 clear.0 (there c start t.0 t.1).named (opened c start inputs signers change t.0 t.1 (subst (λ (x : Tx). TxFits x) clear.1 fits) alone);
     }
 
 pub after_stepped : (c new : Course) (seat : ℕ) (start : OutputRef) (r : StepRequest) (tx : Tx) → build_answer (hinders_step (thread_look c start) r) (layout_step (thread_look c start) r) ≡ Ok tx →
@@ -170,7 +174,7 @@ after_stepped c new seat start r tx b h =
 
 -- ---- closing
 
-pub closed : (c : Course) (start : OutputRef) (change : List ℕ) (reply : Reply) → SecondHalf c → IsStepped c start (closing_asked c change) reply → IsThreadClosed c start change reply
+pub closed : (c : Course) (start : OutputRef) (change : List ℕ) (reply : Reply) → BuildsAreAccepted c → IsStepped c start (closing_asked c change) reply → IsThreadClosed c start change reply
 closed c start change reply second s =
     record {
       stepped = s;
@@ -179,13 +183,13 @@ closed c start change reply second s =
           (second.closes (thread_ask start) s.thread (at_tick c) [] change s.shown over.reached (≤ℤ_refl (world c).replay.tick) over.time).outcome;
     }
 
-pub need_not : (c : Course) (start : OutputRef) (change : List ℕ) (fault : BuildFault) → SecondHalf c → hinders_step (thread_look c start) (closing_asked c change) ≡ Some fault → NeedNotClose c start change fault
+pub need_not : (c : Course) (start : OutputRef) (change : List ℕ) (fault : BuildFault) → BuildsAreAccepted c → hinders_step (thread_look c start) (closing_asked c change) ≡ Some fault → NeedNotClose c start change fault
 need_not c start change fault second h e shown over =
     subst (Closes (closing_asked c change) e) h (second.closes (thread_ask start) e (at_tick c) [] change shown over.reached (≤ℤ_refl (world c).replay.tick) over.time).outcome
 
 -- ---- a claim
 
-pub claimed : (c : Course) (payouts : List Unspent) (signers : List (List ℕ)) (offered : List Unspent) (to : List ℕ) (tx : Tx) (reply : Reply) → SecondHalf c →
+pub claimed : (c : Course) (payouts : List Unspent) (signers : List (List ℕ)) (offered : List Unspent) (to : List ℕ) (tx : Tx) (reply : Reply) → BuildsAreAccepted c →
     build_answer (hinders_claim (claim_asked c payouts signers offered to)) (layout_claim (claim_asked c payouts signers offered to)) ≡ Ok tx → TxFits tx → reply ≡ reply_to (world c) (on.Submit tx) →
     IsClaimed c (claim_asked c payouts signers offered to) reply
 claimed c payouts signers offered to tx reply second b fits h =

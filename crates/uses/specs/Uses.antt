@@ -27,7 +27,8 @@ use Rattle.ledger_spec.specs.Views.{look}
 use Rattle.ledger_spec.specs.Calls.{reply_to}
 use Rattle.builder_spec.specs.declared.fault.BuildFault.{BuildFault}
 use Rattle.builder_spec.specs.Requests.{StepRequest, StartRequest, ClaimRequest, request, start_request, claim_request}
-use Rattle.builder_spec.specs.Steps.{Thread, thread_terms, look_thread, hinders_step, layout_step}
+use Rattle.builder_spec.specs.Steps.{Thread, thread_terms, look_thread}
+use Rattle.builder_spec.specs.Parts.{hinders_step, layout_step}
 use Rattle.builder_spec.specs.Closings.{closing, Closes}
 use Rattle.builder_spec.specs.Starts.{hinders_start, layout_start}
 use Rattle.builder_spec.specs.Claims.{claim_front, hinders_claim, layout_claim}

@@ -32,7 +32,7 @@ fn publish_deal(alloc: Global, chain: &mut Chain, seat: u64, deal: Deal<'_>) -> 
 {
     let currency = deal.currency.try_clone()?;
     let contract = deal.contract.try_clone()?;
-    chain.step(alloc, seat, Call::Publish { contract, currency }, &[])?;
+    chain.call(alloc, seat, Call::Publish { contract, currency })?;
     Ok(())
 }
 

@@ -4,7 +4,7 @@ ghost use Rattle.ledger.specs.declared.call.Call.TheVariants as on;
 ghost use Rattle.ledger_spec.specs.Replay.{world};
 ghost use Rattle.ledger_spec.specs.Views.{look};
 ghost use Rattle.ledger_spec.specs.Calls.{reply_to};
-ghost use Rattle.ledger_spec.specs.Headline.{SecondHalf};
+ghost use Rattle.ledger_spec.specs.Headline.{BuildsAreAccepted};
 ghost use Rattle.uses.specs.Uses.{thread_ask, at_tick, called, OnlyLooked};
 
 use chain::{Call, Chain, Reply};
@@ -47,9 +47,9 @@ pub(crate) fn look_at(alloc: Global, chain: &mut Chain, seat: u64, ask: Ask) -> 
     ensures look { IfOk result (λ shown. shown ≡ look (world chain.old) ask) }
     ensures after { OnOk result (chain.new ≡ called chain.old seat (on.Look ask)) }
     ensures err { OnErr result (OnlyLooked chain.old chain.new seat ask) }
-    ensures second { SecondHalf chain.old }
+    ensures second { BuildsAreAccepted chain.old }
 {
-    let (reply, _copy) = chain.step(alloc, seat, Call::Look(ask), &[])?;
+    let reply = chain.call(alloc, seat, Call::Look(ask))?;
     match &reply {
         Reply::Look(look) => look.try_clone(),
         _ => unreachable!(),
@@ -61,8 +61,7 @@ pub(crate) fn submit(alloc: Global, chain: &mut Chain, seat: u64, tx: Tx) -> Res
     ensures reply { IfOk result (λ reply. reply ≡ reply_to (world chain.old) (on.Submit tx)) }
     ensures after { OnOk result (chain.new ≡ called chain.old seat (on.Submit tx)) }
     ensures err { OnErr result (chain.new ≡ chain.old) }
-    ensures second { SecondHalf chain.old }
+    ensures second { BuildsAreAccepted chain.old }
 {
-    let (reply, _copy) = chain.step(alloc, seat, Call::Submit(tx), &[])?;
-    Ok(reply)
+    chain.call(alloc, seat, Call::Submit(tx))
 }

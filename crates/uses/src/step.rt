@@ -1,6 +1,6 @@
 //! A step of a thread, now.
 ghost use Rattle.std.specs.Prelude.{◌≡◌, ◌≢◌, Some, IfOk, IfErr, OnOk, OnErr};
-ghost use Rattle.builder_spec.specs.Steps.{hinders_step};
+ghost use Rattle.builder_spec.specs.Parts.{hinders_step};
 ghost use Rattle.uses.specs.Uses.{thread_ask, thread_look, step_asked, IsStepped, after_step, OnlyLooked};
 
 use crate::plain_calls::{at_tick, look_at, submit, thread_ask};

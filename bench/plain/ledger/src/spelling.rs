@@ -56,5 +56,7 @@ pub fn id_of(tx: &Transaction) -> Id {
     out.extend_from_slice(&tx.from.to_be_bytes());
     out.extend_from_slice(&tx.to.to_be_bytes());
     put_list(&mut out, &tx.signers, |out, signer| put_bytes(out, signer.as_bytes()));
+    // no data are brought
+    put_length(&mut out, 0);
     digest(&out)
 }

@@ -2,8 +2,24 @@ use Rattle.std.proofs.Common.{subst, List}
 use Rattle.contract.specs.Tree.{contract_tree}
 use Rattle.analysis_spec.specs.declared.path.PathStep.{PathStep}
 use Rattle.analysis_walk.specs.Found.{Finds, Covers}
-use Rattle.analysis_walk.proofs.AnalysedLemmas.{names_what_comes, stays_unless_told, pays_within_ranges, pays_others_nothing}
+use Rattle.analysis_walk.proofs.AnalysedLemmas.{names_where_it_comes, names_where_it_leaves, names_what_comes, stays_unless_told, pays_within_ranges, pays_others_nothing}
 use Rattle.analysis_walk.proofs.analysing.analyse_by.Goals as goal
+
+pub returns-clause-places : goal.returns-clause-places
+returns-clause-places g c =
+    let D = g.K.Knowledge.describes in
+    let k = c.in_ok-known.known in
+    let t = contract_tree c.args.contract.now in
+    let walked = subst (λ (here : List PathStep). Finds (Covers D here k t) c.new-found.result c.walk.new.found) c.new-place.ensures.items c.in_ok-walk.ensures.found in
+    names_where_it_comes D k c.args.state.now t c.in_ok-known.ensures c.new-found.result c.walk.new.found walked c.alarms_name_where_it_comes.ensures
+
+pub returns-clause-leaving : goal.returns-clause-leaving
+returns-clause-leaving g c =
+    let D = g.K.Knowledge.describes in
+    let k = c.in_ok-known.known in
+    let t = contract_tree c.args.contract.now in
+    let walked = subst (λ (here : List PathStep). Finds (Covers D here k t) c.new-found.result c.walk.new.found) c.new-place.ensures.items c.in_ok-walk.ensures.found in
+    names_where_it_leaves D k c.args.state.now t c.in_ok-known.ensures c.new-found.result c.walk.new.found walked c.alarms_name_where_it_leaves.ensures
 
 pub returns-clause-alarms : goal.returns-clause-alarms
 returns-clause-alarms g c =
@@ -11,7 +27,7 @@ returns-clause-alarms g c =
     let k = c.in_ok-known.known in
     let t = contract_tree c.args.contract.now in
     let walked = subst (λ (here : List PathStep). Finds (Covers D here k t) c.new-found.result c.walk.new.found) c.new-place.ensures.items c.in_ok-walk.ensures.found in
-    names_what_comes D k c.args.state.now t c.in_ok-known.ensures c.new-found.result c.walk.new.found walked c.alarms_name_what_comes.ensures
+    names_what_comes c.walk.new.found.alarms c.args.state.now t c.warnings_have_places.ensures (names_where_it_comes D k c.args.state.now t c.in_ok-known.ensures c.new-found.result c.walk.new.found walked c.alarms_name_where_it_comes.ensures)
 
 pub returns-clause-numbers : goal.returns-clause-numbers
 returns-clause-numbers g c =
@@ -19,7 +35,7 @@ returns-clause-numbers g c =
     let k = c.in_ok-known.known in
     let t = contract_tree c.args.contract.now in
     let walked = subst (λ (here : List PathStep). Finds (Covers D here k t) c.new-found.result c.walk.new.found) c.new-place.ensures.items c.in_ok-walk.ensures.found in
-    stays_unless_told D k c.args.state.now t c.in_ok-known.ensures c.new-found.result c.walk.new.found walked c.numbers_stay_within_128.ensures
+    stays_unless_told c.walk.new.found.alarms c.args.state.now t c.leaving_has_a_place.ensures (names_where_it_leaves D k c.args.state.now t c.in_ok-known.ensures c.new-found.result c.walk.new.found walked c.alarms_name_where_it_leaves.ensures)
 
 pub returns-clause-ranges : goal.returns-clause-ranges
 returns-clause-ranges g c =

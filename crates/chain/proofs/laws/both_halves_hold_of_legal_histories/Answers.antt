@@ -1,7 +1,5 @@
 use Rattle.std.proofs.Common.{All}
-use Rattle.std.specs.FinMap.{entries}
 use Rattle.eutxo_types.specs.Fitting.{TxFits}
-use Rattle.roles.proofs.SumsLemmas.{positive_sums}
 use Rattle.ledger_laws.specs.Sound.{AreKeys}
 use Rattle.ledger_spec.specs.Headline.{BothHalves}
 use Rattle.ledger_spec.specs.Legal.{IsLegal, before_entry}
@@ -26,7 +24,7 @@ returns c whole all_legal begins all_fit = (both whole all_legal begins all_fit,
         let runs = runs_of_contracts _ _ _ published (c.threads_are_runs.ensures.run _ _ kept.tables sound) in
         let names = c.names_are_single.ensures _ _ sound in
         let current = c.shown_threads_are_current.ensures in
-        let built = accepts_built c.steps_are_accepted.ensures.after c.parts_are_accepted.ensures.after c.starts_are_accepted.ensures.after c.claims_are_accepted.ensures.after d kept in (
+        let built = accepts_built c.parts_are_accepted.ensures.after c.starts_are_accepted.ensures.after c.claims_are_accepted.ensures.after d kept in (
           record {
             published = published;
             stands = c.publications_are_entries.ensures.stands d legal;
@@ -43,8 +41,6 @@ returns c whole all_legal begins all_fit = (both whole all_legal begins all_fit,
             ends = c.contracts_end_threads.ensures.thread _ _ sound;
             unspent = c.contracts_end_threads.ensures.unspent _ _ sound;
             funded = c.contracts_are_funded.ensures.sums _ _ sound;
-            sums = c.sums_are_of_each_token.ensures;
-            positive = λ s h. positive_sums (entries s.accounts) h;
             numbers = c.contracts_are_funded.ensures.number _ _ kept.tables sound;
             references = names.0;
             ids = names.1;
@@ -53,7 +49,7 @@ returns c whole all_legal begins all_fit = (both whole all_legal begins all_fit,
           },
           record {
             built = built;
-            places = accepts_places c.steps_are_accepted.ensures.accepted c.parts_are_accepted.ensures.accepted c.starts_are_accepted.ensures.accepted c.claims_are_accepted.ensures.accepted d;
+            places = accepts_places c.parts_are_accepted.ensures.accepted c.starts_are_accepted.ensures.accepted c.claims_are_accepted.ensures.accepted d;
             shown = shows_standing current d kept;
             of_starts = λ ask t h. shown_starts (world d) ask.thread t h;
             current =
@@ -63,7 +59,5 @@ returns c whole all_legal begins all_fit = (both whole all_legal begins all_fit,
                 shows_what_is_not_over c.threads_are_runs.ensures.run c.threads_are_runs.ensures.end c.contracts_are_funded.ensures.number c.contracts_end_threads.ensures.unspent c.found_is_enough.ensures c.starts_are_told.ensures
                 current d kept;
             closes = closes_shown current d kept c.anyone_closes_after_the_last_timeout.ensures.closes built;
-            step_change = c.change_is_the_rest.ensures.step;
-            start_change = c.change_is_the_rest.ensures.start;
           },
         )

@@ -1,5 +1,0 @@
-use Rattle.analysis_walk.proofs.PromiseLemmas.{alarms_name_what_comes}
-use Rattle.analysis_walk.proofs.laws.alarms_name_what_comes.Goals as goal
-
-pub returns : goal.returns
-returns c = alarms_name_what_comes c.time_never_goes_back.ensures

@@ -1,0 +1,75 @@
+//! What can be done with a transaction over an interval.
+ghost use Rattle.std.specs.Prelude.{◌≡◌, ◌↔◌, ℕ, true, [], Some, IfOk, IsOk, IsTrue};
+ghost use Rattle.collections.specs.Answers.{AsideBy};
+ghost use Rattle.contract.specs.declared.input.Input.{Input};
+ghost use Rattle.evaluation.specs.Path.{waits_for};
+ghost use Rattle.semantics.specs.Walk.{standing, answer_of};
+ghost use Rattle.semantics.specs.Transaction.{trimmed};
+ghost use Rattle.semantics.specs.Computed.{computed};
+ghost use Rattle.next_inputs.specs.Opening.{opening, next_case};
+ghost use Rattle.next_inputs.specs.Offers.{offered, AreOffers};
+
+use crate::cases::offers;
+use crate::offer::Offer;
+use crate::reduction::{Opened, opening};
+use collections::Items;
+use contract::{Interval, SemFault, State};
+use evaluation::Parts;
+use std::alloc::Global;
+
+/// What can be done with a contract over an interval.
+#[derive(Drop)]
+pub struct NextInputs<P> {
+    /// Where the contract stands when the inputs come, with the warnings and payments up to there.
+    pub opening: Opened<P>,
+    /// What each case of the contract that is left offers.
+    pub offers: Items<Offer>,
+}
+
+/// What can be done with a transaction over an interval: an input is offered exactly where, with this one input, a case is
+/// taken and no number that was visited up to there leaves 128 bits, and it is offered by that case. What follows the case
+/// may still be refused, as Ambiguous or because a number leaves 128 bits. The fault is that of the reduction before the
+/// inputs: `InvalidInterval`, `IntervalInPast`, `Ambiguous` or `Leaves128`; or `Memory`.
+pub fn next_inputs<S: Parts>(
+    alloc: Global,
+    parts: &S,
+    place: S::Place,
+    state: &State,
+    interval: Interval,
+) -> Result<NextInputs<S::Place>, SemFault>
+    requires { S.contains parts.now place }
+    ensures answer { AsideBy SemFault.Memory (λ next. standing next.opening.outcome.state (S.tree parts.now next.opening.outcome.place)) result
+        (answer_of (opening interval state.now (S.tree parts.now place))) }
+    ensures warnings { IfOk result (λ next. next.opening.outcome.warnings ≡ (opening interval state.now (S.tree parts.now place)).warnings) }
+    ensures payments { IfOk result (λ next. next.opening.outcome.payments ≡ (opening interval state.now (S.tree parts.now place)).payments) }
+    ensures place { IfOk result (λ next. S.leads parts.now place (opening interval state.now (S.tree parts.now place)).turns next.opening.outcome.place) }
+    ensures can_reduce { IfOk result (λ next. IsTrue next.opening.can_reduce ↔ IsOk (answer_of (computed interval state.now (S.tree parts.now place) []))) }
+    ensures offers { IfOk result (λ next. AreOffers (trimmed interval state.now) next.opening.outcome.state (waits_for (S.tree parts.now next.opening.outcome.place)) next.offers) }
+    ensures exact { IfOk result (λ next. (x : Input) (n : ℕ)
+        → (offered (waits_for (S.tree parts.now next.opening.outcome.place)) next.offers n x ≡ true) ↔ (next_case interval state.now (S.tree parts.now place) x ≡ Some n)) }
+{
+    let opened = opening(alloc, parts, place, state, interval)?;
+    let fixed = fixed(interval, state);
+    let left = place_left(&opened);
+    let offers = offers(alloc, parts, left, &opened.outcome.state, fixed)?;
+    Ok(NextInputs {
+        opening: opened,
+        offers,
+    })
+}
+
+fn place_left<P: Copy>(opened: &Opened<P>) -> P
+    ensures { result ≡ opened.now.outcome.place }
+{
+    opened.outcome.place
+}
+
+// The interval with its start moved up to the minimum time.
+fn fixed(interval: Interval, state: &State) -> Interval
+    ensures { result ≡ trimmed interval state.now }
+{
+    Interval {
+        from: interval.from.max(state.min_time()),
+        to: interval.to,
+    }
+}
