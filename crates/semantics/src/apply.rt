@@ -18,7 +18,10 @@ use collections::{Memory, Same, TryClone};
 use contract::{Bound, ChoiceId, Input, Interval, Party, SemFault, State, Token, Warning};
 use evaluation::{Parts, Wait};
 
-/// Applies an input to a quiet contract: where the first case that matches goes on.
+/// Applies an input to a quiet contract (Marlowe specification version 3, "Apply input"): where the first case that
+/// matches goes on. The interval is one that `fix` gave. The fault is `NoMatch` where no case matches, `Leaves128` where
+/// a number that is visited up to there leaves 128 bits, or `Memory`. After a fault nothing is promised of the state and
+/// the log.
 #[tactic(auto, unfolding(crate::specs::Computed::applied), using(evaluation::proofs::Numbers::all_fit_append))]
 pub fn apply<S: Parts>(
     parts: &S,

@@ -1,4 +1,6 @@
 //! What a transaction does to a Marlowe contract: `Steps`, and `Plain`, which does it on trees.
+//!
+//! `fix`, `reduce` and `apply` are its parts, one small step each, for whoever wants to see what comes where.
 #![tactic(auto)]
 
 mod accounts;
@@ -12,13 +14,16 @@ mod reduce;
 mod steps;
 mod transaction;
 
-pub use apply::matching_case;
+pub use apply::{apply, matching_case};
 pub use laws::{
     accounts_stay_above_zero, contracts_close_after_the_last_timeout, contracts_settle_in_one_way,
     payments_are_natural, reductions_have_one_result, time_never_goes_back, transactions_end_quiet,
     transactions_have_one_answer, turns_lead_to_the_remaining_contract, worked_inputs,
     worked_reductions, worked_transactions,
 };
+pub use log::Log;
 pub use money::money_is_kept;
 pub use plain::Plain;
+pub use reduce::reduce;
 pub use steps::Steps;
+pub use transaction::fix;
