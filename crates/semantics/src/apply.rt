@@ -67,8 +67,9 @@ pub fn matching_case<S: Parts>(
     Ok(None)
 }
 
-// Whether an input matches an action.
-fn matches<S: Parts>(
+/// Whether an input matches an action (Marlowe specification version 3, "Apply cases"). The only fault is `Leaves128`,
+/// where a number that is visited on the way leaves 128 bits; takes no memory.
+pub fn matches<S: Parts>(
     parts: &S,
     input: &Input,
     action: Wait<'_, S::Value, S::Observation>,
@@ -137,8 +138,10 @@ fn in_bounds(number: i128, bounds: &[Bound]) -> bool
         .any(|bound| bound.from <= number && number <= bound.to)
 }
 
-// What an input does to the state.
-fn take(input: &Input, state: &mut State, log: &mut Log) -> Result<(), SemFault>
+/// What an input does to the state once a case takes it, and what it warns of (Marlowe specification version 3, "Apply
+/// action"). The fault is `Leaves128`, where the account's sum leaves 128 bits, or `Memory`. After a fault nothing is
+/// promised of the state and the log.
+pub fn take(input: &Input, state: &mut State, log: &mut Log) -> Result<(), SemFault>
     ensures reply { Aside SemFault.Memory result (within (taken_numbers state.old input.now) tt) }
     ensures state { OnOk result (state.new ≡ taken state.old input.now) }
     ensures warnings { OnOk result (log.new.warnings

@@ -1,6 +1,6 @@
 //! What a transaction does to a Marlowe contract: `Steps`, and `Plain`, which does it on trees.
 //!
-//! `fix`, `reduce` and `apply` are its parts, one small step each, for whoever wants to see what comes where.
+//! `fix`, `reduce`, `matches`, `take` and `apply` are its parts, for whoever wants to see what comes where.
 #![tactic(auto)]
 
 mod accounts;
@@ -14,7 +14,7 @@ mod reduce;
 mod steps;
 mod transaction;
 
-pub use apply::{apply, matching_case};
+pub use apply::{apply, matches, matching_case, take};
 pub use laws::{
     accounts_stay_above_zero, contracts_close_after_the_last_timeout, contracts_settle_in_one_way,
     payments_are_natural, reductions_have_one_result, time_never_goes_back, transactions_end_quiet,
