@@ -110,7 +110,14 @@ MEMORY = "answered only where memory was refused"
 EXACT = "its clause is an equation without \"memory aside\", and its one fault is Leaves128"
 ONE = "it has one value"
 KNOWN = "each If that rows_commands analyses copies what is known"
+STEPS = "a step of `Steps::compute`, which each row of a run calls"
 LEFT = {
+    "call semantics::apply": STEPS,
+    "call semantics::matches": STEPS,
+    "call semantics::Log::warn": STEPS,
+    "call semantics::Log::pay": STEPS,
+    "call semantics::reduce": STEPS,
+    "call semantics::fix": STEPS,
     "fault SemFault::Memory": MEMORY,
     "fault CompileFault::Memory": MEMORY,
     "fault JsonFault::Memory": MEMORY,
