@@ -7,8 +7,9 @@ use Rattle.contract.specs.Tree.{ActionTree, ContractTree, action_tree, case_tree
 use Rattle.contract.proofs.TreeLaws.{case_tree-parts}
 use Rattle.analysis_spec.specs.declared.path.PathStep.{PathStep}
 use Rattle.analysis_spec.specs.Places.{part_behind}
-use Rattle.marlowe_analyse.specs.declared.told.Key.{Key}
-use Rattle.marlowe_analyse.specs.Places.{step_keys, form_key, action_key, case_key, last_key, keys_behind, keys_of}
+use Rattle.places.specs.declared.key.Key.{Key}
+use Rattle.places.specs.Places.{step_keys, path_keys, form_key, action_key, case_key, last_key, keys_behind, keys_of}
+use Rattle.places.specs.Laws.{part_at, PlacesBeginWithTheirPaths}
 
 -- the key of the action of a case
 pub case_key_at : (cs : List Case) (i : ℕ) (k : Case) → i < length cs → k ≡ get_or cs i k → case_key (case_trees (map case_tree cs)) i ≡ action_key (action_tree k.action) ∷ []
@@ -57,3 +58,13 @@ module _ (place : List PathStep) (c : ContractTree) (keys : List Key) (i : ℕ) 
 -- the form that stands at the place
 pub arrives : (place : List PathStep) (c : ContractTree) (keys : List Key) (i : ℕ) (at : ContractTree) (all : List Key) → length place ≤ i → Leads place c keys (drop i place) at → all ≡ keys ++ form_key at ∷ [] → all ≡ keys_of place c
 arrives place c keys i at all l h e = e ∙ subst (λ (rest : List PathStep). Leads place c keys rest at) (drop_all i place l) h
+
+-- ---- where a path leads to a part
+
+pub places_begin : PlacesBeginWithTheirPaths
+places_begin c d [] e = ap (λ (k : Key). let ks : List Key = k ∷ [] in ks) (ap form_key (some_same e))
+places_begin c d (step ∷ path) e = by_part (part_behind c step) refl
+  where
+    by_part : (o : Option ContractTree) → part_behind c step ≡ o → keys_of (step ∷ path) c ≡ path_keys (step ∷ path) ++ form_key d ∷ []
+    by_part None is = ?
+    by_part (Some part) is = ?
