@@ -2,6 +2,8 @@
 use Rattle.std.proofs.Common.{◌≡◌, ℕ, zero, suc, ◌+◌, ◌<◌, ◌≤◌, List, [], ◌∷◌, ◌++◌, map, drop, length, refl, sym, ap, ◌∙◌, subst, append_assoc, Some, None, arith}
 use Rattle.std.proofs.Math.ListN.{get_or}
 use Rattle.std.proofs.lemmas.List.{drop_more, drop_all, get_or_default}
+use Rattle.std.proofs.lemmas.List.Concat.{flat_map-cons}
+use Rattle.std.proofs.lemmas.Option.{option_and_then_some}
 use Rattle.contract.specs.declared.tree.Case.{Case}
 use Rattle.contract.specs.Tree.{ActionTree, ContractTree, action_tree, case_tree, case_trees}
 use Rattle.contract.proofs.TreeLaws.{case_tree-parts}
@@ -62,9 +64,14 @@ arrives place c keys i at all l h e = e ∙ subst (λ (rest : List PathStep). Le
 -- ---- where a path leads to a part
 
 pub places_begin : PlacesBeginWithTheirPaths
-places_begin c d [] e = ap (λ (k : Key). let ks : List Key = k ∷ [] in ks) (ap form_key (some_same e))
-places_begin c d (step ∷ path) e = by_part (part_behind c step) refl
-  where
-    by_part : (o : Option ContractTree) → part_behind c step ≡ o → keys_of (step ∷ path) c ≡ path_keys (step ∷ path) ++ form_key d ∷ []
-    by_part None is = ?
-    by_part (Some part) is = ?
+places_begin c d [] e = let same : c ≡ d = cc in ap (λ (x : ContractTree). let ks : List Key = form_key x ∷ [] in ks) same
+places_begin c d (step ∷ path) e =
+    option_and_then_some
+    (λ part. part_at part path)
+    (part_behind c step)
+    d
+    e
+    (λ part is led. ap (λ o. step_keys step ++ keys_behind (keys_of path) (last_key c step) o) is
+        ∙ ap (λ ks. step_keys step ++ ks) (places_begin part d path led)
+        ∙ sym (append_assoc (step_keys step) (path_keys path) (form_key d ∷ []))
+        ∙ ap (λ ks. ks ++ form_key d ∷ []) (sym (flat_map-cons step_keys step path)))
