@@ -3,8 +3,9 @@
 //!
 //! `close_thread` closes a contract after its last timeout, `check_one` judges one transaction without a ledger,
 //! `escrow` takes a contract from its publishing to its end, `claim_now` collects payouts, `check_lock` judges by
-//! a script that isn't Marlowe's, and `next_after` asks what can be done with a contract after some transactions. `step_now` is the step by which the first and the third end. What their clauses say
-//! is defined in `specs/Uses.antt`, and for the last in `specs/TimeLocks.antt`.
+//! a script that isn't Marlowe's, and `next_after` asks what can be done with a contract after some transactions.
+//! `step_now` is the step by which the first and the third end. What their clauses say is defined in
+//! `specs/Uses.antt`, and for the last two in `specs/TimeLocks.antt` and `specs/WhatsNext.antt`.
 #![tactic(auto)]
 
 mod claim;
