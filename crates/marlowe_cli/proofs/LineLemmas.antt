@@ -6,7 +6,7 @@ use Rattle.clap.proofs.OnLiterals.{clap_on_literals}
 use Rattle.marlowe_cli.specs.declared.found.NoTask.{NoTask}
 use Rattle.marlowe_cli.specs.declared.task.Task.{Task}
 use Rattle.marlowe_cli.specs.Asked.{IsAsked}
-use Rattle.marlowe_cli.specs.Lines.{command_line}
+use Rattle.marlowe_usage.specs.Lines.{command_line}
 
 -- `clap` says what it finds for the words of the command line
 is_plain : is_simple command_line ≡ true

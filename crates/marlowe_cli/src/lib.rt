@@ -1,15 +1,12 @@
 //! What the command line of `marlowe` asks for.
 //!
-//! `words` are the words of the command line, and `line` is what they ask for: a `Task`, with the struct of its command. `commands` has
-//! the commands with their help, and the file of each command what it is asked.
+//! `words` are the words of the command line, and `line` is what they ask for: a `Task`, with the struct of its command, whose file has what
+//! that command is asked.
 #![tactic(auto)]
 
 mod analyse;
 mod arguments;
-mod commands;
-mod draft;
 mod found;
-mod kinds;
 mod next;
 mod play;
 mod run;

@@ -1,14 +1,15 @@
 //! `next CONTRACT [STATE]`.
-ghost use Rattle.std.specs.Prelude.{IfOk};
+ghost use Rattle.std.specs.Prelude.{IfOk, Some, codes};
 ghost use Rattle.clap.specs.Words.{found_of, rows_of};
-ghost use Rattle.marlowe_cli.specs.Asked.{AsksNext};
+ghost use Rattle.marlowe_cli.specs.Asked.{IsAsked};
 
 use crate::found::{NoTask, is_given, time_if, word, word_if, words_for};
+use crate::task::Task;
 use clap::ArgMatches;
 use std::alloc::Global;
 
 /// The inputs that a contract takes next, from the paths of files.
-#[derive(Debug, Drop)]
+#[derive(Drop)]
 pub struct NextTask<'a> {
     pub contract: &'a str,
     /// The state in which it is, if one is given.
@@ -26,10 +27,10 @@ pub struct NextTask<'a> {
 }
 
 /// What `next` is asked, from what was found for its words.
-pub(crate) fn next_task<'a>(alloc: Global, next: &ArgMatches<'a>) -> Result<NextTask<'a>, NoTask>
-    ensures { IfOk result (AsksNext (rows_of (found_of next.now))) }
+pub(crate) fn next_task<'a>(alloc: Global, next: &ArgMatches<'a>) -> Result<Task<'a>, NoTask>
+    ensures { IfOk result (IsAsked (Some (codes "next", rows_of (found_of next.now)))) }
 {
-    Ok(NextTask {
+    Ok(Task::Next(NextTask {
         contract: word(next, "CONTRACT")?,
         state: word_if(next, "STATE"),
         from: time_if(next, "from")?,
@@ -37,5 +38,5 @@ pub(crate) fn next_task<'a>(alloc: Global, next: &ArgMatches<'a>) -> Result<Next
         after: words_for(alloc, next, "after")?,
         json: is_given(next, "json"),
         text_numbers: is_given(next, "text-numbers"),
-    })
+    }))
 }

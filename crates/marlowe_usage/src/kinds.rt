@@ -1,5 +1,5 @@
 //! The kinds of arguments that the commands have.
-ghost use Rattle.marlowe_cli.specs.Lines.{IsArgument, given, several, optional, flag, option, time, options};
+ghost use Rattle.marlowe_usage.specs.Lines.{IsArgument, given, several, optional, flag, option, time, options};
 
 use clap::{Arg, ArgAction, value_parser};
 use std::alloc::Global;

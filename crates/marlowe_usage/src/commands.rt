@@ -1,7 +1,7 @@
 //! The commands, with their arguments and help.
 ghost use Rattle.std.specs.Prelude.{IfOk, codes};
-ghost use Rattle.marlowe_cli.specs.Lines.{IsArgument, IsCommand, IsDraft, given, text_numbers, command, program};
-ghost use Rattle.marlowe_cli.specs.Lines.{run_rules, trace_rules, next_rules, table_rules, analyse_rules, play_rules, command_line};
+ghost use Rattle.marlowe_usage.specs.Lines.{IsArgument, IsCommand, IsDraft, given, text_numbers, command, program};
+ghost use Rattle.marlowe_usage.specs.Lines.{run_rules, trace_rules, next_rules, table_rules, analyse_rules, play_rules, command_line};
 
 use crate::draft::Draft;
 use crate::kinds::{flag, given, option, optional, options, several, time};

@@ -1,7 +1,7 @@
 use Rattle.std.proofs.Common.{codes}
 use Rattle.clap.specs.Words.{with_subcommand}
-use Rattle.marlowe_cli.specs.Lines.{command, program, run_rules, trace_rules, next_rules, table_rules, analyse_rules, play_rules}
-use Rattle.marlowe_cli.proofs.commands.command_line.Goals as goal
+use Rattle.marlowe_usage.specs.Lines.{command, program, run_rules, trace_rules, next_rules, table_rules, analyse_rules, play_rules}
+use Rattle.marlowe_usage.proofs.commands.command_line.Goals as goal
 
 pub returns : goal.returns
 returns c =

@@ -1,7 +1,7 @@
 use Rattle.std.proofs.Common.{codes}
 use Rattle.clap.specs.Words.{new_app, with_rule}
-use Rattle.marlowe_cli.specs.Lines.{given, flag}
-use Rattle.marlowe_cli.proofs.commands.play_command.Goals as goal
+use Rattle.marlowe_usage.specs.Lines.{given, flag}
+use Rattle.marlowe_usage.proofs.commands.play_command.Goals as goal
 
 pub returns : goal.returns
 returns c =

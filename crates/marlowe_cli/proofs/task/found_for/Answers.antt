@@ -2,7 +2,7 @@ use Rattle.std.proofs.Common.{map}
 use Rattle.std.specs.Prelude.{string_bytes}
 use Rattle.clap.specs.Words.{app_of}
 use Rattle.marlowe_cli.proofs.LineLemmas.{asked_is}
-use Rattle.marlowe_cli.proofs.task.asked.Goals as goal
+use Rattle.marlowe_cli.proofs.task.found_for.Goals as goal
 
 pub returns : goal.returns
 returns c =

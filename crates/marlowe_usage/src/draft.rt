@@ -1,7 +1,7 @@
 //! Commands that are being made.
 ghost use Rattle.std.specs.Prelude.{◌≡◌, IfOk};
 ghost use Rattle.clap.specs.Words.{App, Rule, new_app, with_rule, with_subcommand};
-ghost use Rattle.marlowe_cli.specs.Lines.{IsArgument, IsCommand, IsDraft};
+ghost use Rattle.marlowe_usage.specs.Lines.{IsArgument, IsCommand, IsDraft};
 
 use clap::{Arg, Command};
 use std::alloc::{AllocError, Global};

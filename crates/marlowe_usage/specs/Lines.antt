@@ -7,7 +7,7 @@ use Rattle.clap.specs.declared.Command.TheViews.{out-Command}
 use Rattle.clap.specs.declared.builder.action.ArgAction.TheVariants.{Append, SetTrue}
 use Rattle.clap.specs.declared.builder.arg.Arg.{Arg}
 use Rattle.clap.specs.declared.builder.value_parser.ValueParser.TheVariants.{Signed}
-use Rattle.marlowe_cli.specs.declared.draft.Draft.{Draft}
+use Rattle.marlowe_usage.specs.declared.draft.Draft.{Draft}
 
 -- ---- the kinds of arguments
 
