@@ -1,7 +1,7 @@
 //! What a command line prints.
 ghost use Rattle.std.specs.Prelude.{◌≡◌, [], ◌∷◌, ◌++◌, IfOk, codes, map, string_bytes};
 ghost use Rattle.clap.specs.Words.{subcommand_of};
-ghost use Rattle.marlowe_cli.specs.Lines.{command_line};
+ghost use Rattle.marlowe_usage.specs.Lines.{command_line};
 ghost use Rattle.marlowe_commands.specs.Streams.{streams_of, on_errors, IsOnStreams, IsTextOr};
 ghost use Rattle.marlowe_commands.specs.Tasks.{AsksFor, IsAnalysis, IsTrace};
 
