@@ -35,7 +35,7 @@ UNKNOWN = ["not known"]
 # What a heading ends in where the same name stands in a chapter before it.
 ENDS = (" of a builder", " of an analysis")
 # What `clap` tells of a command line: its library has more, which no command line of ours can give.
-WORDS = ["unrecognized subcommand", "required arguments were not provided", "unexpected argument"]
+WORDS = ["unrecognized subcommand", "required arguments were not provided", "unexpected argument", "invalid value"]
 MEMORY = "needs little memory: checks/refused_memory.py"
 SHA = "needs two things of one SHA-256"
 LEFT = {
