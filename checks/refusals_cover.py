@@ -37,7 +37,7 @@ WITHIN = ["Run", "Text", "Refused"]
 # What a heading ends in where the same name stands in a chapter before it.
 ENDS = (" of a builder", " of an analysis", " of a trace")
 # What `clap` tells of a command line: its library has more, which no command line of ours can give.
-WORDS = ["unrecognized subcommand", "required arguments were not provided", "unexpected argument"]
+WORDS = ["unrecognized subcommand", "required arguments were not provided", "unexpected argument", "invalid value"]
 MEMORY = "needs little memory: checks/refused_memory.py"
 SHA = "needs two things of one SHA-256"
 LEFT = {
