@@ -1,8 +1,8 @@
 use Rattle.std.proofs.Common.{take, map}
 use Rattle.json_write_contracts.specs.Tokens.{Adds}
 use Rattle.json_write_contracts.proofs.ListedLaws.{front}
-use Rattle.marlowe_analyse.specs.Tools.{key_json}
-use Rattle.marlowe_analyse.proofs.tools.put_place.Given as goal
+use Rattle.places.specs.Texts.{key_json}
+use Rattle.places.proofs.printed.put_place_json.Given as goal
 
 -- the items so far are written
 abbrev pub invariant-loop-key : goal.invariant-loop-key

@@ -2,13 +2,16 @@
 use Rattle.std.proofs.Common.{◌≡◌, ℕ, zero, suc, ◌+◌, ◌<◌, ◌≤◌, List, [], ◌∷◌, ◌++◌, map, drop, length, refl, sym, ap, ◌∙◌, subst, append_assoc, Some, None, arith}
 use Rattle.std.proofs.Math.ListN.{get_or}
 use Rattle.std.proofs.lemmas.List.{drop_more, drop_all, get_or_default}
+use Rattle.std.proofs.lemmas.List.Concat.{flat_map-cons}
+use Rattle.std.proofs.lemmas.Option.{option_and_then_some}
 use Rattle.contract.specs.declared.tree.Case.{Case}
 use Rattle.contract.specs.Tree.{ActionTree, ContractTree, action_tree, case_tree, case_trees}
 use Rattle.contract.proofs.TreeLaws.{case_tree-parts}
 use Rattle.analysis_spec.specs.declared.path.PathStep.{PathStep}
 use Rattle.analysis_spec.specs.Places.{part_behind}
-use Rattle.marlowe_analyse.specs.declared.told.Key.{Key}
-use Rattle.marlowe_analyse.specs.Places.{step_keys, form_key, action_key, case_key, last_key, keys_behind, keys_of}
+use Rattle.places.specs.declared.key.Key.{Key}
+use Rattle.places.specs.Places.{step_keys, path_keys, form_key, action_key, case_key, last_key, keys_behind, keys_of}
+use Rattle.places.specs.Laws.{part_at, PlacesBeginWithTheirPaths}
 
 -- the key of the action of a case
 pub case_key_at : (cs : List Case) (i : ℕ) (k : Case) → i < length cs → k ≡ get_or cs i k → case_key (case_trees (map case_tree cs)) i ≡ action_key (action_tree k.action) ∷ []
@@ -57,3 +60,18 @@ module _ (place : List PathStep) (c : ContractTree) (keys : List Key) (i : ℕ) 
 -- the form that stands at the place
 pub arrives : (place : List PathStep) (c : ContractTree) (keys : List Key) (i : ℕ) (at : ContractTree) (all : List Key) → length place ≤ i → Leads place c keys (drop i place) at → all ≡ keys ++ form_key at ∷ [] → all ≡ keys_of place c
 arrives place c keys i at all l h e = e ∙ subst (λ (rest : List PathStep). Leads place c keys rest at) (drop_all i place l) h
+
+-- ---- where a path leads to a part
+
+pub places_begin : PlacesBeginWithTheirPaths
+places_begin c d [] e = let same : c ≡ d = cc in ap (λ (x : ContractTree). let ks : List Key = form_key x ∷ [] in ks) same
+places_begin c d (step ∷ path) e =
+    option_and_then_some
+    (λ part. part_at part path)
+    (part_behind c step)
+    d
+    e
+    (λ part is led. ap (λ o. step_keys step ++ keys_behind (keys_of path) (last_key c step) o) is
+        ∙ ap (λ ks. step_keys step ++ ks) (places_begin part d path led)
+        ∙ sym (append_assoc (step_keys step) (path_keys path) (form_key d ∷ []))
+        ∙ ap (λ ks. ks ++ form_key d ∷ []) (sym (flat_map-cons step_keys step path)))

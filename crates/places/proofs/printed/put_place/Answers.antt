@@ -1,6 +1,6 @@
-use Rattle.marlowe_analyse.specs.Lines.{key_text}
-use Rattle.marlowe_analyse.proofs.LinesLemmas.{piece_more_at}
-use Rattle.marlowe_analyse.proofs.lines.put_place.Goals as goal
+use Rattle.places.specs.Texts.{key_text}
+use Rattle.places.proofs.PieceLaws.{piece_more_at}
+use Rattle.places.proofs.printed.put_place.Goals as goal
 
 pub loop-key-preserved : goal.loop-key-preserved
 loop-key-preserved c =

@@ -1,22 +1,29 @@
-//! Places in a contract's text.
+//! Keys of paths and of places.
 ghost use Rattle.std.specs.Prelude.{◌≡◌, [], ◌∷◌, ◌++◌, map, IfOk, OnOk};
 ghost use Rattle.contract.specs.Tree.{contract_tree, action_tree, case_tree, case_trees};
-ghost use Rattle.marlowe_analyse.specs.Places.{step_keys, form_key, action_key, case_key, last_key, keys_of};
+ghost use Rattle.places.specs.Places.{step_keys, form_key, action_key, case_key, last_key, path_keys, keys_of};
 
-use crate::told::Key;
+use crate::key::Key;
 use analysis_spec::PathStep;
 use analysis_walk::part_behind;
 use collections::Memory;
 use contract::{Action, Case, Contract};
 use std::alloc::Global;
 
-/// The way to a place in the text of a contract: keys, and places of cases; and last the first key of the form that
-/// stands there. Where the contract has no such place, the way ends where it leaves the contract.
-pub(crate) fn keys_of(
-    alloc: Global,
-    contract: &Contract,
-    place: &[PathStep],
-) -> Result<Vec<Key>, Memory>
+/// The keys of a path's steps alone: of the empty path there is none.
+pub fn path_keys(alloc: Global, path: &[PathStep]) -> Result<Vec<Key>, Memory>
+    ensures { IfOk result (λ keys. keys.items ≡ path_keys path.now) }
+{
+    let mut keys = Vec::new(alloc);
+    for step in path {
+        put_keys(&mut keys, *step)?;
+    }
+    Ok(keys)
+}
+
+/// The keys that lead to a place, and last the first key of the form that stands there; of an action, its first key. Where
+/// the contract has no such place, the keys are those of the steps up to the one that leaves the contract.
+pub fn keys_of(alloc: Global, contract: &Contract, place: &[PathStep]) -> Result<Vec<Key>, Memory>
     ensures { IfOk result (λ keys. keys.items ≡ keys_of place.now (contract_tree contract.now)) }
 {
     let mut keys = Vec::new(alloc);

@@ -1,8 +1,8 @@
 use Rattle.std.proofs.Common.{List, [], ◌∷◌, ◌++◌, sym, ap, ◌∙◌, append-nil}
 use Rattle.std.proofs.lemmas.Result.{on_ok_weaker}
-use Rattle.marlowe_analyse.specs.declared.told.Key.{Key}
-use Rattle.marlowe_analyse.proofs.PlacesLemmas.{case_key_at, case_key_over}
-use Rattle.marlowe_analyse.proofs.places.put_action_key.Goals as goal
+use Rattle.places.specs.declared.key.Key.{Key}
+use Rattle.places.proofs.PlacesLemmas.{case_key_at, case_key_over}
+use Rattle.places.proofs.keys.put_action_key.Goals as goal
 
 pub returns-in-Some : goal.returns-in-Some
 returns-in-Some c =

@@ -1,8 +1,8 @@
 use Rattle.std.proofs.Common.{◌∷◌, [], ◌++◌, ap, sym, ◌∙◌}
 use Rattle.contract.specs.Tree.{contract_tree}
-use Rattle.marlowe_analyse.specs.declared.told.Key.{Key}
-use Rattle.marlowe_analyse.proofs.PlacesLemmas.{goes_on_at, leaves_at, arrives}
-use Rattle.marlowe_analyse.proofs.places.keys_of.Goals as goal
+use Rattle.places.specs.declared.key.Key.{Key}
+use Rattle.places.proofs.PlacesLemmas.{goes_on_at, leaves_at, arrives}
+use Rattle.places.proofs.keys.keys_of.Goals as goal
 
 pub loop-step-preserved : goal.loop-step-preserved
 loop-step-preserved c =

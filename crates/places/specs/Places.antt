@@ -1,11 +1,11 @@
 -- The way to a place in the text of a contract.
-use Rattle.std.specs.Prelude.{ℕ, zero, suc, List, [], ◌∷◌, ◌++◌, Option, Some, None, codes}
+use Rattle.std.specs.Prelude.{ℕ, zero, suc, List, [], ◌∷◌, ◌++◌, flat_map, Option, Some, None}
 use Rattle.contract.specs.Tree.{ActionTree, deposit, choice, notify, ContractTree, CaseTrees, close, pay, if_obs, when, let_be, assert, no_cases, case_then}
 use Rattle.analysis_spec.specs.declared.path.PathStep.{PathStep}
 use Rattle.analysis_spec.specs.declared.path.PathStep.TheVariants as steps
 use Rattle.analysis_spec.specs.Places.{part_behind}
-use Rattle.marlowe_analyse.specs.declared.told.Key.{Key}
-use Rattle.marlowe_analyse.specs.declared.told.Key.TheVariants as keys
+use Rattle.places.specs.declared.key.Key.{Key}
+use Rattle.places.specs.declared.key.Key.TheVariants as keys
 
 -- the keys of a step
 abbrev pub step_keys : PathStep → List Key
@@ -14,6 +14,10 @@ step_keys steps.Else = keys.Else ∷ []
 step_keys steps.TimeoutContinuation = keys.TimeoutContinuation ∷ []
 step_keys (steps.Case n) = keys.When ∷ keys.Item n ∷ keys.Then ∷ []
 step_keys (steps.Action n) = keys.When ∷ keys.Item n ∷ keys.Case ∷ []
+
+-- those of a path
+abbrev pub path_keys : List PathStep → List Key
+path_keys = flat_map step_keys
 
 -- the first key of a contract's form; Close, which has none, is told by its name
 abbrev pub form_key : ContractTree → Key
@@ -48,21 +52,3 @@ keys_behind f last (Some c) = f c
 abbrev pub keys_of : List PathStep → ContractTree → List Key
 keys_of [] c = form_key c ∷ []
 keys_of (step ∷ place) c = step_keys step ++ keys_behind (keys_of place) (last_key c step) (part_behind c step)
-
--- ---- words: the place of an item has none
-
-abbrev pub key_word : Key → List ℕ
-key_word keys.Then = codes "then"
-key_word keys.Else = codes "else"
-key_word keys.TimeoutContinuation = codes "timeout_continuation"
-key_word keys.When = codes "when"
-key_word keys.Case = codes "case"
-key_word keys.Close = codes "close"
-key_word keys.Pay = codes "pay"
-key_word keys.If = codes "if"
-key_word keys.Let = codes "let"
-key_word keys.Assert = codes "assert"
-key_word keys.Deposits = codes "deposits"
-key_word keys.ChooseBetween = codes "choose_between"
-key_word keys.NotifyIf = codes "notify_if"
-key_word (keys.Item n) = []

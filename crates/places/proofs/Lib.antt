@@ -1,0 +1,2 @@
+mod PlacesLemmas
+pub mod PieceLaws
