@@ -4,17 +4,17 @@
 #![tactic(auto)]
 
 mod accounts;
-mod apply;
+mod inputs;
 mod laws;
 mod log;
 mod money;
 mod pay;
 mod plain;
-mod reduce;
+mod reductions;
 mod steps;
 mod transaction;
 
-pub use apply::{apply, matches, matching_case, take};
+pub use inputs::{apply, matches, matching_case, take};
 pub use laws::{
     accounts_stay_above_zero, contracts_close_after_the_last_timeout, contracts_settle_in_one_way,
     payments_are_natural, reductions_have_one_result, time_never_goes_back, transactions_end_quiet,
@@ -24,6 +24,6 @@ pub use laws::{
 pub use log::Log;
 pub use money::money_is_kept;
 pub use plain::Plain;
-pub use reduce::reduce;
+pub use reductions::reduce;
 pub use steps::Steps;
 pub use transaction::fix;

@@ -4,8 +4,9 @@ use Rattle.std.proofs.lemmas.List.{at_drop_more, at_drop_all}
 use Rattle.contract.specs.declared.fault.SemFault.{SemFault}
 use Rattle.contract.specs.declared.transaction.Transaction.{Transaction}
 use Rattle.semantics.specs.Walk.{Standing, Walk, answer_of}
+use Rattle.analysis_spec.specs.Runs.{walk_from}
 use Rattle.trace.specs.declared.refused.Refused.{Refused}
-use Rattle.trace.specs.Traces.{walk_from, walks_then, walks, left_then, left_by, TracesJoin}
+use Rattle.trace.specs.Traces.{walks_then, walks, left_then, left_by, TracesJoin}
 
 abbrev Joins : Standing → Standing → List Transaction → List Transaction → Type 0
 Joins a b ts us = (walks a (ts ++ us) ≡ walks a ts ++ walks b us) × ((m : ℕ) → left_by m a (ts ++ us) ≡ left_by (m + length ts) b us)

@@ -1,2 +1,4 @@
 pub mod Traces
+pub mod Warned
 pub mod Rows
+pub mod SteppingSupport

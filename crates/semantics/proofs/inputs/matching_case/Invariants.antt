@@ -2,7 +2,7 @@ use Rattle.std.proofs.Common.{◌≡◌, ◌+◌, drop}
 use Rattle.evaluation.specs.Numbers.{all_fit}
 use Rattle.evaluation.specs.Path.{waits_for}
 use Rattle.semantics.specs.Computed.{first_match, first_match_index, tried_to_match}
-use Rattle.semantics.proofs.apply.matching_case.Given as goal
+use Rattle.semantics.proofs.inputs.matching_case.Given as goal
 
 -- the cases so far fit and don't match
 abbrev pub invariant-loop-index : goal.invariant-loop-index

@@ -1,7 +1,7 @@
 use Rattle.std.proofs.Common.{rules}
 use Rattle.semantics.specs.Computed.{applied}
 use Rattle.evaluation.proofs.Numbers.{all_fit_append}
-use Rattle.semantics.proofs.apply.apply.Goals as goal
+use Rattle.semantics.proofs.inputs.apply.Goals as goal
 
 pub returns : goal.returns
 unfolding applied

@@ -3,7 +3,7 @@ use Rattle.std.proofs.lemmas.Result.{err_from_is_err_and}
 use Rattle.evaluation.specs.Path.{waits_for}
 use Rattle.semantics.specs.Computed.{first_match}
 use Rattle.semantics.proofs.Finding.{fits_past, first_past, place_past, found_here, place_here, fault_here}
-use Rattle.semantics.proofs.apply.matching_case.Goals as goal
+use Rattle.semantics.proofs.inputs.matching_case.Goals as goal
 
 pub returns-in_err-matches-clause-reply : goal.returns-in_err-matches-clause-reply
 returns-in_err-matches-clause-reply g c =
