@@ -4,9 +4,14 @@
 
 mod dropped;
 mod laws;
+mod outcomes;
+mod start;
 mod tables;
 mod transaction;
 
+pub use dropped::beside_dropped;
 pub use laws::parts_can_be_written;
+pub use outcomes::outcome_line;
+pub use start::read_start;
 pub use tables::table_text;
-pub use transaction::run;
+pub use transaction::{run, run_with_texts};

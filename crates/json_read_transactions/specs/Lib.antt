@@ -1,0 +1,2 @@
+pub mod ReadsTransactions
+pub mod TakingSupport

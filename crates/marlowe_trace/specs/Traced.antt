@@ -1,0 +1,66 @@
+-- What is printed of transactions one after another, from the texts of a contract, a state and the transactions.
+use Rattle.std.specs.Prelude.{ℕ, suc, Bool, true, false, List, [], ◌∷◌, flat_map, Option, Some, None, Result, Ok, Err}
+use Rattle.collections.specs.Answers.{◌>>=◌}
+use Rattle.contract.specs.Tree.{ContractTree, contract_tree}
+use Rattle.contract.specs.declared.fault.SemFault.{SemFault}
+use Rattle.contract.specs.declared.transaction.Transaction.{Transaction}
+use Rattle.json_read_names.specs.ReadsText.{of_text}
+use Rattle.json_read_contracts.specs.ReadsContract.{contract}
+use Rattle.json_read_transactions.specs.ReadsTransactions.{transactions_of}
+use Rattle.semantics.specs.Walk.{Standing, standing, Walk, answer_of}
+use Rattle.trace.specs.declared.refused.Refused.{Refused}
+use Rattle.trace.specs.Traces.{walks, left_by}
+use Rattle.marlowe_refusals.specs.declared.trace_fault.TraceFault.{TraceFault}
+use Rattle.marlowe_refusals.specs.declared.trace_fault.TraceFault.TheVariants as trace
+use Rattle.marlowe_refusals.specs.Faults.{read_as, contract_fault, state_fault}
+use Rattle.marlowe_refusals.specs.TraceFaults.{told_as, texts_fault}
+use Rattle.marlowe_run.specs.Run.{printed}
+use Rattle.marlowe_run.specs.Start.{start_of}
+use Rattle.marlowe_trace.specs.declared.texts.Asked.{Asked}
+
+-- ---- from where a contract stands
+
+abbrev pub line_or_nothing : Walk → Result Standing SemFault → List ℕ
+line_or_nothing w (Ok a) = printed w a
+line_or_nothing w (Err f) = []
+
+-- the line of a transaction's outcome, and nothing where it is refused
+abbrev pub line_of : Walk → List ℕ
+line_of w = line_or_nothing w (answer_of w)
+
+-- that of the last
+abbrev pub last_line : List Walk → List ℕ
+last_line [] = []
+last_line (w ∷ []) = line_of w
+last_line (w ∷ v ∷ ws) = last_line (v ∷ ws)
+
+-- the lines of all, or of the last alone
+abbrev pub lines_of : Bool → List Walk → List ℕ
+lines_of false ws = flat_map line_of ws
+lines_of true ws = last_line ws
+
+-- the first that is refused, by its number from 1
+abbrev pub refused_of : Result Standing Refused → Option TraceFault
+refused_of (Ok a) = None
+refused_of (Err r) = Some (trace.Refused (suc r.index) r.fault)
+
+-- what is printed, and what is refused
+abbrev pub Told : Type 0
+Told = List ℕ × Option TraceFault
+
+-- of all transactions, or of the last alone
+abbrev pub told_of : Bool → Standing → List Transaction → Told
+told_of last a ts = (lines_of last (walks a ts), refused_of (left_by 0 a ts))
+
+-- ---- from texts
+
+-- the state and the texts of transactions are read in turn
+unfoldable pub trace_from : Asked → ContractTree → Option (List ℕ) → List (List ℕ) → Result Told TraceFault
+trace_from asked c start texts =
+    read_as (λ f. trace.Run (state_fault f)) (start_of asked.texts start) >>= λ s.
+    told_as texts_fault (transactions_of texts) >>= λ ts.
+    Ok (told_of asked.last (standing s c) ts)
+
+-- the contract is read first
+unfoldable pub trace_text : Asked → List ℕ → Option (List ℕ) → List (List ℕ) → Result Told TraceFault
+trace_text asked c start texts = read_as (λ f. trace.Run (contract_fault f)) (of_text contract c) >>= λ given. trace_from asked (contract_tree given) start texts
