@@ -1,0 +1,5 @@
+pub mod Applicable
+pub mod Told
+pub mod Lines
+pub mod Json
+pub mod SeenSupport
