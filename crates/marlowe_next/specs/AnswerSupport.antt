@@ -1,5 +1,5 @@
 -- What each step of the code answers. It serves proofs alone.
-use Rattle.std.specs.Prelude.{◌≡◌, ◌≢◌, ℕ, ℤ, true, Bool, List, map, Result, Ok, Err, MatchResult}
+use Rattle.std.specs.Prelude.{◌≡◌, ◌≢◌, ◌↔◌, ℕ, Bool, true, List, [], ◌++◌, slice_get, Some, Result, Ok, Err, IsOk, IsTrue, MatchResult}
 use Rattle.std.specs.declared.vec.Vec.{Vec}
 use Rattle.std.specs.declared.alloc.Global.{Global}
 use Rattle.contract.specs.declared.tree.Contract.{Contract}
@@ -9,18 +9,27 @@ use Rattle.contract.specs.Tree.{ActionTree, ContractTree, contract_tree}
 use Rattle.states.specs.States.{StateMaps}
 use Rattle.evaluation.specs.Path.{waits_for}
 use Rattle.semantics.specs.Walk.{Standing, standing, answer_of}
-use Rattle.semantics.specs.Transaction.{trimmed}
+use Rattle.semantics.specs.Transaction.{trimmed, begun}
+use Rattle.semantics.specs.Computed.{computed}
 use Rattle.next_inputs.specs.declared.offer.Offer.{Offer}
-use Rattle.next_inputs.specs.Offers.{has}
+use Rattle.next_inputs.specs.Offers.{has, AreOffers}
 use Rattle.next_inputs.specs.Taking.{taken_case}
 use Rattle.next_inputs.specs.Opening.{opening}
+use Rattle.analysis_spec.specs.declared.path.PathStep.{PathStep}
+use Rattle.analysis_spec.specs.Marks.{led, settling}
 use Rattle.trace.specs.declared.sequence.Left.{Left}
+use Rattle.trace.specs.declared.settling.Settled.{Settled}
+use Rattle.trace.specs.declared.warned.Warned.{Warned}
+use Rattle.trace.specs.Warned.{warned_at}
 use Rattle.marlowe_refusals.specs.declared.fault.RunFault.TheVariants as run
 use Rattle.marlowe_refusals.specs.declared.trace_fault.TraceFault.{TraceFault}
 use Rattle.marlowe_refusals.specs.declared.trace_fault.TraceFault.TheVariants as trace
 use Rattle.marlowe_next.specs.declared.asked.Asked.{Asked}
+use Rattle.marlowe_next.specs.declared.told.CaseTold.{CaseTold}
+use Rattle.marlowe_next.specs.Applicable.{Applicable, refusal, applicable, applicable_from}
 use Rattle.marlowe_next.specs.Question.{Reached, answered}
-use Rattle.marlowe_next.specs.Answer.{IsAnswer}
+use Rattle.marlowe_next.specs.Answer.{told_of, printed, IsAnswer}
+use Rattle.marlowe_next.specs.SeenSupport.{seen_cases}
 
 -- a text that answers, or why there is no answer
 abbrev pub Answers : Asked → Result Reached TraceFault → Result (Vec ℕ Global) TraceFault → Type 0
@@ -60,3 +69,7 @@ pub record HasSettled (i : Interval) (a : Standing) (left : Settled) : Type 0 wh
 -- a text tells what is so of a contract that has settled
 abbrev pub TellsSettled : Interval → Reached → Standing → Bool → List ℕ → Type 0
 TellsSettled i r b json text = (offers : List Offer) × AreOffers (trimmed i r.there.state) b.state (waits_for b.contract) offers × (text ≡ printed json (told_of i r b offers))
+
+-- a warning of a part that stands at the end of a path
+abbrev pub under : List PathStep → Warned → Warned
+under path w = record { place = path ++ w.place; warning = w.warning }

@@ -1,5 +1,5 @@
 //! Lines for people.
-ghost use Rattle.std.specs.Prelude.{◌≡◌, ◌++◌, flat_map, IfSome, OnOk, Some};
+ghost use Rattle.std.specs.Prelude.{◌≡◌, ◌++◌, flat_map, IfOk, IfSome, OnOk, Some};
 ghost use Rattle.marlowe_next.specs.Lines.{lines_of, stands_lines, input_line, deposit_text, choice_text, leaving_line, then_text, waits_line, closes_line, payment_line, warning_line};
 ghost use Rattle.marlowe_next.specs.SeenSupport.{IsTime, seen, seen_deposit, seen_case, seen_warning};
 
@@ -13,16 +13,14 @@ use places::{Key, put_place, token_text};
 use std::alloc::Global;
 
 /// All lines.
-pub(crate) fn put_lines(
-    alloc: Global,
-    out: &mut Vec<u8>,
-    told: ToldHere<'_>,
-) -> Result<(), Memory>
+pub(crate) fn lines(alloc: Global, told: ToldHere<'_>) -> Result<Vec<u8>, Memory>
     requires { IfSome told.until IsTime }
-    ensures { OnOk result (out.new.items ≡ out.old.items ++ lines_of (seen told.entry)) }
+    ensures { IfOk result (λ text. text.items ≡ lines_of (seen told.entry)) }
 {
-    put_standing(alloc, out, told)?;
-    put_warnings(alloc, out, told.warned)
+    let mut out = Vec::new(alloc);
+    put_standing(alloc, &mut out, told)?;
+    put_warnings(alloc, &mut out, told.warned)?;
+    Ok(out)
 }
 
 // What applies and how long, or that it closes.

@@ -40,7 +40,7 @@ pub(crate) fn settled_text(
     let fixed = fixed(interval, &left.state);
     let outcome = &settled.outcome;
     let offers = offers(alloc, &Plain::new(), outcome.place, &outcome.state, fixed)?;
-    let text = offered_text(alloc, whole, left, fixed, settled, offers.as_slice(), json);
+    let text = offered_text(alloc, whole, left, interval, settled, offers.as_slice(), json);
     beside_dropped(offers, text)
 }
 
@@ -49,12 +49,17 @@ fn offered_text(
     alloc: Global,
     whole: &Contract,
     left: &Left<'_>,
-    fixed: Interval,
+    interval: Interval,
     settled: &Settled<'_>,
     offers: &[Offer],
     json: bool,
 ) -> Result<Vec<u8>, Memory>
+    requires settled { HasSettled interval (standing left.now.state (contract_tree left.now.contract.now)) settled.now }
+    requires offers { AreOffers (trimmed interval left.now.state) settled.now.outcome.state (waits_for (contract_tree settled.now.outcome.place.now)) offers.now }
+    ensures { IfOk result (λ text. text.items ≡ printed json (told_of interval (reached_at whole.now left.now)
+        (standing settled.now.outcome.state (contract_tree settled.now.outcome.place.now)) offers.now)) }
 {
+    let fixed = fixed(interval, &left.state);
     let plain = Plain::new();
     let outcome = &settled.outcome;
     let cases = told_cases(alloc, &plain, outcome.place, &outcome.state, fixed, offers)?;
