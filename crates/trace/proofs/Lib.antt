@@ -1,2 +1,5 @@
 pub mod Joining
 pub mod Worked
+pub mod SteppingLemmas
+pub mod ReducingLemmas
+pub mod OpeningLemmas
