@@ -1,2 +1,3 @@
 mod PlacesLemmas
 pub mod PieceLaws
+mod AdaLemmas
