@@ -6,3 +6,4 @@ pub mod Json
 pub mod Answer
 pub mod SeenSupport
 pub mod AnswerSupport
+pub mod Rows

@@ -3,12 +3,12 @@ ghost use Rattle.std.specs.Prelude.{◌≡◌, ◌<◌, ◌++◌, length, IfOk, 
 ghost use Rattle.evaluation.specs.Path.{waits_for};
 ghost use Rattle.next_inputs.specs.Offers.{AreOffers};
 ghost use Rattle.next_inputs.specs.Behind.{IsRefusedBehind};
-ghost use Rattle.marlowe_next.specs.SeenSupport.{seen_deposit, seen_if, seen_cases};
+ghost use Rattle.marlowe_next.specs.SeenSupport.{seen_if, seen_cases};
 ghost use Rattle.marlowe_next.specs.AnswerSupport.{TakesAt, TellsCase, TellsCases};
 
 use crate::told::{CaseTold, Deposit};
 use collections::{Memory, TryClone};
-use contract::{Input, Interval, SemFault, State};
+use contract::{Input, Interval, Party, SemFault, State, Token};
 use evaluation::{Parts, Wait};
 use marlowe_run::beside_dropped;
 use next_inputs::{Offer, refused_behind};
@@ -62,13 +62,15 @@ fn told_case<'a, S: Parts>(
     let case = parts.case(place, index);
     match (case.action, offer) {
         (Wait::Deposit(account, party, token, _), Offer::Deposit(amount)) => {
+            let amount = *amount;
+            let input = deposit_input(account, party, token, amount)?;
+            let refused = refusal(alloc, parts, place, index, state, interval, input)?;
             let deposit = Deposit {
                 account,
                 party,
                 token,
-                amount: *amount,
+                amount,
             };
-            let refused = deposit_refusal(alloc, parts, place, index, state, interval, deposit)?;
             Ok(Some(CaseTold::Deposit(index, deposit, refused)))
         }
         (Wait::Deposit(account, party, token, _), Offer::Leaves128) => {
@@ -78,8 +80,7 @@ fn told_case<'a, S: Parts>(
             Ok(Some(CaseTold::Choice(index, id, bounds)))
         }
         (Wait::Notify(_), Offer::Notify) => {
-            let refused =
-                refused_behind(alloc, parts, place, index, state, interval, &Input::Notify)?;
+            let refused = refusal(alloc, parts, place, index, state, interval, Input::Notify)?;
             Ok(Some(CaseTold::Notify(index, refused)))
         }
         (Wait::Notify(_), Offer::Leaves128) => Ok(Some(CaseTold::NotifyLeaves(index))),
@@ -87,30 +88,34 @@ fn told_case<'a, S: Parts>(
     }
 }
 
-// Why what follows a deposit is refused, if it is.
-fn deposit_refusal<S: Parts>(
+// Why what follows an input that takes a case is refused, if it is.
+fn refusal<S: Parts>(
     alloc: Global,
     parts: &S,
     place: S::Place,
     index: usize,
     state: &State,
     interval: Interval,
-    deposit: Deposit<'_>,
+    input: Input,
 ) -> Result<Option<SemFault>, Memory>
     requires stands { S.contains parts.now place }
     requires within { index < length (waits_for (S.tree parts.now place)) }
-    ensures { IfOk result (IsRefusedBehind interval state.now (S.tree parts.now place) index (seen_deposit Input.Deposit deposit.entry)) }
+    ensures { IfOk result (IsRefusedBehind interval state.now (S.tree parts.now place) index input) }
 {
-    let input = deposit_input(deposit)?;
     let refused = refused_behind(alloc, parts, place, index, state, interval, &input);
     beside_dropped(input, refused)
 }
 
-fn deposit_input(deposit: Deposit<'_>) -> Result<Input, Memory>
-    ensures { IfOk result (λ input. input ≡ seen_deposit Input.Deposit deposit.entry) }
+fn deposit_input(
+    account: &Party,
+    party: &Party,
+    token: &Token,
+    amount: i128,
+) -> Result<Input, Memory>
+    ensures { IfOk result (λ input. input ≡ Input.Deposit account.now party.now token.now amount) }
 {
-    let account = deposit.account.try_clone()?;
-    let party = deposit.party.try_clone()?;
-    let token = deposit.token.try_clone()?;
-    Ok(Input::Deposit(account, party, token, deposit.amount))
+    let account = account.try_clone()?;
+    let party = party.try_clone()?;
+    let token = token.try_clone()?;
+    Ok(Input::Deposit(account, party, token, amount))
 }

@@ -8,6 +8,7 @@ mod cases;
 mod json_inputs;
 mod json_lists;
 mod json_text;
+mod laws;
 mod lines;
 mod pieces;
 mod terms;
@@ -17,6 +18,7 @@ mod words;
 
 pub use answer::next;
 pub use asked::Asked;
+pub use laws::worked_answers;
 
 #[cfg(test)]
 mod tests {

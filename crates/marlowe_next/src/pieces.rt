@@ -11,7 +11,7 @@ pub(crate) trait Piece {
 
     /// Its text.
     fn text(&self, alloc: Global) -> Result<String, Memory>
-        ensures { IfOk result (λ text. string_bytes text ≡ text self.now) };
+        ensures { IfOk result (λ written. string_bytes written ≡ text self.now) };
 }
 
 /// Puts bytes behind a text.

@@ -1,0 +1,6 @@
+mod PieceLemmas
+mod UnderLemmas
+mod CasesLemmas
+mod AnswerLemmas
+mod ListedLemmas
+mod Worked
