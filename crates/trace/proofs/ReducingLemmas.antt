@@ -1,6 +1,7 @@
 -- One reduction, by what the code answers of it.
-use Rattle.std.proofs.Common.{◌≡◌, ◌≢◌, ℤ, int_lt, int_le, Bool, true, false, cond, List, [], ◌∷◌, ◌++◌, map, append_assoc, append-nil, refl, sym, ap, ◌∙◌, subst, Option, Some, None, Result, Ok, Err}
+use Rattle.std.proofs.Common.{◌≡◌, ℤ, pos, int_lt, int_le, Bool, true, false, cond, List, [], ◌∷◌, ◌++◌, map, append_assoc, append-nil, refl, sym, ap, ◌∙◌, subst, Option, Some, None, Result, Ok, Err}
 use Rattle.std.specs.Prelude.{flat_map}
+use Rattle.std.specs.Int.{int_min}
 use Rattle.std.specs.FinMap.{entries}
 use Rattle.contract.specs.declared.fault.SemFault.{SemFault}
 use Rattle.contract.specs.declared.fault.SemFault.TheVariants.{Ambiguous, Leaves128}
@@ -14,7 +15,7 @@ use Rattle.contract.specs.Tree.{ContractTree, close, pay, if_obs, when, let_be, 
 use Rattle.evaluation.specs.Numbers.{all_fit}
 use Rattle.evaluation.specs.Evaluation.{eval, visited, holds, looked}
 use Rattle.semantics.specs.Walk.{Turn, next, then_branch, else_branch, Standing, standing, Walk, ended, answer_of}
-use Rattle.semantics.specs.Reduction.{Reduction, paying, not_paying, choosing, timing_out, binding, asserting}
+use Rattle.semantics.specs.Reduction.{Reduction, balance, paying, not_paying, choosing, timing_out, binding, asserting}
 use Rattle.semantics.specs.Computed.{refunds, pay_step, settled}
 use Rattle.semantics.specs.Reduced.{CodeStep, stops, goes, step, reply, stop_reply, state_after, warnings_of, turn_of, turns_of}
 use Rattle.semantics.proofs.Paying.{pays_contract}
@@ -27,17 +28,17 @@ use Rattle.trace.proofs.SteppingLemmas.{led_refunds}
 
 -- ---- what a step's reply tells
 
-stopped_end : (r : Result Standing SemFault) (next : ContractTree) → stop_reply r ≡ Ok (Some next) → ⊥
-stopped_end (Ok a) next h = cc
-stopped_end (Err f) next h = cc
+stopped_end : (r : Result Standing SemFault) (d : ContractTree) → stop_reply r ≡ Ok (Some d) → ⊥
+stopped_end (Ok a) d h = cc
+stopped_end (Err f) d h = cc
 
 went_fits : (b : Bool) (c : ContractTree) (o : Option ContractTree) → cond b (Ok (Some c)) (Err Leaves128) ≡ Ok o → o ≡ Some c
 went_fits true c o h = cc
 went_fits false c o h = absurd (cc)
 
-went : (t : CodeStep) (next : ContractTree) → reply t ≡ Ok (Some next) → (r : Reduction) × (t ≡ goes r) × (next ≡ r.contract)
-went (stops w) next h = absurd (stopped_end (answer_of w) next h)
-went (goes r) next h = let e = went_fits (all_fit r.numbers) r.contract (Some next) h in (r, refl, cc)
+went : (t : CodeStep) (d : ContractTree) → reply t ≡ Ok (Some d) → (r : Reduction) × (t ≡ goes r) × (d ≡ r.contract)
+went (stops w) d h = absurd (stopped_end (answer_of w) d h)
+went (goes r) d h = let e = went_fits (all_fit r.numbers) r.contract (Some d) h in (r, refl, cc)
 
 rested : (t : CodeStep) → reply t ≡ Ok None → (w : Walk) × (t ≡ stops w)
 rested (stops w) h = (w, refl)
@@ -89,7 +90,7 @@ goes_same : (q r : Reduction) → goes q ≡ goes r → q ≡ r
 goes_same q r e = cc
 
 pays_turn : (s : StateMaps) (p : Party) (y : Payee) (t : Token) (due : ℤ) (ns : List ℤ) (c : ContractTree) → (pay_step s p y t due ns c).turn ≡ next
-pays_turn s p y t due ns c = by (int_lt _ due) _ _
+pays_turn s p y t due ns c = by (int_lt (pos 0) due) (paying s p y t due (int_min (balance s p t) due) ns c) (not_paying s p y t due ns c) refl refl
   where
     by : (b : Bool) (q r : Reduction) → q.turn ≡ next → r.turn ≡ next → (cond b q r).turn ≡ next
     by true q r e f = e
@@ -130,10 +131,10 @@ marks here i s (assert o c) r e =
     let q = asserting s (holds i s o) (looked i s o) c in
     subst (λ (x : Reduction). Marks here i s (assert o c) x) (goes_same q r e) refl
 
-pub warns_here : (here there : List PathStep) (i : Interval) (s : StateMaps) (c : ContractTree) (t : StateMaps) (next : ContractTree) → reply (step i s c) ≡ Ok (Some next) → t ≡ state_after s (step i s c) → there ≡ here ++ step_of (turn_of (step i s c))
-    → warned_at (settling here i s c) ≡ at_place here (warnings_of (step i s c)) ++ warned_at (settling there i t next)
-warns_here here there i s c t next h k l =
-    let g = went (step i s c) next h in
+pub warns_here : (here there : List PathStep) (i : Interval) (s : StateMaps) (c : ContractTree) (t : StateMaps) (d : ContractTree) → reply (step i s c) ≡ Ok (Some d) → t ≡ state_after s (step i s c) → there ≡ here ++ step_of (turn_of (step i s c))
+    → warned_at (settling here i s c) ≡ at_place here (warnings_of (step i s c)) ++ warned_at (settling there i t d)
+warns_here here there i s c t d h k l =
+    let g = went (step i s c) d h in
     let r = g.0 in
     let e : there ≡ here ++ step_of r.turn = l ∙ ap (λ (x : CodeStep). here ++ step_of (turn_of x)) g.1 in
     let f : t ≡ r.state = k ∙ ap (state_after s) g.1 in
@@ -141,4 +142,4 @@ warns_here here there i s c t next h k l =
     ∙ (ap (λ (x : CodeStep). at_place here (warnings_of x) ++ warned_at (settling (here ++ step_of r.turn) i r.state r.contract)) (sym g.1)
     ∙ (ap (λ p. at_place here (warnings_of (step i s c)) ++ warned_at (settling p i r.state r.contract)) (sym e)
     ∙ (ap (λ u. at_place here (warnings_of (step i s c)) ++ warned_at (settling there i u r.contract)) (sym f)
-    ∙ ap (λ d. at_place here (warnings_of (step i s c)) ++ warned_at (settling there i t d)) (sym g.2))))
+    ∙ ap (λ e'. at_place here (warnings_of (step i s c)) ++ warned_at (settling there i t e')) (sym g.2))))

@@ -1,11 +1,18 @@
 -- Where turns lead, one part of a transaction after another.
-use Rattle.std.proofs.Common.{◌≡◌, ◌≢◌, List, [], ◌∷◌, ◌++◌, map, append-nil, refl, sym, ap, ◌∙◌, Option, Some, None, Result, Ok, Err, option_to_list}
+use Rattle.std.proofs.Common.{◌≡◌, ℕ, ℤ, Bool, true, false, cond, List, [], ◌∷◌, ◌++◌, map, append-nil, refl, sym, ap, ◌∙◌, subst, Option, Some, None, Result, Ok, Err, option_to_list}
 use Rattle.contract.specs.declared.fault.SemFault.{SemFault}
+use Rattle.contract.specs.declared.fault.SemFault.TheVariants.{NoMatch, Leaves128}
+use Rattle.contract.specs.declared.input.Input.{Input}
+use Rattle.contract.specs.declared.interval.Interval.{Interval}
 use Rattle.contract.specs.declared.payment.Payment.{Payment}
 use Rattle.contract.specs.declared.warning.Warning.{Warning}
 use Rattle.states.specs.States.{StateMaps}
 use Rattle.contract.specs.Tree.{ContractTree}
-use Rattle.semantics.specs.Walk.{Turn, refund, next, then_branch, else_branch, timed_out, in_case, Walk}
+use Rattle.evaluation.specs.Numbers.{all_fit}
+use Rattle.evaluation.specs.Parts.{Leads}
+use Rattle.evaluation.specs.Path.{waits_for}
+use Rattle.semantics.specs.Walk.{Turn, refund, next, then_branch, else_branch, timed_out, in_case, Standing, Walk, answer_of}
+use Rattle.semantics.specs.Computed.{first_match, first_match_index, tried_to_match, take_match, applied}
 use Rattle.semantics.proofs.Walks.{Follows, same_answer}
 use Rattle.analysis_spec.specs.declared.path.PathStep.{PathStep}
 use Rattle.analysis_spec.specs.Marks.{step_of, led}
@@ -42,3 +49,29 @@ goes_then tree here mid there s t whole first rest q ws ps (Ok place) f h k = re
   path = k.path ∙ (ap (λ p. led p rest.turns) h.path ∙ (sym (led_more here first.turns rest.turns) ∙ ap (led here) (sym f.turns)));
 }
 goes_then tree here mid there s t whole first rest q ws ps (Err e) f h k = λ m. same_answer whole rest f.fits f.end ∙ k m
+
+-- ---- an input
+
+module _ {P : Type 0} (E : P → Turn → P → Type 0) (p q : P) (i : Interval) (x : Input) (a b : Standing) where
+  -- an input that applies takes one turn, which leads to a case
+  applied_leads : answer_of (applied i x a) ≡ Ok b → Leads E p (applied i x a).turns q → (n : ℕ) × ((applied i x a).turns ≡ in_case n ∷ []) × E p (in_case n) q
+  unfolding applied
+  applied_leads h l =
+      let ks = waits_for a.contract in
+      by (tried_to_match i a.state x ks) (first_match_index i a.state x ks) (first_match i a.state x ks) h l
+    where
+      none : (fit : Bool) → ◌≡◌ {A = Result Standing SemFault} (cond fit (Err NoMatch) (Err Leaves128)) (Ok b) → ⊥
+      none true h = cc
+      none false h = cc
+
+      by : (ns : List ℤ) (n : ℕ) (o : Option ContractTree) → answer_of (take_match a.state x ns n o) ≡ Ok b → Leads E p (take_match a.state x ns n o).turns q
+          → (m : ℕ) × ((take_match a.state x ns n o).turns ≡ in_case m ∷ []) × E p (in_case m) q
+      by ns n None h l = absurd (none (all_fit ns) h)
+      by ns n (Some d) h l = (n, refl, subst (λ (r : P). E p (in_case n) r) (sym l.2) l.1)
+
+  -- its step comes behind the path
+  pub applied_path : (step_in : P → Option PathStep) (here there : List PathStep) → ((t : Turn) (r : P) → E p t r → step_in r ≡ last_step None t)
+      → answer_of (applied i x a) ≡ Ok b → Leads E p (applied i x a).turns q → there ≡ here ++ option_to_list (step_in q) → there ≡ led here (applied i x a).turns
+  applied_path step_in here there by h l e =
+      let k = applied_leads h l in
+      e ∙ (ap (λ s. here ++ option_to_list s) (by (in_case k.0) q k.2) ∙ ap (led here) (sym k.1))

@@ -11,6 +11,7 @@ use crate::steps::compute;
 use analysis_spec::PathStep;
 use collections::{Items, TryClone};
 use contract::{Contract, SemFault, State, Transaction};
+use semantics::Log;
 use std::alloc::Global;
 
 /// Where transactions leave a contract.
@@ -76,19 +77,22 @@ fn step<'c>(
     transaction: &Transaction,
 ) -> Result<Left<'c>, Refused>
     ensures answer { MatchResult result
-        (λ next. answer_of (walk_from (standing left.state (contract_tree left.contract.now)) transaction.now)
+        (λ next. answer_of (walk_from (standing left.entry.state (contract_tree left.entry.contract.now)) transaction.now)
         ≡ Ok (standing next.state (contract_tree next.contract.now)))
         (λ refused. (refused.index ≡ index) × (refused.fault ≢ SemFault.Memory
-        → answer_of (walk_from (standing left.state (contract_tree left.contract.now)) transaction.now) ≡ Err refused.fault)) }
+        → answer_of (walk_from (standing left.entry.state (contract_tree left.entry.contract.now)) transaction.now) ≡ Err refused.fault)) }
     ensures path { IfOk result (λ next. next.path
-        ≡ led left.path (walk_from (standing left.state (contract_tree left.contract.now)) transaction.now).turns) }
+        ≡ led left.entry.path (walk_from (standing left.entry.state (contract_tree left.entry.contract.now)) transaction.now).turns) }
 {
     let Left {
         mut state,
         contract,
         mut path,
     } = left;
-    match compute(alloc, contract, &mut state, transaction, &mut path) {
+    let inputs = transaction.inputs.as_slice();
+    let interval = transaction.interval;
+    let mut log = Log::new(alloc);
+    match compute(inputs, contract, &mut state, interval, &mut log, &mut path) {
         Ok(contract) => Ok(Left {
             state,
             contract,

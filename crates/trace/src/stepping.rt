@@ -20,16 +20,7 @@ pub(crate) struct Stepped<'c> {
     pub(crate) step: Option<PathStep>,
 }
 
-/// A contract that was not entered.
-pub(crate) fn unstepped<'c>(contract: &'c Contract) -> Stepped<'c>
-    ensures { result ≡ record { contract = contract.entry; step = None } }
-{
-    Stepped {
-        contract,
-        step: None,
-    }
-}
-
+// What a step leads to.
 fn behind<'c>(step: PathStep, contract: &'c Contract) -> Stepped<'c>
     ensures { result ≡ record { contract = contract.entry; step = Some step } }
 {

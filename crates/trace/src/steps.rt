@@ -1,41 +1,38 @@
 //! The steps of a transaction, and where in the contract each leads.
-ghost use Rattle.std.specs.Prelude.{◌≡◌, ◌++◌, OnOk, IfOk, MatchOption, option_map, option_to_list, if◌then◌else◌};
+ghost use Rattle.std.specs.Prelude.{◌≡◌, ◌++◌, OnOk, IfOk, MatchOption, option_map, option_to_list};
 ghost use Rattle.collections.specs.Answers.{AsideBy};
 ghost use Rattle.contract.specs.Tree.{contract_tree};
 ghost use Rattle.semantics.specs.Walk.{standing};
-ghost use Rattle.semantics.specs.Computed.{settled, applied, one_input, all_inputs};
+ghost use Rattle.semantics.specs.Computed.{settled, applied, one_input, all_inputs, computed};
 ghost use Rattle.semantics.specs.Reduced.{step, reply, state_after, turn_of, is_quiet};
-ghost use Rattle.analysis_spec.specs.Runs.{walk_from};
 ghost use Rattle.analysis_spec.specs.Marks.{step_of};
 ghost use Rattle.trace.specs.SteppingSupport.{Goes};
 
-use crate::stepping::{Stepping, unstepped};
+use crate::stepping::{Stepped, Stepping};
 use analysis_spec::PathStep;
 use collections::{Items, Memory};
-use contract::{Contract, Input, Interval, SemFault, State, Transaction};
+use contract::{Contract, Input, Interval, SemFault, State};
 use semantics::{Log, apply, fix, reduce};
-use std::alloc::Global;
 
 /// One transaction (Marlowe specification version 3, "Compute transaction"): what it leaves of the contract, and the steps
 /// that lead there behind the path.
 pub(crate) fn compute<'c>(
-    alloc: Global,
+    inputs: &[Input],
     contract: &'c Contract,
     state: &mut State,
-    transaction: &Transaction,
+    interval: Interval,
+    log: &mut Log,
     path: &mut Items<PathStep>,
 ) -> Result<&'c Contract, SemFault>
     ensures { Goes (λ c. contract_tree c.now) path.old path.new state.new
-        (walk_from (standing state.old (contract_tree contract.now)) transaction.now) result }
+        (computed interval state.old (contract_tree contract.now) inputs.now) result }
 {
-    let mut log = Log::new(alloc);
-    let fixed = fix(transaction.interval, state)?;
-    let inputs = transaction.inputs.as_slice();
+    let fixed = fix(interval, state)?;
     if inputs.is_empty() && is_quiet(contract, state, fixed) {
         return Err(SemFault::Useless);
     }
-    let at = settle(contract, state, fixed, &mut log, path)?;
-    take_inputs(inputs, at, state, fixed, &mut log, path)
+    let at = settle(contract, state, fixed, log, path)?;
+    take_inputs(inputs, at, state, fixed, log, path)
 }
 
 /// Whether nothing is left to reduce.
@@ -81,7 +78,11 @@ fn reduce_once<'c>(
     ensures path { IfOk result (λ next. MatchOption next (path.new ≡ path.old)
         (λ _. path.new ≡ path.old ++ step_of (turn_of (step interval state.old (contract_tree contract.now))))) }
 {
-    match reduce(&Stepping::new(), unstepped(contract), state, interval, log)? {
+    let here = Stepped {
+        contract,
+        step: None,
+    };
+    match reduce(&Stepping::new(), here, state, interval, log)? {
         Some(next) => {
             push_step(path, next.step)?;
             Ok(Some(next.contract))
@@ -147,14 +148,11 @@ fn apply_once<'c>(
     ensures { Goes (λ c. contract_tree c.now) path.old path.new state.new
         (applied interval input.now (standing state.old (contract_tree contract.now))) result }
 {
-    let then = apply(
-        &Stepping::new(),
-        input,
-        unstepped(contract),
-        state,
-        interval,
-        log,
-    )?;
+    let here = Stepped {
+        contract,
+        step: None,
+    };
+    let then = apply(&Stepping::new(), input, here, state, interval, log)?;
     push_step(path, then.step)?;
     Ok(then.contract)
 }

@@ -8,7 +8,7 @@ ghost use Rattle.analysis_spec.specs.Marks.{step_of, settling};
 ghost use Rattle.trace.specs.Warned.{at_place, warned_at};
 ghost use Rattle.trace.specs.SteppingSupport.{Goes};
 
-use crate::stepping::{Stepping, unstepped};
+use crate::stepping::{Stepped, Stepping};
 use crate::steps::push_step;
 use crate::warned::Warned;
 use analysis_spec::PathStep;
@@ -83,13 +83,11 @@ impl Trail {
             (λ _. self.new.path ≡ self.old.path ++ step_of (turn_of (step interval state.old (contract_tree contract.now))))) }
     {
         let before = self.log.warnings.len();
-        let next = reduce(
-            &Stepping::new(),
-            unstepped(contract),
-            state,
-            interval,
-            &mut self.log,
-        )?;
+        let here = Stepped {
+            contract,
+            step: None,
+        };
+        let next = reduce(&Stepping::new(), here, state, interval, &mut self.log)?;
         let new = &self.log.warnings.as_slice()[before..];
         put_warned(alloc, self.path.as_slice(), new, &mut self.warned)?;
         match next {
