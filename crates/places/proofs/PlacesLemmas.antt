@@ -72,6 +72,6 @@ places_begin c d (step ∷ path) e =
     d
     e
     (λ part is led. ap (λ o. step_keys step ++ keys_behind (keys_of path) (last_key c step) o) is
-        ∙ ap (λ ks. step_keys step ++ ks) (places_begin part d path led)
-        ∙ sym (append_assoc (step_keys step) (path_keys path) (form_key d ∷ []))
-        ∙ ap (λ ks. ks ++ form_key d ∷ []) (sym (flat_map-cons step_keys step path)))
+    ∙ ap (λ ks. step_keys step ++ ks) (places_begin part d path led)
+    ∙ sym (append_assoc (step_keys step) (path_keys path) (form_key d ∷ []))
+    ∙ ap (λ ks. ks ++ form_key d ∷ []) (sym (flat_map-cons step_keys step path)))
