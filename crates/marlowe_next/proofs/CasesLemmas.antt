@@ -86,16 +86,16 @@ module _ (j : Interval) (s : StateMaps) (c : ContractTree) (n : ℕ) (f : Offer)
       let taken : has (deposit a p t v) f y ≡ true = ap (λ (o : Offer). has (deposit a p t v) o y) is ∙ has_own a p t v m in
       told_there (deposit a p t v, d) (deposits n a p t m r ∷ []) e
       (λ i from whole z.
-        ap (λ (q : Option SemFault). deposits n a p t m q ∷ []) (taken_so (deposit a p t v, d) y r h e taken (subst (λ (w : Input). IsRefusedBehind j s c n w r) own k) i from whole z)
-        ∙ ap (λ (o : Offer). applicable (refusal i from whole) n (deposit a p t v) o) (sym is))
+      ap (λ (q : Option SemFault). deposits n a p t m q ∷ []) (taken_so (deposit a p t v, d) y r h e taken (subst (λ (w : Input). IsRefusedBehind j s c n w r) own k) i from whole z)
+      ∙ ap (λ (o : Offer). applicable (refusal i from whole) n (deposit a p t v) o) (sym is))
 
   pub notify_told : (o : ObservationTree) (d : ContractTree) (r : Option SemFault) → TakesAt j s c n f → slice_get (waits_for c) n ≡ Some (notify o, d) → f ≡ offers.Notify → IsRefusedBehind j s c n inputs.Notify r
       → TellsCase j s c n f (notifies n r ∷ [])
   notify_told o d r h e is k =
       told_there (notify o, d) (notifies n r ∷ []) e
       (λ i from whole z.
-        ap (λ (q : Option SemFault). notifies n q ∷ []) (taken_so (notify o, d) inputs.Notify r h e (ap (λ (q : Offer). has (notify o) q inputs.Notify) is) k i from whole z)
-        ∙ ap (λ (q : Offer). applicable (refusal i from whole) n (notify o) q) (sym is))
+      ap (λ (q : Option SemFault). notifies n q ∷ []) (taken_so (notify o, d) inputs.Notify r h e (ap (λ (q : Offer). has (notify o) q inputs.Notify) is) k i from whole z)
+      ∙ ap (λ (q : Offer). applicable (refusal i from whole) n (notify o) q) (sym is))
 
 -- ---- one case more
 

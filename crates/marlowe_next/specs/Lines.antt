@@ -69,8 +69,11 @@ input_line path (notify_leaves n) = codes "notify: Leaves128" ++ 10 ∷ []
 -- ---- until when it waits, and what came on the way
 
 -- the last moment, and what follows from the next on
+abbrev pub times_text : ℤ → List ℕ
+times_text last = codes "waits until " ++ (signed_decimal last ++ (codes "; from " ++ (signed_decimal (last +ℤ pos 1) ++ codes " on ")))
+
 abbrev pub waits_line : List Key → ℤ → List ℕ
-waits_line path last = codes "waits until " ++ (signed_decimal last ++ (codes "; from " ++ (signed_decimal (last +ℤ pos 1) ++ (codes " on " ++ (place_text (path ++ step_keys TimeoutContinuation) ++ 10 ∷ [])))))
+waits_line path last = times_text last ++ (place_text (path ++ step_keys TimeoutContinuation) ++ 10 ∷ [])
 
 abbrev pub payment_line : Payment → List ℕ
 payment_line p = codes "pays on the way " ++ (payment_text p ++ 10 ∷ [])

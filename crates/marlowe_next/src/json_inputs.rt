@@ -1,5 +1,5 @@
 //! The inputs that apply, as JSON.
-ghost use Rattle.std.specs.Prelude.{pos, flat_map, OnOk};
+ghost use Rattle.std.specs.Prelude.{◌≡◌, pos, int_le, flat_map, OnOk};
 ghost use Rattle.serde_json.specs.Data.{array};
 ghost use Rattle.serde_json.specs.View.{items_of};
 ghost use Rattle.json_write_contracts.specs.Tokens.{Adds, Puts};
@@ -77,7 +77,7 @@ fn put_if_listed(
             put_choice(alloc, out, index, id, bounds)
         }
         (CaseList::Deposits, CaseTold::Deposit(index, deposit, refused)) => {
-            put_deposit(alloc, out, index, deposit, refused)
+            put_deposit(alloc, out, index, &deposit, refused)
         }
         (CaseList::Leaves, CaseTold::DepositLeaves(index, _, _, _)) => {
             put_index(alloc, out, index)
@@ -115,10 +115,10 @@ fn put_deposit(
     alloc: Global,
     out: &mut Writer,
     index: usize,
-    deposit: Deposit<'_>,
+    deposit: &Deposit<'_>,
     refused: Option<SemFault>,
 ) -> Result<(), Memory>
-    ensures { OnOk result (Puts out.old out.new (seen_deposit (deposit_json index refused) deposit.entry)) }
+    ensures { OnOk result (Puts out.old out.new (seen_deposit (deposit_json index refused) deposit.now)) }
 {
     out.begin_object()?;
     put_member(alloc, out, "can_deposit", &deposit.amount)?;
@@ -134,8 +134,15 @@ fn put_deposit(
         "refused",
         &Refusal(refused),
         "warns",
-        &Flag(deposit.amount <= 0),
+        &Flag(warns(deposit)),
     )
+}
+
+// Whether a deposit is taken with a warning.
+fn warns(deposit: &Deposit<'_>) -> bool
+    ensures { result ≡ int_le deposit.now.amount (pos 0) }
+{
+    deposit.amount <= 0
 }
 
 fn put_index(alloc: Global, out: &mut Writer, index: usize) -> Result<(), Memory>

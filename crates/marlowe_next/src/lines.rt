@@ -1,15 +1,15 @@
 //! Lines for people.
-ghost use Rattle.std.specs.Prelude.{◌≡◌, ◌++◌, flat_map, IfOk, IfSome, OnOk, Some};
-ghost use Rattle.marlowe_next.specs.Lines.{lines_of, stands_lines, input_line, deposit_text, choice_text, leaving_line, then_text, waits_line, closes_line, payment_line, warning_line};
+ghost use Rattle.std.specs.Prelude.{◌≡◌, ◌++◌, flat_map, IfOk, IfSome, OnOk, Some, string_bytes};
+ghost use Rattle.marlowe_next.specs.Lines.{lines_of, stands_lines, input_line, deposit_text, choice_text, leaving_line, then_text, times_text, waits_line, closes_line, payment_line, warning_line};
 ghost use Rattle.marlowe_next.specs.SeenSupport.{IsTime, seen, seen_deposit, seen_case, seen_warning};
 
-use crate::pieces::{Piece, put_bytes, put_joined};
+use crate::pieces::{put_bytes, put_joined};
 use crate::told::{CaseTold, Deposit, ToldHere, ToldWarning};
-use crate::words::{deposit_text, refused_text};
+use crate::words::{deposit_text, leaving_line, payment_line, refused_text};
 use collections::{Items, Memory};
 use contract::{Bound, ChoiceId, Party, Payment, SemFault, Token};
 use json_write_contracts::term_text;
-use places::{Key, put_place, token_text};
+use places::{Key, put_place};
 use std::alloc::Global;
 
 /// All lines.
@@ -26,7 +26,7 @@ pub(crate) fn lines(alloc: Global, told: ToldHere<'_>) -> Result<Vec<u8>, Memory
 // What applies and how long, or that it closes.
 fn put_standing(alloc: Global, out: &mut Vec<u8>, told: ToldHere<'_>) -> Result<(), Memory>
     requires { IfSome told.until IsTime }
-    ensures { OnOk result (out.new.items ≡ out.old.items ++ stands_lines told.until (seen told.entry)) }
+    ensures { OnOk result (out.new.items ≡ out.old.items ++ stands_lines told.entry.until (seen told.entry)) }
 {
     match told.until {
         Some(last) => put_waiting(alloc, out, told, last),
@@ -73,7 +73,7 @@ fn put_case(
 {
     match case {
         CaseTold::Deposit(index, deposit, refused) => {
-            put_deposit(alloc, out, deposit)?;
+            put_deposit(alloc, out, &deposit)?;
             put_then(alloc, out, path, index, refused)
         }
         CaseTold::Choice(index, id, bounds) => {
@@ -91,8 +91,8 @@ fn put_case(
     }
 }
 
-fn put_deposit(alloc: Global, out: &mut Vec<u8>, deposit: Deposit<'_>) -> Result<(), Memory>
-    ensures { OnOk result (out.new.items ≡ out.old.items ++ seen_deposit deposit_text deposit.entry) }
+fn put_deposit(alloc: Global, out: &mut Vec<u8>, deposit: &Deposit<'_>) -> Result<(), Memory>
+    ensures { OnOk result (out.new.items ≡ out.old.items ++ seen_deposit deposit_text deposit.now) }
 {
     let text = deposit_text(alloc, deposit)?;
     put_bytes(out, text.as_bytes())
@@ -123,10 +123,7 @@ fn put_leaving(
 ) -> Result<(), Memory>
     ensures { OnOk result (out.new.items ≡ out.old.items ++ leaving_line account.now party.now token.now) }
 {
-    let party = term_text(alloc, party)?;
-    let account = term_text(alloc, account)?;
-    let token = token_text(alloc, token)?;
-    let line = format!(in alloc; "deposit by {party} into {account} of {token}: Leaves128\n")?;
+    let line = leaving_line(alloc, account, party, token)?;
     put_bytes(out, line.as_bytes())
 }
 
@@ -152,11 +149,19 @@ fn put_until(alloc: Global, out: &mut Vec<u8>, path: &[Key], last: i128) -> Resu
     requires { IsTime last }
     ensures { OnOk result (out.new.items ≡ out.old.items ++ waits_line path.now last) }
 {
-    let next = last + 1;
-    let head = format!(in alloc; "waits until {last}; from {next} on ")?;
-    put_bytes(out, head.as_bytes())?;
+    let times = times_text(alloc, last)?;
+    put_bytes(out, times.as_bytes())?;
     put_place(alloc, out, path)?;
     put_bytes(out, b".timeout_continuation\n")
+}
+
+// The last moment, and the next.
+fn times_text(alloc: Global, last: i128) -> Result<String, Memory>
+    requires { IsTime last }
+    ensures { IfOk result (λ text. string_bytes text ≡ times_text last) }
+{
+    let next = last + 1;
+    format!(in alloc; "waits until {last}; from {next} on ")
 }
 
 // A line for each payment.
@@ -172,8 +177,7 @@ fn put_payments(alloc: Global, out: &mut Vec<u8>, payments: &[Payment]) -> Resul
 fn put_payment(alloc: Global, out: &mut Vec<u8>, payment: &Payment) -> Result<(), Memory>
     ensures { OnOk result (out.new.items ≡ out.old.items ++ payment_line payment.now) }
 {
-    let text = payment.text(alloc)?;
-    let line = format!(in alloc; "pays on the way {text}\n")?;
+    let line = payment_line(alloc, payment)?;
     put_bytes(out, line.as_bytes())
 }
 

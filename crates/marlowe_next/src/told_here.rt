@@ -40,7 +40,15 @@ pub(crate) fn settled_text(
     let fixed = fixed(interval, &left.state);
     let outcome = &settled.outcome;
     let offers = offers(alloc, &Plain::new(), outcome.place, &outcome.state, fixed)?;
-    let text = offered_text(alloc, whole, left, interval, settled, offers.as_slice(), json);
+    let text = offered_text(
+        alloc,
+        whole,
+        left,
+        interval,
+        settled,
+        offers.as_slice(),
+        json,
+    );
     beside_dropped(offers, text)
 }
 
@@ -65,7 +73,12 @@ fn offered_text(
     let cases = told_cases(alloc, &plain, outcome.place, &outcome.state, fixed, offers)?;
     let path = joined(alloc, left.path.as_slice(), settled.path.as_slice())?;
     let keys = path_keys(alloc, &path)?;
-    let warned = told_warnings(alloc, whole, left.path.as_slice(), settled.warned.as_slice())?;
+    let warned = told_warnings(
+        alloc,
+        whole,
+        left.path.as_slice(),
+        settled.warned.as_slice(),
+    )?;
     let told = ToldHere {
         path: &keys,
         cases: &cases,

@@ -1,12 +1,12 @@
 //! What stands inside a line.
 ghost use Rattle.std.specs.Prelude.{◌≡◌, ◌++◌, IfOk, codes, string_bytes};
-ghost use Rattle.marlowe_next.specs.Lines.{money_text, bound_text, payment_text, warns_text, deposit_text, refused_text};
+ghost use Rattle.marlowe_next.specs.Lines.{money_text, bound_text, payment_text, warns_text, deposit_text, leaving_line, payment_line, refused_text};
 ghost use Rattle.marlowe_next.specs.SeenSupport.{seen_deposit};
 
 use crate::pieces::Piece;
 use crate::told::Deposit;
 use collections::Memory;
-use contract::{Bound, Payment, SemFault, Token};
+use contract::{Bound, Party, Payment, SemFault, Token};
 use json_write_contracts::term_text;
 use marlowe_refusals::sem_fault_name;
 use places::token_text;
@@ -45,8 +45,8 @@ impl Piece for Payment {
 }
 
 /// A deposit.
-pub(crate) fn deposit_text(alloc: Global, deposit: Deposit<'_>) -> Result<String, Memory>
-    ensures { IfOk result (λ text. string_bytes text ≡ seen_deposit deposit_text deposit.entry) }
+pub(crate) fn deposit_text(alloc: Global, deposit: &Deposit<'_>) -> Result<String, Memory>
+    ensures { IfOk result (λ text. string_bytes text ≡ seen_deposit deposit_text deposit.now) }
 {
     let money = money_text(alloc, deposit.amount, deposit.token)?;
     let party = term_text(alloc, deposit.party)?;
@@ -64,6 +64,29 @@ fn warns_text(amount: i128) -> &'static str
     } else {
         ""
     }
+}
+
+/// The line of a deposit of which a number leaves 128 bits.
+pub(crate) fn leaving_line(
+    alloc: Global,
+    account: &Party,
+    party: &Party,
+    token: &Token,
+) -> Result<String, Memory>
+    ensures { IfOk result (λ text. string_bytes text ≡ leaving_line account.now party.now token.now) }
+{
+    let party = term_text(alloc, party)?;
+    let account = term_text(alloc, account)?;
+    let token = token_text(alloc, token)?;
+    format!(in alloc; "deposit by {party} into {account} of {token}: Leaves128\n")
+}
+
+/// The line of a payment of the reduction before the inputs.
+pub(crate) fn payment_line(alloc: Global, payment: &Payment) -> Result<String, Memory>
+    ensures { IfOk result (λ text. string_bytes text ≡ payment_line payment.now) }
+{
+    let text = payment.text(alloc)?;
+    format!(in alloc; "pays on the way {text}\n")
 }
 
 /// That what follows is refused, if it is.
