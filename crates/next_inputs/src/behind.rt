@@ -17,9 +17,9 @@ use semantics::{Log, take};
 use std::alloc::{AllocError, Global};
 
 /// Why what follows the case that an input takes is refused, if it is: `Ambiguous` where a timeout there lies inside the
-/// interval, or `Leaves128` where a number leaves 128 bits, as what comes to be in the account into which a deposit goes. The
-/// case is given by its index, of the When at a place where the contract has settled, in this state and in an interval that
-/// is fixed; that the input takes it is for the caller to know. No other case is looked at.
+/// interval, or `Leaves128` where a number leaves 128 bits, such as the sum that a deposit makes in its account. The case is
+/// given by its index, in the When at a place where the contract has settled, with that state and the interval as it is
+/// fixed. That the input takes this case is not tested here: `next_inputs` tells which case takes it. Looks at no other case.
 pub fn refused_behind<S: Parts>(
     alloc: Global,
     parts: &S,

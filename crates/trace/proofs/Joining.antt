@@ -4,11 +4,10 @@ use Rattle.std.specs.Result.{result_unwrap_or}
 use Rattle.std.proofs.lemmas.List.{at_drop_more, at_drop_all}
 use Rattle.contract.specs.declared.fault.SemFault.{SemFault}
 use Rattle.contract.specs.declared.transaction.Transaction.{Transaction}
-use Rattle.semantics.specs.Walk.{Standing, Walk, answer_of}
+use Rattle.semantics.specs.Walk.{Standing, answer_of}
 use Rattle.analysis_spec.specs.declared.path.PathStep.{PathStep}
 use Rattle.analysis_spec.specs.Marks.{led, led_with, place_after, leads_after}
 use Rattle.analysis_spec.specs.Runs.{walk_from, standing_after}
-use Rattle.trace.specs.declared.refused.Refused.{Refused}
 use Rattle.trace.specs.Traces.{walks_then, walks, left_then, left_by, TracesJoin}
 
 abbrev Joins : Standing → Standing → List Transaction → List Transaction → Type 0

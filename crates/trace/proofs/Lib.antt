@@ -3,3 +3,5 @@ pub mod Worked
 pub mod SteppingLemmas
 pub mod ReducingLemmas
 pub mod OpeningLemmas
+pub mod PathsLemmas
+pub mod WarnedLemmas

@@ -1,8 +1,8 @@
 -- The reduction before the inputs of a transaction, once the interval is fixed.
-use Rattle.std.proofs.Common.{◌≡◌, ◌≢◌, ◌&&◌, ◌==◌, int_lt, Bool, true, false, cond, not, List, [], length, refl, sym, ap, ◌∙◌, Result, Ok, Err}
+use Rattle.std.proofs.Common.{◌≡◌, int_lt, Bool, true, false, cond, not, [], refl, sym, ap, ◌∙◌, Result, Ok, Err}
 use Rattle.std.specs.Prelude.{◌↔◌, IsOk, IsTrue}
 use Rattle.contract.specs.declared.fault.SemFault.{SemFault}
-use Rattle.contract.specs.declared.fault.SemFault.TheVariants.{InvalidInterval, IntervalInPast, Useless, Leaves128, Memory}
+use Rattle.contract.specs.declared.fault.SemFault.TheVariants.{InvalidInterval, IntervalInPast, Useless, Memory}
 use Rattle.contract.specs.declared.interval.Interval.{Interval}
 use Rattle.states.specs.States.{StateMaps}
 use Rattle.contract.specs.Tree.{ContractTree}
@@ -21,16 +21,7 @@ by_tests b d w = cond b (ended (Err InvalidInterval)) (cond d (ended (Err Interv
 abbrev by_fix : Bool → Bool → Interval → Result Interval SemFault
 by_fix b d i = cond b (Err InvalidInterval) (cond d (Err IntervalInPast) (Ok i))
 
--- an interval that is refused
-pub opening_refused : (i : Interval) (s : StateMaps) (c : ContractTree) (f : SemFault) → Err f ≡ fixed i s → answer_of (opening i s c) ≡ Err f
-opening_refused i s c f h = by (int_lt i.to i.from) (int_lt i.to s.min_time) h
-  where
-    by : (b d : Bool) → Err f ≡ by_fix b d (trimmed i s) → answer_of (by_tests b d (settled (trimmed i s) (begun i s) c)) ≡ Err f
-    by true d h = cc
-    by false true h = cc
-    by false false h = absurd (cc)
-
--- one that is fixed
+-- an interval that is fixed
 pub record IsOpened (i : Interval) (s : StateMaps) (c : ContractTree) (j : Interval) (t : StateMaps) : Type 0 where
   pub interval : trimmed i s ≡ j
   pub state : begun i s ≡ t

@@ -1,12 +1,10 @@
 -- One reduction, by what the code answers of it.
-use Rattle.std.proofs.Common.{◌≡◌, ℤ, pos, int_lt, int_le, Bool, true, false, cond, List, [], ◌∷◌, ◌++◌, map, append_assoc, append-nil, refl, sym, ap, ◌∙◌, subst, Option, Some, None, Result, Ok, Err}
-use Rattle.std.specs.Prelude.{flat_map}
+use Rattle.std.proofs.Common.{◌≡◌, ℤ, pos, int_lt, int_le, Bool, true, false, cond, List, [], ◌∷◌, ◌++◌, refl, sym, ap, ◌∙◌, subst, Option, Some, None, Result, Ok, Err}
 use Rattle.std.specs.Int.{int_min}
 use Rattle.std.specs.FinMap.{entries}
 use Rattle.contract.specs.declared.fault.SemFault.{SemFault}
 use Rattle.contract.specs.declared.fault.SemFault.TheVariants.{Ambiguous, Leaves128}
 use Rattle.contract.specs.declared.interval.Interval.{Interval}
-use Rattle.contract.specs.declared.warning.Warning.{Warning}
 use Rattle.names.specs.declared.party.Party.{Party}
 use Rattle.names.specs.declared.payee.Payee.{Payee}
 use Rattle.names.specs.declared.token.Token.{Token}
@@ -14,15 +12,14 @@ use Rattle.states.specs.States.{StateMaps}
 use Rattle.contract.specs.Tree.{ContractTree, close, pay, if_obs, when, let_be, assert}
 use Rattle.evaluation.specs.Numbers.{all_fit}
 use Rattle.evaluation.specs.Evaluation.{eval, visited, holds, looked}
-use Rattle.semantics.specs.Walk.{Turn, next, then_branch, else_branch, Standing, standing, Walk, ended, answer_of}
+use Rattle.semantics.specs.Walk.{next, then_branch, else_branch, Standing, standing, Walk, ended, answer_of}
 use Rattle.semantics.specs.Reduction.{Reduction, balance, paying, not_paying, choosing, timing_out, binding, asserting}
-use Rattle.semantics.specs.Computed.{refunds, pay_step, settled}
+use Rattle.semantics.specs.Computed.{refunds, pay_step}
 use Rattle.semantics.specs.Reduced.{CodeStep, stops, goes, step, reply, stop_reply, state_after, warnings_of, turn_of, turns_of}
 use Rattle.semantics.proofs.Paying.{pays_contract}
 use Rattle.analysis_spec.specs.declared.path.PathStep.{PathStep}
 use Rattle.analysis_spec.specs.declared.path.PathStep.TheVariants.{Then, Else, TimeoutContinuation}
-use Rattle.analysis_spec.specs.Marks.{step_of, led, mark, settling}
-use Rattle.trace.specs.declared.warned.Warned.{Warned}
+use Rattle.analysis_spec.specs.Marks.{step_of, led, settling}
 use Rattle.trace.specs.Warned.{at_place, warned_at}
 use Rattle.trace.proofs.SteppingLemmas.{led_refunds}
 

@@ -1,5 +1,5 @@
 -- The worked traces.
-use Rattle.std.proofs.Common.{◌≡◌, ℤ, pos, Option, None, refl, ap}
+use Rattle.std.proofs.Common.{◌≡◌, ℤ, pos, None, refl, ap}
 use Rattle.std.specs.Option.{unwrap_or}
 use Rattle.std.specs.FinMap.{get, empty, get-empty}
 use Rattle.names.specs.Equal.{ada}

@@ -1,5 +1,5 @@
 -- Worked traces, computed on the definitions.
-use Rattle.std.specs.Prelude.{◌≡◌, pos, List, [], ◌∷◌, Ok, Err}
+use Rattle.std.specs.Prelude.{◌≡◌, pos, [], ◌∷◌, Ok, Err}
 use Rattle.names.specs.declared.payee.Payee.TheVariants.{Party as ToParty}
 use Rattle.names.specs.Equal.{ada}
 use Rattle.contract.specs.declared.fault.SemFault.TheVariants.{NoMatch}

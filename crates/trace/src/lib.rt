@@ -11,7 +11,7 @@ mod steps;
 mod trail;
 mod warned;
 
-pub use laws::{traces_join, worked_traces};
+pub use laws::{paths_lead, traces_join, warned_are_the_warnings, worked_traces};
 pub use refused::Refused;
 pub use sequence::{Left, after};
 pub use settling::{Settled, settle};

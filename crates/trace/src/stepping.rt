@@ -64,19 +64,24 @@ impl<'c> Parts for Stepping<'c> {
 
     ghost observation_tree = { λ _ o. observation_tree o.now };
 
-    ghost enters = { λ _ p turn q. (part (contract_tree p.contract.now) turn ≡ Some (contract_tree q.contract.now)) × (q.step ≡ last_step p.step turn) };
+    ghost enters = { λ _ p turn q. (part (contract_tree p.contract.now) turn ≡ Some (contract_tree q.contract.now))
+        × (q.step ≡ last_step p.step turn) };
 
     ghost leads = { λ _ p turns q. along (contract_tree p.contract.now) turns ≡ Some (contract_tree q.contract.now) };
 
     ghost stays = { λ _ p. refl };
 
-    ghost goes = { λ _ p t q ts r h k. one_turn_more (contract_tree p.contract.now) t (contract_tree q.contract.now) ts (contract_tree r.contract.now) h.0 k };
+    ghost goes = { λ _ p t q ts r h k.
+        one_turn_more (contract_tree p.contract.now) t (contract_tree q.contract.now) ts (contract_tree r.contract.now) h.0 k };
 
     ghost same = { λ _ p q e _. (tt, same_tree p.contract.now q.contract.now e) };
 
     ghost led = { λ _ p turns q _ h. (tt, h) };
 
-    ghost some = { λ _ p turns c _ h. (record p { contract = record p.contract { now = contract_of c } }, has_contract (along (contract_tree p.contract.now) turns) c h) };
+    ghost some = { λ _ p turns c _ h. (
+      record p { contract = record p.contract { now = contract_of c } },
+      has_contract (along (contract_tree p.contract.now) turns) c h,
+    ) };
 
     ghost one = { λ _ p turns q r h k. one_place (along (contract_tree p.contract.now) turns) q.contract.now r.contract.now h k };
 

@@ -6,7 +6,7 @@ use Rattle.semantics.specs.Walk.{Walk, standing, answer_of}
 use Rattle.semantics.specs.Transaction.{begun}
 use Rattle.analysis_spec.specs.Marks.{led, settling}
 use Rattle.trace.specs.Warned.{warned_at}
-use Rattle.trace.proofs.OpeningLemmas.{opening_refused, opened, can_reduce}
+use Rattle.trace.proofs.OpeningLemmas.{opened, can_reduce}
 use Rattle.trace.proofs.settling.settle.Goals as goal
 
 pub returns : goal.returns
