@@ -1,9 +1,9 @@
 -- The JSON for tools.
-use Rattle.std.specs.Prelude.{ℤ, pos, Bool, true, false, List, map, Option, Some, None, codes}
+use Rattle.std.specs.Prelude.{ℤ, Bool, true, false, List, map, Option, Some, None, codes}
 use Rattle.serde_json.specs.Data.{Data, string, array, null}
 use Rattle.serde_json.specs.View.{items_of}
 use Rattle.contract.specs.declared.transaction.Transaction.{Transaction}
-use Rattle.json_write_contracts.specs.WrittenNames.{two, three, four, number_json, wide_json, party_json, token_json}
+use Rattle.json_write_contracts.specs.WrittenNames.{two, three, four, wide_json, party_json, token_json}
 use Rattle.contract_json.specs.WrittenInput.{transaction_json}
 use Rattle.analysis_spec.specs.declared.paid.PaidRange.{PaidRange}
 use Rattle.places.specs.Texts.{kind_name, place_json}

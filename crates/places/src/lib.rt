@@ -13,6 +13,6 @@ mod words;
 
 pub use key::{Key, key_word};
 pub use keys::{keys_of, path_keys};
-pub use laws::{places_begin_with_their_paths, worked_places};
+pub use laws::{keys_lead_through_json, places_begin_with_their_paths, worked_places};
 pub use printed::{put_place, put_place_json};
 pub use words::{kind_name, token_text, warning_name};
