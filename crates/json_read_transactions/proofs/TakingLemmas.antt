@@ -1,46 +1,70 @@
 -- Readings behind others.
-use Rattle.std.proofs.Common.{◌≡◌, ◌≢◌, ℕ, suc, ◌+◌, ◌<◌, ◌≤◌, true, false, cond, List, [], ◌∷◌, ◌++◌, length, map, Result, Ok, Err, refl, sym, ap, ◌∙◌, append_assoc, length-append, arith}
-use Rattle.std.specs.Prelude.{nat_lt}
-use Rattle.std.proofs.lemmas.Bool.Decides.{nat_tests}
+use Rattle.std.proofs.Common.{◌≡◌, ◌≢◌, ℕ, ◌+◌, ◌<◌, ◌≤◌, List, [], ◌∷◌, ◌++◌, length, get_or, drop, map, Result, Ok, Err, refl, sym, ap, ◌∙◌, append_assoc, append-nil}
+use Rattle.std.specs.Prelude.{flat_map, Vec}
+use Rattle.std.specs.declared.alloc.Global.{Global}
+use Rattle.std.proofs.lemmas.List.{at_drop_more, at_drop_all}
 use Rattle.collections.specs.Answers.{◌>>=◌}
 use Rattle.contract.specs.declared.transaction.Transaction.{Transaction}
 use Rattle.json_read_names.specs.Parts.{Reading}
+use Rattle.json_read_names.specs.ReadsText.{json_of}
 use Rattle.json_read_names.specs.declared.fault.JsonFault.{JsonFault}
+use Rattle.json_read_names.specs.declared.fault.JsonFault.TheVariants as json
 use Rattle.json_read_transactions.specs.declared.fault.ReadFault.{ReadFault}
-use Rattle.json_read_transactions.specs.declared.fault.ReadFault.TheVariants as faults
-use Rattle.json_read_transactions.specs.ReadsTransactions.{most, numbered, taken}
-use Rattle.json_read_transactions.specs.TakingSupport.{going_on}
+use Rattle.json_read_transactions.specs.ReadsTransactions.{readings_by, readings, taken, transactions_of}
+use Rattle.json_read_transactions.specs.TakingSupport.{going_on, Takes}
 
--- the transactions of these and of what is behind them
-abbrev then_behind : List Transaction → Result (List Transaction) ReadFault → Result (List Transaction) ReadFault
-then_behind before read = read >>= λ ts. Ok (before ++ ts)
+-- ---- a part of what is read, and then what is left
 
-abbrev of_first : List Transaction → Reading Transaction → List (Reading Transaction) → Result (List Transaction) ReadFault
-of_first before r more = then_behind before (numbered (length before) r >>= λ t. taken (suc (length before)) more >>= λ ts. Ok (t ∷ ts))
+module _ (old mid : List Transaction) (all left first : List (Reading Transaction)) (whole : (more : List (Reading Transaction)) → going_on old (all ++ more) ≡ going_on mid (left ++ more)) where
+  pub further : (new : List Transaction) (rest : List (Reading Transaction)) → left ≡ first ++ rest → ((more : List (Reading Transaction)) → going_on mid (first ++ more) ≡ going_on new more)
+      → (more : List (Reading Transaction)) → going_on old (all ++ more) ≡ going_on new (rest ++ more)
+  further new rest is h more = whole more ∙ (ap (λ rs. going_on mid (rs ++ more)) is ∙ (ap (going_on mid) (append_assoc first rest more) ∙ h (rest ++ more)))
 
-room : (before : List Transaction) (r : Reading Transaction) (more : List (Reading Transaction)) → length before < 10000 → going_on before (r ∷ more) ≡ of_first before r more
-room before r more h =
-    let is : nat_lt (length before) 10000 ≡ true = grind (arith, nat_tests) in
-    ap (λ b. then_behind before (cond b (numbered (length before) r >>= λ t. taken (suc (length before)) more >>= λ ts. Ok (t ∷ ts)) (Err faults.TooMany))) is
+  pub stopped : (fault : ReadFault) (rest : List (Reading Transaction)) → left ≡ first ++ rest → ((more : List (Reading Transaction)) → going_on mid (first ++ more) ≡ Err fault)
+      → (more : List (Reading Transaction)) → going_on old (all ++ more) ≡ Err fault
+  stopped fault rest is h more = whole more ∙ (ap (λ rs. going_on mid (rs ++ more)) is ∙ (ap (going_on mid) (append_assoc first rest more) ∙ h (rest ++ more)))
 
-moved : (before : List Transaction) (t : Transaction) (read : Result (List Transaction) ReadFault) → then_behind before (read >>= λ ts. Ok (t ∷ ts)) ≡ then_behind (before ++ t ∷ []) read
-moved before t (Ok ts) = ap Ok (sym (append_assoc before (t ∷ []) ts))
-moved before t (Err fault) = refl
+  pub ended : (new : List Transaction) (result : Result (Unit {0}) ReadFault) → left ≡ first → Takes first mid new result → Takes all old new result
+  ended new (Ok u) is h = λ more. whole more ∙ (ap (λ rs. going_on mid (rs ++ more)) is ∙ h more)
+  ended new (Err fault) is h = λ n more. whole more ∙ (ap (λ rs. going_on mid (rs ++ more)) is ∙ h n more)
 
--- a transaction goes behind the others
-pub took : (before : List Transaction) (t : Transaction) (more : List (Reading Transaction)) → length before < 10000 → going_on before (Ok t ∷ more) ≡ going_on (before ++ t ∷ []) more
-took before t more h =
-    let longer : suc (length before) ≡ length (before ++ t ∷ []) = omega (arith, length-append before (t ∷ [])) in
-    room before (Ok t) more h ∙ moved before t (taken (suc (length before)) more) ∙ ap (λ n. then_behind (before ++ t ∷ []) (taken n more)) longer
+-- ---- a text that has no JSON value as a whole
 
--- what isn't one is told by its number
-pub untaken : (before : List Transaction) (fault : JsonFault) (more : List (Reading Transaction)) → length before < 10000 → going_on before (Err fault ∷ more) ≡ Err (faults.Text (length before + 1) fault)
-untaken before fault more h =
-    let next : suc (length before) ≡ length before + 1 = omega arith in
-    room before (Err fault) more h ∙ ap (λ n. let told : Result (List Transaction) ReadFault = Err (faults.Text n fault) in told) next
+one_fault : (text : List ℕ) (fault : JsonFault) → fault ≢ json.NotJson → readings_by text (Err fault) ≡ Err fault ∷ []
+one_fault text json.NotJson n = absurd (n refl)
+one_fault text json.TooLong n = refl
+one_fault text json.NoForm n = refl
+one_fault text json.NotWhole n = refl
+one_fault text json.OutOfRange n = refl
+one_fault text json.BadHex n = refl
+one_fault text json.Merkleized n = refl
+one_fault text json.BadState n = refl
+one_fault text json.Memory n = refl
 
--- there is no room
-pub full : (before : List Transaction) (r : Reading Transaction) (more : List (Reading Transaction)) → 10000 ≤ length before → going_on before (r ∷ more) ≡ Err faults.TooMany
-full before r more h =
-    let isnt : nat_lt (length before) 10000 ≡ false = grind (arith, nat_tests) in
-    ap (λ b. then_behind before (cond b (numbered (length before) r >>= λ t. taken (suc (length before)) more >>= λ ts. Ok (t ∷ ts)) (Err faults.TooMany))) isnt
+pub readings_fault : (text : List ℕ) (fault : JsonFault) → fault ≢ json.NotJson → json_of text ≡ Err fault → readings text ≡ Err fault ∷ []
+unfolding readings
+readings_fault text fault n is = ap (readings_by text) is ∙ one_fault text fault n
+
+-- ---- all texts
+
+abbrev texts_of : List (Vec ℕ Global) → List (List ℕ)
+texts_of = map (λ text. text.items)
+
+as_read : (r : Result (List Transaction) ReadFault) → (r >>= λ ts. Ok ([] ++ ts)) ≡ r
+as_read (Ok ts) = refl
+as_read (Err fault) = refl
+
+module _ (texts : List (Vec ℕ Global)) (n : ℕ) (now : List Transaction) (whole : going_on [] (flat_map readings (texts_of texts)) ≡ going_on now (flat_map readings (texts_of (drop n texts)))) where
+  -- none is left
+  pub all_read : length texts ≤ n → transactions_of (texts_of texts) ≡ Ok now
+  unfolding transactions_of
+  all_read h = sym (as_read (taken 0 (flat_map readings (texts_of texts)))) ∙ (whole ∙ (at_drop_all (λ us. going_on now (flat_map readings (texts_of us))) texts n h ∙ ap Ok (append-nil now)))
+
+  -- one has a fault
+  pub fault_read : (text : Vec ℕ Global) (fault : ReadFault) → n < length texts → text ≡ get_or texts n text → ((more : List (Reading Transaction)) → going_on now (readings text.items ++ more) ≡ Err fault) → transactions_of (texts_of texts) ≡ Err fault
+  unfolding transactions_of
+  fault_read text fault h is e =
+      sym (as_read (taken 0 (flat_map readings (texts_of texts))))
+      ∙ (whole
+      ∙ (at_drop_more (λ us. going_on now (flat_map readings (texts_of us))) texts n text h
+      ∙ (ap (λ (u : Vec ℕ Global). going_on now (readings u.items ++ flat_map readings (texts_of (drop (n + 1) texts)))) (sym is) ∙ e (flat_map readings (texts_of (drop (n + 1) texts))))))

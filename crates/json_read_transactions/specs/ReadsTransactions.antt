@@ -1,5 +1,5 @@
 -- Which transactions texts stand for, one text behind the other.
-use Rattle.std.specs.Prelude.{ℕ, suc, nat_lt, Bool, not, ◌||◌, ◌==◌, List, [], ◌∷◌, map, filter, flat_map, Option, Some, None, Result, Ok, Err, if◌then◌else◌}
+use Rattle.std.specs.Prelude.{◌≡◌, ℕ, suc, nat_lt, Bool, not, ◌||◌, ◌==◌, List, [], ◌∷◌, map, filter, flat_map, Option, Some, None, Result, Ok, Err, if◌then◌else◌}
 use Rattle.std.specs.List.{list_all, slice_split}
 use Rattle.collections.specs.Answers.{◌>>=◌}
 use Rattle.contract.specs.declared.transaction.Transaction.{Transaction}
@@ -62,3 +62,13 @@ taken before (r ∷ rs) = if nat_lt before most then (numbered before r >>= λ t
 -- the transactions of texts
 unfoldable pub transactions_of : List (List ℕ) → Result (List Transaction) ReadFault
 transactions_of texts = taken 0 (flat_map readings texts)
+
+-- ---- laws
+
+-- a text of one transaction is read as that one alone
+abbrev pub OneIsReadAlone : Type 0
+OneIsReadAlone = (text : List ℕ) (t : Transaction) → of_text transaction text ≡ Ok t → transactions_of (text ∷ []) ≡ Ok (t ∷ [])
+
+-- what is read behind others is read by itself
+abbrev pub RestIsRead : Type 0
+RestIsRead = (text : List ℕ) (texts : List (List ℕ)) (t : Transaction) (ts : List Transaction) → of_text transaction text ≡ Ok t → transactions_of (text ∷ texts) ≡ Ok (t ∷ ts) → transactions_of texts ≡ Ok ts

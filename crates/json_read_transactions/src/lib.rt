@@ -2,9 +2,12 @@
 #![tactic(auto)]
 
 mod fault;
+mod laws;
 mod lines;
 mod taking;
 mod texts;
 
 pub use fault::ReadFault;
-pub use texts::{MOST, read_transactions};
+pub use laws::{texts_are_read_one_by_one, worked_readings};
+pub use taking::MOST;
+pub use texts::read_transactions;

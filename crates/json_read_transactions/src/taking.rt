@@ -7,9 +7,11 @@ ghost use Rattle.json_read_names.specs.declared.fault.JsonFault.TheVariants as j
 ghost use Rattle.json_read_transactions.specs.TakingSupport.{Takes};
 
 use crate::fault::ReadFault;
-use crate::texts::MOST;
 use contract::{Items, Transaction};
 use json_read_names::JsonFault;
+
+/// How many transactions are read at most.
+pub const MOST: usize = 10_000;
 
 // Puts what was read behind the transactions, or tells its fault by its number; or that it is one too many.
 pub(crate) fn put_reading(

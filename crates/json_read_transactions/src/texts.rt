@@ -1,7 +1,9 @@
 //! The transactions of texts.
-ghost use Rattle.std.specs.Prelude.{◌≡◌, map};
+ghost use Rattle.std.specs.Prelude.{◌≡◌, ◌≢◌, map, Err};
 ghost use Rattle.collections.specs.Answers.{Aside};
-ghost use Rattle.json_read_transactions.specs.ReadsTransactions.{readings, value_readings, transactions_of};
+ghost use Rattle.serde_json.specs.View.{items_of};
+ghost use Rattle.json_read_names.specs.ReadsText.{json_of};
+ghost use Rattle.json_read_transactions.specs.ReadsTransactions.{item_readings, readings, value_readings, transactions_of};
 ghost use Rattle.json_read_transactions.specs.TakingSupport.{Takes};
 
 use crate::fault::ReadFault;
@@ -13,9 +15,6 @@ use json_read_inputs::transaction_from_json;
 use json_read_names::{JsonFault, json_of};
 use json_tree::JsonValue;
 use std::alloc::Global;
-
-/// How many transactions are read at most.
-pub const MOST: usize = 10_000;
 
 /// Reads the transactions of texts of at most 1,048,576 bytes, one text behind the other, 10,000 of all texts at most. A text
 /// that is JSON is a transaction or a list of transactions. In one that isn't, each line is a transaction; a line ends at a line
@@ -43,8 +42,25 @@ fn put_text(
     let mut scratch = Scratch::new(alloc);
     match json_of(alloc, text, &mut scratch) {
         Ok(json) => put_value(alloc, &json, transactions),
-        Err(JsonFault::NotJson) => put_lines(alloc, text, transactions),
-        Err(fault) => put_reading(transactions, Err(fault)),
+        Err(fault) => put_unread(alloc, text, fault, transactions),
+    }
+}
+
+// Those of a text that has no JSON value as a whole, for this reason.
+#[tactic(auto, unfolding(crate::specs::ReadsTransactions::readings), using(crate::proofs::TakingLemmas::readings_fault))]
+fn put_unread(
+    alloc: Global,
+    text: &[u8],
+    fault: JsonFault,
+    transactions: &mut Items<Transaction>,
+) -> Result<(), ReadFault>
+    requires { fault ≢ JsonFault.Memory → json_of text.now ≡ Err fault }
+    ensures { Takes (readings text.now) transactions.old transactions.new result }
+{
+    match fault {
+        JsonFault::NotJson => put_lines(alloc, text, transactions),
+        JsonFault::Memory => Err(ReadFault::Memory),
+        other => put_reading(transactions, Err(other)),
     }
 }
 

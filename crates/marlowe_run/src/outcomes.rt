@@ -1,5 +1,5 @@
 //! The line of an outcome.
-ghost use Rattle.std.specs.Prelude.{◌≡◌, true, IfOk};
+ghost use Rattle.std.specs.Prelude.{◌≡◌, [], ◌∷◌, ◌++◌, true, IfOk};
 ghost use Rattle.contract.specs.Tree.{contract_tree};
 ghost use Rattle.json_write_contracts.specs.WrittenContract.{contract_fits};
 ghost use Rattle.marlowe_run.specs.Run.{outcome_line};
