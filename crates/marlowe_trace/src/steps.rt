@@ -34,7 +34,8 @@ pub(crate) fn traced(
     last: bool,
 ) -> Result<Traced, Memory>
     requires { contract_fits (contract_tree contract.now) ≡ true }
-    ensures told { IfOk result (λ traced. (traced.text.items, traced.refused) ≡ told_of last (standing state (contract_tree contract.now)) transactions.now) }
+    ensures told { IfOk result (λ traced. (traced.text.items, traced.refused)
+        ≡ told_of last (standing state (contract_tree contract.now)) transactions.now) }
     ensures states { IfOk result (λ _. StatesReturn (standing state (contract_tree contract.now)) transactions.now) }
 {
     let mut text = Vec::new(alloc);
@@ -76,7 +77,8 @@ fn step<'c>(
     ensures answer { AsideBy SemFault.Memory (λ next. standing next.state (contract_tree next.contract.now)) result
         (answer_of (walk_from (standing place.entry.state (contract_tree place.entry.contract.now)) transaction.now)) }
     ensures text { MatchResult result
-        (λ _. text.new.items ≡ text.old.items ++ (if is_printed then line_of (walk_from (standing place.entry.state (contract_tree place.entry.contract.now)) transaction.now) else []))
+        (λ _. text.new.items ≡ text.old.items ++ (if is_printed
+        then line_of (walk_from (standing place.entry.state (contract_tree place.entry.contract.now)) transaction.now) else []))
         (λ fault. fault ≢ SemFault.Memory → text.new.items ≡ text.old.items) }
     ensures fits { IfOk result (λ next. contract_fits (contract_tree next.contract.now) ≡ true) }
     ensures returns { IfOk result (λ next. state_with_texts (state_json next.state) ≡ Ok next.state) }

@@ -45,7 +45,8 @@ pub fn trace(
 ) -> Result<Traced, TraceFault>
     ensures told { AsideBy (TraceFault.Run RunFault.Memory) (λ traced. (traced.text.items, traced.refused)) result
         (trace_text asked contract.now (option_map (λ text. text.now) state.entry) (map (λ text. text.items) transactions.now)) }
-    ensures states { IfOk result (λ _. AllStatesReturn asked contract.now (option_map (λ text. text.now) state.entry) (map (λ text. text.items) transactions.now)) }
+    ensures states { IfOk result (λ _. AllStatesReturn asked contract.now
+        (option_map (λ text. text.now) state.entry) (map (λ text. text.items) transactions.now)) }
     ensures written { CanBeWritten result }
 {
     what_is_read_can_be_written();
@@ -69,8 +70,10 @@ fn trace_from(
 ) -> Result<Traced, TraceFault>
     requires { contract_fits (contract_tree contract.now) ≡ true }
     ensures told { AsideBy (TraceFault.Run RunFault.Memory) (λ traced. (traced.text.items, traced.refused)) result
-        (trace_from asked (contract_tree contract.now) (option_map (λ text. text.now) state.entry) (map (λ text. text.items) transactions.now)) }
-    ensures states { IfOk result (λ _. StatesReturnFrom asked (contract_tree contract.now) (option_map (λ text. text.now) state.entry) (map (λ text. text.items) transactions.now)) }
+        (trace_from asked (contract_tree contract.now)
+        (option_map (λ text. text.now) state.entry) (map (λ text. text.items) transactions.now)) }
+    ensures states { IfOk result (λ _. StatesReturnFrom asked (contract_tree contract.now)
+        (option_map (λ text. text.now) state.entry) (map (λ text. text.items) transactions.now)) }
     ensures written { CanBeWritten result }
 {
     let state = read_start(alloc, state, asked.texts).map_err(RunFault::of_state)?;
