@@ -7,4 +7,5 @@ pub mod Shares
 pub mod Offering
 pub mod OneInput
 pub mod Openings
+pub mod BehindLemmas
 pub mod Worked

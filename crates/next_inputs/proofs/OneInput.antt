@@ -164,7 +164,7 @@ abbrev Pair : Type 0
 Pair = ActionTree × ContractTree
 
 -- what is taken is the first match
-taken_match : (i : Interval) (s : StateMaps) (x : Input) (ks : List Pair) (n : ℕ) → taken_case i s x ks ≡ Some n
+pub taken_match : (i : Interval) (s : StateMaps) (x : Input) (ks : List Pair) (n : ℕ) → taken_case i s x ks ≡ Some n
     → (first_match_index i s x ks ≡ n) × ((c : ContractTree) × (first_match i s x ks ≡ Some c)) × (all_fit (tried_to_match i s x ks) ≡ true)
 taken_match i s x [] n h = absurd (cc)
 taken_match i s x (k ∷ ks) n h = by (all_fit (tried i s x k.0)) (matches i s x k.0) refl refl h (λ l e. taken_match i s x ks l e)
@@ -239,7 +239,7 @@ module _ (i : Interval) (s : StateMaps) (c : ContractTree) (x : Input) (a : Stan
   input_alone : all_inputs (trimmed i s) (x ∷ []) a ≡ one_input (trimmed i s) x a
   input_alone = then_none (one_input (trimmed i s) x a) (one_input (trimmed i s) x a).end refl
 
-  answers_so : answer_of (computed i s c (x ∷ [])) ≡ answer_of (one_input (trimmed i s) x a)
+  pub answers_so : answer_of (computed i s c (x ∷ [])) ≡ answer_of (one_input (trimmed i s) x a)
   answers_so =
       let f = follows_so in
       ap (λ b. cond b (computed i s c (x ∷ [])).end (Err Leaves128)) f.fits

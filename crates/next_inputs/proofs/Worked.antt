@@ -1,11 +1,15 @@
 -- The worked rows.
-use Rattle.std.proofs.Common.{◌≡◌, ℤ, pos, Option, Some, refl}
-use Rattle.std.specs.FinMap.{get, insert, empty, get-insert}
+use Rattle.std.proofs.Common.{◌≡◌, ℤ, pos, Option, Some, [], ◌∷◌, refl, ap}
+use Rattle.std.specs.Option.{unwrap_or}
+use Rattle.std.specs.FinMap.{get, insert, empty, get-insert, get-from_sorted}
+use Rattle.names.specs.Equal.{ada}
 use Rattle.names.specs.Totals.{bytes_total}
-use Rattle.names.specs.Orders.{bytes_cmp}
+use Rattle.names.specs.Orders.{account_cmp, bytes_cmp}
 use Rattle.evaluation.specs.Numbers.{fits}
-use Rattle.semantics.specs.Rows.{name_x}
-use Rattle.next_inputs.specs.Rows.{EqualDepositsTakeTheFirst, LeavingStops, OtherAccountIsTaken, EarlierBoundsTake, OtherOwnerIsTaken, InvertedTakesNothing, TrueNotifyTakes, StartIsTrimmed, AmountIsReadLater, WaitsUntilNinetyNine}
+use Rattle.semantics.specs.Reduction.{account_of, balance}
+use Rattle.semantics.specs.Computed.{applied, one_input, from_start, computed}
+use Rattle.semantics.specs.Rows.{a_has_three, party_a, name_x}
+use Rattle.next_inputs.specs.Rows.{EqualDepositsTakeTheFirst, LeavingStops, OtherAccountIsTaken, EarlierBoundsTake, OtherOwnerIsTaken, InvertedTakesNothing, TrueNotifyTakes, StartIsTrimmed, AmountIsReadLater, WaitsUntilNinetyNine, FollowingIsAmbiguous, SumLeaves}
 
 pub equal_deposits_take_the_first : EqualDepositsTakeTheFirst
 unfolding fits
@@ -45,3 +49,14 @@ amount_is_read_later = rw found refl
 
 pub waits_until_ninety_nine : WaitsUntilNinetyNine
 waits_until_ninety_nine = refl
+
+pub following_is_ambiguous : FollowingIsAmbiguous
+unfolding computed from_start one_input applied fits
+following_is_ambiguous = (refl, refl)
+
+has_three : balance a_has_three party_a ada ≡ pos 3
+has_three = ap (λ o. unwrap_or o (pos 0)) (get-from_sorted account_cmp ((account_of party_a ada, pos 3) ∷ []) (account_of party_a ada) tt)
+
+pub sum_leaves : SumLeaves
+unfolding computed from_start one_input applied fits
+sum_leaves = (refl, rw has_three refl)

@@ -1,6 +1,7 @@
 pub mod Taking
 pub mod Offers
 pub mod Opening
+pub mod Behind
 pub mod Laws
 pub mod Rows
 pub mod Lanes

@@ -1,12 +1,16 @@
 -- Worked rows of what can be done next, computed on the definitions.
-use Rattle.std.specs.Prelude.{◌≡◌, ℤ, pos, List, [], ◌∷◌, Some, None}
+use Rattle.std.specs.Prelude.{◌≡◌, ◌-◌, ◌^◌, ℤ, pos, List, [], ◌∷◌, Some, None}
+use Rattle.std.specs.Result.{result_err}
 use Rattle.names.specs.declared.party.Party.{Party}
 use Rattle.names.specs.Equal.{ada}
+use Rattle.contract.specs.declared.fault.SemFault.TheVariants.{Ambiguous, Leaves128}
 use Rattle.contract.specs.declared.input.Input.{Input}
 use Rattle.contract.specs.declared.input.Input.TheVariants as inputs
 use Rattle.contract.specs.Tree.{ValueTree, constant, add_value, time_interval_start, use_value, ActionTree, deposit, choice, notify, ContractTree, close, when, let_be, no_cases, case_then, true_obs, false_obs, value_ge}
 use Rattle.evaluation.specs.EvaluationRows.{too_large}
-use Rattle.semantics.specs.Rows.{interval, nothing, party_a, party_b, name_x}
+use Rattle.semantics.specs.Walk.{answer_of}
+use Rattle.semantics.specs.Computed.{computed}
+use Rattle.semantics.specs.Rows.{interval, nothing, a_has_three, party_a, party_b, name_x}
 use Rattle.next_inputs.specs.Taking.{taken_case, leaving_case}
 use Rattle.next_inputs.specs.Opening.{next_case, waits_until}
 
@@ -92,3 +96,25 @@ AmountIsReadLater = next_case (interval (pos 0) (pos 10)) nothing binds (deposit
 -- a When with the timeout 100 waits until 99
 abbrev pub WaitsUntilNinetyNine : Type 0
 WaitsUntilNinetyNine = waits_until starts ≡ Some (pos 99)
+
+-- behind a notify a When whose timeout lies inside the interval from 0 to 10: the notify takes its case, and what follows is
+-- refused
+abbrev pub waits_inside : ContractTree
+waits_inside = when (case_then (notify true_obs) (when no_cases (pos 5) close) no_cases) (pos 100) close
+
+abbrev pub FollowingIsAmbiguous : Type 0
+FollowingIsAmbiguous =
+    (next_case (interval (pos 0) (pos 10)) nothing waits_inside inputs.Notify ≡ Some 0)
+    × (result_err (answer_of (computed (interval (pos 0) (pos 10)) nothing waits_inside (inputs.Notify ∷ []))) ≡ Some Ambiguous)
+
+-- the greatest number of 128 bits is deposited into an account that has 3: the deposit takes its case, and the sum leaves
+abbrev pub greatest : ℤ
+greatest = pos (2 ^ 127 - 1)
+
+abbrev pub asks_greatest : ContractTree
+asks_greatest = when (case_then (asks (constant greatest)) close no_cases) (pos 100) close
+
+abbrev pub SumLeaves : Type 0
+SumLeaves =
+    (next_case (interval (pos 0) (pos 10)) a_has_three asks_greatest (deposits greatest) ≡ Some 0)
+    × (result_err (answer_of (computed (interval (pos 0) (pos 10)) a_has_three asks_greatest (deposits greatest ∷ []))) ≡ Some Leaves128)

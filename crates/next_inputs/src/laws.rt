@@ -1,7 +1,7 @@
 //! What can be done next, in the terms of the transaction function: laws of the definitions, each the contract of a
 //! function that does nothing.
 ghost use Rattle.next_inputs.specs.Laws.{TakesAsComputed, ElseIsRefused, WaitsToTheLast};
-ghost use Rattle.next_inputs.specs.Rows.{EqualDepositsTakeTheFirst, LeavingStops, OtherAccountIsTaken, EarlierBoundsTake, OtherOwnerIsTaken, InvertedTakesNothing, TrueNotifyTakes, StartIsTrimmed, AmountIsReadLater, WaitsUntilNinetyNine};
+ghost use Rattle.next_inputs.specs.Rows.{EqualDepositsTakeTheFirst, LeavingStops, OtherAccountIsTaken, EarlierBoundsTake, OtherOwnerIsTaken, InvertedTakesNothing, TrueNotifyTakes, StartIsTrimmed, AmountIsReadLater, WaitsUntilNinetyNine, FollowingIsAmbiguous, SumLeaves};
 
 /// An input that takes a case does so in the transaction with that input alone, and each other input is refused.
 pub fn one_input_is_computed_so()
@@ -26,4 +26,6 @@ pub fn worked_inputs_next()
     ensures trimmed { StartIsTrimmed }
     ensures later { AmountIsReadLater }
     ensures until { WaitsUntilNinetyNine }
+    ensures behind { FollowingIsAmbiguous }
+    ensures sum { SumLeaves }
 {}

@@ -1,6 +1,7 @@
 //! What can be done with a contract next: which inputs its cases take, and until when it waits.
 #![tactic(auto)]
 
+mod behind;
 mod cases;
 mod claiming;
 mod lane;
@@ -11,6 +12,7 @@ mod reduction;
 mod sharing;
 mod waiting;
 
+pub use behind::refused_behind;
 pub use cases::offers;
 pub use laws::{a_when_waits_to_the_last, one_input_is_computed_so, worked_inputs_next};
 pub use next::{NextInputs, next_inputs};

@@ -1,11 +1,14 @@
 -- Two lists of transactions.
 use Rattle.std.proofs.Common.{◌≡◌, ℕ, suc, ◌+◌, List, [], ◌∷◌, ◌++◌, length, get_or, drop, ◌<◌, ◌≤◌, refl, sym, ap, ◌∙◌, arith, Result, Ok, Err}
+use Rattle.std.specs.Result.{result_unwrap_or}
 use Rattle.std.proofs.lemmas.List.{at_drop_more, at_drop_all}
 use Rattle.contract.specs.declared.fault.SemFault.{SemFault}
 use Rattle.contract.specs.declared.transaction.Transaction.{Transaction}
-use Rattle.semantics.specs.Walk.{Standing, Walk, answer_of}
-use Rattle.trace.specs.declared.refused.Refused.{Refused}
-use Rattle.trace.specs.Traces.{walk_from, walks_then, walks, left_then, left_by, TracesJoin}
+use Rattle.semantics.specs.Walk.{Standing, answer_of}
+use Rattle.analysis_spec.specs.declared.path.PathStep.{PathStep}
+use Rattle.analysis_spec.specs.Marks.{led, led_with, place_after, leads_after}
+use Rattle.analysis_spec.specs.Runs.{walk_from, standing_after}
+use Rattle.trace.specs.Traces.{walks_then, walks, left_then, left_by, TracesJoin}
 
 abbrev Joins : Standing → Standing → List Transaction → List Transaction → Type 0
 Joins a b ts us = (walks a (ts ++ us) ≡ walks a ts ++ walks b us) × ((m : ℕ) → left_by m a (ts ++ us) ≡ left_by (m + length ts) b us)
@@ -46,6 +49,17 @@ pub refused_here : (n : ℕ) (a : Standing) (ts : List Transaction) (t : Transac
 refused_here n a ts t f h e k =
     at_drop_more (left_by n a) ts n t h
     ∙ (ap (λ z. left_then (answer_of (walk_from a z)) n (λ c. left_by (suc n) c (drop (n + 1) ts))) (sym e) ∙ ap (λ r. left_then r n (λ c. left_by (suc n) c (drop (n + 1) ts))) k)
+
+-- where they lead, alike
+pub leads_here : (here : List PathStep) (n : ℕ) (a b : Standing) (ts : List Transaction) (t : Transaction) → n < length ts → t ≡ get_or ts n t → answer_of (walk_from a t) ≡ Ok b
+    → leads_after here a (drop n ts) ≡ leads_after (led here (walk_from a t).turns) b (drop (n + 1) ts)
+leads_here here n a b ts t h e k =
+    at_drop_more (leads_after here a) ts n t h
+    ∙ (ap (λ z. leads_after (place_after here a z) (standing_after a z) (drop (n + 1) ts)) (sym e)
+    ∙ ap (λ r. leads_after (led_with r here (walk_from a t).turns) (result_unwrap_or r a) (drop (n + 1) ts)) k)
+
+pub led_whole : (here : List PathStep) (n : ℕ) (a : Standing) (ts : List Transaction) → length ts ≤ n → leads_after here a (drop n ts) ≡ here
+led_whole here n a ts h = at_drop_all (leads_after here a) ts n h
 
 pub left_whole : (n : ℕ) (a : Standing) (ts : List Transaction) → length ts ≤ n → left_by n a (drop n ts) ≡ Ok a
 left_whole n a ts h = at_drop_all (left_by n a) ts n h

@@ -1,2 +1,7 @@
 pub mod Joining
 pub mod Worked
+pub mod SteppingLemmas
+pub mod ReducingLemmas
+pub mod OpeningLemmas
+pub mod PathsLemmas
+pub mod WarnedLemmas

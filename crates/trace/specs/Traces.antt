@@ -3,12 +3,8 @@ use Rattle.std.specs.Prelude.{◌≡◌, ℕ, suc, ◌+◌, List, [], ◌∷◌,
 use Rattle.contract.specs.declared.fault.SemFault.{SemFault}
 use Rattle.contract.specs.declared.transaction.Transaction.{Transaction}
 use Rattle.semantics.specs.Walk.{Standing, Walk, answer_of}
-use Rattle.semantics.specs.Computed.{computed}
+use Rattle.analysis_spec.specs.Runs.{walk_from}
 use Rattle.trace.specs.declared.refused.Refused.{Refused}
-
--- what a transaction does where a contract stands
-abbrev pub walk_from : Standing → Transaction → Walk
-walk_from a t = computed t.interval a.state a.contract t.inputs
 
 abbrev pub walks_then : Result Standing SemFault → (Standing → List Walk) → List Walk
 walks_then (Ok b) f = f b

@@ -1,10 +1,18 @@
-//! Transactions one after another, each from where the one before it left the contract.
+//! Where transactions lead in a contract: one after another, each from where the one before it left the contract, and step
+//! by step, with the place of each.
 #![tactic(auto)]
 
 mod laws;
 mod refused;
-mod trace;
+mod sequence;
+mod settling;
+mod stepping;
+mod steps;
+mod trail;
+mod warned;
 
-pub use laws::{traces_join, worked_traces};
+pub use laws::{paths_lead, traces_join, warned_are_the_warnings, worked_traces};
 pub use refused::Refused;
-pub use trace::{Left, left_by};
+pub use sequence::{Left, after};
+pub use settling::{Settled, settle};
+pub use warned::Warned;

@@ -1,4 +1,4 @@
-use Rattle.next_inputs.proofs.Worked.{equal_deposits_take_the_first, leaving_stops, other_account_is_taken, earlier_bounds_take, other_owner_is_taken, inverted_takes_nothing, true_notify_takes, start_is_trimmed, amount_is_read_later, waits_until_ninety_nine}
+use Rattle.next_inputs.proofs.Worked.{equal_deposits_take_the_first, leaving_stops, other_account_is_taken, earlier_bounds_take, other_owner_is_taken, inverted_takes_nothing, true_notify_takes, start_is_trimmed, amount_is_read_later, waits_until_ninety_nine, following_is_ambiguous, sum_leaves}
 use Rattle.next_inputs.proofs.laws.worked_inputs_next.Goals as goal
 
 pub returns : goal.returns
@@ -13,4 +13,6 @@ returns c = record {
   trimmed = start_is_trimmed;
   later = amount_is_read_later;
   until = waits_until_ninety_nine;
+  behind = following_is_ambiguous;
+  sum = sum_leaves;
 }
