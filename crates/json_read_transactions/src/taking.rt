@@ -18,7 +18,8 @@ pub(crate) fn put_reading(
     transactions: &mut Items<Transaction>,
     reading: Result<Transaction, JsonFault>,
 ) -> Result<(), ReadFault>
-    ensures { (answer : Reading Transaction) → Aside json.Memory reading answer → Takes (answer ∷ []) transactions.old transactions.new result }
+    ensures { (answer : Reading Transaction) → Aside json.Memory reading answer
+        → Takes (answer ∷ []) transactions.old transactions.new result }
 {
     match reading {
         Err(JsonFault::Memory) => Err(ReadFault::Memory),

@@ -1,5 +1,5 @@
-//! Why a command gives no text: the faults of `run`, `table`, `analyse`, `trace` and `next`, the names of all faults as they are printed, and the line that tells
-//! one.
+//! Why a command gives no text: the faults of `run`, `table`, `analyse`, `trace` and `next`, the names of all faults as they are
+//! printed, and the line that tells one.
 #![tactic(auto)]
 
 mod fault;

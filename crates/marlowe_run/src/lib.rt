@@ -1,5 +1,5 @@
-//! One transaction, from the texts of a contract, a state and a transaction to the text of the outcome; and the table of a contract, from text
-//! to text.
+//! One transaction, from the texts of a contract, a state and a transaction to the text of the outcome; and the table of a
+//! contract, from text to text. Also how transactions begin, and the line of an outcome, for whoever computes more than one.
 #![tactic(auto)]
 
 mod dropped;

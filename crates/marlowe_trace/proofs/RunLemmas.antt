@@ -1,6 +1,6 @@
 -- A trace is runs, one after another.
-use Rattle.std.proofs.Common.{◌≡◌, ◌≢◌, ℕ, suc, Bool, true, false, List, [], ◌∷◌, ◌++◌, Option, Some, None, Result, Ok, Err, refl, sym, ap, ◌∙◌, subst, append-nil}
-use Rattle.std.specs.Prelude.{option_map, flat_map}
+use Rattle.std.proofs.Common.{◌≡◌, ◌≢◌, ℕ, suc, Bool, false, List, [], ◌∷◌, ◌++◌, Some, Result, Ok, Err, refl, sym, ap, ◌∙◌}
+use Rattle.std.specs.Prelude.{option_map}
 use Rattle.collections.specs.Answers.{◌>>=◌}
 use Rattle.contract.specs.declared.fault.SemFault.{SemFault}
 use Rattle.contract.specs.declared.fault.SemFault.TheVariants as sem
@@ -17,20 +17,18 @@ use Rattle.json_read_inputs.specs.ReadsInput.{transaction}
 use Rattle.json_read_transactions.specs.declared.fault.ReadFault.{ReadFault}
 use Rattle.json_read_transactions.specs.ReadsTransactions.{transactions_of}
 use Rattle.json_read_transactions.proofs.TakingLaws.{one_is_read_alone, rest_is_read}
-use Rattle.semantics.specs.Walk.{Standing, standing, Walk, answer_of}
+use Rattle.semantics.specs.Walk.{Standing, standing, answer_of}
 use Rattle.semantics.proofs.Faults.{never_memory}
 use Rattle.analysis_spec.specs.Runs.{walk_from}
-use Rattle.trace.specs.declared.refused.Refused.{Refused}
 use Rattle.trace.specs.Traces.{walks, left_then, left_by}
-use Rattle.marlowe_refusals.specs.declared.fault.RunFault.{RunFault}
 use Rattle.marlowe_refusals.specs.declared.trace_fault.TraceFault.{TraceFault}
 use Rattle.marlowe_refusals.specs.declared.trace_fault.TraceFault.TheVariants as trace
 use Rattle.marlowe_refusals.specs.Faults.{read_as, contract_fault, state_fault, transaction_fault, semantics_fault}
 use Rattle.marlowe_refusals.specs.TraceFaults.{told_as, texts_fault}
 use Rattle.marlowe_run.specs.Run.{printed, answer_text, transaction_text, run_from, run_by}
-use Rattle.marlowe_run.specs.Start.{state_reading, start_of}
+use Rattle.marlowe_run.specs.Start.{state_reading}
 use Rattle.marlowe_trace.specs.declared.texts.Asked.{Asked}
-use Rattle.marlowe_trace.specs.Traced.{Told, line_of, lines_of, refused_of, told_of, trace_from, trace_text}
+use Rattle.marlowe_trace.specs.Traced.{Told, lines_of, refused_of, told_of, trace_from, trace_text}
 use Rattle.marlowe_trace.specs.Laws.{as_trace, OneIsARun, StandsFor, renumbered, behind, all_of, TraceIsRuns}
 use Rattle.marlowe_trace.proofs.StepLemmas.{walks_on, lines_end, printed_line, line_printed}
 
@@ -120,13 +118,14 @@ run_from_there texts c s t a b tx h is next =
     ∙ (ap (λ (q : Reading Transaction). read_as transaction_fault q >>= λ u. transaction_text a.state a.contract u) is ∙ ap (answer_text (walk_from a tx)) next)))
 
 -- numbers are one higher behind one more
+shifted_by : (txs : List Transaction) (n : ℕ) (r : Result Standing SemFault) → ((c : Standing) → refused_of (left_by (suc (suc n)) c txs) ≡ option_map renumbered (refused_of (left_by (suc n) c txs)))
+    → refused_of (left_then r (suc n) (λ c. left_by (suc (suc n)) c txs)) ≡ option_map renumbered (refused_of (left_then r n (λ c. left_by (suc n) c txs)))
+shifted_by txs n (Ok c) h = h c
+shifted_by txs n (Err f) h = refl
+
 shifted : (txs : List Transaction) (n : ℕ) (b : Standing) → refused_of (left_by (suc n) b txs) ≡ option_map renumbered (refused_of (left_by n b txs))
 shifted [] n b = refl
-shifted (tx ∷ txs) n b = by (answer_of (walk_from b tx))
-  where
-    by : (r : Result Standing SemFault) → refused_of (left_then r (suc n) (λ c. left_by (suc (suc n)) c txs)) ≡ option_map renumbered (refused_of (left_then r n (λ c. left_by (suc n) c txs)))
-    by (Ok c) = shifted txs (suc n) c
-    by (Err f) = refl
+shifted (tx ∷ txs) n b = shifted_by txs n (answer_of (walk_from b tx)) (λ c. shifted txs (suc n) c)
 
 told_more : (a b : Standing) (tx : Transaction) (txs : List Transaction) → answer_of (walk_from a tx) ≡ Ok b → told false a (tx ∷ txs) ≡ behind (printed (walk_from a tx) b) (told false b txs)
 told_more a b tx txs h =

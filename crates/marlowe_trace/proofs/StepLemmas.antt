@@ -1,18 +1,17 @@
 -- One transaction more.
-use Rattle.std.proofs.Common.{◌≡◌, ℕ, suc, ◌+◌, ◌-◌, ◌<◌, ◌≤◌, Bool, true, false, cond, List, [], ◌∷◌, ◌++◌, length, get_or, drop, Option, Some, None, Result, Ok, Err, refl, sym, ap, ◌∙◌, arith, append-nil, append_assoc, length-drop}
-use Rattle.std.specs.Prelude.{not, ◌||◌, nat_eq, ◌==◌}
+use Rattle.std.proofs.Common.{◌≡◌, ℕ, suc, ◌+◌, ◌-◌, ◌<◌, Bool, true, false, cond, List, [], ◌∷◌, ◌++◌, length, get_or, drop, Result, Ok, Err, refl, sym, ap, subst, ◌∙◌, arith, append-nil, append_assoc, length-drop}
+use Rattle.std.specs.Prelude.{not, ◌||◌, ◌==◌}
 use Rattle.std.proofs.lemmas.Bool.Decides.{nat_tests}
-use Rattle.std.proofs.lemmas.List.{at_drop_more, at_drop_all}
+use Rattle.std.proofs.lemmas.List.{at_drop_more}
 use Rattle.contract.specs.declared.fault.SemFault.{SemFault}
 use Rattle.contract.specs.declared.transaction.Transaction.{Transaction}
 use Rattle.semantics.specs.Walk.{Standing, Walk, answer_of}
 use Rattle.analysis_spec.specs.Runs.{walk_from}
-use Rattle.trace.specs.declared.refused.Refused.{Refused}
 use Rattle.trace.specs.Traces.{walks_then, walks, left_then, left_by}
-use Rattle.marlowe_refusals.specs.declared.trace_fault.TraceFault.{TraceFault}
-use Rattle.marlowe_refusals.specs.declared.trace_fault.TraceFault.TheVariants as trace
 use Rattle.marlowe_run.specs.Run.{printed}
-use Rattle.marlowe_trace.specs.Traced.{line_or_nothing, line_of, last_line, lines_of, refused_of, told_of}
+use Rattle.json_read_inputs.specs.ReadsState.{state_with_texts}
+use Rattle.json_write_outcomes.specs.WrittenOutcome.{state_json}
+use Rattle.marlowe_trace.specs.Traced.{ReturnsThen, StatesReturn, line_or_nothing, line_of, last_line, lines_of}
 
 -- whether the line of a transaction is printed, by what comes behind it
 abbrev is_printed : Bool → List Transaction → Bool
@@ -44,10 +43,13 @@ pub line_printed : (a : Standing) (t : Transaction) (last : Bool) (b : Standing)
 line_printed a t true b h = ap last_line (walks_on a t [] b h) ∙ printed_line a t [] b h
 line_printed a t false b h = ap (lines_of false) (walks_on a t [] b h) ∙ (append-nil (line_of (walk_from a t)) ∙ printed_line a t [] b h)
 
+not_last : (n : ℕ) → (suc n == 0) ≡ false
+not_last n = grind (arith, nat_tests)
+
 more_lines : (last : Bool) (w : Walk) (b : Standing) (ts : List Transaction) → lines_of last (w ∷ walks b ts) ≡ line_if (is_printed last ts) w ++ lines_of last (walks b ts)
 more_lines false w b ts = refl
 more_lines true w b [] = sym (append-nil (line_of w))
-more_lines true w b (t ∷ ts) = refl
+more_lines true w b (t ∷ ts) = ap (λ p. line_if p w ++ lines_of true (walks b (t ∷ ts))) (sym (not_last (length ts)))
 
 -- ---- in the loop: at index n of all transactions
 
@@ -68,17 +70,7 @@ lines_here last n ts a b t text h is next =
     ∙ (ap (λ p. text ++ (line_if p (walk_from a t) ++ lines_of last (walks b rest))) (sym (printed_here last n ts h))
     ∙ sym (append_assoc text (cond (not last || (n + 1 == length ts)) (line_of (walk_from a t)) []) (lines_of last (walks b rest))))
 
--- it is refused here: nothing more is printed
-pub lines_stop : (last : Bool) (n : ℕ) (ts : List Transaction) (a : Standing) (t : Transaction) (f : SemFault) → n < length ts → t ≡ get_or ts n t → answer_of (walk_from a t) ≡ Err f → lines_of last (walks a (drop n ts)) ≡ []
-lines_stop last n ts a t f h is next =
-    let rest = drop (n + 1) ts in
-    at_drop_more (λ us. lines_of last (walks a us)) ts n t h ∙ (ap (λ u. lines_of last (walks a (u ∷ rest))) (sym is) ∙ lines_end a t rest last f next)
-
-pub lines_whole : (last : Bool) (n : ℕ) (ts : List Transaction) (a : Standing) → length ts ≤ n → lines_of last (walks a (drop n ts)) ≡ []
-lines_whole true n ts a h = at_drop_all (λ us. lines_of true (walks a us)) ts n h
-lines_whole false n ts a h = at_drop_all (λ us. lines_of false (walks a us)) ts n h
-
--- and so is what is refused
+-- what they all come to is what those that are left come to
 pub left_here : (n : ℕ) (ts : List Transaction) (a b : Standing) (t : Transaction) → n < length ts → t ≡ get_or ts n t → answer_of (walk_from a t) ≡ Ok b → left_by n a (drop n ts) ≡ left_by (n + 1) b (drop (n + 1) ts)
 left_here n ts a b t h is next =
     let one : suc n ≡ n + 1 = omega arith in
@@ -86,13 +78,11 @@ left_here n ts a b t h is next =
     ∙ (ap (λ u. left_then (answer_of (walk_from a u)) n (λ c. left_by (suc n) c (drop (n + 1) ts))) (sym is)
     ∙ (ap (λ r. left_then r n (λ c. left_by (suc n) c (drop (n + 1) ts))) next ∙ ap (λ m. left_by m b (drop (n + 1) ts)) one))
 
-pub refused_here : (n : ℕ) (ts : List Transaction) (a : Standing) (t : Transaction) (f : SemFault) → n < length ts → t ≡ get_or ts n t → answer_of (walk_from a t) ≡ Err f → refused_of (left_by n a (drop n ts)) ≡ Some (trace.Refused (n + 1) f)
-refused_here n ts a t f h is next =
-    let one : suc n ≡ n + 1 = omega arith in
-    ap refused_of
-    (at_drop_more (left_by n a) ts n t h
-    ∙ (ap (λ u. left_then (answer_of (walk_from a u)) n (λ c. left_by (suc n) c (drop (n + 1) ts))) (sym is) ∙ ap (λ r. left_then r n (λ c. left_by (suc n) c (drop (n + 1) ts))) next))
-    ∙ ap (λ m. let told : Option TraceFault = Some (trace.Refused m f) in told) one
+-- ---- states that are read as they were
 
-pub none_refused : (n : ℕ) (ts : List Transaction) (a : Standing) → length ts ≤ n → refused_of (left_by n a (drop n ts)) ≡ None
-none_refused n ts a h = ap refused_of (at_drop_all (left_by n a) ts n h)
+module _ (n : ℕ) (ts : List Transaction) (a : Standing) (t : Transaction) (h : n < length ts) (is : t ≡ get_or ts n t) where
+  returns_here : StatesReturn a (t ∷ drop (n + 1) ts) → StatesReturn a (drop n ts)
+  returns_here back = subst (λ (us : List Transaction). StatesReturn a us) (sym (at_drop_more (λ us. us) ts n t h)) (subst (λ (u : Transaction). StatesReturn a (u ∷ drop (n + 1) ts)) is back)
+
+  pub states_here : (b : Standing) → answer_of (walk_from a t) ≡ Ok b → state_with_texts (state_json b.state) ≡ Ok b.state → StatesReturn b (drop (n + 1) ts) → StatesReturn a (drop n ts)
+  states_here b next back more = returns_here (subst (λ (r : Result Standing SemFault). ReturnsThen r (λ c. StatesReturn c (drop (n + 1) ts))) (sym next) (back, more))

@@ -1,5 +1,5 @@
 -- A trace is runs, one after another.
-use Rattle.std.specs.Prelude.{◌≡◌, ℕ, suc, Bool, false, List, [], ◌∷◌, ◌++◌, Option, Some, None, option_map, Result, Ok, Err}
+use Rattle.std.specs.Prelude.{◌≡◌, ℕ, suc, Bool, false, List, [], ◌∷◌, ◌++◌, Some, None, option_map, Result, Ok, Err}
 use Rattle.contract.specs.Tree.{contract_tree}
 use Rattle.contract.specs.declared.tree.Contract.{Contract}
 use Rattle.contract.specs.declared.transaction.Transaction.{Transaction}

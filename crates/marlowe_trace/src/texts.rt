@@ -1,9 +1,9 @@
 //! Transactions one after another, from text to text.
-ghost use Rattle.std.specs.Prelude.{◌≡◌, true, map, option_map};
+ghost use Rattle.std.specs.Prelude.{◌≡◌, true, IfOk, map, option_map};
 ghost use Rattle.collections.specs.Answers.{AsideBy};
 ghost use Rattle.contract.specs.Tree.{contract_tree};
 ghost use Rattle.json_write_contracts.specs.WrittenContract.{contract_fits};
-ghost use Rattle.marlowe_trace.specs.Traced.{trace_from, trace_text};
+ghost use Rattle.marlowe_trace.specs.Traced.{AllStatesReturn, CanBeWritten, StatesReturnFrom, trace_from, trace_text};
 
 use crate::steps::traced;
 use contract::Contract;
@@ -45,6 +45,9 @@ pub fn trace(
 ) -> Result<Traced, TraceFault>
     ensures told { AsideBy (TraceFault.Run RunFault.Memory) (λ traced. (traced.text.items, traced.refused)) result
         (trace_text asked contract.now (option_map (λ text. text.now) state.entry) (map (λ text. text.items) transactions.now)) }
+    ensures states { IfOk result (λ _. AllStatesReturn asked contract.now
+        (option_map (λ text. text.now) state.entry) (map (λ text. text.items) transactions.now)) }
+    ensures written { CanBeWritten result }
 {
     what_is_read_can_be_written();
     match read_contract(alloc, contract) {
@@ -66,8 +69,12 @@ fn trace_from(
     asked: Asked,
 ) -> Result<Traced, TraceFault>
     requires { contract_fits (contract_tree contract.now) ≡ true }
-    ensures { AsideBy (TraceFault.Run RunFault.Memory) (λ traced. (traced.text.items, traced.refused)) result
-        (trace_from asked (contract_tree contract.now) (option_map (λ text. text.now) state.entry) (map (λ text. text.items) transactions.now)) }
+    ensures told { AsideBy (TraceFault.Run RunFault.Memory) (λ traced. (traced.text.items, traced.refused)) result
+        (trace_from asked (contract_tree contract.now)
+        (option_map (λ text. text.now) state.entry) (map (λ text. text.items) transactions.now)) }
+    ensures states { IfOk result (λ _. StatesReturnFrom asked (contract_tree contract.now)
+        (option_map (λ text. text.now) state.entry) (map (λ text. text.items) transactions.now)) }
+    ensures written { CanBeWritten result }
 {
     let state = read_start(alloc, state, asked.texts).map_err(RunFault::of_state)?;
     let transactions = read_transactions(alloc, transactions)?;
