@@ -7,8 +7,8 @@ ghost use Rattle.marlowe_commands.specs.Tasks.{AsksFor, IsAnalysis, IsTrace};
 
 use crate::printed::Printed;
 use crate::stops::Stop;
-use crate::told::{analysis_told, next_told, play_told, run_told, table_told, trace_told};
 use crate::texts::Texts;
+use crate::told::{analysis_told, next_told, play_told, run_told, table_told, trace_told};
 use clap::Error;
 use clap::error::ErrorKind;
 use collections::Memory;

@@ -18,11 +18,7 @@ impl From<AllocError> for Stop<'_> {
 }
 
 /// What a path leads to.
-pub fn text_of<'a, T: Texts>(
-    alloc: Global,
-    texts: &T,
-    path: &'a str,
-) -> Result<Vec<u8>, Stop<'a>> {
+pub fn text_of<'a, T: Texts>(alloc: Global, texts: &T, path: &'a str) -> Result<Vec<u8>, Stop<'a>> {
     match texts.text(alloc, path) {
         Ok(text) => Ok(text),
         Err(LoadFault::Unreadable) => Err(Stop::Unreadable(path)),

@@ -60,13 +60,24 @@ pub fn trace_printed(
     ensures stream { IfOk result (λ printed. IsTextOr 1 (streams_of printed) ⊎ IsCut (streams_of printed)) }
 {
     match trace(alloc, contract, state, transactions, asked) {
-        Ok(Traced { text, refused: None }) => Ok(Printed::on_output(alloc, text, 0)),
-        Ok(Traced {
-            text,
-            refused: Some(fault),
-        }) => Printed::cut(text, refusal(alloc, &Fault::Trace(fault))?),
+        Ok(Traced { text, refused }) => outcomes_printed(alloc, text, refused),
         Err(TraceFault::Run(RunFault::Memory)) => Err(AllocError),
         Err(fault) => Printed::refusal(alloc, refusal(alloc, &Fault::Trace(fault))?),
+    }
+}
+
+// What is printed for outcomes, and for the refusal that ends them, if one does.
+fn outcomes_printed(
+    alloc: Global,
+    text: Vec<u8>,
+    refused: Option<TraceFault>,
+) -> Result<Printed, Memory>
+    ensures told { IfOk result (λ printed. PrintsTrace (Ok (text.items, refused)) (streams_of printed)) }
+    ensures stream { IfOk result (λ printed. IsTextOr 1 (streams_of printed) ⊎ IsCut (streams_of printed)) }
+{
+    match refused {
+        None => Ok(Printed::on_output(alloc, text, 0)),
+        Some(fault) => Printed::cut(text, refusal(alloc, &Fault::Trace(fault))?),
     }
 }
 

@@ -51,7 +51,13 @@ pub fn trace_told<'a, T: Texts>(
         last: task.last,
     };
     let state = state.as_ref().map(|text| text.as_slice());
-    let printed = trace_printed(alloc, contract.as_slice(), state, transactions.as_slice(), asked);
+    let printed = trace_printed(
+        alloc,
+        contract.as_slice(),
+        state,
+        transactions.as_slice(),
+        asked,
+    );
     Ok(printed?)
 }
 
