@@ -25,7 +25,8 @@ use Rattle.next_inputs.specs.Behind.{IsRefusedBehind}
 use Rattle.next_inputs.specs.Offers.{has, offered, AreOffers}
 use Rattle.next_inputs.specs.Opening.{opening, case_from, next_case}
 use Rattle.next_inputs.specs.Taking.{taken_case}
-use Rattle.marlowe_next.specs.Applicable.{Applicable, deposits, notifies, refusal, applicable, applicable_from}
+use Rattle.next_lines.specs.Applicable.{Applicable, deposits, notifies}
+use Rattle.marlowe_next.specs.Applicable.{refusal, applicable, applicable_from}
 use Rattle.marlowe_next.specs.AnswerSupport.{SettlesTo, TakesAt, TellsCase}
 
 abbrev Pair : Type 0

@@ -1,5 +1,6 @@
 -- What is told of a contract that has settled.
 use Rattle.std.proofs.Common.{◌≡◌, ℕ, ℤ, Bool, true, false, List, [], ◌∷◌, ◌++◌, map, refl, sym, ap, ◌∙◌, Option, Result, Ok, Err, is_ok}
+use Rattle.std.proofs.lemmas.Simd.{map-map}
 use Rattle.std.specs.Prelude.{◌↔◌, IsOk, IsTrue}
 use Rattle.contract.specs.declared.fault.SemFault.{SemFault}
 use Rattle.contract.specs.declared.interval.Interval.{Interval}
@@ -14,11 +15,10 @@ use Rattle.trace.specs.declared.warned.Warned.{Warned}
 use Rattle.trace.specs.Warned.{warned_at}
 use Rattle.places.specs.declared.key.Key.{Key}
 use Rattle.places.specs.Places.{path_keys}
-use Rattle.marlowe_next.specs.Applicable.{Applicable}
-use Rattle.marlowe_next.specs.Told.{Told}
+use Rattle.next_lines.specs.Applicable.{Applicable}
+use Rattle.next_lines.specs.Told.{Told}
 use Rattle.marlowe_next.specs.Answer.{warning_told}
 use Rattle.marlowe_next.specs.AnswerSupport.{under}
-use Rattle.marlowe_next.proofs.ListedLemmas.{map_map}
 use Rattle.marlowe_next.proofs.UnderLemmas.{led_from, warned_from}
 
 -- where it stands
@@ -36,7 +36,7 @@ reduces_here false (Err f) h = refl
 pub warned_here : (whole : ContractTree) (p : List PathStep) (i : Interval) (s : StateMaps) (c : ContractTree) (ws : List Warned) → ws ≡ warned_at (settling [] (trimmed i s) (begun i s) c)
     → map (λ w. warning_told whole (under p w)) ws ≡ map (warning_told whole) (warned_at (settling p (trimmed i s) (begun i s) c))
 warned_here whole p i s c ws e =
-    ap (λ (xs : List Warned). map (λ w. warning_told whole (under p w)) xs) e ∙ sym (map_map (warning_told whole) (under p) (warned_at (settling [] (trimmed i s) (begun i s) c)))
+    ap (λ (xs : List Warned). map (λ w. warning_told whole (under p w)) xs) e ∙ sym (map-map (warning_told whole) (under p) (warned_at (settling [] (trimmed i s) (begun i s) c)))
     ∙ ap (map (warning_told whole)) (sym (warned_from p (trimmed i s) (begun i s) c))
 
 -- all of it

@@ -1,6 +1,5 @@
 -- What is printed where there is an answer.
-use Rattle.std.specs.Prelude.{◌≡◌, ℕ, Bool, true, false, List, [], ◌∷◌, ◌++◌, map, Result, Ok, is_ok}
-use Rattle.serde_json.specs.Written.{compact_text}
+use Rattle.std.specs.Prelude.{◌≡◌, ℕ, Bool, true, false, List, [], map, Result, Ok, is_ok}
 use Rattle.contract.specs.declared.interval.Interval.{Interval}
 use Rattle.contract.specs.Tree.{ContractTree}
 use Rattle.evaluation.specs.Path.{waits_for}
@@ -20,9 +19,9 @@ use Rattle.places.specs.Places.{path_keys, keys_of}
 use Rattle.places.specs.Texts.{kind_name}
 use Rattle.marlowe_next.specs.declared.asked.Asked.{Asked}
 use Rattle.marlowe_next.specs.Applicable.{refusal, applicable_from}
-use Rattle.marlowe_next.specs.Told.{Told}
-use Rattle.marlowe_next.specs.Lines.{lines_of}
-use Rattle.marlowe_next.specs.Json.{told_json}
+use Rattle.next_lines.specs.Told.{Told}
+use Rattle.next_lines.specs.Lines.{lines_of}
+use Rattle.next_lines.specs.Json.{json_line}
 use Rattle.marlowe_next.specs.Question.{Reached, interval_at, settled_of}
 
 -- a warning, with the keys of its place in the whole contract
@@ -46,7 +45,7 @@ told_of i r b offers =
 
 -- one line of JSON, or lines for people
 abbrev pub printed : Bool → Told → List ℕ
-printed true t = compact_text (told_json t) ++ 10 ∷ []
+printed true t = json_line t
 printed false t = lines_of t
 
 -- a text answers what is asked of a contract where transactions have led: it tells what the cases offer

@@ -1,5 +1,5 @@
 -- What each step of the code answers. It serves proofs alone.
-use Rattle.std.specs.Prelude.{◌≡◌, ◌≢◌, ◌↔◌, ℕ, Bool, true, List, [], ◌++◌, slice_get, Some, Result, Ok, Err, IsOk, IsTrue, MatchResult}
+use Rattle.std.specs.Prelude.{◌≡◌, ◌≢◌, ◌↔◌, ℕ, Bool, true, List, [], ◌∷◌, ◌++◌, slice_get, Option, Some, None, Result, Ok, Err, IsOk, IsTrue, MatchResult}
 use Rattle.std.specs.declared.vec.Vec.{Vec}
 use Rattle.std.specs.declared.alloc.Global.{Global}
 use Rattle.contract.specs.declared.tree.Contract.{Contract}
@@ -25,11 +25,17 @@ use Rattle.marlowe_refusals.specs.declared.fault.RunFault.TheVariants as run
 use Rattle.marlowe_refusals.specs.declared.trace_fault.TraceFault.{TraceFault}
 use Rattle.marlowe_refusals.specs.declared.trace_fault.TraceFault.TheVariants as trace
 use Rattle.marlowe_next.specs.declared.asked.Asked.{Asked}
-use Rattle.marlowe_next.specs.declared.told.CaseTold.{CaseTold}
-use Rattle.marlowe_next.specs.Applicable.{Applicable, refusal, applicable, applicable_from}
+use Rattle.next_lines.specs.declared.told.CaseTold.{CaseTold}
+use Rattle.next_lines.specs.Applicable.{Applicable}
+use Rattle.marlowe_next.specs.Applicable.{refusal, applicable, applicable_from}
 use Rattle.marlowe_next.specs.Question.{Reached, answered}
 use Rattle.marlowe_next.specs.Answer.{told_of, printed, IsAnswer}
-use Rattle.marlowe_next.specs.SeenSupport.{seen_cases}
+use Rattle.next_lines.specs.Seen.{seen_case, seen_cases}
+
+-- what is told of a case, if something is
+abbrev pub seen_if : Option CaseTold → List Applicable
+seen_if None = []
+seen_if (Some c) = seen_case c ∷ []
 
 -- a text that answers, or why there is no answer
 abbrev pub Answers : Asked → Result Reached TraceFault → Result (Vec ℕ Global) TraceFault → Type 0

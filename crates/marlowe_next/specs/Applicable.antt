@@ -1,10 +1,6 @@
--- The inputs that apply where a contract waits, case by case.
-use Rattle.std.specs.Prelude.{ℕ, suc, ℤ, List, [], ◌∷◌, ◌++◌, Option}
+-- Which inputs apply where a contract waits, by what its cases offer.
+use Rattle.std.specs.Prelude.{ℕ, suc, List, [], ◌∷◌, ◌++◌, Option}
 use Rattle.std.specs.Result.{result_err}
-use Rattle.names.specs.declared.party.Party.{Party}
-use Rattle.names.specs.declared.token.Token.{Token}
-use Rattle.names.specs.declared.choice_id.ChoiceId.{ChoiceId}
-use Rattle.names.specs.declared.bound.Bound.{Bound}
 use Rattle.contract.specs.declared.fault.SemFault.{SemFault}
 use Rattle.contract.specs.declared.input.Input.{Input}
 use Rattle.contract.specs.declared.input.Input.TheVariants as inputs
@@ -15,15 +11,7 @@ use Rattle.semantics.specs.Walk.{answer_of}
 use Rattle.semantics.specs.Computed.{computed}
 use Rattle.next_inputs.specs.declared.offer.Offer.{Offer}
 use Rattle.next_inputs.specs.declared.offer.Offer.TheVariants as offers
-
--- what the case at an index takes, and why what follows is refused, if it is: a deposit into an account by a party of an
--- amount of a token, a choice in bounds, or a notify. Or a number of the case's own leaves 128 bits
-pub data Applicable : Type 0 where
-  deposits : ℕ → Party → Party → Token → ℤ → Option SemFault → Applicable
-  chooses : ℕ → ChoiceId → List Bound → Applicable
-  notifies : ℕ → Option SemFault → Applicable
-  deposit_leaves : ℕ → Party → Party → Token → Applicable
-  notify_leaves : ℕ → Applicable
+use Rattle.next_lines.specs.Applicable.{Applicable, deposits, chooses, notifies, deposit_leaves, notify_leaves}
 
 -- why a transaction with one input is refused, if it is
 abbrev pub refusal : Interval → StateMaps → ContractTree → Input → Option SemFault

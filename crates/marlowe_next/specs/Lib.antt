@@ -1,9 +1,5 @@
 pub mod Question
 pub mod Applicable
-pub mod Told
-pub mod Lines
-pub mod Json
 pub mod Answer
-pub mod SeenSupport
-pub mod AnswerSupport
 pub mod Rows
+pub mod AnswerSupport

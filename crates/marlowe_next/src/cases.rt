@@ -3,15 +3,15 @@ ghost use Rattle.std.specs.Prelude.{◌≡◌, ◌<◌, ◌++◌, length, IfOk, 
 ghost use Rattle.evaluation.specs.Path.{waits_for};
 ghost use Rattle.next_inputs.specs.Offers.{AreOffers};
 ghost use Rattle.next_inputs.specs.Behind.{IsRefusedBehind};
-ghost use Rattle.marlowe_next.specs.SeenSupport.{seen_if, seen_cases};
-ghost use Rattle.marlowe_next.specs.AnswerSupport.{TakesAt, TellsCase, TellsCases};
+ghost use Rattle.next_lines.specs.Seen.{seen_cases};
+ghost use Rattle.marlowe_next.specs.AnswerSupport.{seen_if, TakesAt, TellsCase, TellsCases};
 
-use crate::told::{CaseTold, Deposit};
 use collections::{Memory, TryClone};
 use contract::{Input, Interval, Party, SemFault, State, Token};
 use evaluation::{Parts, Wait};
 use marlowe_run::beside_dropped;
 use next_inputs::{Offer, refused_behind};
+use next_lines::{CaseTold, Deposit};
 use std::alloc::Global;
 
 /// What is told of each case of a contract that has settled, in a fixed interval, by what the cases offer.

@@ -1,17 +1,9 @@
-//! What is told: worked rows of the definitions, the contract of a function that does nothing.
-ghost use Rattle.marlowe_next.specs.Rows.{TimesFollowTheMinimum, LeadsToTheThird, WhatFollowsIsRefused, DepositsAreTold, ChoicesAndNotifiesAreTold, TheWayIsTold, ClosingIsTold, AllIsToldInOrder, DepositsAreWritten, ChoicesAreWritten, AllIsWritten};
+//! What is asked and told: worked rows of the definitions, the contract of a function that does nothing.
+ghost use Rattle.marlowe_next.specs.Rows.{TimesFollowTheMinimum, LeadsToTheThird, WhatFollowsIsRefused};
 
 /// Worked rows, each computed on the definitions.
 pub fn worked_answers()
     ensures times { TimesFollowTheMinimum }
     ensures after { LeadsToTheThird }
     ensures refused { WhatFollowsIsRefused }
-    ensures deposits { DepositsAreTold }
-    ensures choices { ChoicesAndNotifiesAreTold }
-    ensures way { TheWayIsTold }
-    ensures closing { ClosingIsTold }
-    ensures lines { AllIsToldInOrder }
-    ensures written_deposits { DepositsAreWritten }
-    ensures written_choices { ChoicesAreWritten }
-    ensures written { AllIsWritten }
 {}

@@ -5,23 +5,9 @@
 mod answer;
 mod asked;
 mod cases;
-mod json_inputs;
-mod json_lists;
-mod json_text;
 mod laws;
-mod lines;
-mod pieces;
-mod terms;
-mod told;
 mod told_here;
-mod words;
 
 pub use answer::next;
 pub use asked::Asked;
 pub use laws::worked_answers;
-
-#[cfg(test)]
-mod tests {
-    #[test]
-    fn compiles() {}
-}

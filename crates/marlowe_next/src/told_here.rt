@@ -6,19 +6,17 @@ ghost use Rattle.semantics.specs.Walk.{standing};
 ghost use Rattle.semantics.specs.Transaction.{trimmed};
 ghost use Rattle.next_inputs.specs.Offers.{AreOffers};
 ghost use Rattle.marlowe_next.specs.Answer.{printed, told_of, warning_told};
-ghost use Rattle.marlowe_next.specs.SeenSupport.{IsTime, seen, seen_warning};
+ghost use Rattle.next_lines.specs.Seen.{IsMoment, seen, seen_warning};
 ghost use Rattle.marlowe_next.specs.AnswerSupport.{reached_at, HasSettled, TellsSettled, under};
 
 use crate::asked::fixed;
 use crate::cases::told_cases;
-use crate::json_text::told_json;
-use crate::lines::lines;
-use crate::told::{ToldHere, ToldWarning};
 use analysis_spec::PathStep;
 use collections::Memory;
 use contract::{Contract, Interval};
 use marlowe_run::beside_dropped;
 use next_inputs::{Offer, offers, waits_until};
+use next_lines::{ToldHere, ToldWarning, told_json, told_lines};
 use places::{keys_of, path_keys, warning_name};
 use semantics::Plain;
 use std::alloc::Global;
@@ -132,12 +130,12 @@ fn told_warning(
 
 // One line of JSON, or lines for people.
 fn printed(alloc: Global, told: ToldHere<'_>, json: bool) -> Result<Vec<u8>, Memory>
-    requires { IfSome told.until IsTime }
+    requires { IfSome told.until IsMoment }
     ensures { IfOk result (λ text. text.items ≡ printed json (seen told.entry)) }
 {
     if json {
         told_json(alloc, told)
     } else {
-        lines(alloc, told)
+        told_lines(alloc, told)
     }
 }

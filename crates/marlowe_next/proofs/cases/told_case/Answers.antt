@@ -2,7 +2,7 @@ use Rattle.std.proofs.Common.{◌≡◌, ℤ, SFits, [], ◌∷◌, sym, subst, 
 use Rattle.std.proofs.lemmas.Int.{to_z-of_z}
 use Rattle.std.specs.Int.{w128}
 use Rattle.contract.specs.declared.input.Input.TheVariants.{Deposit}
-use Rattle.marlowe_next.specs.Applicable.{deposits}
+use Rattle.next_lines.specs.Applicable.{deposits}
 use Rattle.marlowe_next.specs.AnswerSupport.{TellsCase}
 use Rattle.marlowe_next.proofs.CasesLemmas.{deposit_told, notify_told}
 use Rattle.marlowe_next.proofs.cases.told_case.Goals as goal

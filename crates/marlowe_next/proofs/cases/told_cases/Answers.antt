@@ -1,4 +1,5 @@
-use Rattle.marlowe_next.specs.SeenSupport.{seen_cases, seen_if}
+use Rattle.next_lines.specs.Seen.{seen_cases}
+use Rattle.marlowe_next.specs.AnswerSupport.{seen_if}
 use Rattle.marlowe_next.proofs.CasesLemmas.{takes_at, offer_there, told_more}
 use Rattle.marlowe_next.proofs.cases.told_cases.Goals as goal
 

@@ -4,7 +4,7 @@ use Rattle.contract.specs.Tree.{ContractTree}
 use Rattle.states.specs.States.{StateMaps}
 use Rattle.evaluation.specs.Path.{waits_for}
 use Rattle.marlowe_next.specs.Applicable.{refusal, applicable_from}
-use Rattle.marlowe_next.specs.SeenSupport.{seen_cases}
+use Rattle.next_lines.specs.Seen.{seen_cases}
 use Rattle.marlowe_next.specs.AnswerSupport.{SettlesTo}
 use Rattle.marlowe_next.proofs.cases.told_cases.Given as goal
 

@@ -1,17 +1,5 @@
-use Rattle.marlowe_next.proofs.Worked.{times_follow_the_minimum, leads_to_the_third, what_follows_is_refused, deposits_are_told, choices_and_notifies_are_told, the_way_is_told, closing_is_told, all_is_told_in_order, deposits_are_written, choices_are_written, all_is_written}
+use Rattle.marlowe_next.proofs.Worked.{times_follow_the_minimum, leads_to_the_third, what_follows_is_refused}
 use Rattle.marlowe_next.proofs.laws.worked_answers.Goals as goal
 
 pub returns : goal.returns
-returns c = record {
-  times = times_follow_the_minimum;
-  after = leads_to_the_third;
-  refused = what_follows_is_refused;
-  deposits = deposits_are_told;
-  choices = choices_and_notifies_are_told;
-  way = the_way_is_told;
-  closing = closing_is_told;
-  lines = all_is_told_in_order;
-  written_deposits = deposits_are_written;
-  written_choices = choices_are_written;
-  written = all_is_written;
-}
+returns c = record { times = times_follow_the_minimum; after = leads_to_the_third; refused = what_follows_is_refused }

@@ -7,9 +7,9 @@ use Rattle.next_inputs.specs.Opening.{opening}
 use Rattle.analysis_spec.specs.declared.path.PathStep.{PathStep}
 use Rattle.analysis_spec.specs.Marks.{led}
 use Rattle.places.specs.Places.{path_keys}
-use Rattle.marlowe_next.specs.Told.{Told}
+use Rattle.next_lines.specs.Told.{Told}
 use Rattle.marlowe_next.specs.Answer.{told_of, printed, warning_told}
-use Rattle.marlowe_next.specs.SeenSupport.{seen_cases, seen_warning}
+use Rattle.next_lines.specs.Seen.{seen_cases, seen_warning}
 use Rattle.marlowe_next.specs.AnswerSupport.{reached_at, under}
 use Rattle.marlowe_next.proofs.HereLemmas.{path_here, reduces_here, warned_here, same_told}
 use Rattle.marlowe_next.proofs.told_here.offered_text.Goals as goal

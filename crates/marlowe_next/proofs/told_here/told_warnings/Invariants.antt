@@ -1,7 +1,7 @@
 use Rattle.std.proofs.Common.{◌≡◌, map, take}
 use Rattle.contract.specs.Tree.{contract_tree}
 use Rattle.marlowe_next.specs.Answer.{warning_told}
-use Rattle.marlowe_next.specs.SeenSupport.{seen_warning}
+use Rattle.next_lines.specs.Seen.{seen_warning}
 use Rattle.marlowe_next.specs.AnswerSupport.{under}
 use Rattle.marlowe_next.proofs.told_here.told_warnings.Given as goal
 

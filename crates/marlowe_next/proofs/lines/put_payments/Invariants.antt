@@ -1,7 +1,0 @@
-use Rattle.std.proofs.Common.{◌≡◌, ◌++◌, take}
-use Rattle.std.specs.Prelude.{flat_map}
-use Rattle.marlowe_next.specs.Lines.{payment_line}
-use Rattle.marlowe_next.proofs.lines.put_payments.Given as goal
-
-abbrev pub invariant-loop-payment : goal.invariant-loop-payment
-invariant-loop-payment l = l.out.items ≡ l.fn.out.items ++ flat_map payment_line (take l.payment-index l.payments)
