@@ -29,6 +29,7 @@ PROGRAM = os.path.join(rows.CRATES, "marlowe", "out", "marlowe")
 # The command line of a row, and the file that holds its text.
 ROWS = {
     "run": ("run contract.json state.json transaction.json", "transaction.json"),
+    "trace": ("trace contract.json transactions.json", "transactions.json"),
     "table": ("table contract.json", "contract.json"),
     "play": ("play scenario.json --one", "scenario.json"),
     "last": ("play scenario.json --one", "scenario.json"),
@@ -69,12 +70,14 @@ class Folder(rows.Given):
             return rest
         if word in ANALYSES:
             return "analyse contract.json" + " state.json" * self.has_state + ANALYSES[word]
+        if word == "next":
+            return f"next contract.json{' state.json' * self.has_state} {rest}"
         if word not in ROWS:
             raise rows.NoSuchRow
         line, name = ROWS[word]
         if rest:
             self.keep(name, rest)
-        return line
+        return line + " --state state.json" * (word == "trace" and self.has_state)
 
 
 def part_of(word, count, output):

@@ -1,25 +1,78 @@
 #!/usr/bin/env python3
-"""Makes random contracts and states, works out what can be done with each over an interval, and tries candidates by the interpreter.
+"""Makes random contracts and states, works out what can be done with each over an interval, tries candidates by the interpreter, and
+compares what the built program prints.
 
-Needs    nothing built: no command prints this yet, so no program is compared
-Usage    next.py [COUNT [SEED]]     compares `listed` below with candidates that the interpreter tries: 1000 contracts by seed 1
+Needs    (cd crates/marlowe && rt run -- --version); with `--apart` nothing built
+Usage    next.py [--apart] [COUNT [SEED]]     1000 contracts by seed 1, where nothing else is said; MARLOWE=PATH names another program
 Expect   `1000 contracts agree`, then how many inputs were tried, and how many were taken, left a number or matched nothing.
 Else     `differs` with the seed and the contract, the input, what was wanted and what came, and status 1.
 
 Tried are: a deposit of each account, party and token that a case names, of each amount that a case evaluates to and one more and less;
-numbers about each bound of each choice, and of the same name and another owner; a notify.
+numbers about each bound of each choice, and of the same name and another owner; a notify. The program is asked for lines and for JSON,
+of half the contracts behind one or two transactions (`--after`), and without times, with one, and with both.
 """
-import copy, json, os, sys
+import copy, json, os, subprocess, sys, tempfile
 HERE = os.path.dirname(os.path.abspath(__file__))
 sys.path.insert(0, HERE)
 import compare
-from interpreter import Refused, Transaction, choice_id, has, party, token
+from interpreter import Refused, Transaction, choice_id, has, party, party_json, payee_json, state_json, token, token_json, wide
+PROGRAM = os.environ.get("MARLOWE", os.path.join(HERE, "..", "crates", "marlowe", "out", "marlowe"))
 ENDS = [-2**63, 2**64 - 1]
+FORMS = ("pay", "if", "when", "let", "assert")
 
 
-def opened(contract, state, interval):
+class Placed(Transaction):
+    """A transaction that notes where in the contract it is, as keys, and where each warning comes."""
+
+    def __init__(self, state, interval, path=()):
+        super().__init__(state, interval)
+        self.path, self.placed = list(path), []
+
+    def settle(self, c):
+        while c != "close":
+            form, before = next(word for word in FORMS if word in c), len(self.warnings)
+            left, step = self.step(c, form)
+            self.placed += [(self.path + [form], w) for w in self.warnings[before:]]
+            if step is None:
+                return c
+            self.path, c, self.turned = self.path + [step], left, True
+        self.close()
+        return c
+
+    def step(self, c, form):
+        """One reduction: what is gone on with, and by which key; or no key, where it waits."""
+        if form == "pay":
+            self.pay(c)
+        elif form == "if":
+            key = "then" if self.holds(c["if"]) else "else"
+            return c[key], key
+        elif form == "when":
+            if self.end < c["timeout"]:
+                return c, None
+            if self.start < c["timeout"]:
+                raise Refused("Ambiguous")
+            return c["timeout_continuation"], "timeout_continuation"
+        elif form == "let":
+            name, number = c["let"], self.value(c["be"])
+            if name in self.bound:
+                self.warn("Shadowing", name=name, new=number, old=self.bound[name])
+            self.bound[name] = number
+        elif not self.holds(c["assert"]):
+            self.warn("AssertionFailed")
+        return c["then"], "then"
+
+    def apply(self, given, c):
+        for index, case in enumerate(cases_of(c)):
+            if self.matches(given, case["case"]):
+                self.take(given)
+                self.path, self.turned = self.path + ["when", index, "then"], True
+                return case["then"]
+        raise Refused("NoMatch")
+
+
+def opened(contract, state, interval, path=()):
     """A transaction up to its inputs, and the contract that is left then."""
-    run = Transaction(state, interval)
+    run = Placed(state, interval, path)
     return run, run.settle(contract)
 
 
@@ -140,7 +193,97 @@ def has_input(action, offer, given):
     return offer[0] == "notify" and given == "input_notify"
 
 
-# ---- the form that is printed
+# ---- what is printed
+
+def compact(data):
+    return json.dumps(data, separators=(",", ":"), sort_keys=True, ensure_ascii=False)
+
+
+def behind(run, case, given):
+    """Why what follows the case is refused, or None."""
+    tried_run = copy.deepcopy(run)
+    try:
+        tried_run.take(given)
+        tried_run.settle(case["then"])
+        return None
+    except Refused as fault:
+        return str(fault)
+
+
+def deposit_of(action, amount):
+    return {"input_from_party": action["party"], "that_deposits": amount, "of_token": action["of_token"], "into_account": action["into_account"]}
+
+
+def place_text(keys):
+    return "".join(f"[{key}]" if isinstance(key, int) else f".{key}" for key in keys)
+
+
+def token_text(t):
+    return "ADA" if token(t) == (b"", "") else compact(token_json(token(t)))
+
+
+def paid_text(payment):
+    source, target, coin, amount = payment
+    return f"{amount} {token_text(token_json(coin))} from {compact(party_json(source))} to {compact(payee_json(target))}"
+
+
+def offer_line(run, index, case, offer):
+    action, then = case["case"], place_text(run.path + ["when", index, "then"])
+    if is_deposit(action):
+        who = f"by {compact(party_json(party(action['party'])))} into {compact(party_json(party(action['into_account'])))}"
+        coin = token_text(action["of_token"])
+        if offer[0] == "Leaves128":
+            return f"deposit {who} of {coin}: Leaves128"
+        fault = behind(run, case, deposit_of(action, offer[1]))
+        warns = ", warns NonPositiveDeposit" if offer[1] <= 0 else ""
+        return f"deposit {offer[1]} {coin} {who}{warns}, then {then}" + (f", refused {fault}" if fault else "")
+    if is_choice(action):
+        numbers = ", ".join(str(a) if a == b else f"{a} to {b}" for a, b in offer[1])
+        name, owner = choice_id(action["for_choice"])
+        return f"choose {compact(name)} of {compact(party_json(owner))}: {numbers}, then {then}"
+    if offer[0] == "Leaves128":
+        return "notify: Leaves128"
+    fault = behind(run, case, "input_notify")
+    return f"notify, then {then}" + (f", refused {fault}" if fault else "")
+
+
+def lines_of(run, left, offers):
+    if left == "close":
+        if not run.turned:
+            lines = ["closed"]
+        else:
+            lines = ["closes, and pays " + (", ".join(map(paid_text, run.payments)) or "nothing")]
+    else:
+        lines = [offer_line(run, n, case, offer) for n, (case, offer) in enumerate(zip(left["when"], offers)) if offer]
+        lines.append(f"waits until {left['timeout'] - 1}; from {left['timeout']} on {place_text(run.path + ['timeout_continuation'])}")
+        lines += [f"pays on the way {paid_text(p)}" for p in run.payments]
+    lines += [f"warns on the way: {w['warning']} at {place_text(keys)}" for keys, w in run.placed]
+    return "".join(line + "\n" for line in lines)
+
+
+def json_of(run, left, offers):
+    deposits, choices, notify, leaving = [], [], None, []
+    for n, (case, offer) in enumerate(zip(cases_of(left), offers)):
+        action = case["case"]
+        if offer is None:
+            continue
+        if offer[0] == "Leaves128":
+            leaving.append(n)
+        elif offer[0] == "deposit":
+            deposits.append({"party": party_json(party(action["party"])), "can_deposit": wide(offer[1]), "of_token": token_json(token(action["of_token"])),
+                             "into_account": party_json(party(action["into_account"])), "case_index": n, "is_merkleized_continuation": False,
+                             "refused": behind(run, case, deposit_of(action, offer[1])), "warns": offer[1] <= 0})
+        elif offer[0] == "choice":
+            name, owner = choice_id(action["for_choice"])
+            choices.append({"for_choice": {"choice_name": name, "choice_owner": party_json(owner)}, "case_index": n, "is_merkleized_continuation": False,
+                            "can_choose_between": [{"from": a, "to": b} for a, b in offer[1]]})
+        else:
+            notify = {"case_index": n, "is_merkleized_continuation": False, "refused": behind(run, case, "input_notify")}
+    payments = [{"payment_from": party_json(a), "to": payee_json(p), "token": token_json(t), "amount": wide(n)} for a, p, t, n in run.payments]
+    return compact({"applicable_inputs": {"choices": choices, "deposits": deposits, "leaves_128": leaving, "notify": notify}, "at": run.path,
+                    "can_reduce": run.turned, "payments": payments, "waits_until": None if left == "close" else left["timeout"] - 1,
+                    "warnings": [{"at": keys, "kind": w["warning"]} for keys, w in run.placed]}) + "\n"
+
 
 # ---- the comparison
 
@@ -200,12 +343,69 @@ def compare_one(seed, n, parts, counts):
         counts[kind] = counts.get(kind, 0) + 1
 
 
+def answer(parts, after, words, form):
+    """What the program should print and its status: behind some transactions, over the interval that the words leave."""
+    contract, state, _ = parts
+    path = []
+    for index, transaction in enumerate(after):
+        try:
+            run, contract = finished(contract, state, transaction, path)
+        except Refused as fault:
+            return f"refused transaction {index + 1} {fault}\n", 1
+        state, path = state_json(run, int), run.path
+    first = words.get("--from", state["minTime"])
+    last = words.get("--to", first)
+    try:
+        run, left = opened(contract, state, {"from": first, "to": last}, path)
+    except Refused as fault:
+        return f"refused {fault}\n", 1
+    return form(run, left, listed(run, left)), 0
+
+
+def finished(contract, state, transaction, path):
+    """A transaction at its end, and the contract that is left."""
+    run = Placed(state, transaction["tx_interval"], path)
+    left = run.settle(contract)
+    for given in transaction["tx_inputs"]:
+        left = run.settle(run.apply(given, left))
+    if not run.turned:
+        raise Refused("Useless")
+    return run, left
+
+
+def ask(folder, seed, n, parts, counts):
+    """Asks the program, once for lines or for JSON."""
+    contract, state, interval = parts
+    after = [{"tx_interval": interval, "tx_inputs": []}, compare.case()[2]][:compare.R.randrange(3)] if n % 2 else []
+    words = {key: interval[end] for key, end in (("--from", "from"), ("--to", "to")) if compare.R.random() < 0.6}
+    form, flags = ((lines_of, []), (json_of, ["--json"]))[n // 2 % 2]
+    paths = [os.path.join(folder, name) for name in ("contract", "state")]
+    for path, part in zip(paths, (contract, state)):
+        with open(path, "w") as file:
+            json.dump(part, file)
+    for index, transaction in enumerate(after):
+        path = os.path.join(folder, f"after{index}")
+        with open(path, "w") as file:
+            json.dump(transaction, file)
+        flags += ["--after", path]
+    run = subprocess.run([PROGRAM, "next", *paths, *(f"{key}={time}" for key, time in words.items()), *flags], capture_output=True, text=True)
+    got, want = (run.stdout + run.stderr, run.returncode), answer(parts, after, words, form)
+    if got != want:
+        differs(seed, n, parts, json.dumps(after), json.dumps(words), flags, "\nwant", *want, "\ngot ", *got)
+    kind = f"asked, status {want[1]}"
+    counts[kind] = counts.get(kind, 0) + 1
+
+
 def main():
-    words = sys.argv[1:]
+    words = [word for word in sys.argv[1:] if word != "--apart"]
     count, seed = int(words[0]) if words else 1000, int(words[1]) if words[1:] else 1
     counts = {}
-    for n in range(count):
-        compare_one(seed, n, case(seed, n), counts)
+    with tempfile.TemporaryDirectory() as folder:
+        for n in range(count):
+            parts = case(seed, n)
+            compare_one(seed, n, parts, counts)
+            if "--apart" not in sys.argv:
+                ask(folder, seed, n, parts, counts)
     print(count, "contracts agree")
     for kind in sorted(counts):
         print(f"  {counts[kind]:8} {kind}")

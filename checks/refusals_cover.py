@@ -32,10 +32,12 @@ GRANTED = ["publish published", "advance advanced", "look tick", "submit accepte
 RULED = ["submit refused"]
 # What stands behind the place of an alarm where there is no run.
 UNKNOWN = ["not known"]
+# The faults of a trace that stand for others.
+WITHIN = ["Run", "Text", "Refused"]
 # What a heading ends in where the same name stands in a chapter before it.
-ENDS = (" of a builder", " of an analysis")
+ENDS = (" of a builder", " of an analysis", " of a trace")
 # What `clap` tells of a command line: its library has more, which no command line of ours can give.
-WORDS = ["unrecognized subcommand", "required arguments were not provided", "unexpected argument"]
+WORDS = ["unrecognized subcommand", "required arguments were not provided", "unexpected argument", "invalid value"]
 MEMORY = "needs little memory: checks/refused_memory.py"
 SHA = "needs two things of one SHA-256"
 LEFT = {
@@ -77,6 +79,7 @@ def names():
     """The names of each chapter."""
     found = {chapter: variants(*enum) for chapter, enum in ENUMS.items()}
     found["The analysis"] += UNKNOWN
+    found["Traces"] = [name for name in variants("TraceFault", "marlowe_refusals") if name not in WITHIN]
     return {**found, "Calls": call_answers(), "The command line": program_answers(), "Memory": ["Memory"]}
 
 

@@ -47,7 +47,9 @@ PRINTED = {
     "StepFault": (["rows_chain/transactions"], {}),
     "BuildFault": (["rows_chain"], {}),
     "LoadFault": (["rows_commands/values"], {"Unreadable": "unreadable$", "Memory": "Memory$"}),
-    "Fault": (["rows_commands"], {"Run": "refused NoMatch$", "Table": "refused contract "}),
+    "Fault": (["rows_commands"], {"Run": "refused NoMatch$", "Table": "refused contract ", "Trace": r"refused transaction \d+ NoMatch$"}),
+    "TraceFault": (["rows_commands"], {"Run": "refused state ", "Text": r"refused transaction \d+ NotJson$", "Refused": r"refused transaction \d+ NoMatch$"}),
+    "ReadFault": (["rows_commands"], {"Text": r"refused transaction \d+ NotJson$"}),
     "WordsFault": ([], {}),
     "Verdict": (["rows_chain"], {"Accepted": r"\d+ accepted", "Refused": r"\d+ refused "}),
     "Reply": (["rows_chain"], {"Published": "published ", "NotCompiled": "refused TooDeep$", "IdInUse": "in use$", "Advanced": "advanced$", "Backward": "backward$",
@@ -110,14 +112,20 @@ MEMORY = "answered only where memory was refused"
 EXACT = "its clause is an equation without \"memory aside\", and its one fault is Leaves128"
 ONE = "it has one value"
 KNOWN = "each If that rows_commands analyses copies what is known"
-STEPS = "a step of `Steps::compute`, which each row of a run calls"
+TRACED = "each row of `marlowe trace` or `next` calls it"
+DERIVED = "derived, and compared by no call"
 LEFT = {
-    "call semantics::apply": STEPS,
-    "call semantics::matches": STEPS,
-    "call semantics::Log::warn": STEPS,
-    "call semantics::Log::pay": STEPS,
-    "call semantics::reduce": STEPS,
-    "call semantics::fix": STEPS,
+    "fault ReadFault::Memory": MEMORY,
+    "call marlowe_run::outcome_line": TRACED,
+    "call marlowe_run::read_start": TRACED,
+    "call semantics::apply": TRACED,
+    "call semantics::matches": TRACED,
+    "call semantics::Log::warn": TRACED,
+    "call semantics::Log::pay": TRACED,
+    "call semantics::reduce": TRACED,
+    "call semantics::fix": TRACED,
+    "== ReadFault": DERIVED,
+    "== TraceFault": DERIVED,
     "fault SemFault::Memory": MEMORY,
     "fault CompileFault::Memory": MEMORY,
     "fault JsonFault::Memory": MEMORY,

@@ -17,8 +17,8 @@ use contract::{
     Action, Bound, Case, ChoiceId, Contract, Input, Interval, Observation, Party, Payee, State,
     Token, Transaction, Value,
 };
-use evaluation::{holds, value};
-use replay::matches;
+use evaluation::{Parts, holds, value};
+use semantics::{Plain, matches};
 use std::alloc::Global;
 
 // What a try takes, and what the beginning of a transaction takes, beside what the contract asks for.
@@ -234,7 +234,7 @@ impl Walk<'_> {
         if !self.is_early(*timeout) || !self.begin(way, now, until)? {
             return Ok(Brought::Nothing);
         }
-        self.take_case(way, cases.as_slice(), index, case)
+        self.take_case(way, at, index, case)
     }
 
     // Whether a When with this timeout still waits at the end of the transaction that is open, if one is.
@@ -383,12 +383,12 @@ impl Walk<'_> {
     fn take_case(
         &mut self,
         way: &Way,
-        cases: &[Case],
+        at: &Contract,
         index: usize,
         case: &Case,
     ) -> Result<Brought, Memory> {
         let offer = self.offer(way, &case.action)?;
-        if !self.is_left_by(cases, index) {
+        if !self.is_left_by(at, index) {
             return Ok(Brought::Nothing);
         }
         match offer {
@@ -466,15 +466,17 @@ impl Walk<'_> {
 
     // Whether none of the first cases, of so many, takes the input that is offered, and no number leaves 128 bits where they
     // are tried.
-    fn is_left_by(&self, cases: &[Case], count: usize) -> bool {
+    fn is_left_by(&self, at: &Contract, count: usize) -> bool {
         let Some(interval) = self.open else {
             return false;
         };
         let Some(input) = self.inputs.as_slice().last() else {
             return false;
         };
-        for case in cases.iter().take(count) {
-            match matches(input, &case.action, &self.state, interval) {
+        let parts = Plain::new();
+        for index in 0..count.min(parts.count_cases(at)) {
+            let case = parts.case(at, index);
+            match matches(&parts, input, case.action, &self.state, interval) {
                 Ok(false) => {}
                 _ => return false,
             }

@@ -1,5 +1,5 @@
-//! `marlowe`: what a Marlowe contract pays, and to whom, from JSON files; what it can warn of and pay in any run; and
-//! what becomes of contracts that many parties step on one ledger.
+//! `marlowe`: what a Marlowe contract pays, and to whom, from JSON files, by one transaction or many; what it takes next; what it can
+//! warn of and pay in any run; and what becomes of contracts that many parties step on one ledger.
 //!
 //! What a command line prints, and its status, is told by `command` of `marlowe_commands`. Here are the words, the files and the
 //! streams. Where standard output can't be written, `unwritable` is on standard error, and the status is 2.
@@ -34,19 +34,19 @@ fn main(rt: HostRuntime) -> ExitCode {
     }
 }
 
-// Writes what is printed, and gives its status; or tells that memory was refused, for which it takes none.
+// Writes what is printed, a refusal behind outcomes, and gives its status; or tells that memory was refused, for which it takes none.
 fn tell(output: &impl Print, errors: &impl Print, printed: Result<Printed, Memory>) -> ExitCode {
     match printed {
-        Ok(printed) => {
-            let _ = emit_output(errors, printed.errors.as_slice());
-            match emit_output(output, printed.output.as_slice()) {
-                Ok(()) => ExitCode::from(printed.status),
-                Err(_) => {
-                    let _ = errors.write_all(b"unwritable\n");
-                    ExitCode::from(2)
-                }
+        Ok(printed) => match emit_output(output, printed.output.as_slice()) {
+            Ok(()) => {
+                let _ = emit_output(errors, printed.errors.as_slice());
+                ExitCode::from(printed.status)
             }
-        }
+            Err(_) => {
+                let _ = errors.write_all(b"unwritable\n");
+                ExitCode::from(2)
+            }
+        },
         Err(_) => {
             let _ = errors.write_all(b"refused Memory\n");
             ExitCode::from(1)

@@ -1,4 +1,3 @@
-mod PlacesLemmas
 mod LinesLemmas
 mod RunsLemmas
 mod WrittenLemmas

@@ -1,8 +1,6 @@
 -- Lines behind lines.
-use Rattle.std.proofs.Common.{◌≡◌, ℕ, ◌+◌, ◌<◌, Bool, true, false, List, [], ◌∷◌, ◌++◌, map, take, length, refl, sym, ap, ◌∙◌, subst, append_assoc, Option, Some}
+use Rattle.std.proofs.Common.{◌≡◌, ℕ, Bool, true, false, List, [], ◌∷◌, ◌++◌, map, length, refl, sym, ap, ◌∙◌, subst, append_assoc, Option, Some}
 use Rattle.std.specs.Prelude.{flat_map, codes, ◌==◌}
-use Rattle.std.proofs.Math.ListN.{get_or}
-use Rattle.std.proofs.lemmas.List.{take_more, flat_map_more, get_or_default}
 use Rattle.contract.specs.declared.transaction.Transaction.{Transaction}
 use Rattle.analysis_spec.specs.declared.paid.PaidRange.{PaidRange}
 use Rattle.json.specs.Print.{print}
@@ -12,11 +10,12 @@ use Rattle.serde_json.specs.View.{items_of}
 use Rattle.serde_json.specs.Written.{compact_text}
 use Rattle.serde_json.proofs.Texts.{print-outline}
 use Rattle.json_write_contracts.specs.Tokens.{Puts, data_tokens}
-use Rattle.marlowe_analyse.specs.declared.told.Key.{Key}
+use Rattle.places.specs.declared.key.Key.{Key}
 use Rattle.marlowe_analyse.specs.declared.told.ToldAlarm.{ToldAlarm}
 use Rattle.marlowe_analyse.specs.ToldLines.{line_of}
 use Rattle.marlowe_analyse.specs.Lines.{transaction_line, run_lines, alarm_lines, alarms_lines}
-use Rattle.marlowe_analyse.specs.Tools.{key_json, alarm_json, told_json}
+use Rattle.places.specs.Texts.{place_json}
+use Rattle.marlowe_analyse.specs.Tools.{alarm_json, told_json}
 use Rattle.marlowe_analyse.proofs.AnalysedLemmas.{not_zero}
 
 -- two pieces, three, four
@@ -28,14 +27,6 @@ three_pieces a b c d x y z e f g = two_pieces a b d x (y ++ z) e (two_pieces b c
 
 pub four_pieces : (a b c d e x y z w : List ℕ) → b ≡ a ++ x → c ≡ b ++ y → d ≡ c ++ z → e ≡ d ++ w → e ≡ a ++ (x ++ (y ++ (z ++ w)))
 four_pieces a b c d e x y z w f g h i = two_pieces a b e x (y ++ (z ++ w)) f (three_pieces b c d e y z w g h i)
-
--- one piece more
-pub piece_more : {X : Type 0} (f : X → List ℕ) (xs : List X) (i : ℕ) (x : X) (a b c : List ℕ) → i < length xs → x ≡ get_or xs i x → b ≡ a ++ flat_map f (take i xs) → c ≡ b ++ f x → c ≡ a ++ flat_map f (take (i + 1) xs)
-piece_more f xs i x a b c l is e g =
-    g ∙ ap (λ z. z ++ f x) e ∙ flat_map_more f a (take i xs) x ∙ ap (λ ys. a ++ flat_map f ys) (sym (take_more xs i x l ∙ ap (λ y. take i xs ++ y ∷ []) (sym is)))
-
-pub piece_more_at : {X : Type 0} (d : X) (f : X → List ℕ) (xs : List X) (i : ℕ) (a b c : List ℕ) → i < length xs → b ≡ a ++ flat_map f (take i xs) → c ≡ b ++ f (get_or xs i d) → c ≡ a ++ flat_map f (take (i + 1) xs)
-piece_more_at d f xs i a b c l e g = piece_more f xs i (get_or xs i d) a b c l (get_or_default xs i d (get_or xs i d) l) e g
 
 -- lines of told alarms
 pub lines_each : (runs : Bool) (ts : List ToldAlarm) → flat_map (alarm_lines runs) (map line_of ts) ≡ flat_map (λ t. alarm_lines runs (line_of t)) ts
@@ -73,8 +64,8 @@ alarms_put runs a b ts h = subst (λ (ds : List Data). Puts a b (array (items_of
 pub word_put : (a b : Written) (w v : List ℕ) → w ≡ v → Puts a b (string w) → Puts a b (string v)
 word_put a b w v e h = subst (λ (x : List ℕ). Puts a b (string x)) e h
 
-pub place_put : (a b : Written) (ks ls : List Key) → ks ≡ ls → Puts a b (array (items_of (map key_json ks))) → Puts a b (array (items_of (map key_json ls)))
-place_put a b ks ls e h = subst (λ (x : List Key). Puts a b (array (items_of (map key_json x)))) e h
+pub place_put : (a b : Written) (ks ls : List Key) → ks ≡ ls → Puts a b (place_json ks) → Puts a b (place_json ls)
+place_put a b ks ls e h = subst (λ (x : List Key). Puts a b (place_json x)) e h
 
 pub told_put : (runs : Bool) (a b : Written) (ts us : List ToldAlarm) (rs qs : List PaidRange) → ts ≡ us → rs ≡ qs → Puts a b (told_json runs (map line_of ts) rs) → Puts a b (told_json runs (map line_of us) qs)
 told_put runs a b ts us rs qs e f h = subst (λ (x : List PaidRange). Puts a b (told_json runs (map line_of us) x)) f (subst (λ (x : List ToldAlarm). Puts a b (told_json runs (map line_of x) rs)) e h)

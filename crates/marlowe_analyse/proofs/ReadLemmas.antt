@@ -34,17 +34,17 @@ the_parts (Ok g) (Ok z) given s c e h =
     let p : ◌≡◌ {A = StateMaps × ContractTree} (z, contract_tree g) (s, c) = cc in
     (ap (λ (q : StateMaps × ContractTree). let y : Result StateMaps JsonFault = Ok q.0 in y) p, ap contract_tree (sym same) ∙ ap (λ (q : StateMaps × ContractTree). q.1) p)
 
-module _ (reader : Reader) (text : List ℕ) (start : Option (List ℕ)) (given : Contract) (is : of_text contract text ≡ Ok given) where
-  tells : (clear : Bool) (out : List ℕ) → TellsFrom reader (contract_tree given) (start_of start) clear out → TellsSo reader text start clear out
+module _ (reader : Reader) (texts : Bool) (text : List ℕ) (start : Option (List ℕ)) (given : Contract) (is : of_text contract text ≡ Ok given) where
+  tells : (clear : Bool) (out : List ℕ) → TellsFrom reader (contract_tree given) (start_of texts start) clear out → TellsSo reader texts text start clear out
   tells clear out h s c e =
-      let p = the_parts (of_text contract text) (start_of start) given s c is e in
+      let p = the_parts (of_text contract text) (start_of texts start) given s c is e in
       subst (λ (t : ContractTree). TellsOfTree reader s t clear out) p.1 (h s p.0)
 
-  pub all_told_so : (r : Result Analysed RunFault) → IfOk r (λ t. TellsFrom reader (contract_tree given) (start_of start) t.is_clear t.text.items) → IfOk r (λ t. TellsSo reader text start t.is_clear t.text.items)
+  pub all_told_so : (r : Result Analysed RunFault) → IfOk r (λ t. TellsFrom reader (contract_tree given) (start_of texts start) t.is_clear t.text.items) → IfOk r (λ t. TellsSo reader texts text start t.is_clear t.text.items)
   all_told_so (Ok t) h = tells t.is_clear t.text.items h
   all_told_so (Err f) h = tt
 
-  pub is_clear_so : (r : Result Analysed RunFault) → IfOk r (λ t. TellsFrom reader (contract_tree given) (start_of start) t.is_clear t.text.items) → IfOk r (λ t. t.is_clear ≡ true → IsClear text start)
+  pub is_clear_so : (r : Result Analysed RunFault) → IfOk r (λ t. TellsFrom reader (contract_tree given) (start_of texts start) t.is_clear t.text.items) → IfOk r (λ t. t.is_clear ≡ true → IsClear texts text start)
   is_clear_so (Ok t) h = λ e s c q. never_alarms reader s c t.is_clear t.text.items (tells t.is_clear t.text.items h s c q) e
   is_clear_so (Err f) h = tt
 
@@ -54,14 +54,14 @@ same_read (Err f) r given e = absurd (cc)
 same_read (Ok g) (Err f) given e = refl
 same_read (Ok g) (Ok z) given e = refl
 
-pub read_as_started : (text : List ℕ) (start : Option (List ℕ)) (given : Contract) (r : Result Analysed RunFault) → of_text contract text ≡ Ok given → AsideBy run.Memory (λ _. tt) r (is_started (start_of start)) → AsideBy run.Memory (λ _. tt) r (is_read text start)
-read_as_started text start given r e h = subst (λ (a : Result (Unit {0}) RunFault). AsideBy run.Memory (λ _. tt) r a) (same_read (of_text contract text) (start_of start) given e) h
+pub read_as_started : (texts : Bool) (text : List ℕ) (start : Option (List ℕ)) (given : Contract) (r : Result Analysed RunFault) → of_text contract text ≡ Ok given → AsideBy run.Memory (λ _. tt) r (is_started (start_of texts start)) → AsideBy run.Memory (λ _. tt) r (is_read texts text start)
+read_as_started texts text start given r e h = subst (λ (a : Result (Unit {0}) RunFault). AsideBy run.Memory (λ _. tt) r a) (same_read (of_text contract text) (start_of texts start) given e) h
 
 fault_of : (o : Result Contract JsonFault) (r : Result StateMaps JsonFault) (f : JsonFault) (g : RunFault) → (f ≢ json.Memory → o ≡ Err f) → g ≡ contract_fault f → g ≢ run.Memory → are_read o r ≡ Err g
 fault_of o r f g h e n = ap (λ (z : Result Contract JsonFault). are_read z r) (h (λ m. n (e ∙ ap contract_fault m))) ∙ ap (λ (x : RunFault). let y : Result (Unit {0}) RunFault = Err x in y) (sym e)
 
-pub not_read : (text : List ℕ) (start : Option (List ℕ)) (f : JsonFault) (g : RunFault) → (f ≢ json.Memory → of_text contract text ≡ Err f) → g ≡ contract_fault f → g ≢ run.Memory → is_read text start ≡ Err g
-not_read text start f g h e n = fault_of (of_text contract text) (start_of start) f g h e n
+pub not_read : (texts : Bool) (text : List ℕ) (start : Option (List ℕ)) (f : JsonFault) (g : RunFault) → (f ≢ json.Memory → of_text contract text ≡ Err f) → g ≡ contract_fault f → g ≢ run.Memory → is_read texts text start ≡ Err g
+not_read texts text start f g h e n = fault_of (of_text contract text) (start_of texts start) f g h e n
 
 -- where the state is read
 pub tells_from : (reader : Reader) (c : ContractTree) (start : Result StateMaps JsonFault) (s : StateMaps) (clear : Bool) (out : List ℕ) → start ≡ Ok s → TellsOfTree reader s c clear out → TellsFrom reader c start clear out

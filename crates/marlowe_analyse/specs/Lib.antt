@@ -1,5 +1,4 @@
 pub mod Told
-pub mod Places
 pub mod ToldLines
 pub mod Lines
 pub mod Tools

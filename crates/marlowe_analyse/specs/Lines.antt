@@ -1,30 +1,13 @@
 -- The lines for people.
-use Rattle.std.specs.Prelude.{ℕ, ℤ, Bool, true, false, List, [], ◌∷◌, ◌++◌, flat_map, Option, Some, None, codes, decimal}
+use Rattle.std.specs.Prelude.{ℕ, ℤ, Bool, true, false, List, [], ◌∷◌, ◌++◌, flat_map, Option, Some, None, codes}
 use Rattle.std.specs.Fmt.{signed_decimal}
 use Rattle.serde_json.specs.Written.{compact_text}
 use Rattle.contract.specs.declared.transaction.Transaction.{Transaction}
 use Rattle.json_write_contracts.specs.WrittenNames.{party_json, token_json}
 use Rattle.contract_json.specs.WrittenInput.{transaction_json}
-use Rattle.analysis_spec.specs.declared.kind.AlarmKind.{AlarmKind}
-use Rattle.analysis_spec.specs.declared.kind.AlarmKind.TheVariants.{NonPositiveDeposit, NonPositivePay, PartialPay, Shadowing, AssertionFailed, Leaves128}
 use Rattle.analysis_spec.specs.declared.paid.PaidRange.{PaidRange}
-use Rattle.marlowe_analyse.specs.declared.told.Key.{Key}
-use Rattle.marlowe_analyse.specs.declared.told.Key.TheVariants as keys
-use Rattle.marlowe_analyse.specs.Places.{key_word}
+use Rattle.places.specs.Texts.{kind_name, place_text}
 use Rattle.marlowe_analyse.specs.ToldLines.{Line}
-
-abbrev pub kind_name : AlarmKind → List ℕ
-kind_name NonPositiveDeposit = codes "NonPositiveDeposit"
-kind_name NonPositivePay = codes "NonPositivePay"
-kind_name PartialPay = codes "PartialPay"
-kind_name Shadowing = codes "Shadowing"
-kind_name AssertionFailed = codes "AssertionFailed"
-kind_name Leaves128 = codes "Leaves128"
-
--- a key with `.` before it, and the place of an item in brackets
-abbrev pub key_text : Key → List ℕ
-key_text (keys.Item n) = codes "[" ++ (decimal n ++ codes "]")
-key_text key = codes "." ++ key_word key
 
 -- the compact JSON of a transaction, on a line
 abbrev pub transaction_line : Transaction → List ℕ
@@ -38,7 +21,7 @@ run_lines false run = 10 ∷ []
 
 -- the kind of an alarm, its place and its run
 abbrev pub alarm_lines : Bool → Line → List ℕ
-alarm_lines runs l = kind_name l.kind ++ (codes " at " ++ (flat_map key_text l.place ++ run_lines runs l.run))
+alarm_lines runs l = kind_name l.kind ++ (codes " at " ++ (place_text l.place ++ run_lines runs l.run))
 
 -- all alarms, or that there is none
 abbrev pub alarms_lines : Bool → List Line → List ℕ

@@ -22,16 +22,16 @@ printed Tools lines ranges = compact_text (told_json true lines ranges) ++ 10 �
 printed PeopleWithoutRuns lines ranges = lines_of false lines ranges
 printed ToolsWithoutRuns lines ranges = compact_text (told_json false lines ranges) ++ 10 ∷ []
 
--- the contract is read first, and then the state
-abbrev pub what_is_read : List ℕ → Option (List ℕ) → Result (StateMaps × ContractTree) RunFault
-what_is_read text start = read_as contract_fault (of_text contract text) >>= λ given. read_as state_fault (start_of start) >>= λ s. Ok (s, contract_tree given)
+-- the contract is read first, and then the state, whose numbers may be texts where that is said
+abbrev pub what_is_read : Bool → List ℕ → Option (List ℕ) → Result (StateMaps × ContractTree) RunFault
+what_is_read texts text start = read_as contract_fault (of_text contract text) >>= λ given. read_as state_fault (start_of texts start) >>= λ s. Ok (s, contract_tree given)
 
 -- or why one of them isn't
-abbrev pub is_read : List ℕ → Option (List ℕ) → Result (Unit {0}) RunFault
-is_read text start = what_is_read text start >>= λ _. Ok tt
+abbrev pub is_read : Bool → List ℕ → Option (List ℕ) → Result (Unit {0}) RunFault
+is_read texts text start = what_is_read texts text start >>= λ _. Ok tt
 
-abbrev pub IsReadAs : List ℕ → Option (List ℕ) → StateMaps → ContractTree → Type 0
-IsReadAs text start s c = what_is_read text start ≡ Ok (s, c)
+abbrev pub IsReadAs : Bool → List ℕ → Option (List ℕ) → StateMaps → ContractTree → Type 0
+IsReadAs texts text start s c = what_is_read texts text start ≡ Ok (s, c)
 
 -- what is printed tells what is so of a contract and a state, and it is said to be clear where there is no alarm
 abbrev pub TellsOfTree : Reader → StateMaps → ContractTree → Bool → List ℕ → Type 0
@@ -39,9 +39,9 @@ TellsOfTree reader s c clear out =
     (alarms : Alarms) × (ranges : List PaidRange) × IsSo s c alarms ranges × (out ≡ printed reader (map (line_at c) alarms) ranges) × (clear ≡ true ↔ alarms ≡ [])
 
 -- .. of those that the texts are read as
-abbrev pub TellsSo : Reader → List ℕ → Option (List ℕ) → Bool → List ℕ → Type 0
-TellsSo reader text start clear out = (s : StateMaps) (c : ContractTree) → IsReadAs text start s c → TellsOfTree reader s c clear out
+abbrev pub TellsSo : Reader → Bool → List ℕ → Option (List ℕ) → Bool → List ℕ → Type 0
+TellsSo reader texts text start clear out = (s : StateMaps) (c : ContractTree) → IsReadAs texts text start s c → TellsOfTree reader s c clear out
 
 -- it never warns, and stays within 128 bits
-abbrev pub IsClear : List ℕ → Option (List ℕ) → Type 0
-IsClear text start = (s : StateMaps) (c : ContractTree) → IsReadAs text start s c → NeverAlarms s c
+abbrev pub IsClear : Bool → List ℕ → Option (List ℕ) → Type 0
+IsClear texts text start = (s : StateMaps) (c : ContractTree) → IsReadAs texts text start s c → NeverAlarms s c

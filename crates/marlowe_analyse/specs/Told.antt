@@ -1,5 +1,5 @@
 -- What is told of a contract and the state in which it starts, and when that is so.
-use Rattle.std.specs.Prelude.{ℕ, pos, List, map, Option, Some, None, IfSome, Result, Ok}
+use Rattle.std.specs.Prelude.{ℕ, pos, Bool, true, false, List, map, Option, Some, None, IfSome, Result, Ok}
 use Rattle.std.specs.FinMap.{empty}
 use Rattle.std.specs.List.{AllByRecursion}
 use Rattle.contract.specs.Tree.{ContractTree}
@@ -7,7 +7,7 @@ use Rattle.contract.specs.declared.transaction.Transaction.{Transaction}
 use Rattle.states.specs.States.{StateMaps}
 use Rattle.json_read_names.specs.declared.fault.JsonFault.{JsonFault}
 use Rattle.json_read_names.specs.ReadsText.{of_text}
-use Rattle.json_read_inputs.specs.ReadsState.{state}
+use Rattle.json_read_inputs.specs.ReadsState.{state, state_with_texts}
 use Rattle.semantics.specs.Walk.{standing}
 use Rattle.analysis_spec.specs.declared.kind.AlarmKind.{AlarmKind}
 use Rattle.analysis_spec.specs.Promises.{NeverWarns, StaysWithin128}
@@ -48,7 +48,8 @@ NeverAlarms s c = ((kind : AlarmKind) → NeverWarns kind s c) × StaysWithin128
 abbrev pub at_first : StateMaps
 at_first = record { accounts = empty; choices = empty; bound_values = empty; min_time = pos 0 }
 
--- the state of a text, or where there is none that one
-abbrev pub start_of : Option (List ℕ) → Result StateMaps JsonFault
-start_of None = Ok at_first
-start_of (Some text) = of_text state text
+-- the state of a text, whose numbers may be texts where that is said, or where there is none that one
+abbrev pub start_of : Bool → Option (List ℕ) → Result StateMaps JsonFault
+start_of texts None = Ok at_first
+start_of false (Some text) = of_text state text
+start_of true (Some text) = of_text state_with_texts text

@@ -5,9 +5,9 @@ use Rattle.contract.specs.declared.transaction.Transaction.{Transaction}
 use Rattle.contract_json.specs.WrittenInput.{transaction_fits}
 use Rattle.analysis_spec.specs.declared.kind.AlarmKind.{AlarmKind}
 use Rattle.analysis_spec.specs.declared.alarm.Alarm.{Alarm}
-use Rattle.marlowe_analyse.specs.declared.told.Key.{Key}
+use Rattle.places.specs.declared.key.Key.{Key}
 use Rattle.marlowe_analyse.specs.declared.told.ToldAlarm.{ToldAlarm}
-use Rattle.marlowe_analyse.specs.Places.{keys_of}
+use Rattle.places.specs.Places.{keys_of}
 
 pub record Line : Type 0 where
   pub kind : AlarmKind

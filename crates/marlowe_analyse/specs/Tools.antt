@@ -1,20 +1,13 @@
 -- The JSON for tools.
-use Rattle.std.specs.Prelude.{ℤ, pos, Bool, true, false, List, map, Option, Some, None, codes}
+use Rattle.std.specs.Prelude.{ℤ, Bool, true, false, List, map, Option, Some, None, codes}
 use Rattle.serde_json.specs.Data.{Data, string, array, null}
 use Rattle.serde_json.specs.View.{items_of}
 use Rattle.contract.specs.declared.transaction.Transaction.{Transaction}
-use Rattle.json_write_contracts.specs.WrittenNames.{two, three, four, number_json, wide_json, party_json, token_json}
+use Rattle.json_write_contracts.specs.WrittenNames.{two, three, four, wide_json, party_json, token_json}
 use Rattle.contract_json.specs.WrittenInput.{transaction_json}
 use Rattle.analysis_spec.specs.declared.paid.PaidRange.{PaidRange}
-use Rattle.marlowe_analyse.specs.declared.told.Key.{Key}
-use Rattle.marlowe_analyse.specs.declared.told.Key.TheVariants as keys
-use Rattle.marlowe_analyse.specs.Places.{key_word}
+use Rattle.places.specs.Texts.{kind_name, place_json}
 use Rattle.marlowe_analyse.specs.ToldLines.{Line}
-use Rattle.marlowe_analyse.specs.Lines.{kind_name}
-
-abbrev pub key_json : Key → Data
-key_json (keys.Item n) = number_json (pos n)
-key_json key = string (key_word key)
 
 abbrev pub run_json : Option (List Transaction) → Data
 run_json None = null
@@ -22,8 +15,8 @@ run_json (Some ts) = array (items_of (map transaction_json ts))
 
 -- an alarm with its run, or where runs are left out without the key `run`
 abbrev pub alarm_json : Bool → Line → Data
-alarm_json false l = two (codes "kind") (string (kind_name l.kind)) (codes "place") (array (items_of (map key_json l.place)))
-alarm_json true l = three (codes "kind") (string (kind_name l.kind)) (codes "place") (array (items_of (map key_json l.place))) (codes "run") (run_json l.run)
+alarm_json false l = two (codes "kind") (string (kind_name l.kind)) (codes "place") (place_json l.place)
+alarm_json true l = three (codes "kind") (string (kind_name l.kind)) (codes "place") (place_json l.place) (codes "run") (run_json l.run)
 
 abbrev pub bound_json : Option ℤ → Data
 bound_json None = null

@@ -1,5 +1,5 @@
 //! The analysis of a contract, from text to text.
-ghost use Rattle.std.specs.Prelude.{◌≡◌, ◌++◌, true, map, All, IfOk, OnOk, option_map};
+ghost use Rattle.std.specs.Prelude.{◌≡◌, ◌++◌, true, map, Some, All, IfOk, OnOk, option_map};
 ghost use Rattle.collections.specs.Answers.{Aside, AsideBy};
 ghost use Rattle.contract.specs.Tree.{contract_tree};
 ghost use Rattle.marlowe_analyse.specs.Told.{start_of};
@@ -17,7 +17,7 @@ use analysis::analyse;
 use analysis_walk::Analysis;
 use collections::Memory;
 use contract::{Contract, State};
-use contract_json::{JsonFault, read_contract, read_state};
+use contract_json::{JsonFault, read_contract, read_state, read_state_with_texts};
 use marlowe_refusals::RunFault;
 use std::alloc::Global;
 
@@ -42,22 +42,24 @@ pub struct Analysed {
 }
 
 /// Analyses a contract from a state, both as JSON texts of at most 1,048,576 bytes; without a state its runs start
-/// without entries, at time 0. Refused is a text that is no contract or no state. For each alarm it looks for a run
+/// without entries, at time 0. With `texts` a number of the state may also be a text of its digits, as outcomes
+/// have it where JSON lacks it. Refused is a text that is no contract or no state. For each alarm it looks for a run
 /// that ends in it, unless the reader wants none. All searches together do no more work than the length of the texts allows.
 pub fn analyse_text(
     alloc: Global,
     contract: &[u8],
     state: Option<&[u8]>,
+    texts: bool,
     reader: Reader,
 ) -> Result<Analysed, RunFault>
-    ensures told { IfOk result (λ told. TellsSo reader contract.now (option_map (λ text. text.now) state.entry) told.is_clear told.text.items) }
-    ensures clear { IfOk result (λ told. told.is_clear ≡ true → IsClear contract.now (option_map (λ text. text.now) state.entry)) }
-    ensures read { AsideBy RunFault.Memory (λ _. tt) result (is_read contract.now (option_map (λ text. text.now) state.entry)) }
+    ensures told { IfOk result (λ told. TellsSo reader texts contract.now (option_map (λ text. text.now) state.entry) told.is_clear told.text.items) }
+    ensures clear { IfOk result (λ told. told.is_clear ≡ true → IsClear texts contract.now (option_map (λ text. text.now) state.entry)) }
+    ensures read { AsideBy RunFault.Memory (λ _. tt) result (is_read texts contract.now (option_map (λ text. text.now) state.entry)) }
 {
     let length = contract.len().saturating_add(length_of(state));
     match read_contract(alloc, contract) {
         Ok(given) => {
-            let told = analysed_from(alloc, &given, state, length, reader);
+            let told = analysed_from(alloc, &given, state, texts, length, reader);
             beside_dropped(given, told)
         }
         Err(fault) => Err(RunFault::of_contract(fault)),
@@ -69,13 +71,14 @@ fn analysed_from(
     alloc: Global,
     contract: &Contract,
     state: Option<&[u8]>,
+    texts: bool,
     length: usize,
     reader: Reader,
 ) -> Result<Analysed, RunFault>
-    ensures told { IfOk result (λ told. TellsFrom reader (contract_tree contract.now) (start_of (option_map (λ text. text.now) state.entry)) told.is_clear told.text.items) }
-    ensures read { AsideBy RunFault.Memory (λ _. tt) result (is_started (start_of (option_map (λ text. text.now) state.entry))) }
+    ensures told { IfOk result (λ told. TellsFrom reader (contract_tree contract.now) (start_of texts (option_map (λ text. text.now) state.entry)) told.is_clear told.text.items) }
+    ensures read { AsideBy RunFault.Memory (λ _. tt) result (is_started (start_of texts (option_map (λ text. text.now) state.entry))) }
 {
-    match start(alloc, state) {
+    match start(alloc, state, texts) {
         Ok(first) => {
             let text = analysis_text(alloc, contract, &first, length, reader);
             let told = beside_dropped(first, text)?;
@@ -120,12 +123,22 @@ fn length_of(state: Option<&[u8]>) -> usize {
 }
 
 // The state of a text, or where there is none the one without entries, at time 0.
-fn start(alloc: Global, state: Option<&[u8]>) -> Result<State, JsonFault>
-    ensures { Aside JsonFault.Memory result (start_of (option_map (λ text. text.now) state.entry)) }
+fn start(alloc: Global, state: Option<&[u8]>, texts: bool) -> Result<State, JsonFault>
+    ensures { Aside JsonFault.Memory result (start_of texts (option_map (λ text. text.now) state.entry)) }
 {
     match state {
-        Some(text) => read_state(alloc, text),
+        Some(text) => given_state(alloc, text, texts),
         None => Ok(State::new(alloc, 0)),
+    }
+}
+
+fn given_state(alloc: Global, text: &[u8], texts: bool) -> Result<State, JsonFault>
+    ensures { Aside JsonFault.Memory result (start_of texts (Some text.now)) }
+{
+    if texts {
+        read_state_with_texts(alloc, text)
+    } else {
+        read_state(alloc, text)
     }
 }
 

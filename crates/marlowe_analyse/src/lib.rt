@@ -5,7 +5,6 @@ mod analysed;
 mod dropped;
 mod lines;
 mod order;
-mod places;
 mod runs;
 mod told;
 mod tools;

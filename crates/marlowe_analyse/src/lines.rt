@@ -3,15 +3,16 @@ ghost use Rattle.std.specs.Prelude.{◌≡◌, [], ◌∷◌, ◌++◌, true, ma
 ghost use Rattle.serde_json.specs.Written.{compact_text};
 ghost use Rattle.contract_json.specs.WrittenInput.{transaction_json, transaction_fits};
 ghost use Rattle.marlowe_analyse.specs.ToldLines.{line_of, LineFits, RunFits};
-ghost use Rattle.marlowe_analyse.specs.Lines.{key_text, transaction_line, run_lines, alarm_lines, alarms_lines, bounds_text, range_line};
+ghost use Rattle.marlowe_analyse.specs.Lines.{transaction_line, run_lines, alarm_lines, alarms_lines, bounds_text, range_line};
 
-use crate::told::{Key, ToldAlarm, key_word, kind_name};
+use crate::told::ToldAlarm;
 use analysis_spec::PaidRange;
 use collections::{Items, Memory};
 use contract::Transaction;
 use contract_json::{PutJson, WriteFault};
 use json::Writer;
 use json_write_contracts::term_text;
+use places::{kind_name, put_place};
 use std::alloc::{AllocError, Global};
 
 /// A line that there is no alarm, or the lines of each, with runs or without.
@@ -62,39 +63,6 @@ fn put_alarm(alloc: Global, out: &mut Vec<u8>, alarm: &ToldAlarm, runs: bool) ->
     put_bytes(out, b" at ")?;
     put_place(alloc, out, &alarm.place)?;
     put_end(alloc, out, &alarm.run, runs)
-}
-
-fn put_place(alloc: Global, out: &mut Vec<u8>, place: &[Key]) -> Result<(), Memory>
-    ensures { OnOk result (out.new.items ≡ out.old.items ++ flat_map key_text place.now) }
-{
-    for key in place {
-        put_key(alloc, out, *key)?;
-    }
-    Ok(())
-}
-
-// A key with `.` before it, and the place of an item in brackets.
-fn put_key(alloc: Global, out: &mut Vec<u8>, key: Key) -> Result<(), Memory>
-    ensures { OnOk result (out.new.items ≡ out.old.items ++ key_text key) }
-{
-    match key {
-        Key::Item(index) => put_item(alloc, out, index),
-        word => put_word(out, key_word(word)),
-    }
-}
-
-fn put_item(alloc: Global, out: &mut Vec<u8>, index: usize) -> Result<(), Memory>
-    ensures { OnOk result (out.new.items ≡ out.old.items ++ key_text (Key.Item index)) }
-{
-    let text = format!(in alloc; "[{index}]")?;
-    put_bytes(out, text.as_bytes())
-}
-
-fn put_word(out: &mut Vec<u8>, word: &str) -> Result<(), Memory>
-    ensures { OnOk result (out.new.items ≡ out.old.items ++ (codes "." ++ word.now)) }
-{
-    put_bytes(out, b".")?;
-    put_bytes(out, word.as_bytes())
 }
 
 // The end of an alarm's line, and its run; or without that.

@@ -9,12 +9,12 @@ ghost use Rattle.marlowe_analyse.specs.ToldLines.{line_at, line_of, LineFits, Ru
 ghost use Rattle.marlowe_analyse.specs.RunsSupport.{TellsAll, TellsOf};
 
 use crate::order::told_order;
-use crate::places::keys_of;
 use crate::told::ToldAlarm;
 use analysis_spec::Alarm;
 use collections::{Items, Memory};
 use contract::{Contract, Input, State, Transaction};
 use counter_runs::{is_written, run_to};
+use places::keys_of;
 use std::alloc::Global;
 
 // The work of all searches together: so much for any texts, and so much more for each of their bytes. A unit of work is

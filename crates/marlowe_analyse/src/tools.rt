@@ -6,15 +6,16 @@ ghost use Rattle.serde_json.specs.Written.{compact_text};
 ghost use Rattle.json_write_contracts.specs.Tokens.{Puts};
 ghost use Rattle.contract_json.specs.WrittenInput.{transaction_json, transaction_fits};
 ghost use Rattle.marlowe_analyse.specs.ToldLines.{line_of, LineFits, RunFits};
-ghost use Rattle.marlowe_analyse.specs.Tools.{key_json, run_json, alarm_json, bound_json, range_json, told_json};
+ghost use Rattle.marlowe_analyse.specs.Tools.{run_json, alarm_json, bound_json, range_json, told_json};
 
-use crate::told::{Key, Told, ToldAlarm, key_word, kind_name};
+use crate::told::{Told, ToldAlarm};
 use analysis_spec::PaidRange;
 use collections::{Items, Memory};
 use contract::Transaction;
 use contract_json::{PutJson, WriteFault};
 use json::Writer;
 use json_write_contracts::{put_amount, put_party, put_token, word};
+use places::{kind_name, put_place_json};
 use std::alloc::{AllocError, Global};
 
 /// All that is told, as one JSON text, with runs or without, and a line feed.
@@ -84,7 +85,7 @@ fn put_without_run(out: &mut Writer, alarm: &ToldAlarm) -> Result<(), Memory>
     out.key("kind")?;
     word(out, kind_name(alarm.kind))?;
     out.key("place")?;
-    put_place(out, &alarm.place)?;
+    put_place_json(out, &alarm.place)?;
     out.end_object()?;
     Ok(())
 }
@@ -97,37 +98,10 @@ fn put_with_run(alloc: Global, out: &mut Writer, alarm: &ToldAlarm) -> Result<()
     out.key("kind")?;
     word(out, kind_name(alarm.kind))?;
     out.key("place")?;
-    put_place(out, &alarm.place)?;
+    put_place_json(out, &alarm.place)?;
     out.key("run")?;
     put_run(alloc, out, &alarm.run)?;
     out.end_object()?;
-    Ok(())
-}
-
-fn put_place(out: &mut Writer, place: &[Key]) -> Result<(), Memory>
-    ensures { OnOk result (Puts out.old out.new (array (items_of (map key_json place.now)))) }
-{
-    out.begin_array()?;
-    for key in place {
-        put_key(out, *key)?;
-    }
-    out.end_array()?;
-    Ok(())
-}
-
-fn put_key(out: &mut Writer, key: Key) -> Result<(), Memory>
-    ensures { OnOk result (Puts out.old out.new (key_json key)) }
-{
-    match key {
-        Key::Item(index) => put_item(out, index),
-        name => word(out, key_word(name)),
-    }
-}
-
-fn put_item(out: &mut Writer, index: usize) -> Result<(), Memory>
-    ensures { OnOk result (Puts out.old out.new (key_json (Key.Item index))) }
-{
-    out.u64(index as u64)?;
     Ok(())
 }
 

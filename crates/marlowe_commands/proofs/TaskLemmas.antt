@@ -1,32 +1,50 @@
--- Which words ask for an analysis, and what is printed for one.
-use Rattle.std.proofs.Common.{◌≡◌, ℕ, Bool, true, false, List, Option, Some, None, inl, inr, subst}
+-- Which words ask for an analysis or a trace, and what is printed for one.
+use Rattle.std.proofs.Common.{◌≡◌, ◌⊎◌, ℕ, Bool, true, false, List, Option, Some, None, inl, inr, subst, codes}
 use Rattle.clap.specs.Words.{Row, Text}
 use Rattle.marlowe_cli.specs.declared.task.Task.{Task}
-use Rattle.marlowe_cli.specs.declared.task.Task.TheVariants.{Run, Table, Analyse, Play}
-use Rattle.marlowe_cli.specs.Lines.{IsAsked}
+use Rattle.marlowe_cli.specs.declared.task.Task.TheVariants.{Run, Trace, Next, Table, Analyse, Play}
+use Rattle.marlowe_cli.specs.Asked.{IsAsked}
 use Rattle.marlowe_analyse.specs.declared.analysed.Reader.{Reader}
 use Rattle.marlowe_analyse.specs.Printed.{TellsSo}
-use Rattle.marlowe_commands.specs.Streams.{Streams, on_output}
-use Rattle.marlowe_commands.specs.Tasks.{AsksAnalysis, IsAnalysis, PrintsAnalysis}
+use Rattle.marlowe_commands.specs.Streams.{Streams, on_output, IsCut, IsOnOneStream, IsOnStreams}
+use Rattle.marlowe_commands.specs.Tasks.{AsksFor, IsAnalysis, IsTrace, PrintsAnalysis}
 
 -- a task that is an analysis is asked for by its name
-pub asks_analysis : (words : Option (Text × List Row)) (task : Task) → IsAsked words task → IsAnalysis task → AsksAnalysis words
+pub asks_analysis : (words : Option (Text × List Row)) (task : Task) → IsAsked words task → IsAnalysis task → AsksFor (codes "analyse") words
 asks_analysis None task asked is = asked
-asks_analysis (Some (name, rows)) (Run contract state transaction) asked is = absurd is
-asks_analysis (Some (name, rows)) (Table contract) asked is = absurd is
-asks_analysis (Some (name, rows)) (Analyse contract state json no_runs) asked is = asked.0
-asks_analysis (Some (name, rows)) (Play scenario one) asked is = absurd is
+asks_analysis (Some (name, rows)) (Analyse task) asked is = asked.0
+asks_analysis (Some (name, rows)) (Run task) asked is = absurd is
+asks_analysis (Some (name, rows)) (Trace task) asked is = absurd is
+asks_analysis (Some (name, rows)) (Next task) asked is = absurd is
+asks_analysis (Some (name, rows)) (Table task) asked is = absurd is
+asks_analysis (Some (name, rows)) (Play task) asked is = absurd is
+
+-- .. so is a trace
+asks_trace : (words : Option (Text × List Row)) (task : Task) → IsAsked words task → IsTrace task → AsksFor (codes "trace") words
+asks_trace None task asked is = asked
+asks_trace (Some (name, rows)) (Trace task) asked is = asked.0
+asks_trace (Some (name, rows)) (Run task) asked is = absurd is
+asks_trace (Some (name, rows)) (Next task) asked is = absurd is
+asks_trace (Some (name, rows)) (Table task) asked is = absurd is
+asks_trace (Some (name, rows)) (Analyse task) asked is = absurd is
+asks_trace (Some (name, rows)) (Play task) asked is = absurd is
+
+-- what a task prints, the words print that ask for it
+pub on_streams : (words : Option (Text × List Row)) (task : Task) (streams : Streams) → IsAsked words task → IsOnStreams (IsTrace task) streams
+    → IsOnStreams (AsksFor (codes "trace") words) streams
+on_streams words task streams asked (inl one) = inl one
+on_streams words task streams asked (inr cut) = inr (asks_trace words task asked cut.0, cut.1)
 
 -- ---- what is printed for an analysis
 
 -- it tells of no alarm, with status 0
-pub clear_printed : (reader : Reader) (contract : List ℕ) (state : Option (List ℕ)) (clear : Bool) (text : List ℕ) (streams : Streams)
-    → streams ≡ on_output text 0 → clear ≡ true → TellsSo reader contract state clear text → PrintsAnalysis reader contract state streams
-clear_printed reader contract state clear text streams printed is told =
-    inl (text, printed, subst (λ known. TellsSo reader contract state known text) is told)
+pub clear_printed : (reader : Reader) (texts : Bool) (contract : List ℕ) (state : Option (List ℕ)) (clear : Bool) (text : List ℕ) (streams : Streams)
+    → streams ≡ on_output text 0 → clear ≡ true → TellsSo reader texts contract state clear text → PrintsAnalysis reader texts contract state streams
+clear_printed reader texts contract state clear text streams printed is told =
+    inl (text, printed, subst (λ known. TellsSo reader texts contract state known text) is told)
 
 -- or it tells of one, with status 3
-pub alarms_printed : (reader : Reader) (contract : List ℕ) (state : Option (List ℕ)) (clear : Bool) (text : List ℕ) (streams : Streams)
-    → streams ≡ on_output text 3 → clear ≡ false → TellsSo reader contract state clear text → PrintsAnalysis reader contract state streams
-alarms_printed reader contract state clear text streams printed is told =
-    inr (inl (text, printed, subst (λ known. TellsSo reader contract state known text) is told))
+pub alarms_printed : (reader : Reader) (texts : Bool) (contract : List ℕ) (state : Option (List ℕ)) (clear : Bool) (text : List ℕ) (streams : Streams)
+    → streams ≡ on_output text 3 → clear ≡ false → TellsSo reader texts contract state clear text → PrintsAnalysis reader texts contract state streams
+alarms_printed reader texts contract state clear text streams printed is told =
+    inr (inl (text, printed, subst (λ known. TellsSo reader texts contract state known text) is told))

@@ -1,14 +1,19 @@
 -- What is printed for each task.
-use Rattle.std.specs.Prelude.{◌≡◌, ◌⊎◌, ℕ, true, false, List, [], ◌∷◌, ◌++◌, Option, Some, None, Result, Ok, Err, codes}
+use Rattle.std.specs.Prelude.{◌≡◌, ◌⊎◌, ℕ, Bool, true, false, List, [], ◌∷◌, ◌++◌, Option, Some, None, Result, Ok, Err, codes}
 use Rattle.clap.specs.Words.{Row, Text}
 use Rattle.marlowe_refusals.specs.declared.fault.RunFault.{RunFault}
 use Rattle.marlowe_refusals.specs.declared.table_fault.TableFault.{TableFault}
-use Rattle.marlowe_refusals.specs.Refusals.{run_refusal, table_refusal}
+use Rattle.marlowe_refusals.specs.declared.trace_fault.TraceFault.{TraceFault}
+use Rattle.marlowe_refusals.specs.Refusals.{run_refusal, table_refusal, trace_refusal}
+use Rattle.marlowe_trace.specs.Traced.{Told}
+use Rattle.marlowe_next.specs.declared.asked.Asked.{Asked}
+use Rattle.marlowe_next.specs.Answer.{IsAnswer}
+use Rattle.marlowe_next.specs.Question.{Reached, answered}
 use Rattle.marlowe_analyse.specs.declared.analysed.Reader.{Reader}
 use Rattle.marlowe_analyse.specs.Printed.{TellsSo, is_read}
 use Rattle.marlowe_cli.specs.declared.task.Task.{Task}
-use Rattle.marlowe_cli.specs.declared.task.Task.TheVariants.{Analyse}
-use Rattle.marlowe_commands.specs.Streams.{Streams, on_output, on_errors}
+use Rattle.marlowe_cli.specs.declared.task.Task.TheVariants.{Analyse, Trace}
+use Rattle.marlowe_commands.specs.Streams.{Streams, cut_by, on_output, on_errors}
 
 -- a refusal: a line on standard error, with status 1
 abbrev pub refused : List ℕ → Streams
@@ -19,23 +24,40 @@ abbrev pub PrintsRun : Result (List ℕ) RunFault → Streams → Type 0
 PrintsRun (Ok text) streams = streams ≡ on_output text 0
 PrintsRun (Err fault) streams = streams ≡ refused (run_refusal fault)
 
+-- the outcomes, and behind them the refusal of the transaction that ends them, if one does; or why none is computed
+abbrev pub PrintsTrace : Result Told TraceFault → Streams → Type 0
+PrintsTrace (Ok (text, None)) streams = streams ≡ on_output text 0
+PrintsTrace (Ok (text, Some fault)) streams = streams ≡ cut_by text (trace_refusal fault)
+PrintsTrace (Err fault) streams = streams ≡ refused (trace_refusal fault)
+
+-- the answer to what is asked where transactions have led, or why there is none
+abbrev pub PrintsNext : Asked → Result Reached TraceFault → Streams → Type 0
+PrintsNext asked reached streams =
+    ((text : List ℕ) × (streams ≡ on_output text 0) × IsAnswer asked reached text)
+    ⊎ ((fault : TraceFault) × (answered asked reached ≡ Err fault) × (streams ≡ refused (trace_refusal fault)))
+
 abbrev pub PrintsTable : Result (List ℕ) TableFault → Streams → Type 0
 PrintsTable (Ok text) streams = streams ≡ on_output text 0
 PrintsTable (Err fault) streams = streams ≡ refused (table_refusal fault)
 
 -- the analysis, with status 0 where it tells of no alarm and with 3 where it tells of one; or the refusal of the first text that isn't read
-abbrev pub PrintsAnalysis : Reader → List ℕ → Option (List ℕ) → Streams → Type 0
-PrintsAnalysis reader contract state streams =
-    ((text : List ℕ) × (streams ≡ on_output text 0) × TellsSo reader contract state true text)
-    ⊎ ((text : List ℕ) × (streams ≡ on_output text 3) × TellsSo reader contract state false text)
-    ⊎ ((fault : RunFault) × (is_read contract state ≡ Err fault) × (streams ≡ refused (run_refusal fault)))
+abbrev pub PrintsAnalysis : Reader → Bool → List ℕ → Option (List ℕ) → Streams → Type 0
+PrintsAnalysis reader texts contract state streams =
+    ((text : List ℕ) × (streams ≡ on_output text 0) × TellsSo reader texts contract state true text)
+    ⊎ ((text : List ℕ) × (streams ≡ on_output text 3) × TellsSo reader texts contract state false text)
+    ⊎ ((fault : RunFault) × (is_read texts contract state ≡ Err fault) × (streams ≡ refused (run_refusal fault)))
 
--- a task is an analysis
+-- ---- which task it is
+
 abbrev pub IsAnalysis : Task → Type 0
-IsAnalysis (Analyse contract state json no_runs) = Unit {0}
+IsAnalysis (Analyse task) = Unit {0}
 IsAnalysis other = ⊥
 
--- the words of a command line ask for an analysis
-abbrev pub AsksAnalysis : Option (Text × List Row) → Type 0
-AsksAnalysis None = ⊥
-AsksAnalysis (Some (name, words)) = name ≡ codes "analyse"
+abbrev pub IsTrace : Task → Type 0
+IsTrace (Trace task) = Unit {0}
+IsTrace other = ⊥
+
+-- the words of a command line ask for the command of this name
+abbrev pub AsksFor : Text → Option (Text × List Row) → Type 0
+AsksFor name None = ⊥
+AsksFor name (Some (asked, words)) = asked ≡ name

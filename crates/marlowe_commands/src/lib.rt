@@ -1,17 +1,21 @@
 //! What a command of `marlowe` prints on both streams, and its status: from the words of a command line and what the files of its
 //! paths hold.
 //!
-//! `command` is the whole program but for its files and its streams. `run_printed`, `table_printed`, `analysis_printed` and
-//! `play_printed` are its tasks, from texts. docs/formats.md has what is printed.
+//! `command` is the whole program but for its files and its streams. `run_printed` and its like are its tasks, from texts.
+//! docs/formats.md has what is printed.
 #![tactic(auto)]
 
 mod command_line;
 mod printed;
+mod stops;
 mod tasks;
 mod texts;
+mod told;
 
 pub use command_line::command;
 pub use marlowe_play::{NoWatch, Watch};
 pub use printed::Printed;
-pub use tasks::{analysis_printed, play_printed, run_printed, table_printed};
+pub use tasks::{
+    analysis_printed, next_printed, play_printed, run_printed, table_printed, trace_printed,
+};
 pub use texts::Texts;

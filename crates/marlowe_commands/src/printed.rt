@@ -1,12 +1,13 @@
 //! What is printed.
 ghost use Rattle.std.specs.Prelude.{◌≡◌, [], ◌∷◌, ◌++◌, IfOk};
-ghost use Rattle.marlowe_commands.specs.Streams.{streams_of, on_output, on_errors};
+ghost use Rattle.marlowe_commands.specs.Streams.{streams_of, cut_by, on_output, on_errors};
 
 use collections::Memory;
 use std::alloc::Global;
 
 /// What a command prints, and its status: 0 for a text on standard output, 3 for an analysis there that has alarms, 1 for a refusal
-/// on standard error, and 2 for a file that can't be read or a fault of the command line, there too.
+/// on standard error, and 2 for a file that can't be read or a fault of the command line, there too. A trace that a refusal ends has
+/// outcomes on standard output as well.
 #[derive(Drop)]
 pub struct Printed {
     pub output: Vec<u8>,
@@ -43,5 +44,16 @@ impl Printed {
     {
         line.push(b'\n')?;
         Ok(Printed::on_errors(alloc, line, 1))
+    }
+    /// Outcomes, and the refusal that ends them, from its line without a line feed.
+    pub(crate) fn cut(text: Vec<u8>, mut line: Vec<u8>) -> Result<Printed, Memory>
+        ensures { IfOk result (λ printed. streams_of printed ≡ cut_by text.items line.items) }
+    {
+        line.push(b'\n')?;
+        Ok(Printed {
+            output: text,
+            errors: line,
+            status: 1,
+        })
     }
 }

@@ -1,34 +1,103 @@
 //! The tasks of the program, from texts to what is printed.
-ghost use Rattle.std.specs.Prelude.{IfOk, option_map};
-ghost use Rattle.marlowe_run.specs.Run.{run_text};
+ghost use Rattle.std.specs.Prelude.{◌⊎◌, IfOk, map, option_map};
+ghost use Rattle.marlowe_run.specs.Run.{run_by};
+ghost use Rattle.marlowe_run.specs.Start.{state_reading};
 ghost use Rattle.marlowe_run.specs.TableText.{table_text};
-ghost use Rattle.marlowe_commands.specs.Streams.{streams_of, IsOnOneStream, IsTextOr};
-ghost use Rattle.marlowe_commands.specs.Tasks.{PrintsRun, PrintsTable, PrintsAnalysis};
+ghost use Rattle.marlowe_trace.specs.Traced.{trace_text};
+ghost use Rattle.marlowe_next.specs.Question.{reached};
+ghost use Rattle.marlowe_commands.specs.Streams.{streams_of, IsOnOneStream, IsCut, IsTextOr};
+ghost use Rattle.marlowe_commands.specs.Tasks.{PrintsRun, PrintsTrace, PrintsNext, PrintsTable, PrintsAnalysis};
 
 use crate::printed::Printed;
 use collections::Memory;
 use marlowe_analyse::{Analysed, Reader, analyse_text};
+use marlowe_next::next;
 use marlowe_play::{PlayFault, Watch, play_refusal, play_watched};
-use marlowe_refusals::{Fault, RunFault, TableFault, refusal};
-use marlowe_run::{run, table_text};
+use marlowe_refusals::{Fault, RunFault, TableFault, TraceFault, refusal};
+use marlowe_run::{run, run_with_texts, table_text};
+use marlowe_trace::{Traced, trace};
 use std::alloc::{AllocError, Global};
 use std::sync::Wait;
 use std::thread::Threads;
 
-/// What is printed for one transaction: its outcome, with status 0, or the line of its refusal.
+/// What is printed for one transaction: its outcome, with status 0, or the line of its refusal. Numbers of the state may be `texts`.
 pub fn run_printed(
     alloc: Global,
     contract: &[u8],
     state: &[u8],
     transaction: &[u8],
+    texts: bool,
 ) -> Result<Printed, Memory>
-    ensures told { IfOk result (λ printed. PrintsRun (run_text contract.now state.now transaction.now) (streams_of printed)) }
+    ensures told { IfOk result (λ printed.
+        PrintsRun (run_by (state_reading texts) contract.now state.now transaction.now) (streams_of printed)) }
     ensures stream { IfOk result (λ printed. IsTextOr 1 (streams_of printed)) }
 {
-    match run(alloc, contract, state, transaction) {
+    let text = if texts {
+        run_with_texts(alloc, contract, state, transaction)
+    } else {
+        run(alloc, contract, state, transaction)
+    };
+    match text {
         Ok(text) => Ok(Printed::on_output(alloc, text, 0)),
         Err(RunFault::Memory) => Err(AllocError),
         Err(fault) => Printed::refusal(alloc, refusal(alloc, &Fault::Run(fault))?),
+    }
+}
+
+/// What is printed for transactions one after another: the outcome of each, or of the last alone, with status 0. Where one is refused,
+/// those before it, or nothing where the last alone is wanted, and the line of its refusal on standard error, with status 1; and only
+/// such a line where a text isn't read.
+pub fn trace_printed(
+    alloc: Global,
+    contract: &[u8],
+    state: Option<&[u8]>,
+    transactions: &[Vec<u8>],
+    asked: marlowe_trace::Asked,
+) -> Result<Printed, Memory>
+    ensures told { IfOk result (λ printed. PrintsTrace
+        (trace_text asked contract.now (option_map (λ text. text.now) state.entry) (map (λ text. text.items) transactions.now))
+        (streams_of printed)) }
+    ensures stream { IfOk result (λ printed. IsTextOr 1 (streams_of printed) ⊎ IsCut (streams_of printed)) }
+{
+    match trace(alloc, contract, state, transactions, asked) {
+        Ok(Traced { text, refused }) => outcomes_printed(alloc, text, refused),
+        Err(TraceFault::Run(RunFault::Memory)) => Err(AllocError),
+        Err(fault) => Printed::refusal(alloc, refusal(alloc, &Fault::Trace(fault))?),
+    }
+}
+
+// What is printed for outcomes, and for the refusal that ends them, if one does.
+fn outcomes_printed(
+    alloc: Global,
+    text: Vec<u8>,
+    refused: Option<TraceFault>,
+) -> Result<Printed, Memory>
+    ensures told { IfOk result (λ printed. PrintsTrace (Ok (text.items, refused)) (streams_of printed)) }
+    ensures stream { IfOk result (λ printed. IsTextOr 1 (streams_of printed) ⊎ IsCut (streams_of printed)) }
+{
+    match refused {
+        None => Ok(Printed::on_output(alloc, text, 0)),
+        Some(fault) => Printed::cut(text, refusal(alloc, &Fault::Trace(fault))?),
+    }
+}
+
+/// What is printed for what can be done next: lines for people or JSON, with status 0, or the line of its refusal.
+pub fn next_printed(
+    alloc: Global,
+    contract: &[u8],
+    state: Option<&[u8]>,
+    after: &[Vec<u8>],
+    asked: marlowe_next::Asked,
+) -> Result<Printed, Memory>
+    ensures told { IfOk result (λ printed. PrintsNext asked
+        (reached asked contract.now (option_map (λ text. text.now) state.entry) (map (λ text. text.items) after.now))
+        (streams_of printed)) }
+    ensures stream { IfOk result (λ printed. IsTextOr 1 (streams_of printed)) }
+{
+    match next(alloc, contract, state, after, asked) {
+        Ok(text) => Ok(Printed::on_output(alloc, text, 0)),
+        Err(TraceFault::Run(RunFault::Memory)) => Err(AllocError),
+        Err(fault) => Printed::refusal(alloc, refusal(alloc, &Fault::Trace(fault))?),
     }
 }
 
@@ -45,19 +114,20 @@ pub fn table_printed(alloc: Global, contract: &[u8]) -> Result<Printed, Memory>
 }
 
 /// What is printed for the analysis of a contract from a state: the analysis, with status 0 where the contract never warns and stays
-/// within 128 bits, and 3 where there is an alarm; or the line of its refusal.
+/// within 128 bits, and 3 where there is an alarm; or the line of its refusal. Numbers of the state may be `texts`.
 #[tactic(auto, using(crate::proofs::TaskLemmas::clear_printed, crate::proofs::TaskLemmas::alarms_printed))]
 pub fn analysis_printed(
     alloc: Global,
     contract: &[u8],
     state: Option<&[u8]>,
+    texts: bool,
     reader: Reader,
 ) -> Result<Printed, Memory>
     ensures told { IfOk result (λ printed.
-        PrintsAnalysis reader contract.now (option_map (λ text. text.now) state.entry) (streams_of printed)) }
+        PrintsAnalysis reader texts contract.now (option_map (λ text. text.now) state.entry) (streams_of printed)) }
     ensures stream { IfOk result (λ printed. IsOnOneStream (streams_of printed)) }
 {
-    match analyse_text(alloc, contract, state, reader) {
+    match analyse_text(alloc, contract, state, texts, reader) {
         Ok(Analysed { text, is_clear }) => {
             if is_clear {
                 Ok(Printed::on_output(alloc, text, 0))

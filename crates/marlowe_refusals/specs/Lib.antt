@@ -1,3 +1,4 @@
 pub mod Faults
 pub mod Refusals
 pub mod TableFaults
+pub mod TraceFaults

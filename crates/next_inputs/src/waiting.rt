@@ -1,5 +1,5 @@
 //! Until when a contract waits.
-ghost use Rattle.std.specs.Prelude.{◌≡◌};
+ghost use Rattle.std.specs.Prelude.{◌≡◌, ◌^◌, pos, ◌<ℤ◌, IfSome};
 ghost use Rattle.next_inputs.specs.Opening.{waits_until};
 
 use evaluation::{Form, Parts};
@@ -8,7 +8,8 @@ use evaluation::{Form, Parts};
 /// next on, its timeout continuation is gone on with.
 pub fn waits_until<S: Parts>(parts: &S, place: S::Place) -> Option<i128>
     requires { S.contains parts.now place }
-    ensures { result ≡ waits_until (S.tree parts.now place) }
+    ensures until { result ≡ waits_until (S.tree parts.now place) }
+    ensures below { IfSome result (λ last. last <ℤ pos (2 ^ 63)) }
 {
     match parts.form(place) {
         Form::When(timeout, _) => Some(i128::from(timeout) - 1),

@@ -2,13 +2,11 @@
 //!
 //! A run that is said to end in an alarm is told only after it was played again by the transaction function, one
 //! transaction after another: `replayed` hands it out only where it ends so. So nothing has to be believed of how it was
-//! found. `matches` tells whether an input matches one action, for whoever looks for the case that takes it.
+//! found.
 #![tactic(auto)]
 
 mod kinds;
 mod playing;
-mod trials;
 
 pub use kinds::kind_of;
 pub use playing::{ends_in, replayed};
-pub use trials::matches;

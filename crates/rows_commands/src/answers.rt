@@ -5,10 +5,12 @@ use crate::faults::play_faults;
 use crate::files::{loaded, removed, saved};
 use crate::folder::Folder;
 use crate::shown::shown;
+use collections::Memory;
 use marlowe_commands::{NoWatch, Printed, command};
 use rows_given::Given;
 use rows_text::{RowFault, first};
 use rows_values::answer_of;
+use std::alloc::Global;
 use std::rt::Files;
 use std::sync::Wait;
 use std::thread::Threads;
@@ -24,9 +26,8 @@ pub fn answer<R: Files + AllocGlobal + Threads + Wait + Sync>(
         return Ok(None);
     }
     let answer = match word {
-        "marlowe" | "run" | "table" | "play" | "last" | "threads" => {
-            command_row(rt, given, word, rest)
-        }
+        "marlowe" | "run" | "trace" | "next" | "table" => command_row(rt, given, word, rest),
+        "play" | "last" | "threads" => command_row(rt, given, word, rest),
         "analyse" | "alarms" | "json" => command_row(rt, given, word, rest),
         "example" => example(rt, given, rest),
         "save" => saved(rt, given, rest),
@@ -45,22 +46,29 @@ fn command_row<R: Files + AllocGlobal + Threads + Wait + Sync>(
     rest: &str,
 ) -> Result<Vec<u8>, RowFault> {
     let asked = what_is_asked(rt.alloc(), given, word, rest)?;
-    let printed = printed(rt, given, asked.line)?;
+    let printed = printed(rt, given, asked.line, asked.more)?;
     Ok(shown(rt.alloc(), &printed, asked.part)?)
 }
 
-/// What the program prints for the words behind its name.
+/// What the program prints for the words behind its name, and more behind these.
 pub fn printed<R: Files + AllocGlobal + Threads + Wait + Sync>(
     rt: &R,
     given: &Given,
     line: &str,
+    more: &str,
 ) -> Result<Printed, RowFault> {
     let alloc = rt.alloc();
     let mut words = Vec::new(alloc);
     words.push(String::from_str(alloc, "marlowe")?)?;
+    put_words(alloc, &mut words, line)?;
+    put_words(alloc, &mut words, more)?;
+    let printed = command(rt, &Folder { rt, given }, &NoWatch, words.as_slice());
+    Ok(printed?)
+}
+
+fn put_words(alloc: Global, words: &mut Vec<String>, line: &str) -> Result<(), Memory> {
     for word in line.split_whitespace() {
         words.push(String::from_str(alloc, word)?)?;
     }
-    let printed = command(rt, &Folder { rt, given }, &NoWatch, words.as_slice());
-    Ok(printed?)
+    Ok(())
 }

@@ -19,12 +19,12 @@ pub fn example<R: Files + AllocGlobal + Threads + Wait + Sync>(
     let run = format!(in alloc;
         "run {folder}/contract.json {folder}/state.json {folder}/transaction.json"
     )?;
-    let run = printed(rt, given, run.as_str())?;
+    let run = printed(rt, given, run.as_str(), "")?;
     if !is_as_in(rt, &run, folder, "output.json", "refusal.txt")? {
         return Ok(shown(alloc, &run, Part::All)?);
     }
     let table = format!(in alloc; "table {folder}/contract.json")?;
-    let table = printed(rt, given, table.as_str())?;
+    let table = printed(rt, given, table.as_str(), "")?;
     let told: &str = if is_as_in(rt, &table, folder, "table.txt", "table.txt")? {
         "as written"
     } else {

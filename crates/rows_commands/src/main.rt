@@ -6,12 +6,15 @@
 //!
 //! - `marlowe WORDS` is a command line whose words have no spaces in them;
 //! - `run TEXT` keeps a text in `transaction.json` and is `marlowe run contract.json state.json transaction.json`;
+//! - `trace TEXT` keeps a text in `transactions.json` and is `marlowe trace contract.json transactions.json`, with `--state state.json`
+//!   behind it where a state is given;
+//! - `next WORDS` is `marlowe next contract.json`, with `state.json` behind it where a state is given, and then these words;
 //! - `table TEXT` keeps a text in `contract.json` and is `marlowe table contract.json`;
 //! - `analyse` is `marlowe analyse contract.json`, with `state.json` behind it where a state is given, and `json` is that with `--json`;
 //!   `alarms` prints the lines of `analyse` for alarms alone;
 //! - `play TEXT` keeps a text in `scenario.json` and is `marlowe play scenario.json --one`, and `threads TEXT` the same without `--one`, for
 //!   a scenario with one plan; `last N TEXT` prints the last N lines of `play`;
-//! - without a text `run`, `table`, `play`, `threads` and `last` take the file as it was kept;
+//! - without a text `run`, `trace`, `table`, `play`, `threads` and `last` take the file as it was kept;
 //! - `example FOLDER` runs the three files of an example and prints its table: `as written`, or what is printed that isn't written there,
 //!   or `another table`.
 //!

@@ -1,8 +1,8 @@
-//! The values of faults and tasks, one after another.
+//! The values of faults, one after another.
 use compiler::CompileFault;
 use contract::{SemFault, StateFault};
 use contract_json::{JsonFault, WriteFault};
-use marlowe_cli::{Task, WordsFault};
+use marlowe_cli::WordsFault;
 use marlowe_io::LoadFault;
 use marlowe_refusals::{Fault, RunFault, TableFault, refusal};
 use rows_text::{RowFault, apart_of, texts_of};
@@ -68,25 +68,6 @@ const FAULTS: [Fault; 2] = [
     Fault::Table(TableFault::Memory),
 ];
 
-const TASKS: [Task<'static>; 4] = [
-    Task::Table { contract: "a" },
-    Task::Run {
-        contract: "a",
-        state: "b",
-        transaction: "c",
-    },
-    Task::Play {
-        scenario: "a",
-        one: true,
-    },
-    Task::Analyse {
-        contract: "a",
-        state: Some("b"),
-        json: true,
-        no_runs: false,
-    },
-];
-
 /// A line of the text of each fault of that name.
 pub fn texts_row(alloc: Global, name: &str) -> Result<Vec<u8>, RowFault> {
     let texts = match name {
@@ -108,7 +89,6 @@ pub fn apart_row(alloc: Global, name: &str) -> Result<Vec<u8>, RowFault> {
         "LoadFault" => apart_of(alloc, LOAD_FAULTS.as_slice()),
         "WordsFault" => apart_of(alloc, WORDS_FAULTS.as_slice()),
         "Fault" => apart_of(alloc, FAULTS.as_slice()),
-        "Task" => apart_of(alloc, TASKS.as_slice()),
         _ => return Err(RowFault::NoSuchRow),
     };
     Ok(line?.into_bytes())

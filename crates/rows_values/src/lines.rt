@@ -1,5 +1,5 @@
 //! What command lines ask for.
-use marlowe_cli::{Task, line};
+use marlowe_cli::{AnalyseTask, NextTask, PlayTask, RunTask, Task, TraceTask, line};
 use std::alloc::{AllocError, Global};
 
 /// What a command line asks for, or where the text of `clap` goes.
@@ -9,35 +9,86 @@ pub fn line_row(alloc: Global, text: &str) -> Result<Vec<u8>, AllocError> {
         .map(|word| String::from_str(alloc, word));
     let words: Vec<String> = words.try_collect(alloc)?;
     match line(alloc, words.as_slice()) {
-        Ok(task) => task_told(alloc, task),
+        Ok(task) => Ok(task_told(alloc, &task)?.into_bytes()),
         Err(error) if error.use_stderr() => Vec::from_slice(alloc, b"on standard error"),
         Err(_) => Vec::from_slice(alloc, b"on standard output"),
     }
 }
 
-fn task_told(alloc: Global, task: Task<'_>) -> Result<Vec<u8>, AllocError> {
-    let told = match task {
-        Task::Run {
-            contract,
-            state,
-            transaction,
-        } => format!(in alloc; "run {contract} {state} {transaction}")?,
-        Task::Table { contract } => format!(in alloc; "table {contract}")?,
-        Task::Analyse {
-            contract,
-            state,
-            json,
-            no_runs,
-        } => {
-            let state = state.unwrap_or("without a state");
-            let how = if json { "as JSON" } else { "in lines" };
-            let runs = if no_runs { " without runs" } else { "" };
-            format!(in alloc; "analyse {contract} {state} {how}{runs}")?
-        }
-        Task::Play { scenario, one } => {
-            let how = if one { "one after another" } else { "at once" };
-            format!(in alloc; "play {scenario} {how}")?
-        }
-    };
-    Ok(told.into_bytes())
+fn task_told(alloc: Global, task: &Task<'_>) -> Result<String, AllocError> {
+    match task {
+        Task::Run(run) => run_told(alloc, run),
+        Task::Trace(trace) => trace_told(alloc, trace),
+        Task::Next(next) => next_told(alloc, next),
+        Task::Table(table) => format!(in alloc; "table {}", table.contract),
+        Task::Analyse(analyse) => analysis_told(alloc, analyse),
+        Task::Play(play) => play_told(alloc, play),
+    }
+}
+
+fn run_told(alloc: Global, run: &RunTask<'_>) -> Result<String, AllocError> {
+    let texts = texts_told(run.text_numbers);
+    format!(in alloc; "run {} {} {}{texts}", run.contract, run.state, run.transaction)
+}
+
+fn trace_told(alloc: Global, trace: &TraceTask<'_>) -> Result<String, AllocError> {
+    let state = state_told(trace.state);
+    let mut told = format!(in alloc; "trace {} {state} by", trace.contract)?;
+    put_paths(&mut told, trace.transactions.as_slice())?;
+    if trace.last {
+        told.push_str(", the last alone")?;
+    }
+    told.push_str(texts_told(trace.text_numbers))?;
+    Ok(told)
+}
+
+fn next_told(alloc: Global, next: &NextTask<'_>) -> Result<String, AllocError> {
+    let state = state_told(next.state);
+    let mut told = format!(in alloc; "next {} {state}", next.contract)?;
+    if let Some(from) = next.from {
+        told.push_str(format!(in alloc; " from {from}")?.as_str())?;
+    }
+    if let Some(to) = next.to {
+        told.push_str(format!(in alloc; " to {to}")?.as_str())?;
+    }
+    if !next.after.is_empty() {
+        told.push_str(" after")?;
+        put_paths(&mut told, next.after.as_slice())?;
+    }
+    told.push_str(form_told(next.json))?;
+    told.push_str(texts_told(next.text_numbers))?;
+    Ok(told)
+}
+
+fn analysis_told(alloc: Global, analyse: &AnalyseTask<'_>) -> Result<String, AllocError> {
+    let state = state_told(analyse.state);
+    let form = form_told(analyse.json);
+    let runs = if analyse.no_runs { " without runs" } else { "" };
+    let texts = texts_told(analyse.text_numbers);
+    format!(in alloc; "analyse {} {state}{form}{runs}{texts}", analyse.contract)
+}
+
+fn play_told(alloc: Global, play: &PlayTask<'_>) -> Result<String, AllocError> {
+    let how = if play.one { "one after another" } else { "at once" };
+    format!(in alloc; "play {} {how}", play.scenario)
+}
+
+fn state_told<'a>(state: Option<&'a str>) -> &'a str {
+    state.unwrap_or("without a state")
+}
+
+fn form_told(json: bool) -> &'static str {
+    if json { " as JSON" } else { " in lines" }
+}
+
+fn texts_told(text_numbers: bool) -> &'static str {
+    if text_numbers { " with texts" } else { "" }
+}
+
+fn put_paths(told: &mut String, paths: &[&str]) -> Result<(), AllocError> {
+    for path in paths {
+        told.push_str(" ")?;
+        told.push_str(path)?;
+    }
+    Ok(())
 }

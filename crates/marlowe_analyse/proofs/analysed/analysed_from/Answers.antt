@@ -6,7 +6,7 @@ use Rattle.marlowe_analyse.proofs.analysed.analysed_from.Goals as goal
 
 pub returns-in_ok-told-in-Ok : goal.returns-in_ok-told-in-Ok
 returns-in_ok-told-in-Ok c =
-    let start = start_of (option_map (λ t. t.now) c.args.state) in
+    let start = start_of c.args.texts (option_map (λ t. t.now) c.args.state) in
     let told = c.in_ok-told-in-Ok.told in
     let h = rw (← c.in_ok-told-in-Ok.ensures) at c.analysis_text-text.ensures in
     record {
@@ -15,4 +15,4 @@ returns-in_ok-told-in-Ok c =
     }
 
 pub returns-in-Err-clause-read : goal.returns-in-Err-clause-read
-returns-in-Err-clause-read c = not_started (start_of (option_map (λ t. t.now) c.args.state)) c.in-Err.fault c.of_state.result c.in-Err.ensures c.of_state.ensures
+returns-in-Err-clause-read c = not_started (start_of c.args.texts (option_map (λ t. t.now) c.args.state)) c.in-Err.fault c.of_state.result c.in-Err.ensures c.of_state.ensures

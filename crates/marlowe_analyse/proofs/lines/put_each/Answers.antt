@@ -2,7 +2,7 @@ use Rattle.std.proofs.Common.{sym, subst}
 use Rattle.std.proofs.lemmas.List.Elements.{All-get_or}
 use Rattle.marlowe_analyse.specs.ToldLines.{line_of, LineFits}
 use Rattle.marlowe_analyse.specs.Lines.{alarm_lines}
-use Rattle.marlowe_analyse.proofs.LinesLemmas.{piece_more}
+use Rattle.places.proofs.PieceLaws.{piece_more}
 use Rattle.marlowe_analyse.proofs.lines.put_each.Goals as goal
 
 pub loop-alarm-preserved : goal.loop-alarm-preserved

@@ -1,5 +1,5 @@
 use Rattle.marlowe_analyse.specs.Lines.{range_line}
-use Rattle.marlowe_analyse.proofs.LinesLemmas.{piece_more}
+use Rattle.places.proofs.PieceLaws.{piece_more}
 use Rattle.marlowe_analyse.proofs.lines.put_ranges.Goals as goal
 
 pub loop-range-preserved : goal.loop-range-preserved

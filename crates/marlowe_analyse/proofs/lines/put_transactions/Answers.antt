@@ -2,7 +2,7 @@ use Rattle.std.proofs.Common.{◌≡◌, true, sym, subst}
 use Rattle.std.proofs.lemmas.List.Elements.{All-get_or}
 use Rattle.contract_json.specs.WrittenInput.{transaction_fits}
 use Rattle.marlowe_analyse.specs.Lines.{transaction_line}
-use Rattle.marlowe_analyse.proofs.LinesLemmas.{piece_more}
+use Rattle.places.proofs.PieceLaws.{piece_more}
 use Rattle.marlowe_analyse.proofs.lines.put_transactions.Goals as goal
 
 pub loop-transaction-preserved : goal.loop-transaction-preserved

@@ -1,8 +1,8 @@
 use Rattle.std.proofs.Common.{List, ap, ◌∙◌}
 use Rattle.contract.specs.Tree.{contract_tree}
 use Rattle.analysis_spec.specs.declared.path.PathStep.{PathStep}
-use Rattle.marlowe_analyse.specs.declared.told.Key.{Key}
-use Rattle.marlowe_analyse.specs.Places.{keys_of}
+use Rattle.places.specs.declared.key.Key.{Key}
+use Rattle.places.specs.Places.{keys_of}
 use Rattle.marlowe_analyse.specs.ToldLines.{Line}
 use Rattle.marlowe_analyse.proofs.runs.told_alarm.Goals as goal
 

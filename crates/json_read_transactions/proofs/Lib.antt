@@ -1,0 +1,4 @@
+pub mod TakingLemmas
+pub mod TakingLaws
+pub mod LineLemmas
+pub mod Worked

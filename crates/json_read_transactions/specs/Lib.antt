@@ -1,0 +1,3 @@
+pub mod ReadsTransactions
+pub mod Rows
+pub mod TakingSupport

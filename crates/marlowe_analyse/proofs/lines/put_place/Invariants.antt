@@ -1,7 +1,0 @@
-use Rattle.std.proofs.Common.{◌≡◌, ◌++◌, take}
-use Rattle.std.specs.Prelude.{flat_map}
-use Rattle.marlowe_analyse.specs.Lines.{key_text}
-use Rattle.marlowe_analyse.proofs.lines.put_place.Given as goal
-
-abbrev pub invariant-loop-key : goal.invariant-loop-key
-invariant-loop-key l = l.out.items ≡ l.fn.out.items ++ flat_map key_text (take l.key-index l.place)

@@ -1,7 +1,0 @@
-use Rattle.std.proofs.Common.{drop}
-use Rattle.contract.specs.Tree.{contract_tree}
-use Rattle.marlowe_analyse.proofs.PlacesLemmas.{Leads}
-use Rattle.marlowe_analyse.proofs.places.keys_of.Given as goal
-
-abbrev pub invariant-loop-step : goal.invariant-loop-step
-invariant-loop-step l = Leads l.place (contract_tree l.contract) l.keys.items (drop l.step-index l.place) (contract_tree l.at)

@@ -1,0 +1,35 @@
+//! `analyse CONTRACT [STATE]`.
+ghost use Rattle.std.specs.Prelude.{IfOk, Some, codes};
+ghost use Rattle.clap.specs.Words.{found_of, rows_of};
+ghost use Rattle.marlowe_cli.specs.Asked.{IsAsked};
+
+use crate::found::{NoTask, is_given, word, word_if};
+use crate::task::Task;
+use clap::ArgMatches;
+
+/// What a contract can warn of and what it can pay, from the path of a file and, if one is given, that of a state's.
+#[derive(Clone, Copy)]
+pub struct AnalyseTask<'a> {
+    pub contract: &'a str,
+    /// The state from which it starts, if one is given.
+    pub state: Option<&'a str>,
+    /// As JSON, and not as lines for people.
+    pub json: bool,
+    /// No run is looked for, and else one for each alarm.
+    pub no_runs: bool,
+    /// Numbers of the state may be texts.
+    pub text_numbers: bool,
+}
+
+/// What `analyse` is asked, from what was found for its words.
+pub(crate) fn analyse_task<'a>(analyse: &ArgMatches<'a>) -> Result<Task<'a>, NoTask>
+    ensures { IfOk result (IsAsked (Some (codes "analyse", rows_of (found_of analyse.now)))) }
+{
+    Ok(Task::Analyse(AnalyseTask {
+        contract: word(analyse, "CONTRACT")?,
+        state: word_if(analyse, "STATE"),
+        json: is_given(analyse, "json"),
+        no_runs: is_given(analyse, "no-runs"),
+        text_numbers: is_given(analyse, "text-numbers"),
+    }))
+}

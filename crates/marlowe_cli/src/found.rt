@@ -1,0 +1,74 @@
+//! What was found for the arguments of a command.
+ghost use Rattle.std.specs.Prelude.{◌≡◌, IfOk, map, option_map};
+ghost use Rattle.clap.specs.Words.{first_of, found_of, one_of, rows_of};
+ghost use Rattle.marlowe_cli.specs.Asked.{IsFlag, IsTime, given_for};
+
+use clap::ArgMatches;
+use std::alloc::{AllocError, Global};
+use std::num::ParseIntError;
+
+/// Why no task is made of what was found.
+#[derive(Clone, Copy)]
+pub enum NoTask {
+    /// An argument lacks, or is no number: `clap` refuses such words before.
+    Missing,
+    /// Memory was refused.
+    Memory,
+}
+
+impl From<AllocError> for NoTask {
+    fn from(_error: AllocError) -> Self {
+        NoTask::Memory
+    }
+}
+
+impl From<ParseIntError> for NoTask {
+    fn from(_error: ParseIntError) -> Self {
+        NoTask::Missing
+    }
+}
+
+/// The word of an argument that has to be given.
+pub fn word<'a>(found: &ArgMatches<'a>, name: &str) -> Result<&'a str, NoTask>
+    ensures { IfOk result (λ word. first_of name.now (rows_of (found_of found.now)) ≡ Some word.now) }
+{
+    match found.get_str(name) {
+        Some(word) => Ok(word),
+        None => Err(NoTask::Missing),
+    }
+}
+
+/// The word of an argument, if it was given.
+pub fn word_if<'a>(found: &ArgMatches<'a>, name: &str) -> Option<&'a str>
+    ensures { first_of name.now (rows_of (found_of found.now)) ≡ option_map (λ word. word.now) result }
+{
+    found.get_str(name)
+}
+
+/// The words of an argument that may be given again and again.
+pub fn words_for<'a>(
+    alloc: Global,
+    found: &ArgMatches<'a>,
+    name: &str,
+) -> Result<Vec<&'a str>, NoTask>
+    ensures { IfOk result (λ words. given_for name.now (rows_of (found_of found.now)) ≡ map (λ word. word.now) words.items) }
+{
+    match found.get_strs(name) {
+        Some(words) => Ok(Vec::from_slice(alloc, words)?),
+        None => Ok(Vec::new(alloc)),
+    }
+}
+
+/// Whether a flag was given.
+pub fn is_given(found: &ArgMatches<'_>, name: &str) -> bool
+    ensures { IsFlag (one_of name.now (rows_of (found_of found.now))) result }
+{
+    found.get_flag(name)
+}
+
+/// A time, if it was given.
+pub fn time_if(found: &ArgMatches<'_>, name: &str) -> Result<Option<i64>, NoTask>
+    ensures { IfOk result (IsTime (one_of name.now (rows_of (found_of found.now)))) }
+{
+    Ok(found.try_get_one::<i64>(name)?)
+}

@@ -1,0 +1,26 @@
+//! `play SCENARIO`.
+ghost use Rattle.std.specs.Prelude.{IfOk, Some, codes};
+ghost use Rattle.clap.specs.Words.{found_of, rows_of};
+ghost use Rattle.marlowe_cli.specs.Asked.{IsAsked};
+
+use crate::found::{NoTask, is_given, word};
+use crate::task::Task;
+use clap::ArgMatches;
+
+/// The lines of a play, from the path of a scenario's file.
+#[derive(Clone, Copy)]
+pub struct PlayTask<'a> {
+    pub scenario: &'a str,
+    /// The plans are played one after another, and else all at once.
+    pub one: bool,
+}
+
+/// What `play` is asked, from what was found for its words.
+pub(crate) fn play_task<'a>(play: &ArgMatches<'a>) -> Result<Task<'a>, NoTask>
+    ensures { IfOk result (IsAsked (Some (codes "play", rows_of (found_of play.now)))) }
+{
+    Ok(Task::Play(PlayTask {
+        scenario: word(play, "SCENARIO")?,
+        one: is_given(play, "one"),
+    }))
+}

@@ -1,0 +1,30 @@
+//! `run CONTRACT STATE TX`.
+ghost use Rattle.std.specs.Prelude.{IfOk, Some, codes};
+ghost use Rattle.clap.specs.Words.{found_of, rows_of};
+ghost use Rattle.marlowe_cli.specs.Asked.{IsAsked};
+
+use crate::found::{NoTask, is_given, word};
+use crate::task::Task;
+use clap::ArgMatches;
+
+/// The outcome of one transaction, from the paths of three files.
+#[derive(Clone, Copy)]
+pub struct RunTask<'a> {
+    pub contract: &'a str,
+    pub state: &'a str,
+    pub transaction: &'a str,
+    /// Numbers of the state may be texts.
+    pub text_numbers: bool,
+}
+
+/// What `run` is asked, from what was found for its words.
+pub(crate) fn run_task<'a>(run: &ArgMatches<'a>) -> Result<Task<'a>, NoTask>
+    ensures { IfOk result (IsAsked (Some (codes "run", rows_of (found_of run.now)))) }
+{
+    Ok(Task::Run(RunTask {
+        contract: word(run, "CONTRACT")?,
+        state: word(run, "STATE")?,
+        transaction: word(run, "TX")?,
+        text_numbers: is_given(run, "text-numbers"),
+    }))
+}

@@ -1,0 +1,23 @@
+//! `table CONTRACT`.
+ghost use Rattle.std.specs.Prelude.{IfOk, Some, codes};
+ghost use Rattle.clap.specs.Words.{found_of, rows_of};
+ghost use Rattle.marlowe_cli.specs.Asked.{IsAsked};
+
+use crate::found::{NoTask, word};
+use crate::task::Task;
+use clap::ArgMatches;
+
+/// The table of a contract, from the path of a file.
+#[derive(Clone, Copy)]
+pub struct TableTask<'a> {
+    pub contract: &'a str,
+}
+
+/// What `table` is asked, from what was found for its words.
+pub(crate) fn table_task<'a>(table: &ArgMatches<'a>) -> Result<Task<'a>, NoTask>
+    ensures { IfOk result (IsAsked (Some (codes "table", rows_of (found_of table.now)))) }
+{
+    Ok(Task::Table(TableTask {
+        contract: word(table, "CONTRACT")?,
+    }))
+}

@@ -1,0 +1,36 @@
+//! `trace CONTRACT TX..`.
+ghost use Rattle.std.specs.Prelude.{IfOk, Some, codes};
+ghost use Rattle.clap.specs.Words.{found_of, rows_of};
+ghost use Rattle.marlowe_cli.specs.Asked.{IsAsked};
+
+use crate::found::{NoTask, is_given, word, word_if, words_for};
+use crate::task::Task;
+use clap::ArgMatches;
+use std::alloc::Global;
+
+/// The outcomes of transactions one after another, from the paths of files.
+#[derive(Drop)]
+pub struct TraceTask<'a> {
+    pub contract: &'a str,
+    /// Each has transactions: they are computed in this order.
+    pub transactions: Vec<&'a str>,
+    /// The state from which they start, if one is given.
+    pub state: Option<&'a str>,
+    /// The last outcome alone.
+    pub last: bool,
+    /// Numbers of the state may be texts.
+    pub text_numbers: bool,
+}
+
+/// What `trace` is asked, from what was found for its words.
+pub(crate) fn trace_task<'a>(alloc: Global, trace: &ArgMatches<'a>) -> Result<Task<'a>, NoTask>
+    ensures { IfOk result (IsAsked (Some (codes "trace", rows_of (found_of trace.now)))) }
+{
+    Ok(Task::Trace(TraceTask {
+        contract: word(trace, "CONTRACT")?,
+        transactions: words_for(alloc, trace, "TX")?,
+        state: word_if(trace, "state"),
+        last: is_given(trace, "last"),
+        text_numbers: is_given(trace, "text-numbers"),
+    }))
+}

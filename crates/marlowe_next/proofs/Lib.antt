@@ -1,0 +1,5 @@
+mod UnderLemmas
+mod CasesLemmas
+mod HereLemmas
+mod AnswerLemmas
+mod Worked

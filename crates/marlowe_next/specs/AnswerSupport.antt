@@ -1,0 +1,81 @@
+-- What each step of the code answers. It serves proofs alone.
+use Rattle.std.specs.Prelude.{◌≡◌, ◌≢◌, ◌↔◌, ℕ, Bool, true, List, [], ◌∷◌, ◌++◌, slice_get, Option, Some, None, Result, Ok, Err, IsOk, IsTrue, MatchResult}
+use Rattle.std.specs.declared.vec.Vec.{Vec}
+use Rattle.std.specs.declared.alloc.Global.{Global}
+use Rattle.contract.specs.declared.tree.Contract.{Contract}
+use Rattle.contract.specs.declared.input.Input.{Input}
+use Rattle.contract.specs.declared.interval.Interval.{Interval}
+use Rattle.contract.specs.Tree.{ActionTree, ContractTree, contract_tree}
+use Rattle.states.specs.States.{StateMaps}
+use Rattle.evaluation.specs.Path.{waits_for}
+use Rattle.semantics.specs.Walk.{Standing, standing, answer_of}
+use Rattle.semantics.specs.Transaction.{trimmed, begun}
+use Rattle.semantics.specs.Computed.{computed}
+use Rattle.next_inputs.specs.declared.offer.Offer.{Offer}
+use Rattle.next_inputs.specs.Offers.{has, AreOffers}
+use Rattle.next_inputs.specs.Taking.{taken_case}
+use Rattle.next_inputs.specs.Opening.{opening}
+use Rattle.analysis_spec.specs.declared.path.PathStep.{PathStep}
+use Rattle.analysis_spec.specs.Marks.{led, settling}
+use Rattle.trace.specs.declared.sequence.Left.{Left}
+use Rattle.trace.specs.declared.settling.Settled.{Settled}
+use Rattle.trace.specs.declared.warned.Warned.{Warned}
+use Rattle.trace.specs.Warned.{warned_at}
+use Rattle.marlowe_refusals.specs.declared.fault.RunFault.TheVariants as run
+use Rattle.marlowe_refusals.specs.declared.trace_fault.TraceFault.{TraceFault}
+use Rattle.marlowe_refusals.specs.declared.trace_fault.TraceFault.TheVariants as trace
+use Rattle.marlowe_next.specs.declared.asked.Asked.{Asked}
+use Rattle.next_lines.specs.declared.told.CaseTold.{CaseTold}
+use Rattle.next_lines.specs.Applicable.{Applicable}
+use Rattle.marlowe_next.specs.Applicable.{refusal, applicable, applicable_from}
+use Rattle.marlowe_next.specs.Question.{Reached, answered}
+use Rattle.marlowe_next.specs.Answer.{told_of, printed, IsAnswer}
+use Rattle.next_lines.specs.Seen.{seen_case, seen_cases}
+
+-- what is told of a case, if something is
+abbrev pub seen_if : Option CaseTold → List Applicable
+seen_if None = []
+seen_if (Some c) = seen_case c ∷ []
+
+-- a text that answers, or why there is no answer
+abbrev pub Answers : Asked → Result Reached TraceFault → Result (Vec ℕ Global) TraceFault → Type 0
+Answers q reached result = MatchResult result (λ text. IsAnswer q reached text.items) (λ fault. fault ≢ trace.Run run.Memory → answered q reached ≡ Err fault)
+
+-- where the code has come
+abbrev pub reached_at : Contract → Left → Reached
+reached_at whole left = record { whole = contract_tree whole; path = left.path; there = standing left.state (contract_tree left.contract.now) }
+
+-- a contract has settled: in this fixed interval it stands so
+pub record SettlesTo (i : Interval) (s : StateMaps) (c : ContractTree) (fixed : Interval) (left : StateMaps) (rest : ContractTree) : Type 0 where
+  pub interval : trimmed i s ≡ fixed
+  pub stands : answer_of (opening i s c) ≡ Ok (standing left rest)
+
+-- each input that the offer of the case at an index has takes that case
+abbrev pub TakesAt : Interval → StateMaps → ContractTree → ℕ → Offer → Type 0
+TakesAt j s c n f = (k : ActionTree × ContractTree) → slice_get (waits_for c) n ≡ Some k → (x : Input) → has k.0 f x ≡ true → taken_case j s x (waits_for c) ≡ Some n
+
+-- what is told of the case at an index, from wherever the contract has settled
+abbrev pub TellsCase : Interval → StateMaps → ContractTree → ℕ → Offer → List Applicable → Type 0
+TellsCase j s c n f told = (i : Interval) (from : StateMaps) (whole : ContractTree) → SettlesTo i from whole j s c
+    → (k : ActionTree × ContractTree) → slice_get (waits_for c) n ≡ Some k → told ≡ applicable (refusal i from whole) n k.0 f
+
+-- .. of all its cases
+abbrev pub TellsCases : Interval → StateMaps → ContractTree → List Offer → List CaseTold → Type 0
+TellsCases j s c fs told = (i : Interval) (from : StateMaps) (whole : ContractTree) → SettlesTo i from whole j s c
+    → seen_cases told ≡ applicable_from (refusal i from whole) 0 (waits_for c) fs
+
+-- how a contract has settled over an interval
+pub record HasSettled (i : Interval) (a : Standing) (left : Settled) : Type 0 where
+  pub stands : answer_of (opening i a.state a.contract) ≡ Ok (standing left.outcome.state (contract_tree left.outcome.place.now))
+  pub payments : left.outcome.payments ≡ (opening i a.state a.contract).payments
+  pub can_reduce : IsTrue left.can_reduce ↔ IsOk (answer_of (computed i a.state a.contract []))
+  pub path : left.path ≡ led [] (opening i a.state a.contract).turns
+  pub warned : left.warned ≡ warned_at (settling [] (trimmed i a.state) (begun i a.state) a.contract)
+
+-- a text tells what is so of a contract that has settled
+abbrev pub TellsSettled : Interval → Reached → Standing → Bool → List ℕ → Type 0
+TellsSettled i r b json text = (offers : List Offer) × AreOffers (trimmed i r.there.state) b.state (waits_for b.contract) offers × (text ≡ printed json (told_of i r b offers))
+
+-- a warning of a part that stands at the end of a path
+abbrev pub under : List PathStep → Warned → Warned
+under path w = record { place = path ++ w.place; warning = w.warning }

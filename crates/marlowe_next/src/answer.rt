@@ -1,0 +1,145 @@
+//! What can be done next, from text to text.
+ghost use Rattle.std.specs.Prelude.{◌≡◌, ◌≢◌, ◌+◌, ◌<◌, ◌^◌, map, IfOk, option_map, Ok};
+ghost use Rattle.collections.specs.Answers.{AsideBy};
+ghost use Rattle.contract.specs.Tree.{contract_tree};
+ghost use Rattle.marlowe_refusals.specs.TraceFaults.{refused_fault};
+ghost use Rattle.marlowe_next.specs.Question.{reached, reached_from, reached_with, reached_by, answered};
+ghost use Rattle.marlowe_next.specs.Answer.{IsAnswer};
+ghost use Rattle.marlowe_next.specs.AnswerSupport.{Answers, reached_at};
+
+use crate::asked::{Asked, interval_of};
+use crate::told_here::settled_text;
+use contract::{Contract, SemFault, State, Transaction};
+use contract_json::read_contract;
+use json_read_transactions::read_transactions;
+use marlowe_refusals::{RunFault, TraceFault};
+use marlowe_run::{beside_dropped, read_start};
+use std::alloc::Global;
+use trace::{Left, Refused, settle};
+
+/// What can be done next with a contract from a state, after transactions, all as JSON texts of at most 1,048,576 bytes: lines
+/// for people, or one line of JSON. It tells the inputs of which the next transaction may bring one, and whether what follows is
+/// then refused; until when the contract waits; and what the reduction before the inputs pays and warns of. Without a state the
+/// contract starts without entries, at time 0. Refused is a text that isn't read, of the contract, the state and then the transactions;
+/// then the first transaction that is refused; and then the interval: `InvalidInterval`, `IntervalInPast`, `Ambiguous` or
+/// `Leaves128`, where every transaction over it is refused so.
+pub fn next(
+    alloc: Global,
+    contract: &[u8],
+    state: Option<&[u8]>,
+    after: &[Vec<u8>],
+    asked: Asked,
+) -> Result<Vec<u8>, TraceFault>
+    ensures text { IfOk result (λ text. IsAnswer asked (reached asked contract.now (option_map (λ text. text.now) state.entry) (map (λ text. text.items) after.now)) text.items) }
+    ensures answer { AsideBy (TraceFault.Run RunFault.Memory) (λ _. tt) result
+        (answered asked (reached asked contract.now (option_map (λ text. text.now) state.entry) (map (λ text. text.items) after.now))) }
+{
+    from_contract(alloc, contract, state, after, asked)
+}
+
+// The contract is read first.
+fn from_contract(
+    alloc: Global,
+    contract: &[u8],
+    state: Option<&[u8]>,
+    after: &[Vec<u8>],
+    asked: Asked,
+) -> Result<Vec<u8>, TraceFault>
+    ensures { Answers asked (reached asked contract.now (option_map (λ text. text.now) state.entry) (map (λ text. text.items) after.now)) result }
+{
+    match read_contract(alloc, contract) {
+        Ok(whole) => {
+            let text = from_state(alloc, &whole, state, after, asked);
+            beside_dropped(whole, text)
+        }
+        Err(fault) => Err(TraceFault::Run(RunFault::of_contract(fault))),
+    }
+}
+
+// Then the state.
+fn from_state(
+    alloc: Global,
+    whole: &Contract,
+    state: Option<&[u8]>,
+    after: &[Vec<u8>],
+    asked: Asked,
+) -> Result<Vec<u8>, TraceFault>
+    ensures { Answers asked (reached_from asked (contract_tree whole.now) (option_map (λ text. text.now) state.entry) (map (λ text. text.items) after.now)) result }
+{
+    match read_start(alloc, state, asked.texts) {
+        Ok(start) => {
+            let text = from_texts(alloc, whole, &start, after, asked);
+            beside_dropped(start, text)
+        }
+        Err(fault) => Err(TraceFault::Run(RunFault::of_state(fault))),
+    }
+}
+
+// Then the transactions.
+fn from_texts(
+    alloc: Global,
+    whole: &Contract,
+    start: &State,
+    after: &[Vec<u8>],
+    asked: Asked,
+) -> Result<Vec<u8>, TraceFault>
+    ensures { Answers asked (reached_with (contract_tree whole.now) start.now (map (λ text. text.items) after.now)) result }
+{
+    match read_transactions(alloc, after) {
+        Ok(transactions) => {
+            let text = from_transactions(alloc, whole, start, transactions.as_slice(), asked);
+            beside_dropped(transactions, text)
+        }
+        Err(fault) => Err(TraceFault::from(fault)),
+    }
+}
+
+// The answer behind transactions.
+fn from_transactions(
+    alloc: Global,
+    whole: &Contract,
+    start: &State,
+    transactions: &[Transaction],
+    asked: Asked,
+) -> Result<Vec<u8>, TraceFault>
+    ensures { Answers asked (reached_by (contract_tree whole.now) start.now transactions.now) result }
+{
+    match trace::after(alloc, whole, start, transactions) {
+        Ok(left) => {
+            let text = from_left(alloc, whole, &left, asked);
+            beside_dropped(left, text)
+        }
+        Err(refused) => Err(fault_of(refused)),
+    }
+}
+
+// The first transaction that is refused, by its number from 1.
+fn fault_of(refused: Refused) -> TraceFault
+    requires { refused.fault ≢ SemFault.Memory → refused.index + 1 < 2 ^ 64 }
+    ensures { result ≡ refused_fault (refused.index + 1) refused.fault }
+{
+    match refused.fault {
+        SemFault::Memory => TraceFault::Run(RunFault::Memory),
+        fault => TraceFault::of_refused(refused.index as u64 + 1, fault),
+    }
+}
+
+// The answer where transactions have led.
+fn from_left(
+    alloc: Global,
+    whole: &Contract,
+    left: &Left<'_>,
+    asked: Asked,
+) -> Result<Vec<u8>, TraceFault>
+    ensures { Answers asked (Ok (reached_at whole.now left.now)) result }
+{
+    let interval = interval_of(asked, left.state.min_time());
+    match settle(alloc, left.contract, &left.state, interval) {
+        Ok(settled) => {
+            let text = settled_text(alloc, whole, left, interval, &settled, asked.json);
+            let text = beside_dropped(settled, text)?;
+            Ok(text)
+        }
+        Err(fault) => Err(TraceFault::Run(RunFault::from(fault))),
+    }
+}

@@ -1,0 +1,38 @@
+//! What is asked.
+ghost use Rattle.std.specs.Prelude.{◌≡◌};
+ghost use Rattle.semantics.specs.Transaction.{trimmed};
+ghost use Rattle.marlowe_next.specs.Question.{interval_of};
+
+use contract::{Interval, State};
+
+/// What is asked of a contract. Times are POSIX milliseconds.
+#[derive(Clone, Copy, Debug)]
+pub struct Asked {
+    /// When the next transaction may happen at the earliest: without it, from the minimum time on.
+    pub from: Option<i64>,
+    /// When it may happen at the latest: without it, at the first moment alone.
+    pub to: Option<i64>,
+    /// Whether a number of the state may also be a text of its digits, as `read_state_with_texts` has it.
+    pub texts: bool,
+    /// Whether the answer is JSON for tools, instead of lines for people.
+    pub json: bool,
+}
+
+/// The interval that is asked about, at a minimum time.
+pub(crate) fn interval_of(asked: Asked, now: i64) -> Interval
+    ensures { result ≡ interval_of asked now }
+{
+    let from = asked.from.unwrap_or(now);
+    let to = asked.to.unwrap_or(from);
+    Interval { from, to }
+}
+
+/// The interval with its start moved up to the minimum time.
+pub(crate) fn fixed(interval: Interval, state: &State) -> Interval
+    ensures { result ≡ trimmed interval state.now }
+{
+    Interval {
+        from: interval.from.max(state.min_time()),
+        to: interval.to,
+    }
+}

@@ -1,0 +1,121 @@
+//! What is told of the cases of a contract that has settled.
+ghost use Rattle.std.specs.Prelude.{◌≡◌, ◌<◌, ◌++◌, length, IfOk, OnOk};
+ghost use Rattle.evaluation.specs.Path.{waits_for};
+ghost use Rattle.next_inputs.specs.Offers.{AreOffers};
+ghost use Rattle.next_inputs.specs.Behind.{IsRefusedBehind};
+ghost use Rattle.next_lines.specs.Seen.{seen_cases};
+ghost use Rattle.marlowe_next.specs.AnswerSupport.{seen_if, TakesAt, TellsCase, TellsCases};
+
+use collections::{Memory, TryClone};
+use contract::{Input, Interval, Party, SemFault, State, Token};
+use evaluation::{Parts, Wait};
+use marlowe_run::beside_dropped;
+use next_inputs::{Offer, refused_behind};
+use next_lines::{CaseTold, Deposit};
+use std::alloc::Global;
+
+/// What is told of each case of a contract that has settled, in a fixed interval, by what the cases offer.
+pub(crate) fn told_cases<'a, S: Parts>(
+    alloc: Global,
+    parts: &'a S,
+    place: S::Place,
+    state: &State,
+    interval: Interval,
+    offers: &'a [Offer],
+) -> Result<Vec<CaseTold<'a>>, Memory>
+    requires stands { S.contains parts.now place }
+    requires offers { AreOffers interval state.now (waits_for (S.tree parts.now place)) offers.now }
+    ensures { IfOk result (λ told. TellsCases interval state.now (S.tree parts.now place) offers.now told.items) }
+{
+    let mut told = Vec::new(alloc);
+    for index in 0..offers.len() {
+        let case = told_case(alloc, parts, place, index, state, interval, &offers[index])?;
+        put_some(&mut told, case)?;
+    }
+    Ok(told)
+}
+
+fn put_some<'a>(told: &mut Vec<CaseTold<'a>>, case: Option<CaseTold<'a>>) -> Result<(), Memory>
+    ensures { OnOk result (seen_cases told.new.items ≡ seen_cases told.old.items ++ seen_if case.entry) }
+{
+    if let Some(case) = case {
+        told.push(case)?;
+    }
+    Ok(())
+}
+
+// What is told of a case, if something is.
+fn told_case<'a, S: Parts>(
+    alloc: Global,
+    parts: &'a S,
+    place: S::Place,
+    index: usize,
+    state: &State,
+    interval: Interval,
+    offer: &'a Offer,
+) -> Result<Option<CaseTold<'a>>, Memory>
+    requires stands { S.contains parts.now place }
+    requires within { index < length (waits_for (S.tree parts.now place)) }
+    requires takes { TakesAt interval state.now (S.tree parts.now place) index offer.now }
+    ensures { IfOk result (λ told. TellsCase interval state.now (S.tree parts.now place) index offer.now (seen_if told)) }
+{
+    let case = parts.case(place, index);
+    match (case.action, offer) {
+        (Wait::Deposit(account, party, token, _), Offer::Deposit(amount)) => {
+            let amount = *amount;
+            let input = deposit_input(account, party, token, amount)?;
+            let refused = refusal(alloc, parts, place, index, state, interval, input)?;
+            let deposit = Deposit {
+                account,
+                party,
+                token,
+                amount,
+            };
+            Ok(Some(CaseTold::Deposit(index, deposit, refused)))
+        }
+        (Wait::Deposit(account, party, token, _), Offer::Leaves128) => {
+            Ok(Some(CaseTold::DepositLeaves(index, account, party, token)))
+        }
+        (Wait::Choice(id, _), Offer::Choice(bounds)) => {
+            Ok(Some(CaseTold::Choice(index, id, bounds)))
+        }
+        (Wait::Notify(_), Offer::Notify) => {
+            let refused = refusal(alloc, parts, place, index, state, interval, Input::Notify)?;
+            Ok(Some(CaseTold::Notify(index, refused)))
+        }
+        (Wait::Notify(_), Offer::Leaves128) => Ok(Some(CaseTold::NotifyLeaves(index))),
+        _ => Ok(None),
+    }
+}
+
+// Why what follows an input that takes a case is refused, if it is.
+fn refusal<S: Parts>(
+    alloc: Global,
+    parts: &S,
+    place: S::Place,
+    index: usize,
+    state: &State,
+    interval: Interval,
+    input: Input,
+) -> Result<Option<SemFault>, Memory>
+    requires stands { S.contains parts.now place }
+    requires within { index < length (waits_for (S.tree parts.now place)) }
+    ensures { IfOk result (IsRefusedBehind interval state.now (S.tree parts.now place) index input) }
+{
+    let refused = refused_behind(alloc, parts, place, index, state, interval, &input);
+    beside_dropped(input, refused)
+}
+
+fn deposit_input(
+    account: &Party,
+    party: &Party,
+    token: &Token,
+    amount: i128,
+) -> Result<Input, Memory>
+    ensures { IfOk result (λ input. input ≡ Input.Deposit account.now party.now token.now amount) }
+{
+    let account = account.try_clone()?;
+    let party = party.try_clone()?;
+    let token = token.try_clone()?;
+    Ok(Input::Deposit(account, party, token, amount))
+}

@@ -1,0 +1,18 @@
+use Rattle.std.proofs.Common.{codes}
+use Rattle.clap.specs.Words.{new_app, with_rule}
+use Rattle.marlowe_usage.specs.Lines.{given, optional, flag, text_numbers}
+use Rattle.marlowe_usage.proofs.commands.analyse_command.Goals as goal
+
+pub returns : goal.returns
+returns c =
+    let none = new_app (codes "analyse") in
+    let start = c.after_help.ensures none c.new.ensures in
+    let with_one = c.with.ensures none (given (codes "CONTRACT")) start c.contract.ensures in
+    let one = with_rule none (given (codes "CONTRACT")) in
+    let with_two = c.with-2.ensures one (optional (codes "STATE")) with_one c.optional.ensures in
+    let two = with_rule one (optional (codes "STATE")) in
+    let with_three = c.with-3.ensures two (flag (codes "json")) with_two c.flag.ensures in
+    let three = with_rule two (flag (codes "json")) in
+    let with_four = c.with-4.ensures three (flag (codes "no-runs")) with_three c.flag-2.ensures in
+    let four = with_rule three (flag (codes "no-runs")) in
+    c.with-5.ensures four text_numbers with_four c.text_numbers.ensures

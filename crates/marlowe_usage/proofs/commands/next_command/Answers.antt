@@ -1,0 +1,22 @@
+use Rattle.std.proofs.Common.{codes}
+use Rattle.clap.specs.Words.{new_app, with_rule}
+use Rattle.marlowe_usage.specs.Lines.{given, optional, time, options, flag, text_numbers}
+use Rattle.marlowe_usage.proofs.commands.next_command.Goals as goal
+
+pub returns : goal.returns
+returns c =
+    let none = new_app (codes "next") in
+    let start = c.after_help.ensures none c.new.ensures in
+    let with_one = c.with.ensures none (given (codes "CONTRACT")) start c.contract.ensures in
+    let one = with_rule none (given (codes "CONTRACT")) in
+    let with_two = c.with-2.ensures one (optional (codes "STATE")) with_one c.optional.ensures in
+    let two = with_rule one (optional (codes "STATE")) in
+    let with_three = c.with-3.ensures two (time (codes "from")) with_two c.time.ensures in
+    let three = with_rule two (time (codes "from")) in
+    let with_four = c.with-4.ensures three (time (codes "to")) with_three c.time-2.ensures in
+    let four = with_rule three (time (codes "to")) in
+    let with_five = c.with-5.ensures four (options (codes "after")) with_four c.options.ensures in
+    let five = with_rule four (options (codes "after")) in
+    let with_six = c.with-6.ensures five (flag (codes "json")) with_five c.flag.ensures in
+    let six = with_rule five (flag (codes "json")) in
+    c.with-7.ensures six text_numbers with_six c.text_numbers.ensures

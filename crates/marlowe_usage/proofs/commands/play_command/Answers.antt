@@ -1,0 +1,12 @@
+use Rattle.std.proofs.Common.{codes}
+use Rattle.clap.specs.Words.{new_app, with_rule}
+use Rattle.marlowe_usage.specs.Lines.{given, flag}
+use Rattle.marlowe_usage.proofs.commands.play_command.Goals as goal
+
+pub returns : goal.returns
+returns c =
+    let none = new_app (codes "play") in
+    let start = c.after_help.ensures none c.new.ensures in
+    let with_one = c.with.ensures none (given (codes "SCENARIO")) start c.given.ensures in
+    let one = with_rule none (given (codes "SCENARIO")) in
+    c.with-2.ensures one (flag (codes "one")) with_one c.flag.ensures

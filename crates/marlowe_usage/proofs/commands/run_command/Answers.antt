@@ -1,0 +1,15 @@
+use Rattle.std.proofs.Common.{codes}
+use Rattle.clap.specs.Words.{new_app, with_rule}
+use Rattle.marlowe_usage.specs.Lines.{given, text_numbers}
+use Rattle.marlowe_usage.proofs.commands.run_command.Goals as goal
+
+pub returns : goal.returns
+returns c =
+    let none = new_app (codes "run") in
+    let with_one = c.with.ensures none (given (codes "CONTRACT")) c.new.ensures c.contract.ensures in
+    let one = with_rule none (given (codes "CONTRACT")) in
+    let with_two = c.with-2.ensures one (given (codes "STATE")) with_one c.given.ensures in
+    let two = with_rule one (given (codes "STATE")) in
+    let with_three = c.with-3.ensures two (given (codes "TX")) with_two c.given-2.ensures in
+    let three = with_rule two (given (codes "TX")) in
+    c.with-4.ensures three text_numbers with_three c.text_numbers.ensures

@@ -1,0 +1,104 @@
+-- The command line: its commands and their arguments, as a command of the library that reads the words.
+use Rattle.std.specs.Prelude.{◌≡◌, IfOk, List, [], ◌∷◌, Some, fold, negsuc, pos, true, false, codes}
+use Rattle.clap.specs.Lexer.{usize_max}
+use Rattle.clap.specs.Words.{App, Rule, Text, app_of, new_app, new_rule, rule_of, with_rule, with_subcommand}
+use Rattle.clap.specs.declared.Command.{Command}
+use Rattle.clap.specs.declared.Command.TheViews.{out-Command}
+use Rattle.clap.specs.declared.builder.action.ArgAction.TheVariants.{Append, SetTrue}
+use Rattle.clap.specs.declared.builder.arg.Arg.{Arg}
+use Rattle.clap.specs.declared.builder.value_parser.ValueParser.TheVariants.{Signed}
+use Rattle.marlowe_usage.specs.declared.draft.Draft.{Draft}
+
+-- ---- the kinds of arguments
+
+-- an argument that has to be given, by its place
+abbrev pub given : Text → Rule
+given name = record (new_rule name) { required = true }
+
+-- .. once or more, by the last place
+abbrev pub several : Text → Rule
+several name = record (given name) { range = Some (record { start_inclusive = 1; end_inclusive = usize_max }) }
+
+-- an argument by its place, which may be left out
+abbrev pub optional : Text → Rule
+optional name = new_rule name
+
+-- a flag `--name`, which may be left out
+abbrev pub flag : Text → Rule
+flag name = record (new_rule name) { long = Some name; action = Some SetTrue }
+
+-- an option `--name VALUE`, which may be left out
+abbrev pub option : Text → Rule
+option name = record (new_rule name) { long = Some name; value_names = 1 }
+
+-- .. whose value is a time: a number of 64 bits
+abbrev pub time : Text → Rule
+time name = record (option name) { parser = Some (Signed (negsuc 9223372036854775807) (pos 9223372036854775807)) }
+
+-- .. which may be given again and again, each with one value
+abbrev pub options : Text → Rule
+options name = record (option name) { action = Some Append }
+
+-- ---- the commands
+
+-- a command of this name with these arguments
+abbrev pub command : Text → List Rule → App
+command name rules = fold with_rule (new_app name) rules
+
+-- numbers of a state may be texts
+abbrev pub text_numbers : Rule
+text_numbers = flag (codes "text-numbers")
+
+-- `run CONTRACT STATE TX [--text-numbers]`
+abbrev pub run_rules : List Rule
+run_rules = given (codes "CONTRACT") ∷ given (codes "STATE") ∷ given (codes "TX") ∷ text_numbers ∷ []
+
+-- `trace CONTRACT TX.. [--state STATE] [--last] [--text-numbers]`
+abbrev pub trace_rules : List Rule
+trace_rules = given (codes "CONTRACT") ∷ several (codes "TX") ∷ option (codes "state") ∷ flag (codes "last") ∷ text_numbers ∷ []
+
+-- `next CONTRACT [STATE] [--from T] [--to T] [--after TX].. [--json] [--text-numbers]`
+abbrev pub next_rules : List Rule
+next_rules = given (codes "CONTRACT") ∷ optional (codes "STATE") ∷ time (codes "from") ∷ time (codes "to") ∷ options (codes "after")
+    ∷ flag (codes "json") ∷ text_numbers ∷ []
+
+-- `table CONTRACT`
+abbrev pub table_rules : List Rule
+table_rules = given (codes "CONTRACT") ∷ []
+
+-- `analyse CONTRACT [STATE] [--json] [--no-runs] [--text-numbers]`
+abbrev pub analyse_rules : List Rule
+analyse_rules = given (codes "CONTRACT") ∷ optional (codes "STATE") ∷ flag (codes "json") ∷ flag (codes "no-runs") ∷ text_numbers ∷ []
+
+-- `play SCENARIO [--one]`
+abbrev pub play_rules : List Rule
+play_rules = given (codes "SCENARIO") ∷ flag (codes "one") ∷ []
+
+-- the program without its commands: it has a version and needs a command
+abbrev pub program : App
+program = record (new_app (codes "marlowe")) {
+  top = record (new_app (codes "marlowe")).top { has_version = true; subcommand_required = true; arg_required_else_help = true };
+}
+
+-- the commands, in the order in which help lists them
+abbrev pub commands : List App
+commands = command (codes "run") run_rules ∷ command (codes "trace") trace_rules ∷ command (codes "next") next_rules
+    ∷ command (codes "table") table_rules ∷ command (codes "analyse") analyse_rules ∷ command (codes "play") play_rules ∷ []
+
+-- the whole command line
+abbrev pub command_line : App
+command_line = fold (λ app sub. with_subcommand app sub.top) program commands
+
+-- ---- what is built
+
+-- an argument is of this rule, and is its own command's alone
+abbrev pub IsArgument : Rule → Arg → Type 0
+IsArgument rule arg = (rule_of arg ≡ rule) × (arg.global ≡ false)
+
+-- a command reads words as this one does, and each argument is its own command's alone
+abbrev pub IsCommand : App → Command → Type 0
+IsCommand app command = (app_of command ≡ app) × ((out-Command command).has_globals ≡ false)
+
+-- .. a draft, unless memory was refused
+abbrev pub IsDraft : App → Draft → Type 0
+IsDraft app draft = IfOk draft.command (IsCommand app)

@@ -1,0 +1,146 @@
+//! The commands, with their arguments and help.
+ghost use Rattle.std.specs.Prelude.{IfOk, codes};
+ghost use Rattle.marlowe_usage.specs.Lines.{IsArgument, IsCommand, IsDraft, given, text_numbers, command, program};
+ghost use Rattle.marlowe_usage.specs.Lines.{run_rules, trace_rules, next_rules, table_rules, analyse_rules, play_rules, command_line};
+
+use crate::draft::Draft;
+use crate::kinds::{flag, given, option, optional, options, several, time};
+use clap::{Arg, Command};
+use std::alloc::{AllocError, Global};
+
+/// The whole command line.
+pub fn command_line<'a>(alloc: Global) -> Result<Command<'a>, AllocError>
+    ensures { IfOk result (IsCommand command_line) }
+{
+    program(alloc)
+        .with_command(run_command(alloc))
+        .with_command(trace_command(alloc))
+        .with_command(next_command(alloc))
+        .with_command(table_command(alloc))
+        .with_command(analyse_command(alloc))
+        .with_command(play_command(alloc))
+        .made()
+}
+
+// The program without its commands.
+fn program<'a>(alloc: Global) -> Draft<'a>
+    ensures { IsDraft program result }
+{
+    let program = Command::new(alloc, "marlowe")
+        .version("0.1.0")
+        .about("Says what a Marlowe contract pays, and to whom, before money moves.")
+        .subcommand_required(true)
+        .arg_required_else_help(true);
+    Draft {
+        command: Ok(program),
+    }
+}
+
+// The argument for a contract.
+fn contract<'a>(alloc: Global) -> Arg<'a>
+    ensures { IsArgument (given (codes "CONTRACT")) result }
+{
+    let help = "The contract, as a JSON file of Marlowe Core";
+    given(alloc, "CONTRACT", help)
+}
+
+// The flag for numbers of a state.
+fn text_numbers<'a>(alloc: Global) -> Arg<'a>
+    ensures { IsArgument text_numbers result }
+{
+    let help = "Takes numbers of the state also as texts of their digits";
+    flag(alloc, "text-numbers", help)
+}
+
+fn run_command<'a>(alloc: Global) -> Draft<'a>
+    ensures { IsDraft (command (codes "run") run_rules) result }
+{
+    let about = "Computes one transaction and prints its outcome as JSON.";
+    let state = "The state: accounts, choices, boundValues and minTime";
+    let transaction = "The transaction: tx_interval and tx_inputs";
+    Draft::new(alloc, "run", about)
+        .with(contract(alloc))
+        .with(given(alloc, "STATE", state))
+        .with(given(alloc, "TX", transaction))
+        .with(text_numbers(alloc))
+}
+
+fn trace_command<'a>(alloc: Global) -> Draft<'a>
+    ensures { IsDraft (command (codes "trace") trace_rules) result }
+{
+    let about = "Computes transactions one after another and prints the outcome of each as JSON.";
+    let after_help =
+        "Each starts in the contract and the state in which the one before it ended. The first that is refused ends the\ntrace: its number and its fault are on standard error, and the status is 1.";
+    let transactions = "Transactions: one, a list of them, or one on each line";
+    let state = "The state from which they start; without it no accounts and time 0";
+    let last = "Prints the last outcome alone";
+    Draft::new(alloc, "trace", about)
+        .after_help(after_help)
+        .with(contract(alloc))
+        .with(several(alloc, "TX", transactions))
+        .with(option(alloc, "state", "STATE", state))
+        .with(flag(alloc, "last", last))
+        .with(text_numbers(alloc))
+}
+
+fn next_command<'a>(alloc: Global) -> Draft<'a>
+    ensures { IsDraft (command (codes "next") next_rules) result }
+{
+    let about = "Prints the inputs that a contract takes next, and until when it waits for one.";
+    let after_help =
+        "A time is a number of milliseconds since 1970 began. Without --from it is the state's minimum time, and without\n--to it is --from. What is printed is described in docs/formats.md.";
+    let state = "The state in which it is; without it no accounts and time 0";
+    let from = "The first millisecond of the next transaction's interval";
+    let to = "The last millisecond of that interval";
+    let after = "Transactions that come before: one, a list of them, or one on each line";
+    let json = "Prints JSON, for tools";
+    Draft::new(alloc, "next", about)
+        .after_help(after_help)
+        .with(contract(alloc))
+        .with(optional(alloc, "STATE", state))
+        .with(time(alloc, "from", from))
+        .with(time(alloc, "to", to))
+        .with(options(alloc, "after", "TX", after))
+        .with(flag(alloc, "json", json))
+        .with(text_numbers(alloc))
+}
+
+fn table_command<'a>(alloc: Global) -> Draft<'a>
+    ensures { IsDraft (command (codes "table") table_rules) result }
+{
+    let about = "Compiles a contract and prints its table, a line for each node.";
+    Draft::new(alloc, "table", about).with(contract(alloc))
+}
+
+fn analyse_command<'a>(alloc: Global) -> Draft<'a>
+    ensures { IsDraft (command (codes "analyse") analyse_rules) result }
+{
+    let about =
+        "Says which warnings a contract can give, in any run, and what each party can be paid.";
+    let after_help =
+        "An alarm has its kind, its place in the contract's text, and a run that ends in it, a transaction a line, or\n`not known`. Status 0: it never warns and stays within 128 bits; 3: there is an alarm. What is promised, and\nwhat `not known` means, is described in docs/analysis.md.";
+    let state = "The state from which it starts; without it no accounts and time 0";
+    let json = "Prints JSON, for tools";
+    let no_runs = "Looks for no runs, which takes most of the time where none is found";
+    Draft::new(alloc, "analyse", about)
+        .after_help(after_help)
+        .with(contract(alloc))
+        .with(optional(alloc, "STATE", state))
+        .with(flag(alloc, "json", json))
+        .with(flag(alloc, "no-runs", no_runs))
+        .with(text_numbers(alloc))
+}
+
+fn play_command<'a>(alloc: Global) -> Draft<'a>
+    ensures { IsDraft (command (codes "play") play_rules) result }
+{
+    let about = "Plays a scenario and prints a line for each call that was answered.";
+    let after_help =
+        "A scenario says what a ledger begins with, which contracts are published and started on it,\nand what each party means to do there. Its form is described in docs/formats.md.";
+    let scenario = "The scenario, as a JSON file";
+    let one = "Plays the plans one after another, so that the text is always the same";
+    Draft::new(alloc, "play", about)
+        .after_help(after_help)
+        .with(given(alloc, "SCENARIO", scenario))
+        .with(flag(alloc, "one", one))
+}

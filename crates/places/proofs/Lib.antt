@@ -1,0 +1,4 @@
+mod PlacesLemmas
+pub mod PieceLaws
+mod JsonLemmas
+mod AdaLemmas

@@ -1,0 +1,4 @@
+pub mod Places
+pub mod Texts
+pub mod Laws
+pub mod Rows

@@ -1,5 +1,0 @@
-use Rattle.semantics.proofs.Matching.{same_tokens}
-use Rattle.replay.proofs.trials.same_token.Goals as goal
-
-pub returns : goal.returns
-returns c = same_tokens c.args.token.now c.args.of.now c.same.result c.same.ensures
