@@ -1,5 +1,5 @@
 //! What can be done next, from text to text.
-ghost use Rattle.std.specs.Prelude.{◌≡◌, ◌≢◌, ◌+◌, ◌<◌, ◌^◌, map, IfOk, option_map, Ok};
+ghost use Rattle.std.specs.Prelude.{◌≡◌, ◌≢◌, ◌+◌, ◌<◌, map, IfOk, option_map, Ok};
 ghost use Rattle.collections.specs.Answers.{AsideBy};
 ghost use Rattle.contract.specs.Tree.{contract_tree};
 ghost use Rattle.marlowe_refusals.specs.TraceFaults.{refused_fault};
@@ -104,18 +104,19 @@ fn from_transactions(
 ) -> Result<Vec<u8>, TraceFault>
     ensures { Answers asked (reached_by (contract_tree whole.now) start.now transactions.now) result }
 {
+    let count = transactions.len();
     match trace::after(alloc, whole, start, transactions) {
         Ok(left) => {
             let text = from_left(alloc, whole, &left, asked);
             beside_dropped(left, text)
         }
-        Err(refused) => Err(fault_of(refused)),
+        Err(refused) => Err(fault_of(refused, count)),
     }
 }
 
-// The first transaction that is refused, by its number from 1.
-fn fault_of(refused: Refused) -> TraceFault
-    requires { refused.fault ≢ SemFault.Memory → refused.index + 1 < 2 ^ 64 }
+// The first transaction that is refused, of so many, by its number from 1.
+fn fault_of(refused: Refused, count: usize) -> TraceFault
+    requires { refused.fault ≢ SemFault.Memory → refused.index < count }
     ensures { result ≡ refused_fault (refused.index + 1) refused.fault }
 {
     match refused.fault {
@@ -133,7 +134,7 @@ fn from_left(
 ) -> Result<Vec<u8>, TraceFault>
     ensures { Answers asked (Ok (reached_at whole.now left.now)) result }
 {
-    let interval = interval_of(asked, left.state.min_time());
+    let interval = interval_of(asked, &left.state);
     match settle(alloc, left.contract, &left.state, interval) {
         Ok(settled) => {
             let text = settled_text(alloc, whole, left, interval, &settled, asked.json);

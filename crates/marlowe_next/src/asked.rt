@@ -18,11 +18,11 @@ pub struct Asked {
     pub json: bool,
 }
 
-/// The interval that is asked about, at a minimum time.
-pub(crate) fn interval_of(asked: Asked, now: i64) -> Interval
-    ensures { result ≡ interval_of asked now }
+/// The interval that is asked about, in a state.
+pub(crate) fn interval_of(asked: Asked, state: &State) -> Interval
+    ensures { result ≡ interval_of asked state.now.min_time }
 {
-    let from = asked.from.unwrap_or(now);
+    let from = asked.from.unwrap_or(state.min_time());
     let to = asked.to.unwrap_or(from);
     Interval { from, to }
 }

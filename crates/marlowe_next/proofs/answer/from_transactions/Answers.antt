@@ -14,4 +14,4 @@ pub returns-in-Err : goal.returns-in-Err
 returns-in-Err c = leads_badly c.args.asked (contract_tree c.args.whole.now) c.args.start.now c.args.transactions.now c.in-Err.refused c.fault_of.result c.in-Err.ensures.answer c.fault_of.ensures
 
 pub fault_of-requires : goal.fault_of-requires
-fault_of-requires c = λ n. let l = first_refused _ _ c.in-Err.refused (c.in-Err.ensures.answer n) in ?
+fault_of-requires c = λ n. first_refused (standing c.args.start.now (contract_tree c.args.whole.now)) c.args.transactions.now c.in-Err.refused (c.in-Err.ensures.answer n)
