@@ -28,7 +28,11 @@ pub fn what_is_asked<'l>(
         _ => (Part::All, rest),
     };
     let (name, line) = line_of(given.has_state(), word)?;
-    let more = if word == "marlowe" || word == "next" { text } else { "" };
+    let more = if word == "marlowe" || word == "next" {
+        text
+    } else {
+        ""
+    };
     if !name.is_empty() && !text.is_empty() {
         given.keep(alloc, name, text)?;
     }

@@ -28,7 +28,10 @@ fn task_told(alloc: Global, task: &Task<'_>) -> Result<String, AllocError> {
 
 fn run_told(alloc: Global, run: &RunTask<'_>) -> Result<String, AllocError> {
     let texts = texts_told(run.text_numbers);
-    format!(in alloc; "run {} {} {}{texts}", run.contract, run.state, run.transaction)
+    format!(in alloc;
+        "run {} {} {}{texts}",
+        run.contract, run.state, run.transaction
+    )
 }
 
 fn trace_told(alloc: Global, trace: &TraceTask<'_>) -> Result<String, AllocError> {
@@ -69,7 +72,11 @@ fn analysis_told(alloc: Global, analyse: &AnalyseTask<'_>) -> Result<String, All
 }
 
 fn play_told(alloc: Global, play: &PlayTask<'_>) -> Result<String, AllocError> {
-    let how = if play.one { "one after another" } else { "at once" };
+    let how = if play.one {
+        "one after another"
+    } else {
+        "at once"
+    };
     format!(in alloc; "play {} {how}", play.scenario)
 }
 
