@@ -1,6 +1,6 @@
 //! What is printed for a task, whose files are read first: the contract, the state, and then the transactions in the order of the command
 //! line.
-ghost use Rattle.std.specs.Prelude.{IfOk};
+ghost use Rattle.std.specs.Prelude.{◌⊎◌, IfOk};
 ghost use Rattle.marlowe_commands.specs.Streams.{streams_of, IsOnOneStream, IsCut, IsTextOr};
 
 use crate::printed::Printed;
