@@ -217,7 +217,7 @@ def answers(lines, streams):
 def compare(name, streams):
     count = 0
     for line, came, written in answers(rows.lines_of(os.path.join(DATA, name)), streams):
-        if came is not None and came != written:
+        if came is not None and (came or [""]) != written:
             sys.exit(f"{name}: {line}\nwritten " + "\n        ".join(written) + "\nhere    " + "\n        ".join(came))
         count += came is not None
     print(f"{name} ok {count} rows")
