@@ -88,14 +88,15 @@ def rules_of(path, case):
     names = {str(rule).split(":")[0] for rule in path} & set(rules.RULES)
     marks, answers = Counter(path), outcomes(case["answer"])
     shown = {"record of 0": "pay in part:nothing" in marks, "pay to itself": "pay to an account:itself" in marks, "name bound again": "let:again" in marks,
-             "assertion fails": "assert:false" in marks, "order of accounts": any(sum("owner" in str(row) or True for row in each["state"]["accounts"]) > 1 for each in answers),
+             "assertion fails": "assert:false" in marks, "order of accounts": marks["refund"] > 1 or any(len(each["state"]["accounts"]) > 1 for each in answers),
              "order of payments": any(len(each["payments"]) > 1 for each in answers), "order of warnings": any(len(each["warnings"]) > 1 for each in answers),
              "order of choices": any(len(each["state"]["choices"]) > 1 for each in answers), "digits": reference.interpreter.WIDE in marks and bool(answers),
              "fits": reference.interpreter.WIDE in marks and bool(answers), "signs of a quotient": any(mark.startswith("quotient:") and "above" not in mark for mark in map(str, marks))}
     return names | {name for name, is_shown in shown.items() if is_shown}
 
 
-OF_TEXTS = {"faults": None, "round_trips": "canonical", "readings": "first form"}
+OF_TEXTS = {"round_trips": "canonical", "readings": "first form"}
+RULES_OF_SORTS = {"contract": "contract", "state": "state", "transaction": "input", "input": "input"}
 
 
 def rule_for(subject, case, path, counts):
@@ -107,8 +108,10 @@ def rule_for(subject, case, path, counts):
     refused = case["answer"].get("refused", {})
     if refused.get("of") in reference.READERS:
         return refused["name"]
+    if subject == "faults":
+        return RULES_OF_SORTS[next(iter(case["ask"]["read"]))]
     if subject in OF_TEXTS:
-        return "rows in order" if "state" in case["ask"].get("read", {}) else OF_TEXTS[subject] or next(iter(case["ask"].get("read", case["ask"])))
+        return "rows in order" if subject == "round_trips" and "state" in case["ask"]["read"] else OF_TEXTS[subject]
     shown = rules_of(path, case)
     own = [name for name in shown if rules.RULES[name][0] == subject] or list(shown)
     return min(sorted(own), key=lambda name: counts[name])
@@ -139,24 +142,20 @@ class Suite:
         for module in BY_HAND:
             for case in importlib.import_module("by_hand." + module).CASES:
                 line, given = suite.line_of(case)
-                told = reference.answer(line)
+                told, path = suite.told_by(line)
                 if suite.compact(told) != suite.compact({"id": given, **case["answer"]}):
                     sys.exit(f"{case['subject']}: {case['name']}\nby hand {suite.compact(case['answer'])}\nhere    {suite.compact(told)}")
-                self.put(case, suite.path_of(case))
+                self.put(case, path)
 
     def random(self, subject, seed, largest, wanted):
         """Puts a random case, where it is short and what is wanted of its path holds."""
         ask = random_cases.asked(subject, seed)
         if ask is None:
             return False
-        line, _ = suite.line_of({"ask": ask})
-        told = reference.answer(line)
+        told, path = suite.told_by(suite.line_of({"ask": ask})[0])
         del told["id"]
         case = {"subject": subject, "name": f"random {seed}", "rule": "", "choices": [], "ask": ask, "answer": told}
-        if len(suite.written(case)) > largest:
-            return False
-        path = suite.path_of(case)
-        if path in self.paths or not wanted(path):
+        if len(suite.written(case)) > largest or path in self.paths or not wanted(path) or not fits(subject, case, path):
             return False
         case["rule"] = rule_for(subject, case, path, self.counts)
         case["subject"] = subject_for(subject, case, path)
@@ -176,14 +175,25 @@ class Suite:
             self.random("mixed", seed, LARGEST_MIXED, lambda path: suite.pairs_of(path) - self.pairs)
 
 
+def fits(subject, case, path):
+    """Whether a case is of use to the subject that it was made for."""
+    if subject == "bits":
+        return is_large(path)
+    return subject != "faults" or "read" in case["ask"] or case["answer"].get("refused", {}).get("of") in reference.READERS
+
+
+def is_large(path):
+    return any(rule == reference.interpreter.WIDE or str(rule).startswith("Leaves128") for rule in path)
+
+
 def subject_for(subject, case, path):
     """The subject of a random case: what reads otherwise than it was meant to is a fault, and numbers that are large stand apart."""
     told = case["answer"]
     if told.get("refused", {}).get("of") in reference.READERS:
         return "faults"
     if subject == "faults":
-        return "round_trips"
-    if any(rule == reference.interpreter.WIDE or str(rule).startswith("Leaves128") for rule in path) and "run" in case["ask"]:
+        return "readings"
+    if is_large(path) and "run" in case["ask"]:
         return "bits"
     return rules.RULES[case["rule"]][0] if subject == "mixed" else subject
 

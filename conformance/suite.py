@@ -89,14 +89,15 @@ def without_refunds(outcome):
 
 # ---- paths
 
-def path_of(case):
-    """The rules that a run or a trace takes; of what is only read, or isn't read, the lines of readings.py that it goes through."""
+def told_by(line):
+    """The answer of a line, and its path: the rules that a run or a trace takes; of what is only read, or isn't read, the lines of readings.py
+    that it goes through."""
     taken = []
-    told = reference.answer(line_of(case)[0], taken)
+    told = reference.answer(line, taken)
     if taken:
-        return tuple(taken)
+        return told, tuple(taken)
     is_line = told.get("refused", {}).get("of") == "line"
-    return "read", *lines_read(line_of(case)[0], 0 if is_line else FORMS_BEGIN)
+    return told, ("read", *lines_read(line, 0 if is_line else FORMS_BEGIN))
 
 
 FORMS_BEGIN = reference.readings.no_form.__code__.co_firstlineno
