@@ -97,7 +97,8 @@ def faults_of_lines(cases):
 
 def faults_of_pages():
     """Words that rules.py quotes and the page hasn't."""
-    quoted = [(name, page, quote) for name, (_, _, page, quote) in rules.RULES.items()] + [(name, page, quote) for name, (_, page, quote, _) in rules.CHOICES.items()]
+    quoted = [(name, page, quote) for name, (_, _, page, quote) in rules.RULES.items()] + [(name, page, quote) for name,
+        (_, page, quote, _) in rules.CHOICES.items()]
     pages = {}
     for name, page, quote in quoted:
         if page not in pages:

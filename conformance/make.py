@@ -20,10 +20,12 @@ import reference
 import rules
 import suite
 
-BY_HAND = ("evaluation", "division", "intervals", "reductions", "warned_of", "payments", "inputs", "bits", "long", "readings", "faults", "round_trips", "streams")
+BY_HAND = ("evaluation", "division", "intervals", "reductions", "warned_of", "payments", "inputs", "bits", "long", "readings", "faults",
+    "round_trips", "streams")
 # How many random cases a subject has, and the most bytes that one takes in its file.
-QUOTAS = {"evaluation": (900, 700), "division": (420, 700), "intervals": (440, 800), "reductions": (640, 1000), "warnings": (480, 1000), "payments": (640, 1000),
-          "inputs": (640, 1100), "bits": (560, 900), "traces": (420, 2000), "warned": (220, 1600), "faults": (420, 600), "round_trips": (320, 1400), "readings": (260, 900)}
+QUOTAS = {"evaluation": (860, 700), "division": (420, 700), "intervals": (440, 800), "reductions": (640, 1100), "warnings": (480, 1300),
+          "payments": (640, 1500), "inputs": (640, 1300), "bits": (560, 1100), "traces": (420, 2400), "warned": (220, 1900), "faults": (420, 600),
+          "round_trips": (320, 1400), "readings": (260, 900)}
 # How many runs of compare.py are looked through for new pairs, and the most bytes of one.
 MIXED, LARGEST_MIXED = 20_000, 2500
 TRIES = 40
@@ -87,11 +89,16 @@ def rules_of(path, case):
     """The rules that a path shows, those named in it and those that its order shows."""
     names = {str(rule).split(":")[0] for rule in path} & set(rules.RULES)
     marks, answers = Counter(path), outcomes(case["answer"])
-    shown = {"record of 0": "pay in part:nothing" in marks, "pay to itself": "pay to an account:itself" in marks, "name bound again": "let:again" in marks,
-             "assertion fails": "assert:false" in marks, "order of accounts": marks["refund"] > 1 or any(len(each["state"]["accounts"]) > 1 for each in answers),
-             "order of payments": any(len(each["payments"]) > 1 for each in answers), "order of warnings": any(len(each["warnings"]) > 1 for each in answers),
-             "order of choices": any(len(each["state"]["choices"]) > 1 for each in answers), "digits": reference.interpreter.WIDE in marks and bool(answers),
-             "fits": reference.interpreter.WIDE in marks and bool(answers), "signs of a quotient": any(mark.startswith("quotient:") and "above" not in mark for mark in map(str, marks))}
+    shown = {"record of 0": "pay in part:nothing" in marks, "pay to itself": "pay to an account:itself" in marks,
+        "name bound again": "let:again" in marks,
+             "assertion fails": "assert:false" in marks,
+                 "order of accounts": marks["refund"] > 1 or any(len(each["state"]["accounts"]) > 1 for each in answers),
+             "order of payments": any(len(each["payments"]) > 1 for each in answers),
+                 "order of warnings": any(len(each["warnings"]) > 1 for each in answers),
+             "order of choices": any(len(each["state"]["choices"]) > 1 for each in answers),
+                 "digits": reference.interpreter.WIDE in marks and bool(answers),
+             "fits": reference.interpreter.WIDE in marks and bool(answers),
+                 "signs of a quotient": any(mark.startswith("quotient:") and "above" not in mark for mark in map(str, marks))}
     return names | {name for name, is_shown in shown.items() if is_shown}
 
 

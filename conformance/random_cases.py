@@ -4,7 +4,8 @@ Usage    make.py imports it. `asked(subject, seed)` gives a request of that subj
 """
 import reference
 import words
-from words import (A, ADA, B, CLOSE, END, NOTIFY, START, T, X, account, choice, choose, chooses, deposit, deposits, divide, ensure, into, let, money, notify,
+from words import (A, ADA, B, CLOSE, END, NOTIFY, START, T, X, choice, choose, chooses, deposit, deposits, divide, ensure, into, let, money,
+    notify,
                    pay, state, to, transaction, when)
 
 import compare
@@ -35,12 +36,13 @@ KEYS = [[party, token] for party in (A, B, X) for token in (ADA, T)]
 IDS = [words.choice_id(name, party) for name in ("x", "y") for party in (A, B, X)]
 
 
-def small_state(accounts=2, choices=2, bound=2):
+def small_state(accounts=1, choices=1, bound=1):
     return state(rows(KEYS, [1, 2, 3, 5, 10], accounts), rows(IDS, SMALL, choices), rows(["x", "y"], SMALL, bound), one(0, 0, 0, 0, 4, 5))
 
 
 def run(contract, before, *inputs, within=None):
-    return {"run": {"contract": contract, "state": before, "transaction": transaction(*inputs, within=within or one((0, 10), (3, 8), (5, 5), (5, 9)))}}
+    return {"run": {"contract": contract, "state": before, "transaction": transaction(*inputs,
+        within=within or one((0, 10), (3, 8), (5, 5), (5, 9)))}}
 
 
 # ---- by subject
@@ -52,9 +54,11 @@ def evaluation():
 
 def division():
     def part(depth):
-        return divide(part(depth - 1), part(depth - 1)) if depth and R.random() < 0.6 else compare.value(R.randrange(2)) if R.random() < 0.4 else R.randrange(-12, 13)
+        return divide(part(depth - 1),
+            part(depth - 1)) if depth and R.random() < 0.6 else compare.value(R.randrange(2)) if R.random() < 0.4 else R.randrange(-12, 13)
     body = divide(part(2), part(1))
-    return run(let("v", one(body, {"negate": body}, {"add": body, "and": part(1)}, {"value": part(1), "minus": body}, {"if": compare.observation(1), "then": body, "else": part(2)})), small_state(1, 1, 1))
+    return run(let("v", one(body, {"negate": body}, {"add": body, "and": part(1)}, {"value": part(1), "minus": body},
+        {"if": compare.observation(1), "then": body, "else": part(2)})), small_state(1, 1, 1))
 
 
 def timed(depth):
@@ -62,14 +66,17 @@ def timed(depth):
     if depth == 0:
         return one(CLOSE, CLOSE, let("s", START), let("e", END), pay(1, A, to(B)))
     body = timed(depth - 1)
-    return one(lambda: when(some(R.randrange(3), lambda: (one(notify(), notify(False), deposit(one(START, END, 1), B, A)), timed(max(depth - 2, 0)))), R.randrange(0, 14), body),
-               lambda: when([], R.randrange(0, 14), body), lambda: let(one("s", "e"), one(START, END), body), lambda: ensure({"value": START, "lt": R.randrange(12)}, body))()
+    return one(lambda: when(some(R.randrange(3), lambda: (one(notify(), notify(False), deposit(one(START, END, 1), B, A)), timed(max(depth - 2, 0)))),
+        R.randrange(0, 14), body),
+               lambda: when([], R.randrange(0, 14), body), lambda: let(one("s", "e"), one(START, END), body),
+                   lambda: ensure({"value": START, "lt": R.randrange(12)}, body))()
 
 
 def intervals():
-    start = R.randrange(-2, 12)
-    given = some(R.choice([0, 0, 0, 1, 2]), lambda: one(NOTIFY, NOTIFY, deposits(1, B, A)))
-    return run(timed(R.randrange(1, 5)), state(rows(KEYS[:2], [1, 3], 2), time=one(0, 0, 3, 6, 11)), *given, within=(start, start + one(0, 0, 1, 2, 4, 8, -1)))
+    start = R.randrange(-2, 15)
+    given = some(one(0, 0, 0, 1, 2), lambda: one(NOTIFY, NOTIFY, deposits(1, B, A)))
+    return run(timed(R.randrange(1, 5)), state(rows(KEYS[:2], [1, 3], 2), time=one(0, 0, 3, 6, 11)), *given,
+        within=(start, start + one(0, 0, 0, 0, 1, 1, 2, 4, 8, -1)))
 
 
 def steps(depth, *makers):
@@ -124,19 +131,20 @@ def warnings():
     def nothing(body):
         return when([(deposit(one(0, -1, 0, 1), one(A, X), one(A, B), one(ADA, T)), body)], 20)
     body = steps(R.randrange(2, 6), lets, asserts, pays, pays, nothing)
-    return run(body, small_state(1, 1, 2), *inputs_of(body))
+    return run(body, small_state(1, 0, 2), *inputs_of(body))
 
 
 def payments():
-    body = steps(R.randrange(1, 5), pays)
+    body = steps(R.randrange(1, 4), pays)
     if R.random() < 0.3:
         body = when([(deposit(one(1, 3), B, one(A, B), one(ADA, T)), body)], 20)
-    return run(body, state(rows(KEYS, [1, 2, 3, 5, 10], 4)), *inputs_of(body))
+    return run(body, state(rows(KEYS, [1, 2, 3, 5, 10], 3)), *inputs_of(body))
 
 
 def action():
-    return one(lambda: deposit(one(1, 2, 2, money(A), 0), one(A, B), one(A, B), one(ADA, ADA, T)), lambda: choice(one("x", "y"), one(A, B), *some(R.randrange(4), bound)),
-               lambda: notify(compare.observation(R.randrange(2))))()
+    return one(lambda: deposit(one(1, 2, 2, money(A), 0), one(A, B), one(A, B), one(ADA, ADA, T)),
+        lambda: choice(one("x", "y"), one(A, B), *some(R.randrange(4), bound)),
+               lambda: notify(one(True, compare.observation(R.randrange(2)))))()
 
 
 def bound():
@@ -146,35 +154,53 @@ def bound():
 
 def given_for(actions):
     near = R.choice(actions)
-    if R.random() < 0.25:
+    if R.random() < 0.15:
         return one(NOTIFY, deposits(one(0, 1, 2), one(A, B), one(A, B)), chooses(one("x", "y"), one(A, B), R.randrange(-1, 7)))
     if "party" in near:
         amount = near["deposits"] if isinstance(near["deposits"], int) else R.randrange(3)
-        return deposits(amount + one(0, 0, 0, 1), near["party"], near["into_account"], near["of_token"])
+        return deposits(amount + one(0, 0, 0, 0, 0, 1), near["party"], near["into_account"], near["of_token"])
     if "for_choice" in near:
-        return {"for_choice_id": near["for_choice"], "input_that_chooses_num": R.randrange(-1, 8)}
+        ends = [end for each in near["choose_between"] for end in each.values()]
+        return {"for_choice_id": near["for_choice"], "input_that_chooses_num": R.choice(ends) if ends and R.random() < 0.7 else R.randrange(-1, 8)}
     return NOTIFY
 
 
 def inputs():
-    first, second = some(R.randrange(1, 6), action), some(R.randrange(1, 4), action)
-    body = when([(each, let("t", place, when([(other, CLOSE) for other in second])) if R.random() < 0.5 else let("t", place)) for place, each in enumerate(first, 1)])
-    return run(body, small_state(1, 2, 0), *[given_for(actions) for actions in (first, second)[:one(1, 1, 2)]])
+    first, second = some(R.randrange(1, 5), action), some(R.randrange(1, 3), action)
+    body = when([(each, let("t", place, when([(other, CLOSE) for other in second])) if R.random() < 0.5 else let("t", place)) for place,
+        each in enumerate(first, 1)])
+    return run(body, small_state(1, 1, 0), *[given_for(actions) for actions in (first, second)[:one(1, 1, 2)]])
+
+
+def large_value():
+    """A value in which a number about the edges stands, deep in it or not."""
+    value = LARGE()
+    for _ in range(R.randrange(4)):
+        other = compare.value(R.randrange(2))
+        value = one({"add": value, "and": other}, {"add": other, "and": value}, {"value": other, "minus": value}, {"value": value, "minus": other},
+                    {"divide": value, "by": other}, {"multiply": other, "times": value}, {"negate": value},
+                    {"if": compare.observation(1), "then": value, "else": other}, {"if": compare.observation(1), "then": other, "else": value})
+    return value
+
+
+def large_observation():
+    body = {"value": large_value(), one("gt", "lt", "equal_to", "ge_than", "le_than"): compare.value(1)}
+    return one(body, {"both": compare.observation(1), "and": body}, {"either": compare.observation(1), "or": body}, {"not": body},
+        {"both": body, "and": compare.observation(1)})
 
 
 def bits():
     with_numbers([2**63, 2**64 - 1, -2**63, 0, 1, -1, 2], LARGE)
-    kind = R.randrange(4)
-    if kind == 0:
-        body = let("v", compare.value(R.randrange(1, 4)))
-    elif kind == 1:
-        body = ensure(compare.observation(R.randrange(1, 3)))
-    elif kind == 2:
-        body = when(some(R.randrange(1, 4), lambda: (one(deposit(compare.value(1), B, A), notify(compare.observation(2))), let("v", compare.value(1)))))
-        return run(body, small_state(1, 1, 1), one(NOTIFY, deposits(one(0, 1, 2**63), B, A)))
-    else:
-        body = steps(R.randrange(1, 4), lets, pays, asserts)
-    return run(body, state(rows(KEYS, [1, 2**63, 2**64 - 1], 2), rows(IDS, [2**63, -2**63, 2**64 - 1], 1), rows(["x", "y"], [2**63, 2**64 - 1, -1], 1)))
+    before = state(rows(KEYS, [1, 2**64 - 1], 1), rows(IDS, [2**63, -2**63], 1), rows(["x", "y"], [2**64 - 1, -1], 1))
+    kind = R.randrange(5)
+    if kind < 2:
+        return run(one(let("v", large_value()), ensure(large_observation())), before)
+    if kind == 2:
+        actions = some(R.randrange(1, 4), lambda: one(deposit(one(large_value(), 0, 1), one(A, B), A), notify(one(large_observation(), False, True))))
+        return run(when([(action, let("t", place)) for place, action in enumerate(actions, 1)]), before,
+            one(NOTIFY, deposits(one(0, 1), one(A, B), A)))
+    body = steps(R.randrange(1, 3), lets, asserts, pays)
+    return run(one(let("x", large_value(), body), pay(large_value(), A, one(to, into)(B), body), choose(large_observation(), body, CLOSE)), before)
 
 
 def mixed():
@@ -210,7 +236,7 @@ def walk(contract, before, length):
         given.append(transaction(*chosen, within=(at, at + one(0, 3, 9, 9))))
         told = reference.answered({"trace": {"contract": contract, "state": before, "transactions": given}}, [])
         if "refused" in told:
-            if R.random() < 0.6:
+            if R.random() < 0.85:
                 given.pop()
                 continue
             break
@@ -219,7 +245,7 @@ def walk(contract, before, length):
 
 
 def traces():
-    contract, before = steps_to(waiting(R.randrange(1, 4))), small_state(2, 1, 1)
+    contract, before = steps_to(waiting(R.randrange(1, 4))), small_state(1, 0, 1)
     ask = {"contract": contract, "state": before, "transactions": walk(contract, before, R.randrange(2, 5))}
     if before == state():
         del ask["state"]
@@ -318,8 +344,10 @@ def round_trips():
     return {"read": {of: decorated(data)}}
 
 
-OTHERS = [{"pay": 1, "token": ADA}, {"then": CLOSE, "assert": True}, {"else": CLOSE}, {"let": "x", "be": 1}, {"value": 1}, {"add": 1, "and": 2}, {"gt": 1}, {"lt": 2}, {"negate": 1}, {"both": True},
-          {"not": False}, {"notify_if": True}, {"address": "x"}, {"account": A}, {"merkleized_then": "aa"}, {"equal_to": 3}, {"use_value": "x"}, {"timeout": 5}]
+OTHERS = [{"pay": 1, "token": ADA}, {"then": CLOSE, "assert": True}, {"else": CLOSE}, {"let": "x", "be": 1}, {"value": 1}, {"add": 1, "and": 2},
+    {"gt": 1}, {"lt": 2}, {"negate": 1}, {"both": True},
+          {"not": False}, {"notify_if": True}, {"address": "x"}, {"account": A}, {"merkleized_then": "aa"}, {"equal_to": 3}, {"use_value": "x"},
+              {"timeout": 5}]
 
 
 def readings():
@@ -331,7 +359,8 @@ def readings():
     return {"read": {of: changed(data, R.choice(objects), lambda part: {**one(*OTHERS), **part})}}
 
 
-MAKERS = {make.__name__: make for make in (evaluation, division, intervals, reductions, warnings, payments, inputs, bits, mixed, traces, warned, faults, round_trips, readings)}
+MAKERS = {make.__name__: make for make in (evaluation, division, intervals, reductions, warnings, payments, inputs, bits, mixed, traces, warned,
+    faults, round_trips, readings)}
 
 
 def asked(subject, seed):

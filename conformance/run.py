@@ -170,7 +170,8 @@ def show(case, came, tries):
 
 def tell(engine, subject, held, options):
     words = [f"{held.agree:5} agree"] + [f"{count} {word}" for count, word in (
-        (len(held.differ), "differ"), (held.order_alone, "of them in an order or in texts of digits alone"), (held.unable, "that the engine has no request for"),
+        (len(held.differ), "differ"), (held.order_alone, "of them in an order or in texts of digits alone"),
+            (held.unable, "that the engine has no request for"),
         (held.left_out, "left out"), (held.nameless, "refusals without a name"), (held.not_asked, "not asked any more")) if count]
     print(f"{subject:12} " + ", ".join(words))
     differ = sorted(held.differ, key=lambda pair: len(suite.line_of(pair[0])[0]))

@@ -6,13 +6,16 @@ import json
 
 # The parts of each sort that can be made smaller, by their keys: a sort, or a list of one.
 SORTS = {
-    "contract": {"pay": "value", "if": "observation", "then": "contract", "else": "contract", "when": ["case"], "timeout": "number", "timeout_continuation": "contract",
+    "contract": {"pay": "value", "if": "observation", "then": "contract", "else": "contract", "when": ["case"], "timeout": "number",
+        "timeout_continuation": "contract",
                  "be": "value", "assert": "observation"},
     "case": {"case": "action", "then": "contract"},
     "action": {"deposits": "value", "choose_between": ["bound"], "notify_if": "observation"},
-    "value": {"negate": "value", "add": "value", "and": "value", "value": "value", "minus": "value", "multiply": "value", "times": "value", "divide": "value", "by": "value",
+    "value": {"negate": "value", "add": "value", "and": "value", "value": "value", "minus": "value", "multiply": "value", "times": "value",
+        "divide": "value", "by": "value",
               "if": "observation", "then": "value", "else": "value"},
-    "observation": {"both": "observation", "and": "observation", "either": "observation", "or": "observation", "not": "observation", "value": "value", "ge_than": "value",
+    "observation": {"both": "observation", "and": "observation", "either": "observation", "or": "observation", "not": "observation", "value": "value",
+        "ge_than": "value",
                     "gt": "value", "lt": "value", "le_than": "value", "equal_to": "value"},
     "bound": {"from": "number", "to": "number"},
     "state": {"accounts": ["row"], "choices": ["row"], "boundValues": ["row"], "minTime": "number"},

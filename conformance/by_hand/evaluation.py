@@ -1,5 +1,6 @@
 """Values and observations, and what they come to."""
-from words import (A, B, END, FAILS, START, T, U, X, account, add, address, both, choose, chosen, compare, divide, either, ensure, has_chosen, let, made,
+from words import (A, B, END, FAILS, START, T, U, X, account, add, address, both, choose, chosen, compare, divide, either, ensure, has_chosen, let,
+    made,
                    money, multiply, negate, no, ok, pay, refund, role, run, state, subtract, to, paid, transaction, use)
 
 # what stands in the state that the look-ups below see
@@ -16,7 +17,8 @@ ARITHMETIC = [
     ("subtract", subtract(2, 3), -1), ("subtract", subtract(3, 2), 1), ("subtract", subtract(5, 5), 0), ("subtract", subtract(-2, -3), 1),
     ("subtract", subtract(subtract(10, 3), 2), 5), ("subtract", subtract(10, subtract(3, 2)), 9),
     ("multiply", multiply(3, 4), 12), ("multiply", multiply(-3, 4), -12), ("multiply", multiply(3, -4), -12), ("multiply", multiply(-3, -4), 12),
-    ("multiply", multiply(0, 5), 0), ("multiply", multiply(1, -1), -1), ("multiply", add(2, multiply(3, 4)), 14), ("multiply", multiply(add(2, 3), 4), 20),
+    ("multiply", multiply(0, 5), 0), ("multiply", multiply(1, -1), -1), ("multiply", add(2, multiply(3, 4)), 14),
+        ("multiply", multiply(add(2, 3), 4), 20),
     ("constant", 0, 0), ("constant", 1, 1), ("constant", -1, -1), ("constant", 18446744073709551615, 18446744073709551615),
     ("constant", -9223372036854775808, -9223372036854775808), ("constant", 9223372036854775808, 9223372036854775808),
     ("cond", choose(True, 1, 2), 1), ("cond", choose(False, 1, 2), 2), ("cond", choose(compare("gt", 3, 2), add(1, 1), 9), 2),
@@ -49,7 +51,8 @@ LOOK_UPS = [
     ("a sum of look-ups", "add", add(money(X), add(chosen("n", A), use("x"))), 20),
     ("the minimum of two", "cond", choose(compare("lt", money(X), money(A)), money(X), money(A)), 5),
 ]
-CASES += [run("evaluation", name, rule, let("v", value), ok(payments=REFUNDS, choices=ORDERED, bound=[("v", number), ("x", 9), ("z", 0)]), BEFORE, choice="orders")
+CASES += [run("evaluation", name, rule, let("v", value), ok(payments=REFUNDS, choices=ORDERED, bound=[("v", number), ("x", 9), ("z", 0)]), BEFORE,
+    choice="orders")
           for name, rule, value, number in LOOK_UPS]
 
 # interval, minimum time, the value, and its number
@@ -59,7 +62,8 @@ TIMES = [
     ((3, 8), 0, subtract(END, START), 5), ((3, 8), 5, subtract(END, START), 3), ((3, 8), 8, subtract(END, START), 0), ((0, 0), 0, END, 0),
     ((5, 5), 0, END, 5), ((-9223372036854775808, 9223372036854775807), -9223372036854775808, START, -9223372036854775808),
     ((-9223372036854775808, 9223372036854775807), 0, END, 9223372036854775807), ((-9223372036854775808, 9223372036854775807), -1, START, -1),
-    ((1, 2), -5, END, 2), ((1, 2), 2, END, 2), ((1, 2), 2, START, 2), ((-1, 1), 0, START, 0), ((-1, 1), -1, START, -1), ((7, 9), 8, add(START, END), 17),
+    ((1, 2), -5, END, 2), ((1, 2), 2, END, 2), ((1, 2), 2, START, 2), ((-1, 1), 0, START, 0), ((-1, 1), -1, START, -1),
+        ((7, 9), 8, add(START, END), 17),
 ]
 CASES += [run("evaluation", f"times, row {row}", "interval end" if value == END else "interval start", let("x", value),
               ok(bound=[("x", number)], time=max(within[0], time)), state(time=time), transaction(within=within))
@@ -89,7 +93,8 @@ TRUE_AND_FALSE = [
     ("lt", compare("lt", 1, 2), 1), ("lt", compare("lt", 2, 2), 0), ("lt", compare("lt", 3, 2), 0),
     ("le_than", compare("le_than", 1, 2), 1), ("le_than", compare("le_than", 2, 2), 1), ("le_than", compare("le_than", 3, 2), 0),
     ("equal_to", compare("equal_to", 1, 2), 0), ("equal_to", compare("equal_to", 2, 2), 1), ("equal_to", compare("equal_to", 3, 2), 0),
-    ("ge_than", compare("ge_than", -3, -2), 0), ("gt", compare("gt", -2, -3), 1), ("lt", compare("lt", -3, 2), 1), ("le_than", compare("le_than", 2, -3), 0),
+    ("ge_than", compare("ge_than", -3, -2), 0), ("gt", compare("gt", -2, -3), 1), ("lt", compare("lt", -3, 2), 1),
+        ("le_than", compare("le_than", 2, -3), 0),
     ("equal_to", compare("equal_to", -2, 2), 0), ("equal_to", compare("equal_to", 0, negate(0)), 1),
     ("equal_to", compare("equal_to", divide(7, 2), 3), 1), ("lt", compare("lt", add(1, 1), multiply(1, 3)), 1),
     ("gt", compare("gt", 18446744073709551615, 9223372036854775807), 1), ("lt", compare("lt", -9223372036854775808, 0), 1),
@@ -99,11 +104,14 @@ CASES += [run("evaluation", f"{rule} is {'true' if truth else 'false'}, row {row
           for row, (rule, observation, truth) in enumerate(TRUE_AND_FALSE, 1)]
 
 CHOICES = [
-    ("a choice of 0 was made", has_chosen("n", X), 1), ("a choice was made", has_chosen("n", A), 1), ("another by the same owner", has_chosen("m", A), 1),
-    ("the same name by another owner", has_chosen("m", X), 0), ("another name", has_chosen("k", A), 0), ("an owner of the other kind", has_chosen("n", role("x")), 0),
+    ("a choice of 0 was made", has_chosen("n", X), 1), ("a choice was made", has_chosen("n", A), 1),
+        ("another by the same owner", has_chosen("m", A), 1),
+    ("the same name by another owner", has_chosen("m", X), 0), ("another name", has_chosen("k", A), 0),
+        ("an owner of the other kind", has_chosen("n", role("x")), 0),
     ("an owner of the other kind with a role's name", has_chosen("n", address("a")), 0), ("a name that is longer", has_chosen("nn", A), 0),
     ("not chosen", no(has_chosen("k", X)), 1), ("chosen by both", both(has_chosen("n", A), has_chosen("n", X)), 1),
     ("chosen by either", either(has_chosen("k", A), has_chosen("m", A)), 1),
 ]
-CASES += [run("evaluation", name, "chosen", ensure(observation), ok(choices=ORDERED, warnings=[] if truth else [FAILS]), state(choices=CHOSEN), choice="orders")
+CASES += [run("evaluation", name, "chosen", ensure(observation), ok(choices=ORDERED, warnings=[] if truth else [FAILS]), state(choices=CHOSEN),
+    choice="orders")
           for name, observation, truth in CHOICES]

@@ -1,5 +1,6 @@
 """Intervals beside the minimum time and timeouts."""
-from words import (A, B, END, GREATEST_TIME, NOTIFY, START, account, let, notify, ok, pay, refund, refused, run, state, to, transaction, use, when, paid)
+from words import (A, B, END, GREATEST_TIME, NOTIFY, START, account, let, notify, ok, pay, refund, refused, run, state, to, transaction, use, when,
+    paid)
 
 LEAST_TIME = -2**63
 HELD = [account(A, 1)]
@@ -31,7 +32,8 @@ def closed(within, time, told):
 CASES = []
 for row, (within, time, told) in enumerate(CLOSED, 1):
     rule, answer = closed(within, time, told)
-    CASES.append(run("intervals", f"an interval beside the minimum time, row {row}", rule, "close", answer, state(HELD, time=time), transaction(within=within)))
+    CASES.append(run("intervals", f"an interval beside the minimum time, row {row}", rule, "close", answer, state(HELD, time=time),
+        transaction(within=within)))
 
 # interval, minimum time, timeout, what a When without cases answers: a fault, or "out" where it is timed out
 TIMEOUTS = [
@@ -48,7 +50,8 @@ TIMEOUTS = [
     # faults of the interval come before
     ((100, 50), 0, 75, "InvalidInterval"), ((0, 10), 20, 5, "IntervalInPast"), ((200, 100), 150, 100, "InvalidInterval"),
 ]
-RULE_OF = {"Useless": "when waits", "Ambiguous": "Ambiguous", "out": "timed out", "InvalidInterval": "InvalidInterval", "IntervalInPast": "IntervalInPast"}
+RULE_OF = {"Useless": "when waits", "Ambiguous": "Ambiguous", "out": "timed out", "InvalidInterval": "InvalidInterval",
+    "IntervalInPast": "IntervalInPast"}
 for row, (within, time, timeout, told) in enumerate(TIMEOUTS, 1):
     answer = ok(payments=PAID, time=max(within[0], time)) if told == "out" else refused(told)
     CASES.append(run("intervals", f"a timeout beside the interval, row {row}", RULE_OF[told], when([], timeout), answer, state(HELD, time=time),
@@ -87,10 +90,12 @@ INPUTS = [
     ("an input to what a timeout leads to", "timed out", when([], 5, ONE), (5, 9), ok(payments=PAID, time=5)),
     ("an input makes no transaction of an interval that is past", "InvalidInterval", ONE, (9, 8), INVALID),
 ]
-CASES += [run("intervals", name, rule, contract, answer, state(HELD), transaction(NOTIFY, within=within)) for name, rule, contract, within, answer in INPUTS]
+CASES += [run("intervals", name, rule, contract, answer, state(HELD), transaction(NOTIFY, within=within)) for name, rule, contract, within,
+    answer in INPUTS]
 
 # the minimum time that is left, of a contract that binds the start
-KEPT = [((3, 9), 0, 3), ((3, 9), 3, 3), ((3, 9), 4, 4), ((3, 9), 9, 9), ((-3, 9), -5, -3), ((-3, 9), -1, -1), ((0, 9), -1, 0), ((9, 9), 8, 9), ((0, 1), 1, 1), ((0, 0), -9, 0)]
+KEPT = [((3, 9), 0, 3), ((3, 9), 3, 3), ((3, 9), 4, 4), ((3, 9), 9, 9), ((-3, 9), -5, -3), ((-3, 9), -1, -1), ((0, 9), -1, 0), ((9, 9), 8, 9),
+    ((0, 1), 1, 1), ((0, 0), -9, 0)]
 CASES += [run("intervals", f"the minimum time that is left, row {row}", "time goes on", let("x", START, let("y", use("x"))),
               ok(bound=[("x", after), ("y", after)], time=after), state(time=time), transaction(within=within), choice="orders")
           for row, (within, time, after) in enumerate(KEPT, 1)]

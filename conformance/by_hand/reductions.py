@@ -1,6 +1,6 @@
 """How contracts reduce, and in which order."""
 from words import (A, B, C, CLOSE, NOTIFY, account, add, choice, choose, chooses, chosen, compare, deposit, deposits, ensure, has_chosen, into,
-                   let, made, money, no, notify, ok, paid, pay, pays_nothing, refund, refused, run, state, to, transaction, use, when)
+                   let, made, money, notify, ok, paid, pay, pays_nothing, refund, refused, run, state, to, transaction, use, when)
 
 WAIT = when([], 100)
 
@@ -13,21 +13,26 @@ ONE, TWO = let("x", 1), let("x", 2)
 CASES = [
     goes("a branch that is true", "if", choose(True, ONE, TWO), ok(bound=[("x", 1)])),
     goes("a branch that is false", "if", choose(False, ONE, TWO), ok(bound=[("x", 2)])),
-    goes("a branch by money", "if", choose(compare("ge_than", money(A), 3), ONE, TWO), ok(payments=[refund(A, 3)], bound=[("x", 1)]), state([account(A, 3)])),
-    goes("a branch by money that lacks one", "if", choose(compare("ge_than", money(A), 3), ONE, TWO), ok(payments=[refund(A, 2)], bound=[("x", 2)]), state([account(A, 2)])),
+    goes("a branch by money", "if", choose(compare("ge_than", money(A), 3), ONE, TWO), ok(payments=[refund(A, 3)], bound=[("x", 1)]),
+        state([account(A, 3)])),
+    goes("a branch by money that lacks one", "if", choose(compare("ge_than", money(A), 3), ONE, TWO), ok(payments=[refund(A, 2)], bound=[("x", 2)]),
+        state([account(A, 2)])),
     goes("a branch in a branch", "if", choose(True, choose(False, ONE, TWO), CLOSE), ok(bound=[("x", 2)])),
     goes("a branch in the other branch", "if", choose(False, CLOSE, choose(True, ONE, TWO)), ok(bound=[("x", 1)])),
-    goes("a branch by a choice", "if", choose(has_chosen("n", A), ONE, TWO), ok(choices=[made("n", A, 0)], bound=[("x", 1)]), state(choices=[made("n", A, 0)])),
+    goes("a branch by a choice", "if", choose(has_chosen("n", A), ONE, TWO), ok(choices=[made("n", A, 0)], bound=[("x", 1)]),
+        state(choices=[made("n", A, 0)])),
     goes("a branch to Close is a reduction", "if", choose(True, CLOSE, WAIT), ok()),
     goes("a branch to a When is a reduction", "if", choose(False, CLOSE, WAIT), ok(WAIT)),
-    goes("a branch by a name that a Let bound", "if", let("y", 1, choose(compare("equal_to", use("y"), 1), ONE, TWO)), ok(bound=[("x", 1), ("y", 1)]), choice="orders"),
+    goes("a branch by a name that a Let bound", "if", let("y", 1, choose(compare("equal_to", use("y"), 1), ONE, TWO)), ok(bound=[("x", 1), ("y", 1)]),
+        choice="orders"),
     goes("a Let to a When", "let", let("x", 1, WAIT), ok(WAIT, bound=[("x", 1)])),
     goes("a Let of a sum", "let", let("x", add(2, 3)), ok(bound=[("x", 5)])),
     goes("a Let of an absent choice", "let", let("x", chosen("n", A)), ok(bound=[("x", 0)])),
     goes("a Let keeps accounts", "let", let("x", 1, WAIT), ok(WAIT, accounts=[account(A, 3)], bound=[("x", 1)]), state([account(A, 3)])),
     goes("a Let keeps choices", "let", let("x", 1, WAIT), ok(WAIT, choices=[made("n", A, 3)], bound=[("x", 1)]), state(choices=[made("n", A, 3)])),
     goes("an assertion to a When", "assert", ensure(True, WAIT), ok(WAIT)),
-    goes("an assertion keeps the state", "assert", ensure(True, WAIT), ok(WAIT, accounts=[account(A, 3)], choices=[made("n", A, 3)], bound=[("x", 1)]),
+    goes("an assertion keeps the state", "assert", ensure(True, WAIT),
+        ok(WAIT, accounts=[account(A, 3)], choices=[made("n", A, 3)], bound=[("x", 1)]),
          state([account(A, 3)], [made("n", A, 3)], [("x", 1)])),
     # nothing to do
     goes("a close without accounts", "Useless", CLOSE, refused("Useless")),
@@ -44,11 +49,13 @@ CASES = [
     goes("a timeout and a close", "done", when([], 5), ok(time=5), state(), transaction(within=(5, 9))),
     goes("an input and a close", "done", when([(notify(), CLOSE)]), ok(), state(), transaction(NOTIFY)),
     goes("an input to a When that leads to itself", "done", when([(notify(), WAIT)]), ok(WAIT), state(), transaction(NOTIFY)),
-    goes("a close is quiet once it has paid", "close is quiet", CLOSE, ok(payments=[refund(A, 1), refund(B, 2)]), state([account(A, 1), account(B, 2)]), choice="orders"),
+    goes("a close is quiet once it has paid", "close is quiet", CLOSE, ok(payments=[refund(A, 1), refund(B, 2)]),
+        state([account(A, 1), account(B, 2)]), choice="orders"),
     goes("a close keeps choices and names", "close is quiet", CLOSE, ok(payments=[refund(A, 1)], choices=[made("n", A, 3)], bound=[("x", 1)]),
          state([account(A, 1)], [made("n", A, 3)], [("x", 1)])),
     # the state goes on from one to the next
-    goes("a Let, a branch by it, a payment of it", "order of reductions", let("x", 2, choose(compare("gt", use("x"), 1), pay(use("x"), A, to(B)), CLOSE)),
+    goes("a Let, a branch by it, a payment of it", "order of reductions",
+        let("x", 2, choose(compare("gt", use("x"), 1), pay(use("x"), A, to(B)), CLOSE)),
          ok(payments=[paid(A, to(B), 2), refund(A, 1)], bound=[("x", 2)]), state([account(A, 3)])),
     goes("a payment, then a branch by what is left", "order of reductions", pay(2, A, to(B), choose(compare("gt", money(A), 1), ONE, TWO)),
          ok(payments=[paid(A, to(B), 2), refund(A, 1)], bound=[("x", 2)]), state([account(A, 3)])),
@@ -58,18 +65,23 @@ CASES = [
          ok(payments=[paid(A, into(B), 2), paid(B, to(C), 6), refund(A, 1)]), state([account(A, 3), account(B, 4)]), choice="records"),
     goes("a Let of what is left after two payments", "order of reductions", pay(1, A, to(B), pay(1, A, to(B), let("x", money(A)))),
          ok(payments=[paid(A, to(B), 1), paid(A, to(B), 1), refund(A, 1)], bound=[("x", 1)]), state([account(A, 3)])),
-    goes("an input, then what it reduces to", "order of reductions", when([(deposit(5, B, A), let("x", money(A), WAIT))]), ok(WAIT, accounts=[account(A, 5)], bound=[("x", 5)]),
+    goes("an input, then what it reduces to", "order of reductions", when([(deposit(5, B, A), let("x", money(A), WAIT))]),
+        ok(WAIT, accounts=[account(A, 5)], bound=[("x", 5)]),
          state(), transaction(deposits(5, B, A))),
     goes("what reduces before an input", "order of reductions", pay(1, A, to(B), when([(notify(compare("equal_to", money(A), 2)), ONE)])),
          ok(payments=[paid(A, to(B), 1), refund(A, 2)], bound=[("x", 1)]), state([account(A, 3)]), transaction(NOTIFY)),
-    goes("between two inputs all reduces", "order of reductions", when([(notify(), pay(1, A, to(B), when([(notify(compare("equal_to", money(A), 2)), ONE)])))]),
+    goes("between two inputs all reduces", "order of reductions", when([(notify(), pay(1, A, to(B),
+        when([(notify(compare("equal_to", money(A), 2)), ONE)])))]),
          ok(payments=[paid(A, to(B), 1), refund(A, 2)], bound=[("x", 1)]), state([account(A, 3)]), transaction(NOTIFY, NOTIFY)),
-    goes("a choice, then a branch by it", "order of reductions", when([(choice("n", A, (0, 1)), choose(compare("equal_to", chosen("n", A), 1), ONE, TWO))]),
+    goes("a choice, then a branch by it", "order of reductions", when([(choice("n", A, (0, 1)),
+        choose(compare("equal_to", chosen("n", A), 1), ONE, TWO))]),
          ok(choices=[made("n", A, 1)], bound=[("x", 1)]), state(), transaction(chooses("n", A, 1))),
-    goes("the timeout's contract sees the state", "order of reductions", let("x", 1, when([], 5, let("y", use("x")))), ok(bound=[("x", 1), ("y", 1)], time=5), state(),
+    goes("the timeout's contract sees the state", "order of reductions", let("x", 1, when([], 5, let("y", use("x")))),
+        ok(bound=[("x", 1), ("y", 1)], time=5), state(),
          transaction(within=(5, 9)), "orders"),
     # after the last timeout
-    *(goes(f"after the last timeout of {name}", "last timeout", contract, ok(payments=payments, time=at), state([account(A, 3)]), transaction(within=(at, at + 9)))
+    *(goes(f"after the last timeout of {name}", "last timeout", contract, ok(payments=payments, time=at), state([account(A, 3)]),
+        transaction(within=(at, at + 9)))
       for name, contract, at, payments in (
           ("one", when([(notify(), CLOSE)], 20), 20, [refund(A, 3)]),
           ("two in a row", when([], 20, when([], 30)), 30, [refund(A, 3)]),
