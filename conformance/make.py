@@ -18,6 +18,7 @@ from collections import Counter
 import random_cases
 import reference
 import rules
+import shrink
 import suite
 
 BY_HAND = ("evaluation", "division", "intervals", "reductions", "warned_of", "payments", "inputs", "bits", "long", "readings", "faults",
@@ -26,8 +27,8 @@ BY_HAND = ("evaluation", "division", "intervals", "reductions", "warned_of", "pa
 QUOTAS = {"evaluation": (860, 700), "division": (420, 700), "intervals": (440, 800), "reductions": (640, 1100), "warnings": (480, 1300),
           "payments": (640, 1500), "inputs": (640, 1300), "bits": (560, 1100), "traces": (420, 2400), "warned": (220, 1900), "faults": (420, 600),
           "round_trips": (320, 1400), "readings": (260, 900)}
-# How many runs of compare.py are looked through for new pairs, and the most bytes of one.
-MIXED, LARGEST_MIXED = 20_000, 2500
+# How many runs of compare.py are looked through for new pairs, in how many tries one is made smaller, and the most bytes of one.
+MIXED, SHRINKS, LARGEST_MIXED = 20_000, 150, 2500
 TRIES = 40
 NUMBERS_OF = {"BadState": "states", "NotWhole": "whole numbers", "OutOfRange": "times", "Merkleized": "merkleized"}
 
@@ -154,15 +155,14 @@ class Suite:
                     sys.exit(f"{case['subject']}: {case['name']}\nby hand {suite.compact(case['answer'])}\nhere    {suite.compact(told)}")
                 self.put(case, path)
 
-    def random(self, subject, seed, largest, wanted):
-        """Puts a random case, where it is short and what is wanted of its path holds."""
-        ask = random_cases.asked(subject, seed)
+    def random(self, subject, seed, ask, largest):
+        """Puts a random case, where it is short and its path new."""
         if ask is None:
             return False
         told, path = suite.told_by(suite.line_of({"ask": ask})[0])
         del told["id"]
         case = {"subject": subject, "name": f"random {seed}", "rule": "", "choices": [], "ask": ask, "answer": told}
-        if len(suite.written(case)) > largest or path in self.paths or not wanted(path) or not fits(subject, case, path):
+        if len(suite.written(case)) > largest or path in self.paths or not fits(subject, case, path):
             return False
         case["rule"] = rule_for(subject, case, path, self.counts)
         case["subject"] = subject_for(subject, case, path)
@@ -174,12 +174,24 @@ class Suite:
         count, largest = QUOTAS[subject]
         seed = found = 0
         while found < count and seed < count * TRIES:
-            found += self.random(subject, seed, largest, lambda path: True)
+            found += self.random(subject, seed, random_cases.asked(subject, seed), largest)
             seed += 1
 
     def mixed(self):
+        """Puts a case for each pair of rules that no case has yet, made smaller as long as it has that pair."""
         for seed in range(MIXED):
-            self.random("mixed", seed, LARGEST_MIXED, lambda path: suite.pairs_of(path) - self.pairs)
+            ask = random_cases.asked("mixed", seed)
+            for pair in sorted(suite.pairs_of(taken_by(ask)) - self.pairs):
+                if pair not in self.pairs:
+                    less, _ = shrink.shrunk(ask, lambda less: pair in suite.pairs_of(taken_by(less)), SHRINKS)
+                    self.random("mixed", f"{seed} with {pair[0]}, {pair[1]}", less, LARGEST_MIXED)
+
+
+def taken_by(ask):
+    """The rules that a request takes whose texts can be read."""
+    taken = []
+    reference.answered(ask, taken)
+    return taken
 
 
 def fits(subject, case, path):

@@ -36,7 +36,10 @@ class Engine:
         self.words, self.seconds, self.process, self.lines = words, seconds, None, None
 
     def start(self):
-        self.process = subprocess.Popen(self.words, stdin=subprocess.PIPE, stdout=subprocess.PIPE)
+        try:
+            self.process = subprocess.Popen(self.words, stdin=subprocess.PIPE, stdout=subprocess.PIPE)
+        except OSError as error:
+            sys.exit(f"the engine can't be started: {error}")
         self.lines = queue.Queue()
         threading.Thread(target=listen, args=(self.process.stdout, self.lines), daemon=True).start()
 

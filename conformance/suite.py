@@ -50,10 +50,16 @@ def line_of(case, number=0):
 def is_wanted(wanted, came, loosely=False):
     """Whether an answer is the wanted one. A refusal without a name, or without what it is of, is compared in what it says."""
     if "ok" in wanted:
-        loosened = without_choices if loosely else lambda outcome: outcome
-        return "ok" in came and compact(loosened(came["ok"])) == compact(loosened(wanted["ok"]))
+        return "ok" in came and (compact(came["ok"]) == compact(wanted["ok"]) or loosely and is_loosely(wanted["ok"], came["ok"]))
     told = came.get("refused")
     return isinstance(told, dict) and all(told[key] == wanted["refused"].get(key) for key in REFUSAL if key in told)
+
+
+def is_loosely(wanted, came):
+    try:
+        return compact(without_choices(wanted)) == compact(without_choices(came))
+    except (KeyError, IndexError, TypeError, AttributeError, ValueError):
+        return False
 
 
 def without_choices(told):
