@@ -89,7 +89,7 @@ def faults_of_lines(cases):
     sys.settrace(lambda frame, event, _: note if frame.f_code.co_filename == interpreter.__file__ else None)
     try:
         for case in cases:
-            reference.answer(suite.line_of(case)[0])
+            reference.answered(case["ask"], [])
     finally:
         sys.settrace(None)
     yield from (f"interpreter.py, line {line}: no case goes through it" for line in sorted(wanted - gone))

@@ -27,6 +27,8 @@ BY_HAND = ("evaluation", "division", "intervals", "reductions", "warned_of", "pa
 QUOTAS = {"evaluation": (860, 700), "division": (420, 700), "intervals": (440, 800), "reductions": (640, 1100), "warnings": (480, 1300),
           "payments": (640, 1500), "inputs": (640, 1300), "bits": (560, 1100), "traces": (420, 2400), "warned": (220, 1900), "faults": (420, 600),
           "round_trips": (320, 1400), "readings": (260, 900)}
+# How many paths stay once the longest random cases are left out, the least part of a subject that stays, and of a rule.
+PATHS, PART, OF_A_RULE = 6_400, 0.6, 12
 # How many runs of compare.py are looked through for new pairs, in how many tries one is made smaller, and the most bytes of one.
 MIXED, SHRINKS, LARGEST_MIXED = 20_000, 150, 2500
 TRIES = 40
@@ -132,7 +134,7 @@ class Suite:
 
     def __init__(self):
         self.cases, self.paths, self.pairs, self.counts, self.names = {subject: [] for subject in rules.SUBJECTS}, set(), set(), Counter(), set()
-        self.new = Counter()
+        self.new, self.path_of, self.hand = Counter(), {}, set()
 
     def put(self, case, path):
         name = (case["subject"], case["name"])
@@ -141,6 +143,7 @@ class Suite:
         self.names.add(name)
         case["choices"] = sorted(set(case["choices"]) | choices_of(case, path))
         self.cases[case["subject"]].append(case)
+        self.path_of[name] = path
         self.new[case["subject"]] += path not in self.paths
         self.paths.add(path)
         self.pairs |= suite.pairs_of(path)
@@ -154,13 +157,13 @@ class Suite:
                 if suite.compact(told) != suite.compact({"id": given, **case["answer"]}):
                     sys.exit(f"{case['subject']}: {case['name']}\nby hand {suite.compact(case['answer'])}\nhere    {suite.compact(told)}")
                 self.put(case, path)
+                self.hand.add((case["subject"], case["name"]))
 
     def random(self, subject, seed, ask, largest):
         """Puts a random case, where it is short and its path new."""
         if ask is None:
             return False
-        told, path = suite.told_by(suite.line_of({"ask": ask})[0])
-        del told["id"]
+        told, path = answer_and_path(subject, ask)
         case = {"subject": subject, "name": f"random {seed}", "rule": "", "choices": [], "ask": ask, "answer": told}
         if len(suite.written(case)) > largest or path in self.paths or not fits(subject, case, path):
             return False
@@ -185,6 +188,33 @@ class Suite:
                 if pair not in self.pairs:
                     less, _ = shrink.shrunk(ask, lambda less: pair in suite.pairs_of(taken_by(less)), SHRINKS)
                     self.random("mixed", f"{seed} with {pair[0]}, {pair[1]}", less, LARGEST_MIXED)
+
+
+    def slim(self):
+        """Leaves out the longest random cases, but for those that alone have a pair of rules, and such as their subject or rule has too few of."""
+        pairs = Counter(pair for path in self.path_of.values() for pair in suite.pairs_of(path))
+        least = {subject: int(len(cases) * PART) for subject, cases in self.cases.items()}
+        random = [case for cases in self.cases.values() for case in cases if (case["subject"], case["name"]) not in self.hand]
+        for case in sorted(random, key=lambda case: (-len(suite.written(case)), case["subject"], case["name"])):
+            subject = case["subject"]
+            own = suite.pairs_of(self.path_of[subject, case["name"]])
+            if sum(self.new.values()) <= PATHS:
+                break
+            if len(self.cases[subject]) > least[subject] and self.counts[case["rule"]] > OF_A_RULE and all(pairs[pair] > 1 for pair in own):
+                self.cases[subject].remove(case)
+                self.new[subject] -= 1
+                self.counts[case["rule"]] -= 1
+                pairs.subtract(own)
+
+
+def answer_and_path(subject, ask):
+    """The answer of a request without its id, and its path. Texts that may not be read go through the line."""
+    taken = []
+    told = reference.answered(ask, taken) if subject not in ("faults", "readings", "round_trips") else {}
+    if not taken:
+        told, taken = suite.told_by(suite.line_of({"ask": ask})[0])
+        del told["id"]
+    return told, tuple(taken)
 
 
 def taken_by(ask):
@@ -223,7 +253,9 @@ def made():
     hand = {subject: len(cases) for subject, cases in found.cases.items()}
     for subject in QUOTAS:
         found.fill(subject)
+        print(f"{subject} filled", file=sys.stderr, flush=True)
     found.mixed()
+    found.slim()
     return found, hand
 
 
