@@ -1,5 +1,5 @@
 #!/usr/bin/env python3
-"""Makes the suite's cases: those written by hand, whose answers must be what the interpreter answers, and random ones until each subject has its number.
+"""Makes the suite's cases: those written by hand, whose answers must be the interpreter's, and random ones until each subject has its number.
 
 Usage    make.py             writes cases/SUBJECT.jsonl
          make.py --check     sees that the files are as it would write them
@@ -8,7 +8,7 @@ Expect   a line for each subject: its cases, how many of them are by hand, how m
 Else     a case by hand that the interpreter answers otherwise, or files that differ, and status 1.
 
 A random case is kept where its path is new: the rules that it takes, in their order, or of a text the lines of readings.py. Where a subject has its
-number, runs of checks/compare.py are added as long as they bring two rules one after the other that no case has yet.
+number, runs of checks/compare.py are added as long as they bring two rules one after the other that no case has yet. At last the longest are left out.
 """
 import importlib
 import os
@@ -110,7 +110,7 @@ RULES_OF_SORTS = {"contract": "contract", "state": "state", "transaction": "inpu
 
 
 def rule_for(subject, case, path, counts):
-    """The rule of the subject that fewest cases have so far, of those that a case shows."""
+    """The rule of the subject that fewest random cases have so far, of those that a case shows."""
     if subject == "traces":
         return "stops" if "refused" in case["answer"] else "goes on"
     if subject == "warned":
@@ -134,7 +134,7 @@ class Suite:
 
     def __init__(self):
         self.cases, self.paths, self.pairs, self.counts, self.names = {subject: [] for subject in rules.SUBJECTS}, set(), set(), Counter(), set()
-        self.new, self.path_of, self.hand = Counter(), {}, set()
+        self.new, self.path_of, self.hand, self.random_counts = Counter(), {}, set(), Counter()
 
     def put(self, case, path):
         name = (case["subject"], case["name"])
@@ -167,7 +167,8 @@ class Suite:
         case = {"subject": subject, "name": f"random {seed}", "rule": "", "choices": [], "ask": ask, "answer": told}
         if len(suite.written(case)) > largest or path in self.paths or not fits(subject, case, path):
             return False
-        case["rule"] = rule_for(subject, case, path, self.counts)
+        case["rule"] = rule_for(subject, case, path, self.random_counts)
+        self.random_counts[case["rule"]] += 1
         case["subject"] = subject_for(subject, case, path)
         case["name"] = f"{case['rule']}, {subject} {seed}"
         self.put(case, path)

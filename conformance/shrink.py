@@ -30,10 +30,10 @@ SORTS = {
 LEAST = {"contract": ["close"], "value": [0, 1], "observation": [True, False]}
 
 
-def size(request):
-    """Shorter is smaller, and of equal length the one with smaller numbers."""
-    text = json.dumps(request)
-    return len(text), sum(abs(number) for number in numbers(request))
+def is_smaller(less, request):
+    """Shorter is smaller, and of equal length what has smaller numbers."""
+    lengths = len(json.dumps(less)), len(json.dumps(request))
+    return lengths[0] < lengths[1] or lengths[0] == lengths[1] and sum(map(abs, numbers(less))) < sum(map(abs, numbers(request)))
 
 
 def numbers(data):
@@ -85,7 +85,7 @@ def shrunk(request, differs, most):
     while goes_on:
         goes_on = False
         for less in smaller("request", request):
-            if size(less) >= size(request):
+            if not is_smaller(less, request):
                 continue
             if tries == most:
                 return request, tries

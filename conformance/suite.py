@@ -131,6 +131,6 @@ def lines_read(line, begin):
 
 
 def pairs_of(path):
-    """The pairs of rules that come one right after the other."""
-    rules_taken = [rule for rule in path if rule != reference.interpreter.WIDE]
+    """The pairs of rules that come one right after the other, of a path of a run."""
+    rules_taken = [rule for rule in path if rule != reference.interpreter.WIDE] if path[:1] != ("read",) else []
     return set(zip(rules_taken, rules_taken[1:]))
