@@ -4,7 +4,7 @@
 # Needs    nothing built, but for the last seven: (cd crates/marlowe && rt run -- --version) for six of them, of which the last needs
 #          valgrind; and for what checks at hand spare (cd crates/rows_chain && rt run -- data/hub.txt data/common.txt) and `cc`.
 # Usage    checks/before_merge.sh             all of them; the last seven are left out where what they need isn't there
-# Expect   `ok` on each line and status 0; some seconds without the programs.
+# Expect   `ok` on each line and status 0; a minute without the programs.
 # Else     below a line what that check said, and status 1.
 cd "$(dirname "$0")/.." || exit 2
 failed=0
@@ -25,6 +25,7 @@ try checks/named.py
 try checks/refusals_cover.py
 try checks/rows_cover.py
 try checks/gallery.py
+try checks/conformance.py
 try bench/plots.py
 if [ -x crates/marlowe/out/marlowe ]; then
   try examples/check.sh

@@ -126,36 +126,7 @@ def of_program(program):
     return streams
 
 
-def state(given):
-    """A state, as far as it can be refused."""
-    readings.first_form(given, "accounts choices boundValues minTime")
-    return readings.read(given, accounts=readings.accounts, choices=lambda pairs: keyed(pairs, readings.choice_id),
-                         boundValues=lambda pairs: keyed(pairs, readings.text), minTime=readings.time)
-
-
-def keyed(json_rows, key_of):
-    """Rows of keys and numbers, each key once."""
-    found = []
-    for item in readings.items(json_rows):
-        first, second = readings.pair(item)
-        key = key_of(first)
-        if any(key == known for known, _ in found):
-            raise readings.Fault("BadState")
-        found.append([key, readings.number(second)])
-    return found
-
-
-def interval(given):
-    readings.first_form(given, "from to")
-    return {"from": readings.time(given["from"]), "to": readings.time(given["to"])}
-
-
-def transaction(given):
-    readings.first_form(given, "tx_interval tx_inputs")
-    return readings.read(given, tx_interval=interval, tx_inputs=lambda inputs: [readings.given(each) for each in readings.items(inputs)])
-
-
-READERS = {"contract": readings.contract, "state": state, "transaction": transaction}
+READERS = {"contract": readings.contract, "state": readings.state, "transaction": readings.transaction}
 
 
 def read_apart(texts):

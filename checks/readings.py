@@ -1,9 +1,10 @@
-"""Reads the JSON text of a scenario, with its faults, in plain Python, written from docs/formats.md.
+"""Reads the JSON texts of contracts, states, transactions and scenarios, with their faults, in plain Python, written from docs/formats.md.
 
 Needs    nothing: it has no code of the program, and shares none of its definitions.
-Usage    plays.py imports it.
-Expect   `scenario(bytes)` to give the scenario as JSON data with the keys of its forms alone, currencies in lower case, or to raise the
-         `Fault` that the text is refused with. Texts are read by a parser of their own, since Python's takes more than JSON.
+Usage    plays.py, commands.py and the suite in ../conformance import it.
+Expect   `scenario(bytes)`, or `contract(parsed(bytes))` and the like, to give what is read as JSON data with the keys of its forms alone,
+         currencies in lower case, or to raise the `Fault` that the text is refused with. Texts are read by a parser of their own, since
+         Python's takes more than JSON.
 """
 import re
 
@@ -31,8 +32,8 @@ WORDS = {"true": True, "false": False, "null": None}
 class Text:
     """A JSON text and the place at which it is read."""
 
-    def __init__(self, text):
-        self.text, self.place = text, 0
+    def __init__(self, text, deepest=DEEPEST):
+        self.text, self.place, self.deepest = text, 0, deepest
 
     def rest(self, pattern):
         found = pattern.match(self.text, self.place)
@@ -103,7 +104,7 @@ class Text:
             parts.append(chr(first))
 
     def deep(self, depth):
-        if depth > DEEPEST:
+        if depth > self.deepest:
             raise Fault("NotJson")
         self.rest(BLANK)
 
@@ -137,11 +138,11 @@ class Text:
             self.want(",")
 
 
-def parsed(text):
-    if len(text) > LONGEST:
+def parsed(text, longest=LONGEST, deepest=DEEPEST):
+    if len(text) > longest:
         raise Fault("TooLong")
     try:
-        reader = Text(text.decode())
+        reader = Text(text.decode(), deepest)
     except UnicodeDecodeError:
         raise Fault("NotJson") from None
     value = reader.value()
@@ -304,7 +305,7 @@ def given(json):
     return {key: own[key](json[key]) for key in keys.split()}
 
 
-# ---- scenarios
+# ---- states and transactions
 
 def held(rows, json, key_of):
     """Rows of keys and numbers above 0, each key once."""
@@ -322,12 +323,45 @@ def account(json):
     return [party(owner), token(of)]
 
 
-def amount(json):
-    return held([], json, token)
-
-
 def accounts(json):
     return held([], json, account)
+
+
+def keyed(json, key_of):
+    """Rows of keys and numbers, each key once."""
+    rows = []
+    for item in items(json):
+        first, second = pair(item)
+        key = key_of(first)
+        if any(key == known for known, _ in rows):
+            raise Fault("BadState")
+        rows.append([key, number(second)])
+    return rows
+
+
+def state(json):
+    first_form(json, "accounts choices boundValues minTime")
+    return read(json, accounts=accounts, choices=lambda rows: keyed(rows, choice_id), boundValues=lambda rows: keyed(rows, text), minTime=time)
+
+
+def interval(json):
+    first_form(json, "from to")
+    return read(json, **{"from": time, "to": time})
+
+
+def inputs(json):
+    return [given(item) for item in items(json)]
+
+
+def transaction(json):
+    first_form(json, "tx_interval tx_inputs")
+    return read(json, tx_interval=interval, tx_inputs=inputs)
+
+
+# ---- scenarios
+
+def amount(json):
+    return held([], json, token)
 
 
 def funds(json):
@@ -396,10 +430,6 @@ class Scenario:
                 "contracts": [self.contract(item) for item in items(json["contracts"])],
                 "threads": [self.thread(item) for item in items(json["threads"])],
                 "plans": [self.plan(item) for item in items(json["plans"])]}
-
-
-def inputs(json):
-    return [given(item) for item in items(json)]
 
 
 def workers(json):
