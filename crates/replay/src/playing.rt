@@ -1,5 +1,5 @@
 //! Runs that are played again.
-ghost use Rattle.std.specs.Prelude.{◌≡◌, ◌++◌, false, true, IfOk, IfSome};
+ghost use Rattle.std.specs.Prelude.{◌≡◌, ◌++◌, true, IfOk, IfSome};
 ghost use Rattle.contract.specs.Tree.{contract_tree};
 ghost use Rattle.collections.specs.Answers.{AsideBy};
 ghost use Rattle.semantics.specs.Walk.{standing, answer_of};
@@ -35,17 +35,10 @@ pub fn ends_at(
     };
     match after(alloc, contract, state, before) {
         Ok(left) => tells_at(alloc, left, last, alarm),
-        Err(refused) => unless_memory(refused.fault),
-    }
-}
-
-// That it doesn't, unless memory was refused.
-fn unless_memory(fault: SemFault) -> Result<bool, Memory>
-    ensures { IfOk result (λ yes. yes ≡ false) }
-{
-    match fault {
-        SemFault::Memory => Err(AllocError),
-        _ => Ok(false),
+        Err(refused) => match refused.fault {
+            SemFault::Memory => Err(AllocError),
+            _ => Ok(false),
+        },
     }
 }
 
