@@ -1,5 +1,5 @@
 -- What comes behind a reduction comes of the whole.
-use Rattle.std.proofs.Common.{◌≡◌, ℤ, pos, int_lt, int_le, Bool, true, false, cond, List, [], ◌∷◌, ◌++◌, inl, inr, refl, sym, ap, ◌∙◌, subst, Option, Some, None, Result, Ok, Err}
+use Rattle.std.proofs.Common.{◌≡◌, ℕ, ℤ, pos, int_lt, int_le, Bool, true, false, cond, List, [], ◌∷◌, ◌++◌, append_assoc, append-nil, inl, inr, refl, sym, ap, ◌∙◌, subst, Option, Some, None, Result, Ok, Err}
 use Rattle.std.specs.Int.{int_min}
 use Rattle.contract.specs.declared.fault.SemFault.{SemFault}
 use Rattle.contract.specs.declared.fault.SemFault.TheVariants as faults
@@ -21,10 +21,10 @@ use Rattle.semantics.proofs.Paying.{pays_contract}
 use Rattle.analysis_spec.specs.declared.kind.AlarmKind.{AlarmKind}
 use Rattle.analysis_spec.specs.declared.kind.AlarmKind.TheVariants as kinds
 use Rattle.analysis_spec.specs.declared.path.PathStep.{PathStep}
-use Rattle.analysis_spec.specs.declared.path.PathStep.TheVariants.{Then, Else, TimeoutContinuation}
+use Rattle.analysis_spec.specs.declared.path.PathStep.TheVariants.{Then, Else, TimeoutContinuation, Case, Action}
 use Rattle.analysis_spec.specs.Marks.{step_of, led, Mark, mark, behind, settling, taking_all}
 use Rattle.analysis_spec.specs.Promises.{HasKind, TellsOf, ComesAt}
-use Rattle.replay.specs.ComingSupport.{Comes, ComesHere, GoesBy, step_from}
+use Rattle.replay.specs.ComingSupport.{Comes, ComesHere, ComesAhead, ComesBehind, ComesAtAction, GoesBy, TakenBy, step_from}
 
 -- ---- what a step's reply tells
 
@@ -99,13 +99,16 @@ module _ (kind : AlarmKind) (place here : List PathStep) (i : Interval) (s : Sta
       subst (λ (y : Reduction). Behind Then (assert o c) y) (goes_same q r e) (λ f h. inr (f, h))
 
 pub passes : (i : Interval) (s : StateMaps) (c : ContractTree) (t : StateMaps) (d : ContractTree) (p : PathStep) → p ≡ step_from i s c → reply (step i s c) ≡ Ok (Some d) → t ≡ state_after s (step i s c) → GoesBy p i s c t d
-passes i s c t d p l h k xs kind place here g =
-    let q = went (step i s c) d h in
-    let r = q.0 in
-    let e : t ≡ r.state = k ∙ ap (state_after s) q.1 in
-    let at_part = subst (λ x. Comes kind place (here ++ p ∷ []) i t x xs) q.3 g in
-    let at_state = subst (λ u. Comes kind place (here ++ p ∷ []) i u r.contract xs) e at_part in
-    behind_step kind place here i s xs c r q.1 q.2 (subst (λ x. Comes kind place (here ++ x ∷ []) i r.state r.contract xs) l at_state)
+passes i s c t d p l h k = record { behind = λ xs. record { comes = λ kind place here g. so xs kind place here g } }
+  where
+    so : (xs : List Input) (kind : AlarmKind) (place here : List PathStep) → Comes kind place (here ++ p ∷ []) i t d xs → Comes kind place here i s c xs
+    so xs kind place here g =
+        let q = went (step i s c) d h in
+        let r = q.0 in
+        let e : t ≡ r.state = k ∙ ap (state_after s) q.1 in
+        let at_part = subst (λ x. Comes kind place (here ++ p ∷ []) i t x xs) q.3 g in
+        let at_state = subst (λ u. Comes kind place (here ++ p ∷ []) i u r.contract xs) e at_part in
+        behind_step kind place here i s xs c r q.1 q.2 (subst (λ x. Comes kind place (here ++ x ∷ []) i r.state r.contract xs) l at_state)
 
 -- ---- an alarm where the contract stands
 
@@ -137,32 +140,58 @@ none_warned kind true d a q e h = h
 none_warned kind false true a q e h = subst (HasKind kind) e h
 none_warned kind false false a q e h = h
 
-pub leaves_here : (kind : AlarmKind) (i : Interval) (s : StateMaps) (c : ContractTree) → reply (step i s c) ≡ Err faults.Leaves128 → kind ≡ kinds.Leaves128 → ComesHere kind i s c
-leaves_here kind i s close h e here xs = absurd (cc)
-leaves_here kind i s (pay p y t v c) h e here xs =
+leaves_at : (kind : AlarmKind) (i : Interval) (s : StateMaps) (c : ContractTree) → reply (step i s c) ≡ Err faults.Leaves128 → kind ≡ kinds.Leaves128 → (here : List PathStep) (xs : List Input) → Comes kind here here i s c xs
+leaves_at kind i s close h e here xs = absurd (cc)
+leaves_at kind i s (pay p y t v c) h e here xs =
     let r = pay_step s p y t (eval i s v) (visited i s v) c in
     inl (refl, leaves_tells kind (mark here r.numbers r.warnings) e (not_fit (all_fit r.numbers) (Some r.contract) faults.Leaves128 h))
-leaves_here kind i s (if_obs o c d) h e here xs =
+leaves_at kind i s (if_obs o c d) h e here xs =
     let r = choosing s (holds i s o) (looked i s o) c d in
     inl (refl, leaves_tells kind (mark here r.numbers []) e (not_fit (all_fit r.numbers) (Some r.contract) faults.Leaves128 h))
-leaves_here kind i s (when ks t c) h e here xs = absurd (none_leaves (int_lt i.to t) (int_le t i.from) (standing s (when ks t c)) (timing_out s c) refl h)
-leaves_here kind i s (let_be x v c) h e here xs =
+leaves_at kind i s (when ks t c) h e here xs = absurd (none_leaves (int_lt i.to t) (int_le t i.from) (standing s (when ks t c)) (timing_out s c) refl h)
+leaves_at kind i s (let_be x v c) h e here xs =
     let r = binding s x (eval i s v) (visited i s v) c in
     inl (refl, leaves_tells kind (mark here r.numbers r.warnings) e (not_fit (all_fit r.numbers) (Some r.contract) faults.Leaves128 h))
-leaves_here kind i s (assert o c) h e here xs =
+leaves_at kind i s (assert o c) h e here xs =
     let r = asserting s (holds i s o) (looked i s o) c in
     inl (refl, leaves_tells kind (mark here r.numbers r.warnings) e (not_fit (all_fit r.numbers) (Some r.contract) faults.Leaves128 h))
 
-pub warns_here : (kind : AlarmKind) (i : Interval) (s : StateMaps) (c : ContractTree) → (kind ≡ kinds.Leaves128 → ⊥) → HasKind kind (warnings_of (step i s c)) → ComesHere kind i s c
-warns_here kind i s close other h here xs = absurd h
-warns_here kind i s (pay p y t v c) other h here xs =
+pub leaves_here : (kind : AlarmKind) (i : Interval) (s : StateMaps) (c : ContractTree) → reply (step i s c) ≡ Err faults.Leaves128 → kind ≡ kinds.Leaves128 → ComesHere kind i s c
+leaves_here kind i s c h e = record { comes = leaves_at kind i s c h e }
+
+warns_at : (kind : AlarmKind) (i : Interval) (s : StateMaps) (c : ContractTree) → (kind ≡ kinds.Leaves128 → ⊥) → HasKind kind (warnings_of (step i s c)) → (here : List PathStep) (xs : List Input) → Comes kind here here i s c xs
+warns_at kind i s close other h here xs = absurd h
+warns_at kind i s (pay p y t v c) other h here xs =
     let r = pay_step s p y t (eval i s v) (visited i s v) c in
     inl (refl, warned_tells kind (mark here r.numbers r.warnings) other h)
-warns_here kind i s (if_obs o c d) other h here xs = absurd h
-warns_here kind i s (when ks t c) other h here xs = absurd (none_warned kind (int_lt i.to t) (int_le t i.from) (standing s (when ks t c)) (timing_out s c) refl h)
-warns_here kind i s (let_be x v c) other h here xs =
+warns_at kind i s (if_obs o c d) other h here xs = absurd h
+warns_at kind i s (when ks t c) other h here xs = absurd (none_warned kind (int_lt i.to t) (int_le t i.from) (standing s (when ks t c)) (timing_out s c) refl h)
+warns_at kind i s (let_be x v c) other h here xs =
     let r = binding s x (eval i s v) (visited i s v) c in
     inl (refl, warned_tells kind (mark here r.numbers r.warnings) other h)
-warns_here kind i s (assert o c) other h here xs =
+warns_at kind i s (assert o c) other h here xs =
     let r = asserting s (holds i s o) (looked i s o) c in
     inl (refl, warned_tells kind (mark here r.numbers r.warnings) other h)
+
+pub warns_here : (kind : AlarmKind) (i : Interval) (s : StateMaps) (c : ContractTree) → (kind ≡ kinds.Leaves128 → ⊥) × HasKind kind (warnings_of (step i s c)) → ComesHere kind i s c
+warns_here kind i s c h = record { comes = warns_at kind i s c h.0 h.1 }
+
+-- ---- along the way to a place
+
+pub ahead_here : (kind : AlarmKind) (i : Interval) (s : StateMaps) (c : ContractTree) (xs : List Input) → ComesHere kind i s c → ComesAhead kind [] i s c xs
+ahead_here kind i s c xs h = record { comes = λ here. subst (λ q. Comes kind q here i s c xs) (sym (append-nil here)) (h.comes here xs) }
+
+pub ahead_more : (kind : AlarmKind) (p : PathStep) (ps : List PathStep) (i : Interval) (s : StateMaps) (c : ContractTree) (xs : List Input) (t : StateMaps) (d : ContractTree) (ys : List Input)
+    → ComesBehind p i s c xs t d ys → ComesAhead kind ps i t d ys → ComesAhead kind (p ∷ ps) i s c xs
+ahead_more kind p ps i s c xs t d ys h k = record {
+  comes = λ here. subst (λ q. Comes kind q here i s c xs) (append_assoc here (p ∷ []) ps) (h.comes kind ((here ++ p ∷ []) ++ ps) here (k.comes (here ++ p ∷ [])));
+}
+
+pub goes_with : (p : PathStep) (i : Interval) (s : StateMaps) (c : ContractTree) (t : StateMaps) (d : ContractTree) (xs : List Input) → GoesBy p i s c t d → ComesBehind p i s c xs t d xs
+goes_with p i s c t d xs h = h.behind xs
+
+pub taken_with : (n : ℕ) (i : Interval) (s : StateMaps) (c : ContractTree) (x : Input) (t : StateMaps) (d : ContractTree) (xs : List Input) → TakenBy n i s c x t d → ComesBehind (Case n) i s c (x ∷ xs) t d xs
+taken_with n i s c x t d xs h = h.behind xs
+
+pub action_ahead : (kind : AlarmKind) (n : ℕ) (i : Interval) (s : StateMaps) (c : ContractTree) (x : Input) (xs : List Input) → ComesAtAction kind n i s c x → ComesAhead kind (Action n ∷ []) i s c (x ∷ xs)
+action_ahead kind n i s c x xs h = h.ahead xs

@@ -52,10 +52,10 @@ tried_none i s x ks = record { marks = λ kind place here ms h. h; first = refl;
 
 pub tried_one_more : (i : Interval) (s : StateMaps) (x : Input) (ks : List Pair) (n : ℕ) → PassesBy i s x ks n → TriedTo i s x ks n → TriedTo i s x ks (n + 1)
 tried_one_more i s x ks n p h =
-    let k = p.0 in
-    let w = within_ok (tried i s x k.0) (matches i s x k.0) false p.2 in
+    let k = p.case in
+    let w = within_ok (tried i s x k.0) (matches i s x k.0) false p.tried in
     let ys = drop (n + 1) ks in
-    let rest = rest_from ks n k p.1 in
+    let rest = rest_from ks n k p.stands in
     record {
       marks = λ kind place here ms g.
           h.marks kind place here ms
@@ -135,14 +135,15 @@ behind_taken kind place here i s x ks n k ms e m f g h q =
     (subst (λ zs. ComesAt kind place (trying here n i s x zs ++ ms)) (sym (rest_from ks n k e))
     (subst (λ b. ComesAt kind place (at_case here i s x n k (drop (n + 1) ks) b ++ ms)) (sym m) (inr (fit, q))))
 
-pub takes_case : (i : Interval) (s : StateMaps) (c : ContractTree) (x : Input) (n : ℕ) (k : Pair) (t : StateMaps) → waits i c ≡ true → TriedTo i s x (waits_for c) n → slice_get (waits_for c) n ≡ Some k
-    → Ok true ≡ within (tried i s x k.0) (matches i s x k.0) → all_fit (taken_numbers s x) ≡ true → t ≡ taken s x → TakenBy n i s c x t k.1
-takes_case i s close x n k t w h e q g u xs kind place here j = absurd (cc)
-takes_case i s (pay p y r v c) x n k t w h e q g u xs kind place here j = absurd (cc)
-takes_case i s (if_obs o c d) x n k t w h e q g u xs kind place here j = absurd (cc)
-takes_case i s (let_be y v c) x n k t w h e q g u xs kind place here j = absurd (cc)
-takes_case i s (assert o c) x n k t w h e q g u xs kind place here j = absurd (cc)
-takes_case i s (when ks timeout c) x n k t w h e q g u xs kind place here j =
+taken_behind : (i : Interval) (s : StateMaps) (c : ContractTree) (x : Input) (n : ℕ) (k : Pair) (t : StateMaps) → waits i c ≡ true → TriedTo i s x (waits_for c) n → slice_get (waits_for c) n ≡ Some k
+    → Ok true ≡ within (tried i s x k.0) (matches i s x k.0) → all_fit (taken_numbers s x) ≡ true → t ≡ taken s x
+    → (xs : List Input) (kind : AlarmKind) (place here : List PathStep) → Comes kind place (here ++ Case n ∷ []) i t k.1 xs → Comes kind place here i s c (x ∷ xs)
+taken_behind i s close x n k t w h e q g u xs kind place here j = absurd (cc)
+taken_behind i s (pay p y r v c) x n k t w h e q g u xs kind place here j = absurd (cc)
+taken_behind i s (if_obs o c d) x n k t w h e q g u xs kind place here j = absurd (cc)
+taken_behind i s (let_be y v c) x n k t w h e q g u xs kind place here j = absurd (cc)
+taken_behind i s (assert o c) x n k t w h e q g u xs kind place here j = absurd (cc)
+taken_behind i s (when ks timeout c) x n k t w h e q g u xs kind place here j =
     let fit = within_ok (tried i s x k.0) (matches i s x k.0) true q in
     let m = sym fit.1 in
     let there = here ++ Case n ∷ [] in
@@ -150,15 +151,19 @@ takes_case i s (when ks timeout c) x n k t w h e q g u xs kind place here j =
     subst (ComesAt kind place) (sym same)
     (behind_taken kind place here i s x (case_list ks) n k (marks_from there i (taken s x) k.1 xs) e m fit.0 g h (subst (λ v. ComesAt kind place (marks_from there i v k.1 xs)) u j))
 
+pub takes_case : (i : Interval) (s : StateMaps) (c : ContractTree) (x : Input) (n : ℕ) (k : Pair) (t : StateMaps) → waits i c ≡ true → TriedTo i s x (waits_for c) n → slice_get (waits_for c) n ≡ Some k
+    → Ok true ≡ within (tried i s x k.0) (matches i s x k.0) → all_fit (taken_numbers s x) ≡ true → t ≡ taken s x → TakenBy n i s c x t k.1
+takes_case i s c x n k t w h e q g u = record { behind = λ xs. record { comes = taken_behind i s c x n k t w h e q g u xs } }
+
 -- an alarm comes at the action of the case
-at_action : (kind : AlarmKind) (i : Interval) (s : StateMaps) (c : ContractTree) (x : Input) (n : ℕ) (k : Pair) → waits i c ≡ true → TriedTo i s x (waits_for c) n → slice_get (waits_for c) n ≡ Some k
-    → ((here : List PathStep) (ys : List Pair) (ms : List Mark) → ComesAt kind (here ++ Action n ∷ []) (at_case here i s x n k ys (matches i s x k.0) ++ ms)) → ComesAtAction kind n i s c x
-at_action kind i s close x n k w h e g xs here = absurd (cc)
-at_action kind i s (pay p y r v c) x n k w h e g xs here = absurd (cc)
-at_action kind i s (if_obs o c d) x n k w h e g xs here = absurd (cc)
-at_action kind i s (let_be y v c) x n k w h e g xs here = absurd (cc)
-at_action kind i s (assert o c) x n k w h e g xs here = absurd (cc)
-at_action kind i s (when ks timeout c) x n k w h e g xs here =
+comes_at_action : (kind : AlarmKind) (i : Interval) (s : StateMaps) (c : ContractTree) (x : Input) (n : ℕ) (k : Pair) → waits i c ≡ true → TriedTo i s x (waits_for c) n → slice_get (waits_for c) n ≡ Some k
+    → ((here : List PathStep) (ys : List Pair) (ms : List Mark) → ComesAt kind (here ++ Action n ∷ []) (at_case here i s x n k ys (matches i s x k.0) ++ ms)) → (xs : List Input) (here : List PathStep) → Comes kind (here ++ Action n ∷ []) here i s c (x ∷ xs)
+comes_at_action kind i s close x n k w h e g xs here = absurd (cc)
+comes_at_action kind i s (pay p y r v c) x n k w h e g xs here = absurd (cc)
+comes_at_action kind i s (if_obs o c d) x n k w h e g xs here = absurd (cc)
+comes_at_action kind i s (let_be y v c) x n k w h e g xs here = absurd (cc)
+comes_at_action kind i s (assert o c) x n k w h e g xs here = absurd (cc)
+comes_at_action kind i s (when ks timeout c) x n k w h e g xs here =
     let place = here ++ Action n ∷ [] in
     let one = applied i x (standing s (when ks timeout c)) in
     let all = then_walk one (λ b. settled i b.state b.contract) in
@@ -167,6 +172,10 @@ at_action kind i s (when ks timeout c) x n k w h e g xs here =
     let vs = behind all.end (taking_all (led here all.turns) i xs) in
     subst (ComesAt kind place) (sym (first_input here i s ks timeout c x xs w ∙ append_assoc ts us vs))
     (h.marks kind place here (us ++ vs) (subst (λ zs. ComesAt kind place (trying here n i s x zs ++ (us ++ vs))) (sym (rest_from (case_list ks) n k e)) (g here (drop (n + 1) (case_list ks)) (us ++ vs))))
+
+at_action : (kind : AlarmKind) (i : Interval) (s : StateMaps) (c : ContractTree) (x : Input) (n : ℕ) (k : Pair) → waits i c ≡ true → TriedTo i s x (waits_for c) n → slice_get (waits_for c) n ≡ Some k
+    → ((here : List PathStep) (ys : List Pair) (ms : List Mark) → ComesAt kind (here ++ Action n ∷ []) (at_case here i s x n k ys (matches i s x k.0) ++ ms)) → ComesAtAction kind n i s c x
+at_action kind i s c x n k w h e g = record { ahead = λ xs. record { comes = comes_at_action kind i s c x n k w h e g xs } }
 
 and_false : (b : Bool) → b && false ≡ false
 and_false true = refl

@@ -21,25 +21,25 @@ use Rattle.analysis_spec.specs.Promises.{HasKind, ComesAt}
 abbrev pub Comes : AlarmKind → List PathStep → List PathStep → Interval → StateMaps → ContractTree → List Input → Type 0
 Comes kind place here i s c xs = ComesAt kind place (marks_from here i s c xs)
 
--- what comes behind a step, in the state t and of the contract d with the inputs ys, comes of the whole
-abbrev pub ComesBehind : PathStep → Interval → StateMaps → ContractTree → List Input → StateMaps → ContractTree → List Input → Type 0
-ComesBehind step i s c xs t d ys = (kind : AlarmKind) (place here : List PathStep) → Comes kind place (here ++ step ∷ []) i t d ys → Comes kind place here i s c xs
-
 -- an alarm comes at a place ahead
-abbrev pub ComesAhead : AlarmKind → List PathStep → Interval → StateMaps → ContractTree → List Input → Type 0
-ComesAhead kind place i s c xs = (here : List PathStep) → Comes kind (here ++ place) here i s c xs
+pub record ComesAhead (kind : AlarmKind) (place : List PathStep) (i : Interval) (s : StateMaps) (c : ContractTree) (xs : List Input) : Type 0 where
+  pub comes : (here : List PathStep) → Comes kind (here ++ place) here i s c xs
 
 -- an alarm comes where the contract stands
-abbrev pub ComesHere : AlarmKind → Interval → StateMaps → ContractTree → Type 0
-ComesHere kind i s c = (here : List PathStep) (xs : List Input) → Comes kind here here i s c xs
+pub record ComesHere (kind : AlarmKind) (i : Interval) (s : StateMaps) (c : ContractTree) : Type 0 where
+  pub comes : (here : List PathStep) (xs : List Input) → Comes kind here here i s c xs
+
+-- what comes behind a step, in the state t and of the contract d with the inputs ys, comes of the whole
+pub record ComesBehind (step : PathStep) (i : Interval) (s : StateMaps) (c : ContractTree) (xs : List Input) (t : StateMaps) (d : ContractTree) (ys : List Input) : Type 0 where
+  pub comes : (kind : AlarmKind) (place here : List PathStep) → Comes kind place (here ++ step ∷ []) i t d ys → Comes kind place here i s c xs
 
 -- a reduction goes by a step: it leads on to the contract d in the state t
-abbrev pub GoesBy : PathStep → Interval → StateMaps → ContractTree → StateMaps → ContractTree → Type 0
-GoesBy step i s c t d = (xs : List Input) → ComesBehind step i s c xs t d xs
+pub record GoesBy (step : PathStep) (i : Interval) (s : StateMaps) (c : ContractTree) (t : StateMaps) (d : ContractTree) : Type 0 where
+  pub behind : (xs : List Input) → ComesBehind step i s c xs t d xs
 
 -- an input is taken by a case, likewise
-abbrev pub TakenBy : ℕ → Interval → StateMaps → ContractTree → Input → StateMaps → ContractTree → Type 0
-TakenBy n i s c x t d = (xs : List Input) → ComesBehind (Case n) i s c (x ∷ xs) t d xs
+pub record TakenBy (n : ℕ) (i : Interval) (s : StateMaps) (c : ContractTree) (x : Input) (t : StateMaps) (d : ContractTree) : Type 0 where
+  pub behind : (xs : List Input) → ComesBehind (Case n) i s c (x ∷ xs) t d xs
 
 -- the step of a reduction, where there is one
 abbrev pub step_from : Interval → StateMaps → ContractTree → PathStep
@@ -52,12 +52,14 @@ abbrev pub IsToldBy : AlarmKind → List ℤ → List Warning → Type 0
 IsToldBy kind ns ws = ((kind ≡ Leaves128 → ⊥) × HasKind kind ws) ⊎ ((kind ≡ Leaves128) × (all_fit ns ≡ false))
 
 -- an alarm comes at the action of a case that an input is tried at
-abbrev pub ComesAtAction : AlarmKind → ℕ → Interval → StateMaps → ContractTree → Input → Type 0
-ComesAtAction kind n i s c x = (xs : List Input) → ComesAhead kind (Action n ∷ []) i s c (x ∷ xs)
+pub record ComesAtAction (kind : AlarmKind) (n : ℕ) (i : Interval) (s : StateMaps) (c : ContractTree) (x : Input) : Type 0 where
+  pub ahead : (xs : List Input) → ComesAhead kind (Action n ∷ []) i s c (x ∷ xs)
 
 -- a case is tried, and doesn't take the input
-abbrev pub PassesBy : Interval → StateMaps → Input → List (ActionTree × ContractTree) → ℕ → Type 0
-PassesBy i s x ks n = (k : ActionTree × ContractTree) × (slice_get ks n ≡ Some k) × (Ok false ≡ within (tried i s x k.0) (matches i s x k.0))
+pub record PassesBy (i : Interval) (s : StateMaps) (x : Input) (ks : List (ActionTree × ContractTree)) (n : ℕ) : Type 0 where
+  pub case : ActionTree × ContractTree
+  pub stands : slice_get ks n ≡ Some case
+  pub tried : Ok false ≡ within (tried i s x case.0) (matches i s x case.0)
 
 -- a When waits for inputs
 abbrev pub waits : Interval → ContractTree → Bool

@@ -13,6 +13,7 @@ use semantics::{Log, Plain, reduce};
 use std::alloc::{AllocError, Global};
 
 /// Whether an alarm comes at a place, of a contract that goes on in a fixed interval with the inputs that are left.
+#[tactic(auto, using(crate::proofs::ComingLemmas::ahead_here, crate::proofs::ComingLemmas::ahead_more))]
 pub(crate) fn comes(
     alloc: Global,
     contract: &Contract,
@@ -37,6 +38,7 @@ pub(crate) fn comes(
 }
 
 // Whether the next reduction tells of an alarm.
+#[tactic(auto, using(crate::proofs::ComingLemmas::leaves_here, crate::proofs::ComingLemmas::warns_here))]
 fn tells_here(
     alloc: Global,
     contract: &Contract,
@@ -56,6 +58,7 @@ fn tells_here(
 }
 
 // Whether an alarm comes at the action of a case.
+#[tactic(auto, using(crate::proofs::ComingLemmas::action_ahead))]
 fn action_tells(
     alloc: Global,
     contract: &Contract,
@@ -75,6 +78,7 @@ fn action_tells(
 
 // Takes a step: what the contract goes on with, and the inputs that are then left; none where the transaction doesn't go
 // that way.
+#[tactic(auto, using(crate::proofs::ComingLemmas::goes_with))]
 fn pass<'a>(
     alloc: Global,
     contract: &'a Contract,
@@ -95,6 +99,7 @@ fn pass<'a>(
 }
 
 // .. into a case, which takes the first input.
+#[tactic(auto, using(crate::proofs::ComingLemmas::taken_with))]
 fn pass_case<'a>(
     alloc: Global,
     contract: &'a Contract,

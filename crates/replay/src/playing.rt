@@ -21,6 +21,7 @@ use trace::{Left, after};
 /// Plays a run from a state, transaction by transaction, and tells whether it ends in an alarm at the alarm's place: each
 /// transaction before the last is accepted, and the last is accepted with a warning of the kind that comes from there, or,
 /// for `Leaves128`, is refused because a number leaves 128 bits, first there. No run ends so without a transaction.
+#[tactic(auto, using(crate::proofs::RunLemmas::ends_with))]
 pub fn ends_at(
     alloc: Global,
     contract: &Contract,

@@ -15,6 +15,7 @@ use std::alloc::{AllocError, Global};
 
 /// Whether an alarm comes at the action of a case: the input comes to it, and is taken there with a warning, or a number
 /// leaves 128 bits there.
+#[tactic(auto, using(crate::proofs::TriesLemmas::taking_tells, crate::proofs::TriesLemmas::trying_leaves))]
 pub(crate) fn tells_at_action(
     alloc: Global,
     contract: &Contract,
@@ -38,6 +39,7 @@ pub(crate) fn tells_at_action(
 }
 
 /// Takes an input by a case, and returns what follows it; none where the case isn't the first that takes it.
+#[tactic(auto, using(crate::proofs::TriesLemmas::takes_case))]
 pub(crate) fn takes<'c>(
     alloc: Global,
     contract: &'c Contract,
@@ -83,6 +85,7 @@ fn tells_of_taking(
 }
 
 // Whether a contract waits for inputs, and an input comes to the case at an index: none before it takes it.
+#[tactic(auto, using(crate::proofs::TriesLemmas::tried_none, crate::proofs::TriesLemmas::tried_one_more))]
 fn comes_to(
     contract: &Contract,
     state: &State,
