@@ -21,7 +21,7 @@ use Rattle.analysis_spec.specs.declared.path.PathStep.{PathStep}
 use Rattle.analysis_spec.specs.declared.path.PathStep.TheVariants.{TimeoutContinuation, Case, Action}
 use Rattle.analysis_spec.specs.Marks.{led, Mark, mark, behind, settling, trying, taking_all, marks_from}
 use Rattle.analysis_spec.specs.Promises.{HasKind, TellsOf, ComesAt}
-use Rattle.replay.specs.ComingSupport.{Comes, ComesAtAction, IsToldBy, PassesBy, TakenBy, TriedTo, waits}
+use Rattle.replay.specs.ComingSupport.{Comes, ComesAtAction, IsTaken, IsToldBy, PassesBy, TakenBy, TriedTo, waits}
 use Rattle.replay.proofs.ComingLemmas.{leaves_tells, warned_tells, not_fit}
 
 abbrev Pair : Type 0
@@ -72,8 +72,10 @@ tried_one_more i s x ks n p h =
 
 -- ---- a contract that waits
 
-by_wait : (here : List PathStep) (i : Interval) (b : Bool) (ys : List Input) (zs : List Mark) (a : Standing) (w : Walk) → b ≡ true
-    → (let v = cond b (ended (Ok a)) w in cond b [] zs ++ behind v.end (taking_all (led here v.turns) i ys)) ≡ taking_all here i ys a
+abbrev waiting_at : List PathStep → Interval → List Input → Bool → List Mark → Standing → Walk → List Mark
+waiting_at here i ys b zs a w = let v = cond b (ended (Ok a)) w in cond b [] zs ++ behind v.end (taking_all (led here v.turns) i ys)
+
+by_wait : (here : List PathStep) (i : Interval) (b : Bool) (ys : List Input) (zs : List Mark) (a : Standing) (w : Walk) → b ≡ true → waiting_at here i ys b zs a w ≡ taking_all here i ys a
 by_wait here i true ys zs a w e = refl
 by_wait here i false ys zs a w e = absurd (cc)
 
@@ -151,9 +153,14 @@ taken_behind i s (when ks timeout c) x n k t w h e q g u xs kind place here j =
     subst (ComesAt kind place) (sym same)
     (behind_taken kind place here i s x (case_list ks) n k (marks_from there i (taken s x) k.1 xs) e m fit.0 g h (subst (λ v. ComesAt kind place (marks_from there i v k.1 xs)) u j))
 
-pub takes_case : (i : Interval) (s : StateMaps) (c : ContractTree) (x : Input) (n : ℕ) (k : Pair) (t : StateMaps) → waits i c ≡ true → TriedTo i s x (waits_for c) n → slice_get (waits_for c) n ≡ Some k
-    → Ok true ≡ within (tried i s x k.0) (matches i s x k.0) → all_fit (taken_numbers s x) ≡ true → t ≡ taken s x → TakenBy n i s c x t k.1
-takes_case i s c x n k t w h e q g u = record { behind = λ xs. record { comes = taken_behind i s c x n k t w h e q g u xs } }
+pub takes_case : (n : ℕ) (i : Interval) (s : StateMaps) (c : ContractTree) (x : Input) (d : ContractTree) (t : StateMaps) → IsTaken n i s c x d → within (taken_numbers s x) (tt {0}) ≡ Ok (tt {0}) → t ≡ taken s x → TakenBy n i s c x t d
+takes_case n i s c x d t h g u = record {
+  behind = λ xs. record {
+    comes = λ kind place here j.
+        taken_behind i s c x n h.case t h.waiting h.before h.stands h.matched (within_ok (taken_numbers s x) (tt {0}) (tt {0}) (sym g)).0 u xs kind place here
+        (subst (λ e. Comes kind place (here ++ Case n ∷ []) i t e xs) h.then j);
+  };
+}
 
 -- an alarm comes at the action of the case
 comes_at_action : (kind : AlarmKind) (i : Interval) (s : StateMaps) (c : ContractTree) (x : Input) (n : ℕ) (k : Pair) → waits i c ≡ true → TriedTo i s x (waits_for c) n → slice_get (waits_for c) n ≡ Some k

@@ -1,6 +1,6 @@
 -- No reader needs this file: it serves private functions.
 -- Where a transaction goes on, so that what comes from there comes of the whole.
-use Rattle.std.specs.Prelude.{◌≡◌, ℕ, ◌+◌, ℤ, int_lt, Bool, false, if◌then◌else◌, List, ◌∷◌, [], ◌++◌, drop, slice_get, ◌⊎◌, Some, Ok}
+use Rattle.std.specs.Prelude.{◌≡◌, ℕ, ◌+◌, ℤ, int_lt, Bool, true, false, if◌then◌else◌, List, ◌∷◌, [], ◌++◌, drop, slice_get, ◌⊎◌, Some, Ok}
 use Rattle.contract.specs.declared.input.Input.{Input}
 use Rattle.contract.specs.declared.interval.Interval.{Interval}
 use Rattle.contract.specs.declared.warning.Warning.{Warning}
@@ -8,6 +8,7 @@ use Rattle.contract.specs.Tree.{ActionTree, ContractTree, if_obs, when}
 use Rattle.states.specs.States.{StateMaps}
 use Rattle.evaluation.specs.Evaluation.{holds}
 use Rattle.evaluation.specs.Numbers.{all_fit, within}
+use Rattle.evaluation.specs.Path.{waits_for}
 use Rattle.semantics.specs.Applying.{matches, tried}
 use Rattle.semantics.specs.Computed.{first_match, first_match_index}
 use Rattle.analysis_spec.specs.declared.kind.AlarmKind.{AlarmKind}
@@ -71,3 +72,12 @@ pub record TriedTo (i : Interval) (s : StateMaps) (x : Input) (ks : List (Action
   pub marks : (kind : AlarmKind) (place here : List PathStep) (ms : List Mark) → ComesAt kind place (trying here n i s x (drop n ks) ++ ms) → ComesAt kind place (trying here 0 i s x ks ++ ms)
   pub first : first_match i s x ks ≡ first_match i s x (drop n ks)
   pub index : first_match_index i s x ks ≡ n + first_match_index i s x (drop n ks)
+
+-- a case is the first that takes the input, and the contract d follows it
+pub record IsTaken (n : ℕ) (i : Interval) (s : StateMaps) (c : ContractTree) (x : Input) (d : ContractTree) : Type 0 where
+  pub waiting : waits i c ≡ true
+  pub before : TriedTo i s x (waits_for c) n
+  pub case : ActionTree × ContractTree
+  pub stands : slice_get (waits_for c) n ≡ Some case
+  pub matched : Ok true ≡ within (tried i s x case.0) (matches i s x case.0)
+  pub then : d ≡ case.1

@@ -132,12 +132,14 @@ fn reduce_by<'c>(
 ) -> Result<Option<&'c Contract>, Memory>
     ensures { IfOk result (λ next. IfSome next (λ d. GoesBy step interval state.old (contract_tree contract.now) state.new (contract_tree d.now))) }
 {
-    if !leads_by(contract, state, interval, step) {
+    let leads = leads_by(contract, state, interval, step);
+    if !leads {
         return Ok(None);
     }
     let mut log = Log::new(alloc);
     match reduce(&Plain::new(), contract, state, interval, &mut log) {
-        Ok(next) => Ok(next),
+        Ok(Some(then)) => Ok(Some(then)),
+        Ok(None) => Ok(None),
         Err(SemFault::Memory) => Err(AllocError),
         Err(_) => Ok(None),
     }

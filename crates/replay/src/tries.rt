@@ -3,7 +3,7 @@ ghost use Rattle.std.specs.Prelude.{◌≡◌, ◌<◌, true, length, IfOk, IfSo
 ghost use Rattle.contract.specs.Tree.{contract_tree};
 ghost use Rattle.evaluation.specs.Path.{waits_for};
 ghost use Rattle.semantics.specs.Applying.{taken_numbers, taken_warnings};
-ghost use Rattle.replay.specs.ComingSupport.{ComesAtAction, IsToldBy, PassesBy, TakenBy, TriedTo, waits};
+ghost use Rattle.replay.specs.ComingSupport.{ComesAtAction, IsTaken, IsToldBy, PassesBy, TakenBy, TriedTo, waits};
 
 use crate::kinds::warns;
 use analysis_spec::AlarmKind;
@@ -27,13 +27,19 @@ pub(crate) fn tells_at_action(
 ) -> Result<bool, Memory>
     ensures { IfOk result (λ yes. yes ≡ true → ComesAtAction kind index interval state.old (contract_tree contract.now) input.now) }
 {
-    if !comes_to(contract, state, interval, input, index) {
+    let comes = comes_to(contract, state, interval, input, index);
+    if !comes {
         return Ok(false);
     }
     let case = Plain::new().case(contract, index);
     match matches(&Plain::new(), input, case.action, state, interval) {
-        Ok(true) => tells_of_taking(alloc, input, state, kind),
-        Ok(false) => Ok(false),
+        Ok(taken) => {
+            if taken {
+                tells_of_taking(alloc, input, state, kind)
+            } else {
+                Ok(false)
+            }
+        }
         Err(_) => Ok(kind == AlarmKind::Leaves128),
     }
 }
@@ -50,19 +56,41 @@ pub(crate) fn takes<'c>(
 ) -> Result<Option<&'c Contract>, Memory>
     ensures { IfOk result (λ then. IfSome then (λ d. TakenBy index interval state.old (contract_tree contract.now) input.now state.new (contract_tree d.now))) }
 {
-    if !comes_to(contract, state, interval, input, index) {
+    let Some(then) = taken_by(contract, state, interval, input, index) else {
         return Ok(None);
+    };
+    let mut log = Log::new(alloc);
+    match take(input, state, &mut log) {
+        Ok(()) => Ok(Some(then)),
+        Err(SemFault::Memory) => Err(AllocError),
+        Err(_) => Ok(None),
+    }
+}
+
+// What follows a case, if it is the first that takes an input.
+fn taken_by<'c>(
+    contract: &'c Contract,
+    state: &State,
+    interval: Interval,
+    input: &Input,
+    index: usize,
+) -> Option<&'c Contract>
+    ensures { IfSome result (λ d. IsTaken index interval state.now (contract_tree contract.now) input.now (contract_tree d.now)) }
+{
+    let comes = comes_to(contract, state, interval, input, index);
+    if !comes {
+        return None;
     }
     let case = Plain::new().case(contract, index);
     match matches(&Plain::new(), input, case.action, state, interval) {
-        Ok(true) => {}
-        _ => return Ok(None),
-    }
-    let mut log = Log::new(alloc);
-    match take(input, state, &mut log) {
-        Ok(()) => Ok(Some(case.then)),
-        Err(SemFault::Memory) => Err(AllocError),
-        Err(_) => Ok(None),
+        Ok(taken) => {
+            if taken {
+                Some(case.then)
+            } else {
+                None
+            }
+        }
+        Err(_) => None,
     }
 }
 
@@ -97,11 +125,13 @@ fn comes_to(
     ensures stands { result ≡ true → index < length (waits_for (contract_tree contract.now)) }
     ensures tried { result ≡ true → TriedTo interval state.now input.now (waits_for (contract_tree contract.now)) index }
 {
-    if !waits(contract, interval) || index >= Plain::new().count_cases(contract) {
+    let waiting = waits(contract, interval);
+    if !waiting || index >= Plain::new().count_cases(contract) {
         return false;
     }
     for before in 0..index {
-        if !passes_by(contract, state, interval, input, before) {
+        let passed = passes_by(contract, state, interval, input, before);
+        if !passed {
             return false;
         }
     }
