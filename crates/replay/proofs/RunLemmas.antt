@@ -1,5 +1,5 @@
 -- Runs that end in an alarm at its place.
-use Rattle.std.proofs.Common.{◌≡◌, ℕ, suc, int_lt, Bool, true, false, cond, List, [], ◌∷◌, ◌++◌, refl, sym, ap, ◌∙◌, subst, Result, Ok, Err, IsOk}
+use Rattle.std.proofs.Common.{◌≡◌, ℕ, suc, int_lt, Bool, true, false, cond, List, [], ◌∷◌, ◌++◌, refl, sym, ap, ◌∙◌, subst, Result, Ok, Err, IsOk, IfOk}
 use Rattle.std.specs.Result.{result_unwrap_or}
 use Rattle.contract.specs.declared.fault.SemFault.{SemFault}
 use Rattle.contract.specs.declared.fault.SemFault.TheVariants.{InvalidInterval, IntervalInPast}
@@ -76,3 +76,10 @@ fixed_marks here s c t j u h k = by (int_lt t.interval.to t.interval.from) (int_
     by false false h =
         let e : trimmed t.interval s ≡ j = cc in
         ap (λ (x : Interval). marks_from here x (record s { min_time = x.from }) c t.inputs) e ∙ ap (λ v. marks_from here j v c t.inputs) (sym k)
+
+-- ---- answers
+
+-- what is so where a call says yes
+pub on_yes : {E P Q : Type 0} (r : Result Bool E) → (P → Q) → IfOk r (λ yes. yes ≡ true → P) → IfOk r (λ yes. yes ≡ true → Q)
+on_yes (Ok b) f h = λ e. f (h e)
+on_yes (Err g) f h = tt

@@ -158,7 +158,7 @@ takes_case n i s c x d t h g u = record {
   behind = λ xs. record {
     comes = λ kind place here j.
         taken_behind i s c x n h.case t h.waiting h.before h.stands h.matched (within_ok (taken_numbers s x) (tt {0}) (tt {0}) (sym g)).0 u xs kind place here
-        (subst (λ e. Comes kind place (here ++ Case n ∷ []) i t e xs) h.then j);
+        (subst (λ e. Comes kind place (here ++ Case n ∷ []) i t e xs) h.follows j);
   };
 }
 

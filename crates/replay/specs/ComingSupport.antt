@@ -42,9 +42,13 @@ pub record GoesBy (step : PathStep) (i : Interval) (s : StateMaps) (c : Contract
 pub record TakenBy (n : ℕ) (i : Interval) (s : StateMaps) (c : ContractTree) (x : Input) (t : StateMaps) (d : ContractTree) : Type 0 where
   pub behind : (xs : List Input) → ComesBehind (Case n) i s c (x ∷ xs) t d xs
 
+-- the branch of an If
+abbrev pub branch : Bool → PathStep
+branch b = if b then Then else Else
+
 -- the step of a reduction, where there is one
 abbrev pub step_from : Interval → StateMaps → ContractTree → PathStep
-step_from i s (if_obs o c d) = if holds i s o then Then else Else
+step_from i s (if_obs o c d) = branch (holds i s o)
 step_from i s (when ks t c) = TimeoutContinuation
 step_from i s _ = Then
 
@@ -80,4 +84,4 @@ pub record IsTaken (n : ℕ) (i : Interval) (s : StateMaps) (c : ContractTree) (
   pub case : ActionTree × ContractTree
   pub stands : slice_get (waits_for c) n ≡ Some case
   pub matched : Ok true ≡ within (tried i s x case.0) (matches i s x case.0)
-  pub then : d ≡ case.1
+  pub follows : d ≡ case.1

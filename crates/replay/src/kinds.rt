@@ -35,3 +35,10 @@ pub(crate) fn warns(warnings: &[Warning], kind: AlarmKind) -> bool
 {
     kind != AlarmKind::Leaves128 && has_kind(warnings, kind)
 }
+
+/// Whether a kind is the one of numbers that leave 128 bits.
+pub(crate) fn is_leaving(kind: AlarmKind) -> bool
+    ensures { result ≡ true → kind ≡ Leaves128 }
+{
+    kind == AlarmKind::Leaves128
+}

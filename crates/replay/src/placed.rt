@@ -1,13 +1,14 @@
 //! Whether a transaction tells of an alarm at a place: it is followed along the steps that lead there, and nowhere else.
 ghost use Rattle.std.specs.Prelude.{◌≡◌, [], ◌∷◌, true, IfOk, IfSome};
-ghost use Rattle.contract.specs.Tree.{contract_tree};
-ghost use Rattle.replay.specs.ComingSupport.{ComesAhead, ComesHere, ComesBehind, GoesBy, step_from};
+ghost use Rattle.contract.specs.Tree.{contract_tree, observation_tree};
+ghost use Rattle.evaluation.specs.Evaluation.{holds};
+ghost use Rattle.replay.specs.ComingSupport.{ComesAhead, ComesHere, ComesBehind, GoesBy, branch, step_from};
 
-use crate::kinds::warns;
+use crate::kinds::{is_leaving, warns};
 use crate::tries::{takes, tells_at_action};
 use analysis_spec::{AlarmKind, PathStep};
 use collections::Memory;
-use contract::{Contract, Input, Interval, SemFault, State};
+use contract::{Contract, Input, Interval, Observation, SemFault, State};
 use evaluation::holds;
 use semantics::{Log, Plain, reduce};
 use std::alloc::{AllocError, Global};
@@ -25,15 +26,25 @@ pub(crate) fn comes(
 ) -> Result<bool, Memory>
     ensures { IfOk result (λ yes. yes ≡ true → ComesAhead kind place.now interval state.old (contract_tree contract.now) inputs.now) }
 {
+    if let Some(index) = action_of(place) {
+        return action_tells(alloc, contract, state, interval, inputs, index, kind);
+    }
     match place {
         [] => tells_here(alloc, contract, state, interval, kind),
-        [PathStep::Action(index)] => {
-            action_tells(alloc, contract, state, interval, inputs, *index, kind)
-        }
         [step, rest @ ..] => match pass(alloc, contract, state, interval, inputs, *step)? {
             Some((then, left)) => comes(alloc, then, state, interval, left, rest, kind),
             None => Ok(false),
         },
+    }
+}
+
+// The index of the case, if a place is the action of one.
+fn action_of(place: &[PathStep]) -> Option<usize>
+    ensures { IfSome result (λ index. place.now ≡ PathStep.Action index ∷ []) }
+{
+    match place {
+        [PathStep::Action(index)] => Some(*index),
+        _ => None,
     }
 }
 
@@ -51,7 +62,7 @@ fn tells_here(
     let mut log = Log::new(alloc);
     match reduce(&Plain::new(), contract, state, interval, &mut log) {
         Ok(_) => Ok(warns(log.warnings.as_slice(), kind)),
-        Err(SemFault::Leaves128) => Ok(kind == AlarmKind::Leaves128),
+        Err(SemFault::Leaves128) => Ok(is_leaving(kind)),
         Err(SemFault::Memory) => Err(AllocError),
         Err(_) => Ok(false),
     }
@@ -146,21 +157,39 @@ fn reduce_by<'c>(
 }
 
 // Whether a reduction, if there is one, leads by this step.
-#[tactic(auto, using(evaluation::proofs::Numbers::within_ok))]
 fn leads_by(contract: &Contract, state: &State, interval: Interval, step: PathStep) -> bool
     ensures { result ≡ true → step ≡ step_from interval state.now (contract_tree contract.now) }
 {
-    match (contract, step) {
-        (Contract::Pay(_, _, _, _, _), PathStep::Then) => true,
-        (Contract::Let(_, _, _), PathStep::Then) => true,
-        (Contract::Assert(_, _), PathStep::Then) => true,
-        (Contract::When(_, _, _), PathStep::TimeoutContinuation) => true,
-        (Contract::If(observation, _, _), PathStep::Then) => {
-            matches!(holds(observation, state, interval), Ok(true))
+    match next_step(contract, state, interval) {
+        Some(next) => next == step,
+        None => false,
+    }
+}
+
+// The step of the next reduction, if there is one.
+fn next_step(contract: &Contract, state: &State, interval: Interval) -> Option<PathStep>
+    ensures { IfSome result (λ step. step ≡ step_from interval state.now (contract_tree contract.now)) }
+{
+    match contract {
+        Contract::Close => None,
+        Contract::If(observation, _, _) => branch_of(observation, state, interval),
+        Contract::When(_, _, _) => Some(PathStep::TimeoutContinuation),
+        _ => Some(PathStep::Then),
+    }
+}
+
+// The branch of an If.
+fn branch_of(observation: &Observation, state: &State, interval: Interval) -> Option<PathStep>
+    ensures { IfSome result (λ step. step ≡ branch (holds interval state.now (observation_tree observation.now))) }
+{
+    match holds(observation, state, interval) {
+        Ok(truth) => {
+            if truth {
+                Some(PathStep::Then)
+            } else {
+                Some(PathStep::Else)
+            }
         }
-        (Contract::If(observation, _, _), PathStep::Else) => {
-            matches!(holds(observation, state, interval), Ok(false))
-        }
-        _ => false,
+        Err(_) => None,
     }
 }

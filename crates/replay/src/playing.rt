@@ -9,7 +9,7 @@ ghost use Rattle.analysis_spec.specs.CounterRuns.{Tells};
 ghost use Rattle.analysis_spec.specs.PlacedRuns.{TellsAt, EndsAt};
 ghost use Rattle.analysis_spec.specs.Promises.{ComesAt};
 
-use crate::kinds::warns;
+use crate::kinds::{is_leaving, warns};
 use crate::placed::comes;
 use analysis_spec::{Alarm, AlarmKind, PathStep};
 use collections::{Items, Memory};
@@ -21,7 +21,6 @@ use trace::{Left, after};
 /// Plays a run from a state, transaction by transaction, and tells whether it ends in an alarm at the alarm's place: each
 /// transaction before the last is accepted, and the last is accepted with a warning of the kind that comes from there, or,
 /// for `Leaves128`, is refused because a number leaves 128 bits, first there. No run ends so without a transaction.
-#[tactic(auto, using(crate::proofs::RunLemmas::ends_with))]
 pub fn ends_at(
     alloc: Global,
     contract: &Contract,
@@ -134,7 +133,7 @@ fn tells(
     match played(alloc, contract, state, last) {
         Ok(outcome) => Ok(warns(outcome.warnings.as_slice(), kind)),
         Err(SemFault::Memory) => Err(AllocError),
-        Err(SemFault::Leaves128) => Ok(kind == AlarmKind::Leaves128),
+        Err(SemFault::Leaves128) => Ok(is_leaving(kind)),
         Err(_) => Ok(false),
     }
 }

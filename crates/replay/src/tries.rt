@@ -5,7 +5,7 @@ ghost use Rattle.evaluation.specs.Path.{waits_for};
 ghost use Rattle.semantics.specs.Applying.{taken_numbers, taken_warnings};
 ghost use Rattle.replay.specs.ComingSupport.{ComesAtAction, IsTaken, IsToldBy, PassesBy, TakenBy, TriedTo, waits};
 
-use crate::kinds::warns;
+use crate::kinds::{is_leaving, warns};
 use analysis_spec::AlarmKind;
 use collections::Memory;
 use contract::{Contract, Input, Interval, SemFault, State};
@@ -15,7 +15,6 @@ use std::alloc::{AllocError, Global};
 
 /// Whether an alarm comes at the action of a case: the input comes to it, and is taken there with a warning, or a number
 /// leaves 128 bits there.
-#[tactic(auto, using(crate::proofs::TriesLemmas::taking_tells, crate::proofs::TriesLemmas::trying_leaves))]
 pub(crate) fn tells_at_action(
     alloc: Global,
     contract: &Contract,
@@ -31,8 +30,9 @@ pub(crate) fn tells_at_action(
     if !comes {
         return Ok(false);
     }
-    let case = Plain::new().case(contract, index);
-    match matches(&Plain::new(), input, case.action, state, interval) {
+    let parts = Plain::new();
+    let case = parts.case(contract, index);
+    match matches(&parts, input, case.action, state, interval) {
         Ok(taken) => {
             if taken {
                 tells_of_taking(alloc, input, state, kind)
@@ -40,7 +40,7 @@ pub(crate) fn tells_at_action(
                 Ok(false)
             }
         }
-        Err(_) => Ok(kind == AlarmKind::Leaves128),
+        Err(_) => Ok(is_leaving(kind)),
     }
 }
 
@@ -81,8 +81,9 @@ fn taken_by<'c>(
     if !comes {
         return None;
     }
-    let case = Plain::new().case(contract, index);
-    match matches(&Plain::new(), input, case.action, state, interval) {
+    let parts = Plain::new();
+    let case = parts.case(contract, index);
+    match matches(&parts, input, case.action, state, interval) {
         Ok(taken) => {
             if taken {
                 Some(case.then)
@@ -106,14 +107,14 @@ fn tells_of_taking(
     let mut log = Log::new(alloc);
     match take(input, state, &mut log) {
         Ok(()) => Ok(warns(log.warnings.as_slice(), kind)),
-        Err(SemFault::Leaves128) => Ok(kind == AlarmKind::Leaves128),
+        Err(SemFault::Leaves128) => Ok(is_leaving(kind)),
         Err(SemFault::Memory) => Err(AllocError),
         Err(_) => Ok(false),
     }
 }
 
 // Whether a contract waits for inputs, and an input comes to the case at an index: none before it takes it.
-#[tactic(auto, using(crate::proofs::TriesLemmas::tried_none, crate::proofs::TriesLemmas::tried_one_more))]
+#[tactic(auto, using(crate::proofs::TriesLemmas::tried_none))]
 fn comes_to(
     contract: &Contract,
     state: &State,
@@ -159,8 +160,9 @@ fn passes_by(
     requires { index < length (waits_for (contract_tree contract.now)) }
     ensures { result ≡ true → PassesBy interval state.now input.now (waits_for (contract_tree contract.now)) index }
 {
-    let case = Plain::new().case(contract, index);
-    match matches(&Plain::new(), input, case.action, state, interval) {
+    let parts = Plain::new();
+    let case = parts.case(contract, index);
+    match matches(&parts, input, case.action, state, interval) {
         Ok(taken) => !taken,
         Err(_) => false,
     }
