@@ -1,5 +1,5 @@
 //! Whether a transaction tells of an alarm at a place: it is followed along the steps that lead there, and nowhere else.
-ghost use Rattle.std.specs.Prelude.{◌≡◌, [], ◌∷◌, true, IfOk, IfSome};
+ghost use Rattle.std.specs.Prelude.{◌≡◌, [], ◌∷◌, true, IfOk, IfNone, IfSome};
 ghost use Rattle.contract.specs.Tree.{contract_tree, observation_tree};
 ghost use Rattle.evaluation.specs.Evaluation.{holds};
 ghost use Rattle.replay.specs.ComingSupport.{ComesAhead, ComesHere, ComesBehind, GoesBy, branch, step_from};
@@ -29,12 +29,23 @@ pub(crate) fn comes(
     if let Some(index) = action_of(place) {
         return action_tells(alloc, contract, state, interval, inputs, index, kind);
     }
+    let Some((step, rest)) = first_of(place) else {
+        return tells_here(alloc, contract, state, interval, kind);
+    };
+    match pass(alloc, contract, state, interval, inputs, step)? {
+        Some((then, left)) => comes(alloc, then, state, interval, left, rest, kind),
+        None => Ok(false),
+    }
+}
+
+// The first step of a place, and those behind it.
+fn first_of(place: &[PathStep]) -> Option<(PathStep, &[PathStep])>
+    ensures some { IfSome result (λ p. place.now ≡ p.0 ∷ p.1.now) }
+    ensures none { IfNone result (place.now ≡ []) }
+{
     match place {
-        [] => tells_here(alloc, contract, state, interval, kind),
-        [step, rest @ ..] => match pass(alloc, contract, state, interval, inputs, *step)? {
-            Some((then, left)) => comes(alloc, then, state, interval, left, rest, kind),
-            None => Ok(false),
-        },
+        [] => None,
+        [step, rest @ ..] => Some((*step, rest)),
     }
 }
 
