@@ -16,8 +16,8 @@ use std::alloc::Global;
 // The most points of a run at which it takes another candidate than the first.
 const MOST_OTHERS: usize = 3;
 
-/// A run from a state that ends in an alarm at its place, if one is found by no more than so much work, of which what was done is
-/// taken off. A unit of work is what at most a hundred instructions do.
+/// A run from a state that ends in an alarm at its place, if one is found by no more than so much work, of which what was
+/// done is taken off. A unit of work is what at most a hundred instructions do.
 pub fn run_to(
     alloc: Global,
     contract: &Contract,
@@ -95,7 +95,8 @@ fn run_with(
     Ok(None)
 }
 
-// A run, if it ends in the alarm at its place as it is played again, and there is work left to do so; to find it took so much.
+// A run, if it ends in the alarm at its place as it is played again, and there is work left to do so; to find it took so
+// much.
 fn played_again(
     alloc: Global,
     contract: &Contract,

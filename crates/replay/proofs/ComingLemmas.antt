@@ -1,5 +1,5 @@
 -- What comes behind a reduction comes of the whole.
-use Rattle.std.proofs.Common.{◌≡◌, ℕ, ℤ, pos, int_lt, int_le, Bool, true, false, cond, List, [], ◌∷◌, ◌++◌, append_assoc, append-nil, inl, inr, refl, sym, ap, ◌∙◌, subst, Option, Some, None, Result, Ok, Err}
+use Rattle.std.proofs.Common.{◌≡◌, ℕ, ℤ, pos, int_lt, int_le, Bool, true, false, cond, List, [], ◌∷◌, ◌++◌, append_assoc, append-nil, inl, inr, refl, sym, ap, ◌∙◌, subst, Some, Result, Ok, Err}
 use Rattle.std.specs.Int.{int_min}
 use Rattle.contract.specs.declared.fault.SemFault.{SemFault}
 use Rattle.contract.specs.declared.fault.SemFault.TheVariants as faults
@@ -8,11 +8,11 @@ use Rattle.contract.specs.declared.interval.Interval.{Interval}
 use Rattle.names.specs.declared.party.Party.{Party}
 use Rattle.names.specs.declared.payee.Payee.{Payee}
 use Rattle.names.specs.declared.token.Token.{Token}
-use Rattle.contract.specs.Tree.{ValueTree, ContractTree, CaseTrees, close, pay, if_obs, when, let_be, assert}
+use Rattle.contract.specs.Tree.{ValueTree, ContractTree, close, pay, if_obs, when, let_be, assert}
 use Rattle.states.specs.States.{StateMaps}
 use Rattle.evaluation.specs.Numbers.{all_fit}
 use Rattle.evaluation.specs.Evaluation.{eval, visited, holds, looked}
-use Rattle.semantics.specs.Walk.{Turn, next, then_branch, else_branch, Standing, standing, Walk, ended, answer_of}
+use Rattle.semantics.specs.Walk.{Turn, next, then_branch, else_branch, Standing, standing, ended, answer_of}
 use Rattle.semantics.specs.Reduction.{Reduction, balance, paying, not_paying, choosing, timing_out, binding, asserting}
 use Rattle.semantics.specs.Settling.{reduction_then}
 use Rattle.semantics.specs.Computed.{pay_step, settled}

@@ -3,7 +3,6 @@ use Rattle.std.proofs.Common.{◌≡◌, ℕ, suc, int_lt, Bool, true, false, co
 use Rattle.std.specs.Result.{result_unwrap_or}
 use Rattle.contract.specs.declared.fault.SemFault.{SemFault}
 use Rattle.contract.specs.declared.fault.SemFault.TheVariants.{InvalidInterval, IntervalInPast}
-use Rattle.contract.specs.declared.input.Input.{Input}
 use Rattle.contract.specs.declared.interval.Interval.{Interval}
 use Rattle.contract.specs.declared.transaction.Transaction.{Transaction}
 use Rattle.contract.specs.Tree.{ContractTree}
@@ -14,8 +13,8 @@ use Rattle.semantics.specs.Reduced.{fixed}
 use Rattle.analysis_spec.specs.declared.kind.AlarmKind.{AlarmKind}
 use Rattle.analysis_spec.specs.declared.kind.AlarmKind.TheVariants.{NonPositiveDeposit, NonPositivePay, PartialPay, Shadowing, AssertionFailed, Leaves128}
 use Rattle.analysis_spec.specs.declared.path.PathStep.{PathStep}
-use Rattle.analysis_spec.specs.Runs.{walk_from, standing_after}
-use Rattle.analysis_spec.specs.Marks.{Mark, led, led_with, place_after, leads_after, marks_from, marks_of}
+use Rattle.analysis_spec.specs.Runs.{walk_from}
+use Rattle.analysis_spec.specs.Marks.{Mark, led, led_with, leads_after, marks_from, marks_of}
 use Rattle.analysis_spec.specs.Promises.{HasKind}
 use Rattle.analysis_spec.specs.CounterRuns.{Tells}
 use Rattle.analysis_spec.specs.PlacedRuns.{TellsAt, EndsFrom}

@@ -1,8 +1,7 @@
 -- What comes at the action of a case that is tried, and behind one that takes an input, comes of the whole.
-use Rattle.std.proofs.Common.{◌≡◌, ℕ, zero, suc, ◌+◌, ℤ, int_lt, Bool, true, false, cond, ◌&&◌, List, [], ◌∷◌, ◌++◌, drop, append_assoc, add-one, inl, inr, refl, sym, ap, ◌∙◌, subst, arith, Option, Some, None, Result, Ok, Err}
+use Rattle.std.proofs.Common.{◌≡◌, ℕ, zero, suc, ◌+◌, ℤ, int_lt, Bool, true, false, cond, ◌&&◌, List, [], ◌∷◌, ◌++◌, drop, append_assoc, add-one, inl, inr, refl, sym, ap, ◌∙◌, subst, arith, Some, Ok, Err}
 use Rattle.std.specs.Prelude.{slice_get}
 use Rattle.contract.specs.declared.fault.SemFault.{SemFault}
-use Rattle.contract.specs.declared.fault.SemFault.TheVariants as faults
 use Rattle.contract.specs.declared.input.Input.{Input}
 use Rattle.contract.specs.declared.interval.Interval.{Interval}
 use Rattle.contract.specs.Tree.{ActionTree, ContractTree, CaseTrees, close, pay, if_obs, when, let_be, assert}
@@ -11,16 +10,14 @@ use Rattle.evaluation.specs.Numbers.{all_fit, within}
 use Rattle.evaluation.specs.Path.{case_list, waits_for}
 use Rattle.evaluation.proofs.Numbers.{all_fit_append, within_ok}
 use Rattle.semantics.specs.Walk.{Standing, standing, Walk, ended, then_walk}
-use Rattle.semantics.specs.Reduction.{timing_out}
-use Rattle.semantics.specs.Settling.{reduction_then}
 use Rattle.semantics.specs.Applying.{matches, tried, taken, taken_numbers, taken_warnings, taking}
 use Rattle.semantics.specs.Computed.{settled, first_match, first_match_index, tried_to_match, take_match, applied, one_input}
 use Rattle.analysis_spec.specs.declared.kind.AlarmKind.{AlarmKind}
 use Rattle.analysis_spec.specs.declared.kind.AlarmKind.TheVariants as kinds
 use Rattle.analysis_spec.specs.declared.path.PathStep.{PathStep}
-use Rattle.analysis_spec.specs.declared.path.PathStep.TheVariants.{TimeoutContinuation, Case, Action}
+use Rattle.analysis_spec.specs.declared.path.PathStep.TheVariants.{Case, Action}
 use Rattle.analysis_spec.specs.Marks.{led, Mark, mark, behind, settling, trying, taking_all, marks_from}
-use Rattle.analysis_spec.specs.Promises.{HasKind, TellsOf, ComesAt}
+use Rattle.analysis_spec.specs.Promises.{TellsOf, ComesAt}
 use Rattle.replay.specs.ComingSupport.{Comes, ComesAtAction, IsTaken, IsToldBy, PassesBy, TakenBy, TriedTo, waits}
 use Rattle.replay.proofs.ComingLemmas.{leaves_tells, warned_tells, not_fit}
 

@@ -84,13 +84,7 @@ fn taken_by<'c>(
     let parts = Plain::new();
     let case = parts.case(contract, index);
     match matches(&parts, input, case.action, state, interval) {
-        Ok(taken) => {
-            if taken {
-                Some(case.then)
-            } else {
-                None
-            }
-        }
+        Ok(taken) => { if taken { Some(case.then) } else { None } }
         Err(_) => None,
     }
 }
