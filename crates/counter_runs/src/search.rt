@@ -1,8 +1,7 @@
 //! The search for a run to an alarm.
 ghost use Rattle.std.specs.Prelude.{IfOk, IfSome};
 ghost use Rattle.contract.specs.Tree.{contract_tree};
-ghost use Rattle.semantics.specs.Walk.{standing};
-ghost use Rattle.analysis_spec.specs.CounterRuns.{EndsIn};
+ghost use Rattle.analysis_spec.specs.PlacedRuns.{EndsAt};
 
 use crate::turns::{Turns, next_turns};
 use crate::walk::{Try, try_run};
@@ -17,8 +16,8 @@ use std::alloc::Global;
 // The most points of a run at which it takes another candidate than the first.
 const MOST_OTHERS: usize = 3;
 
-/// A run from a state that ends in an alarm, if one is found by no more than so much work, of which what was done is
-/// taken off. A unit of work is what at most a hundred instructions do.
+/// A run from a state that ends in an alarm at its place, if one is found by no more than so much work, of which what was
+/// done is taken off. A unit of work is what at most a hundred instructions do.
 pub fn run_to(
     alloc: Global,
     contract: &Contract,
@@ -26,7 +25,7 @@ pub fn run_to(
     alarm: &Alarm,
     work: &mut u64,
 ) -> Result<Option<Items<Transaction>>, Memory>
-    ensures { IfOk result (λ found. IfSome found (EndsIn alarm.now.kind (standing state.now (contract_tree contract.now)))) }
+    ensures { IfOk result (λ found. IfSome found (EndsAt alarm.now.kind alarm.now.place state.now (contract_tree contract.now))) }
 {
     if *work == 0 {
         return Ok(None);
@@ -54,7 +53,7 @@ fn run_by(
     others: usize,
     work: &mut u64,
 ) -> Result<Option<Items<Transaction>>, Memory>
-    ensures { IfOk result (λ found. IfSome found (EndsIn alarm.now.kind (standing state.now (contract_tree contract.now)))) }
+    ensures { IfOk result (λ found. IfSome found (EndsAt alarm.now.kind alarm.now.place state.now (contract_tree contract.now))) }
 {
     match run_with(alloc, contract, state, alarm, way, others, false, work)? {
         Some(run) => Ok(Some(run)),
@@ -73,7 +72,7 @@ fn run_with(
     prefers_second: bool,
     work: &mut u64,
 ) -> Result<Option<Items<Transaction>>, Memory>
-    ensures { IfOk result (λ found. IfSome found (EndsIn alarm.now.kind (standing state.now (contract_tree contract.now)))) }
+    ensures { IfOk result (λ found. IfSome found (EndsAt alarm.now.kind alarm.now.place state.now (contract_tree contract.now))) }
 {
     let place = alarm.place.as_slice();
     let mut decided = Vec::new(alloc);
@@ -96,7 +95,8 @@ fn run_with(
     Ok(None)
 }
 
-// A run, if it ends in the alarm as it is played again, and there is work left to do so; to find it took so much.
+// A run, if it ends in the alarm at its place as it is played again, and there is work left to do so; to find it took so
+// much.
 fn played_again(
     alloc: Global,
     contract: &Contract,
@@ -107,13 +107,13 @@ fn played_again(
     found: u64,
     work: &mut u64,
 ) -> Result<Option<Items<Transaction>>, Memory>
-    ensures { IfOk result (λ found. IfSome found (EndsIn alarm.now.kind (standing state.now (contract_tree contract.now)))) }
+    ensures { IfOk result (λ found. IfSome found (EndsAt alarm.now.kind alarm.now.place state.now (contract_tree contract.now))) }
 {
     let Some(run) = run else {
         return Ok(None);
     };
     if spend(work, way.replay(run.len(), found)) {
-        replayed(alloc, contract, state, run, alarm.kind)
+        replayed(alloc, contract, state, run, alarm)
     } else {
         Ok(None)
     }

@@ -9,10 +9,9 @@ use Rattle.std.proofs.lemmas.List.Sorted.{Contains-permutation}
 use Rattle.contract.specs.Tree.{ContractTree}
 use Rattle.contract.specs.declared.transaction.Transaction.{Transaction}
 use Rattle.states.specs.States.{StateMaps}
-use Rattle.semantics.specs.Walk.{standing}
 use Rattle.analysis_spec.specs.declared.alarm.Alarm.{Alarm}
 use Rattle.analysis_walk.proofs.ListLaws.{all_append}
-use Rattle.analysis_spec.specs.CounterRuns.{EndsIn}
+use Rattle.analysis_spec.specs.PlacedRuns.{EndsAt}
 use Rattle.marlowe_analyse.specs.declared.order.Standing.{Standing}
 use Rattle.marlowe_analyse.specs.declared.told.ToldAlarm.{ToldAlarm}
 use Rattle.marlowe_analyse.specs.Told.{Alarms, without_runs}
@@ -62,7 +61,7 @@ module _ (s : StateMaps) (c : ContractTree) (alarms : List Alarm) where
       by_place i a (inr q) b e = absurd (omega (arith, l, b, q))
 
   pub told_one_more : (places : List ℕ) (place : ℕ) (told : List ToldAlarm) (alarm : Alarm) (t : ToldAlarm) → place < length alarms → alarm ≡ get_or alarms place alarm → line_of t ≡ line_at c (alarm, t.run)
-      → IfSome t.run (EndsIn alarm.kind (standing s c)) → LineFits t → TellsOf s c alarms places told → TellsOf s c alarms (places ++ place ∷ []) (told ++ t ∷ [])
+      → IfSome t.run (EndsAt alarm.kind alarm.place s c) → LineFits t → TellsOf s c alarms places told → TellsOf s c alarms (places ++ place ∷ []) (told ++ t ∷ [])
   told_one_more places place told alarm t l is line ends fits h =
       let all = h.0 in
       let one : Alarm × Option (List Transaction) = (alarm, t.run) in
@@ -71,7 +70,7 @@ module _ (s : StateMaps) (c : ContractTree) (alarms : List Alarm) where
         more,
         record {
           lines = map-append line_of told (t ∷ []) ∙ ap (λ ls. ls ++ line_of t ∷ []) h.1.lines ∙ ap (λ z. map (line_at c) all ++ z ∷ []) line ∙ sym (map-append (line_at c) all (one ∷ []));
-          ends = all_append (λ (a : Alarm × Option (List Transaction)). IfSome a.1 (EndsIn a.0.kind (standing s c))) all (one ∷ []) h.1.ends (ends, tt);
+          ends = all_append (λ (a : Alarm × Option (List Transaction)). IfSome a.1 (EndsAt a.0.kind a.0.place s c)) all (one ∷ []) h.1.ends (ends, tt);
           fit = All-push LineFits told t h.1.fit fits;
         },
         λ i a p b e. subst (λ (found : List Alarm). Contains found a) (sym gone) (by_place i a (Contains-push_cases places place i p) b e),

@@ -8,13 +8,12 @@ use Rattle.states.specs.States.{StateMaps}
 use Rattle.json_read_names.specs.declared.fault.JsonFault.{JsonFault}
 use Rattle.json_read_names.specs.ReadsText.{of_text}
 use Rattle.json_read_inputs.specs.ReadsState.{state, state_with_texts}
-use Rattle.semantics.specs.Walk.{standing}
 use Rattle.analysis_spec.specs.declared.kind.AlarmKind.{AlarmKind}
 use Rattle.analysis_spec.specs.Promises.{NeverWarns, StaysWithin128}
 use Rattle.analysis_spec.specs.declared.alarm.Alarm.{Alarm}
 use Rattle.analysis_spec.specs.declared.paid.PaidRange.{PaidRange}
 use Rattle.analysis_spec.specs.Analysed.{NamesWhatComes, NamesWhereItComes, StaysUnlessTold, NamesWhereItLeaves, PaysWithinRanges, PaysOthersNothing}
-use Rattle.analysis_spec.specs.CounterRuns.{EndsIn}
+use Rattle.analysis_spec.specs.PlacedRuns.{EndsAt}
 
 -- alarms, and of each a run that ends in it where one is known
 abbrev pub Alarms : Type 0
@@ -23,12 +22,12 @@ Alarms = List (Alarm × Option (List Transaction))
 abbrev pub without_runs : Alarms → List Alarm
 without_runs = map (λ (a : Alarm × Option (List Transaction)). a.0)
 
--- each run ends in its alarm
+-- each run ends in its alarm, at its place
 abbrev pub EndSo : StateMaps → ContractTree → Alarms → Type 0
-EndSo s c = AllByRecursion (λ (a : Alarm × Option (List Transaction)). IfSome a.1 (EndsIn a.0.kind (standing s c)))
+EndSo s c = AllByRecursion (λ (a : Alarm × Option (List Transaction)). IfSome a.1 (EndsAt a.0.kind a.0.place s c))
 
--- a kind never comes at a place without an alarm of it, and one without any alarm never comes; each run ends in its alarm, and
--- what is paid lies in its range, or is nothing
+-- a kind never comes at a place without an alarm of it, and one without any alarm never comes; each run ends in its alarm at its
+-- place, and what is paid lies in its range, or is nothing
 pub record IsSo (s : StateMaps) (c : ContractTree) (alarms : Alarms) (ranges : List PaidRange) : Type 0 where
   pub places : NamesWhereItComes (without_runs alarms) s c
   pub leaving : NamesWhereItLeaves (without_runs alarms) s c

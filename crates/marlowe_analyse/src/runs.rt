@@ -3,8 +3,7 @@ ghost use Rattle.std.specs.Prelude.{◌≡◌, ℕ, List, [], ◌∷◌, ◌++�
 ghost use Rattle.std.specs.List.{list_all};
 ghost use Rattle.contract.specs.Tree.{contract_tree};
 ghost use Rattle.contract_json.specs.WrittenInput.{input_fits, transaction_fits};
-ghost use Rattle.semantics.specs.Walk.{standing};
-ghost use Rattle.analysis_spec.specs.CounterRuns.{EndsIn};
+ghost use Rattle.analysis_spec.specs.PlacedRuns.{EndsAt};
 ghost use Rattle.marlowe_analyse.specs.ToldLines.{line_at, line_of, LineFits, RunFits};
 ghost use Rattle.marlowe_analyse.specs.RunsSupport.{TellsAll, TellsOf};
 
@@ -80,7 +79,7 @@ fn told_alarm(
     left: &mut u64,
 ) -> Result<ToldAlarm, Memory>
     ensures line { IfOk result (λ t. line_of t ≡ line_at (contract_tree contract.now) (alarm.now, t.run)) }
-    ensures ends { IfOk result (λ t. IfSome t.run (EndsIn alarm.now.kind (standing state.now (contract_tree contract.now)))) }
+    ensures ends { IfOk result (λ t. IfSome t.run (EndsAt alarm.now.kind alarm.now.place state.now (contract_tree contract.now))) }
     ensures fits { IfOk result LineFits }
 {
     let run = written_run(alloc, contract, state, alarm, others, left)?;
@@ -101,7 +100,7 @@ fn written_run(
     others: u64,
     left: &mut u64,
 ) -> Result<Option<Items<Transaction>>, Memory>
-    ensures ends { IfOk result (λ o. IfSome o (EndsIn alarm.now.kind (standing state.now (contract_tree contract.now)))) }
+    ensures ends { IfOk result (λ o. IfSome o (EndsAt alarm.now.kind alarm.now.place state.now (contract_tree contract.now))) }
     ensures fits { IfOk result (λ o. IfSome o RunFits) }
 {
     let given = *left / others.max(1);

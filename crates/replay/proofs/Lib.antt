@@ -1,1 +1,3 @@
-mod CounterRunLemmas
+pub mod ComingLemmas
+pub mod TriesLemmas
+pub mod RunLemmas

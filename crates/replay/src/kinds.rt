@@ -1,5 +1,6 @@
 //! The kinds of warnings.
 ghost use Rattle.std.specs.Prelude.{◌≡◌, true};
+ghost use Rattle.analysis_spec.specs.declared.kind.AlarmKind.TheVariants.{Leaves128};
 ghost use Rattle.analysis_spec.specs.Promises.{kind_of, HasKind};
 
 use analysis_spec::AlarmKind;
@@ -26,4 +27,18 @@ pub(crate) fn has_kind(warnings: &[Warning], kind: AlarmKind) -> bool
         [] => false,
         [first, rest @ ..] => kind_of(first) == kind || has_kind(rest, kind),
     }
+}
+
+/// Whether warnings tell of an alarm of a kind.
+pub(crate) fn warns(warnings: &[Warning], kind: AlarmKind) -> bool
+    ensures { result ≡ true → (kind ≡ Leaves128 → ⊥) × HasKind kind warnings.now }
+{
+    kind != AlarmKind::Leaves128 && has_kind(warnings, kind)
+}
+
+/// Whether a kind is the one of numbers that leave 128 bits.
+pub(crate) fn is_leaving(kind: AlarmKind) -> bool
+    ensures { result ≡ true → kind ≡ Leaves128 }
+{
+    kind == AlarmKind::Leaves128
 }

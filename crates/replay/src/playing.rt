@@ -1,63 +1,126 @@
 //! Runs that are played again.
-ghost use Rattle.std.specs.Prelude.{◌≡◌, true, IfOk, IfSome};
+ghost use Rattle.std.specs.Prelude.{◌≡◌, ◌++◌, true, IfOk, IfSome};
 ghost use Rattle.contract.specs.Tree.{contract_tree};
 ghost use Rattle.collections.specs.Answers.{AsideBy};
 ghost use Rattle.semantics.specs.Walk.{standing, answer_of};
-ghost use Rattle.analysis_spec.specs.declared.kind.AlarmKind.TheVariants.{Leaves128};
 ghost use Rattle.analysis_spec.specs.Runs.{walk_from};
-ghost use Rattle.analysis_spec.specs.CounterRuns.{EndsIn, Tells};
-ghost use Rattle.analysis_spec.specs.Promises.{HasKind};
+ghost use Rattle.analysis_spec.specs.Marks.{marks_of};
+ghost use Rattle.analysis_spec.specs.CounterRuns.{Tells};
+ghost use Rattle.analysis_spec.specs.PlacedRuns.{TellsAt, EndsAt};
+ghost use Rattle.analysis_spec.specs.Promises.{ComesAt};
 
-use crate::kinds::has_kind;
-use analysis_spec::AlarmKind;
+use crate::kinds::{is_leaving, warns};
+use crate::placed::comes;
+use analysis_spec::{Alarm, AlarmKind, PathStep};
 use collections::{Items, Memory};
-use contract::{Contract, Outcome, SemFault, State, Transaction, Warning};
-use semantics::{Plain, Steps};
+use contract::{Contract, Outcome, SemFault, State, Transaction};
+use semantics::{Plain, Steps, fix};
 use std::alloc::{AllocError, Global};
+use trace::{Left, after};
 
-/// Plays a run from a state, transaction by transaction, and tells whether it ends in an alarm of a kind: each
-/// transaction before the last is accepted, and the last is accepted with a warning of the kind, or, for `Leaves128`,
-/// is refused because a number leaves 128 bits. No run ends so without a transaction.
-#[tactic(auto, using(crate::proofs::CounterRunLemmas::one_more))]
-pub fn ends_in(
+/// Plays a run from a state, transaction by transaction, and tells whether it ends in an alarm at the alarm's place: each
+/// transaction before the last is accepted, and the last is accepted with a warning of the kind that comes from there, or,
+/// for `Leaves128`, is refused because a number leaves 128 bits, first there. No run ends so without a transaction.
+pub fn ends_at(
     alloc: Global,
     contract: &Contract,
     state: &State,
     run: &[Transaction],
-    kind: AlarmKind,
+    alarm: &Alarm,
 ) -> Result<bool, Memory>
-    ensures { IfOk result (λ yes. yes ≡ true → EndsIn kind (standing state.now (contract_tree contract.now)) run.now) }
+    ensures { IfOk result (λ yes. yes ≡ true → EndsAt alarm.now.kind alarm.now.place state.now (contract_tree contract.now) run.now) }
 {
-    match run {
-        [] => Ok(false),
-        [last] => tells(alloc, contract, state, last, kind),
-        [first, rest @ ..] => match played(alloc, contract, state, first) {
-            Ok(outcome) => ends_in(alloc, outcome.place, &outcome.state, rest, kind),
-            Err(SemFault::Memory) => Err(AllocError),
-            Err(_) => Ok(false),
+    let Some((last, before)) = run.split_last() else {
+        return Ok(false);
+    };
+    match after(alloc, contract, state, before) {
+        Ok(left) => tells_at(alloc, left, last, alarm),
+        Err(refused) => match refused.fault {
+            SemFault::Memory => Err(AllocError),
+            _ => Ok(false),
         },
     }
 }
 
-/// A run, if it ends in an alarm of a kind, as `ends_in` tells.
+/// A run, if it ends in an alarm, as `ends_at` tells.
 pub fn replayed(
     alloc: Global,
     contract: &Contract,
     state: &State,
     run: Items<Transaction>,
-    kind: AlarmKind,
+    alarm: &Alarm,
 ) -> Result<Option<Items<Transaction>>, Memory>
-    ensures { IfOk result (λ found. IfSome found (EndsIn kind (standing state.now (contract_tree contract.now)))) }
+    ensures { IfOk result (λ found. IfSome found (EndsAt alarm.now.kind alarm.now.place state.now (contract_tree contract.now))) }
 {
-    if ends_in(alloc, contract, state, run.as_slice(), kind)? {
+    if ends_at(alloc, contract, state, run.as_slice(), alarm)? {
         Ok(Some(run))
     } else {
         Ok(None)
     }
 }
 
+// Whether a transaction tells of an alarm at its place, from where others left the contract.
+fn tells_at(
+    alloc: Global,
+    left: Left<'_>,
+    last: &Transaction,
+    alarm: &Alarm,
+) -> Result<bool, Memory>
+    ensures { IfOk result (λ yes. yes ≡ true → TellsAt alarm.now.kind alarm.now.place left.entry.path
+        (standing left.entry.state (contract_tree left.entry.contract.now)) last.now) }
+{
+    let Left {
+        mut state,
+        contract,
+        path,
+    } = left;
+    if tells(alloc, contract, &state, last, alarm.kind)? {
+        comes_at(alloc, contract, &mut state, path.as_slice(), last, alarm)
+    } else {
+        Ok(false)
+    }
+}
+
+// Whether an alarm comes at its place in a transaction on a part of the contract, to which this path leads.
+#[tactic(auto, using(crate::proofs::RunLemmas::fixed_marks))]
+fn comes_at(
+    alloc: Global,
+    contract: &Contract,
+    state: &mut State,
+    path: &[PathStep],
+    last: &Transaction,
+    alarm: &Alarm,
+) -> Result<bool, Memory>
+    ensures { IfOk result (λ yes. yes ≡ true → ComesAt alarm.now.kind alarm.now.place
+        (marks_of path.now (standing state.old (contract_tree contract.now)) last.now)) }
+{
+    let Some(rest) = behind(path, alarm.place.as_slice()) else {
+        return Ok(false);
+    };
+    let inputs = last.inputs.as_slice();
+    match fix(last.interval, state) {
+        Ok(interval) => comes(alloc, contract, state, interval, inputs, rest, alarm.kind),
+        Err(_) => Ok(false),
+    }
+}
+
+// What is left of a place behind a path, if the path leads towards it.
+fn behind<'a>(path: &[PathStep], place: &'a [PathStep]) -> Option<&'a [PathStep]>
+    ensures { IfSome result (λ rest. place.now ≡ path.now ++ rest.now) }
+{
+    if path.len() > place.len() {
+        return None;
+    }
+    for index in 0..path.len() {
+        if path[index] != place[index] {
+            return None;
+        }
+    }
+    Some(&place[path.len()..])
+}
+
 // Whether a transaction tells of an alarm.
-#[tactic(auto, using(crate::proofs::CounterRunLemmas::warned))]
+#[tactic(auto, using(crate::proofs::RunLemmas::warned))]
 fn tells(
     alloc: Global,
     contract: &Contract,
@@ -70,16 +133,9 @@ fn tells(
     match played(alloc, contract, state, last) {
         Ok(outcome) => Ok(warns(outcome.warnings.as_slice(), kind)),
         Err(SemFault::Memory) => Err(AllocError),
-        Err(SemFault::Leaves128) => Ok(kind == AlarmKind::Leaves128),
+        Err(SemFault::Leaves128) => Ok(is_leaving(kind)),
         Err(_) => Ok(false),
     }
-}
-
-// Whether warnings tell of an alarm of a kind.
-fn warns(warnings: &[Warning], kind: AlarmKind) -> bool
-    ensures { result ≡ true → (kind ≡ Leaves128 → ⊥) × HasKind kind warnings.now }
-{
-    kind != AlarmKind::Leaves128 && has_kind(warnings, kind)
 }
 
 // The outcome of a transaction.
