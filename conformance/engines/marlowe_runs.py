@@ -61,7 +61,7 @@ def main():
             try:
                 request = json.loads(line, parse_int=lambda digits: float(digits) if digits == "-0" else int(digits))
                 told = {"id": request["id"], **answered(folder, request)}
-            except (ValueError, TypeError, KeyError, StopIteration):
+            except (ValueError, TypeError, KeyError, StopIteration, RecursionError):
                 told = {"id": None, "unable": "line"}
             print(json.dumps(told, ensure_ascii=False), flush=True)
 
