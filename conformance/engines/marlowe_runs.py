@@ -14,6 +14,7 @@ import sys
 import tempfile
 
 PROGRAM = os.path.abspath(sys.argv[1])
+LONGEST = 4 * 1_048_576 + 1
 FAULTS = ("InvalidInterval", "IntervalInPast", "Ambiguous", "NoMatch", "Useless", "Leaves128")
 WAITS = '{"assert":true,"then":{"when":[%s],"timeout":9223372036854775807,"timeout_continuation":"close"}}'
 PARTS = {"contract": WAITS % "", "state": '{"accounts":[],"choices":[],"boundValues":[],"minTime":0}',
@@ -61,7 +62,9 @@ def main():
             try:
                 request = json.loads(line, parse_int=lambda digits: float(digits) if digits == "-0" else int(digits))
                 told = {"id": request["id"], **answered(folder, request)}
-            except (ValueError, TypeError, KeyError, StopIteration):
+                if len(line) > LONGEST or len(request) > 2 or told.get("refused", {}).get("name") in ("NotJson", "TooLong"):
+                    raise ValueError("the line is at fault, or may be")
+            except (ValueError, TypeError, KeyError, StopIteration, RecursionError):
                 told = {"id": None, "unable": "line"}
             print(json.dumps(told, ensure_ascii=False), flush=True)
 

@@ -13,6 +13,7 @@ import tempfile
 
 PROGRAM = os.path.abspath(sys.argv[1])
 START = {"accounts": [], "choices": [], "boundValues": [], "minTime": 0}
+NOTHING = {"tx_interval": {"from": 0, "to": 0}, "tx_inputs": []}
 
 
 def run(folder, *parts):
@@ -26,8 +27,11 @@ def run(folder, *parts):
 
 
 def trace(folder, contract, transactions, state=START):
-    """Each transaction from what the one before it left, as long as its numbers are ones that JSON has."""
-    outcomes = []
+    """Each transaction from what the one before it left, as long as its numbers are ones that JSON has; once all texts can be read."""
+    outcomes, texts = [], [(contract, state, NOTHING)] + [("close", START, transaction) for transaction in transactions]
+    for number, parts in enumerate(texts):
+        if run(folder, *parts) == {"refused": {}}:
+            return {"refused": {"number": number} if number else {}}
     for number, transaction in enumerate(transactions, 1):
         if any(isinstance(row[1], str) for rows in ("accounts", "choices", "boundValues") for row in state[rows]):
             return {"unable": "trace"}
@@ -50,6 +54,6 @@ with tempfile.TemporaryDirectory() as folder:
         try:
             request = json.loads(line, parse_int=lambda digits: float(digits) if digits == "-0" else int(digits))
             told = {"id": request["id"], **answered(folder, request)}
-        except (ValueError, KeyError, TypeError):
+        except (ValueError, KeyError, TypeError, RecursionError):
             told = {"id": None, "unable": "line"}
         print(json.dumps(told, ensure_ascii=False), flush=True)
