@@ -1,0 +1,162 @@
+//! Which key of a form lacks in an object, and how it may have been spelled.
+ghost use Rattle.std.specs.Prelude.{◌≡◌, ℕ, ◌&&◌, Bool, List, map, option_map};
+ghost use Rattle.std.specs.List.{find};
+ghost use Rattle.names.specs.Equal.{same_text};
+ghost use Rattle.json_forms.specs.Forms.{key_word, fields_of};
+ghost use Rattle.json_forms.specs.Spelling.{one_apart};
+ghost use Rattle.json_forms.specs.Lacking.{is_there, is_of, is_free, is_near, nearest, is_met, met, is_fuller, fuller, fullest, meant, lacking};
+
+use crate::form::{Form, fields_of, forms_of};
+use crate::key::{Key, key_word};
+use crate::sort::Sort;
+use crate::spelling::{one_apart, two_apart};
+
+/// The form of a sort that an object with these keys was meant to have: the one of which most keys are there or near, of as many
+/// the one that lacks fewest, and of these the first. There is none where no key of any form is there or near.
+pub fn meant_form(keys: &[&str], sort: Sort) -> Option<Form>
+    ensures { result ≡ meant (map (λ key. key.now) keys.now) sort }
+{
+    fullest(keys, forms_of(sort))
+}
+
+fn fullest(keys: &[&str], forms: &[Form]) -> Option<Form>
+    ensures { result ≡ fullest (map (λ key. key.now) keys.now) forms.now }
+{
+    match forms {
+        [] => None,
+        [form, rest @ ..] => fuller(keys, *form, fullest(keys, rest)),
+    }
+}
+
+// Of a form and another the fuller one.
+fn fuller(keys: &[&str], form: Form, other: Option<Form>) -> Option<Form>
+    ensures { result ≡ fuller (map (λ key. key.now) keys.now) form other }
+{
+    match other {
+        None => {
+            if met(keys, form) == 0 {
+                None
+            } else {
+                Some(form)
+            }
+        }
+        Some(other) => {
+            if is_fuller(keys, other, form) {
+                Some(other)
+            } else {
+                Some(form)
+            }
+        }
+    }
+}
+
+fn is_fuller(keys: &[&str], form: Form, other: Form) -> bool
+    ensures { result ≡ is_fuller (map (λ key. key.now) keys.now) form other }
+{
+    let ours = met(keys, form);
+    let theirs = met(keys, other);
+    ours > theirs || (theirs == ours && fields_of(form).len() < fields_of(other).len())
+}
+
+// How many keys of a form are there or near.
+#[tactic(auto, unfolding(crate::specs::Lacking::met))]
+fn met(keys: &[&str], form: Form) -> usize
+    ensures { result ≡ met (map (λ key. key.now) keys.now) form }
+{
+    let mut count = 0;
+    for field in fields_of(form) {
+        if is_met(keys, form, *field) {
+            count += 1;
+        }
+    }
+    count
+}
+
+fn is_met(keys: &[&str], form: Form, field: (Key, Sort)) -> bool
+    ensures { result ≡ is_met (map (λ key. key.now) keys.now) form field }
+{
+    is_there(keys, key_word(field.0)) || nearest_key(form, field.0, keys).is_some()
+}
+
+/// The first key of a form that isn't one of these, with what its value is read as.
+pub fn lacking_key(keys: &[&str], form: Form) -> Option<(Key, Sort)>
+    ensures { result ≡ lacking (map (λ key. key.now) keys.now) form }
+{
+    for field in fields_of(form) {
+        if !is_there(keys, key_word(field.0)) {
+            return Some(*field);
+        }
+    }
+    None
+}
+
+/// Of these keys the one that is nearest in spelling to a key of a form: the first that is one letter apart, or else, of a word of
+/// at least four letters, the first that is two apart. Words of the form itself and keys of more than 40 bytes are passed over.
+#[tactic(auto, unfolding(crate::specs::Lacking::nearest))]
+pub fn nearest_key<'k>(form: Form, key: Key, keys: &[&'k str]) -> Option<&'k str>
+    ensures { option_map (λ found. found.now) result ≡ nearest form (key_word key) (map (λ key. key.now) keys.now) }
+{
+    let word = key_word(key);
+    match first_one_apart(form, word, keys) {
+        Some(found) => Some(found),
+        None => first_near(form, word, keys),
+    }
+}
+
+fn first_one_apart<'k>(form: Form, word: &str, keys: &[&'k str]) -> Option<&'k str>
+    ensures { option_map (λ found. found.now) result ≡ find (λ key. is_free form key && one_apart word.now key) (map (λ key. key.now) keys.now) }
+{
+    for key in keys {
+        if is_free(form, key) && one_apart(word.as_bytes(), key.as_bytes()) {
+            return Some(*key);
+        }
+    }
+    None
+}
+
+fn first_near<'k>(form: Form, word: &str, keys: &[&'k str]) -> Option<&'k str>
+    ensures { option_map (λ found. found.now) result ≡ find (λ key. is_free form key && is_near word.now key) (map (λ key. key.now) keys.now) }
+{
+    for key in keys {
+        if is_free(form, key) && is_near(word, key) {
+            return Some(*key);
+        }
+    }
+    None
+}
+
+fn is_near(word: &str, key: &str) -> bool
+    ensures { result ≡ is_near word.now key.now }
+{
+    word.len() >= 4 && two_apart(word.as_bytes(), key.as_bytes())
+}
+
+fn is_free(form: Form, key: &str) -> bool
+    ensures { result ≡ is_free form key.now }
+{
+    key.len() <= 40 && !is_of(form, key)
+}
+
+// Whether a key is one of a form.
+fn is_of(form: Form, key: &str) -> bool
+    ensures { result ≡ is_of form key.now }
+{
+    for field in fields_of(form) {
+        if key_word(field.0) == key {
+            return true;
+        }
+    }
+    false
+}
+
+// Whether a word is one of these keys.
+fn is_there(keys: &[&str], word: &str) -> bool
+    ensures { result ≡ is_there (map (λ key. key.now) keys.now) word.now }
+{
+    for key in keys {
+        if *key == word {
+            return true;
+        }
+    }
+    false
+}
