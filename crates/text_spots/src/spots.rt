@@ -1,6 +1,7 @@
 //! Lines and columns.
-ghost use Rattle.std.specs.Prelude.{◌≡◌, take};
+ghost use Rattle.std.specs.Prelude.{◌≡◌, ◌<◌, ◌≤◌, ◌+◌, ◌^◌, take};
 ghost use Rattle.text_spots.specs.Spots.{begins_scalar, spot_at, spot_behind, without_mark};
+ghost use Rattle.text_spots.specs.SpotsSupport.{next_spot};
 
 /// Where something stands in a text.
 #[derive(Clone, Copy, Debug, PartialEq, Eq)]
@@ -48,17 +49,34 @@ fn without_mark(bytes: &[u8]) -> &[u8]
 fn spot_behind(bytes: &[u8]) -> Spot
     ensures { result ≡ spot_behind bytes.now }
 {
-    let mut line = 1;
-    let mut column = 1;
+    let mut spot = Spot { line: 1, column: 1 };
     for byte in bytes {
-        if *byte == b'\n' {
-            line += 1;
-            column = 1;
-        } else if begins_scalar(*byte) {
-            column += 1;
-        }
+        spot = past(spot, *byte);
     }
-    Spot { line, column }
+    spot
+}
+
+// Behind one byte more.
+fn past(spot: Spot, byte: u8) -> Spot
+    requires line { spot.line < 2 ^ 63 }
+    requires column { spot.column < 2 ^ 63 }
+    ensures next { result ≡ next_spot spot byte }
+    ensures line { result.line ≤ spot.line + 1 }
+    ensures column { result.column ≤ spot.column + 1 }
+{
+    if byte == b'\n' {
+        Spot {
+            line: spot.line + 1,
+            column: 1,
+        }
+    } else if begins_scalar(byte) {
+        Spot {
+            line: spot.line,
+            column: spot.column + 1,
+        }
+    } else {
+        spot
+    }
 }
 
 fn begins_scalar(byte: u8) -> bool
