@@ -5,7 +5,7 @@ use Rattle.std.specs.List.{find, list_any}
 use Rattle.names.specs.Equal.{same_text}
 use Rattle.json_forms.specs.declared.form.Form.{Form}
 use Rattle.json_forms.specs.declared.sort.Sort.{Sort}
-use Rattle.json_forms.specs.Forms.{Field, key_word, fields_of, forms_of}
+use Rattle.json_forms.specs.Forms.{Field, key_word, fields_of, forms_of, words_of}
 use Rattle.json_forms.specs.Spelling.{one_apart, two_apart}
 
 -- the key is one of these
@@ -16,7 +16,7 @@ is_there keys word = list_any (λ key. same_text key word) keys
 
 -- a word of the form itself
 abbrev pub is_of : Form → List ℕ → Bool
-is_of form key = list_any (λ (f : Field). same_text (key_word f.0) key) (fields_of form)
+is_of form key = list_any (λ word. same_text word key) (words_of form)
 
 -- what may have been meant for another: at most 40 bytes, and no word of the form
 abbrev pub is_free : Form → List ℕ → Bool

@@ -49,9 +49,17 @@ fn common_prefix_len(a: &[u8], b: &[u8]) -> usize
     ensures within { result ≤ length a.now }
     ensures within_both { result ≤ length b.now }
 {
-    let mut n = 0;
-    while n < a.len() && n < b.len() && a[n] == b[n] {
-        n += 1;
+    match a {
+        [x, a_rest @ ..] => match b {
+            [y, b_rest @ ..] => {
+                if *x == *y {
+                    1 + common_prefix_len(a_rest, b_rest)
+                } else {
+                    0
+                }
+            }
+            [] => 0,
+        },
+        [] => 0,
     }
-    n
 }
