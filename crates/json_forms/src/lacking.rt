@@ -1,10 +1,10 @@
 //! Which key of a form lacks in an object, and how it may have been spelled.
-ghost use Rattle.std.specs.Prelude.{◌≡◌, ℕ, ◌&&◌, Bool, List, map, option_map};
-ghost use Rattle.std.specs.List.{find};
+ghost use Rattle.std.specs.Prelude.{◌≡◌, not, ◌&&◌, map, count_by, find, option_map};
+ghost use Rattle.std.specs.List.{list_any};
 ghost use Rattle.names.specs.Equal.{same_text};
-ghost use Rattle.json_forms.specs.Forms.{key_word, fields_of};
+ghost use Rattle.json_forms.specs.Forms.{Field, key_word};
 ghost use Rattle.json_forms.specs.Spelling.{one_apart};
-ghost use Rattle.json_forms.specs.Lacking.{is_there, is_of, is_free, is_near, nearest, is_met, met, is_fuller, fuller, fullest, meant, lacking};
+ghost use Rattle.json_forms.specs.Lacking.{fuller, fullest, is_free, is_fuller, is_met, is_near, is_of, is_there, lacking, meant, met, nearest};
 
 use crate::form::{Form, fields_of, forms_of};
 use crate::key::{Key, key_word};
@@ -63,8 +63,14 @@ fn is_fuller(keys: &[&str], form: Form, other: Form) -> bool
 fn met(keys: &[&str], form: Form) -> usize
     ensures { result ≡ met (map (λ key. key.now) keys.now) form }
 {
+    met_among(keys, form, fields_of(form))
+}
+
+fn met_among(keys: &[&str], form: Form, fields: &[(Key, Sort)]) -> usize
+    ensures { result ≡ count_by (is_met (map (λ key. key.now) keys.now) form) fields.now }
+{
     let mut count = 0;
-    for field in fields_of(form) {
+    for field in fields {
         if is_met(keys, form, *field) {
             count += 1;
         }
@@ -82,7 +88,13 @@ fn is_met(keys: &[&str], form: Form, field: (Key, Sort)) -> bool
 pub fn lacking_key(keys: &[&str], form: Form) -> Option<(Key, Sort)>
     ensures { result ≡ lacking (map (λ key. key.now) keys.now) form }
 {
-    for field in fields_of(form) {
+    first_lacking(keys, fields_of(form))
+}
+
+fn first_lacking(keys: &[&str], fields: &[(Key, Sort)]) -> Option<(Key, Sort)>
+    ensures { result ≡ find (λ (f : Field). not (is_there (map (λ key. key.now) keys.now) (key_word f.0))) fields.now }
+{
+    for field in fields {
         if !is_there(keys, key_word(field.0)) {
             return Some(*field);
         }
@@ -141,7 +153,13 @@ fn is_free(form: Form, key: &str) -> bool
 fn is_of(form: Form, key: &str) -> bool
     ensures { result ≡ is_of form key.now }
 {
-    for field in fields_of(form) {
+    is_word_among(fields_of(form), key)
+}
+
+fn is_word_among(fields: &[(Key, Sort)], key: &str) -> bool
+    ensures { result ≡ list_any (λ word. same_text word key.now) (map (λ field. key_word field.0) fields.now) }
+{
+    for field in fields {
         if key_word(field.0) == key {
             return true;
         }
