@@ -4,13 +4,10 @@ use Rattle.std.specs.Prelude.{option_and_then}
 use Rattle.std.proofs.lemmas.List.{drop_more, drop_all}
 use Rattle.json.specs.Token.{Token}
 use Rattle.json.specs.Json.{skip_value}
-use Rattle.part_tokens.specs.PartTokens.{behind_items, behind_key, behind_members, tokens_inside, tokens_from}
+use Rattle.part_tokens.specs.PartTokens.{behind_items, behind_key, behind_member, behind_members, tokens_inside, tokens_from}
 
 one_left : (n i : ℕ) → i < n → n - i ≡ suc (n - (i + 1))
 one_left n i l = omega arith
-
-none_left : (n : ℕ) → n - n ≡ 0
-none_left n = omega arith
 
 -- ---- items
 
@@ -26,20 +23,12 @@ items_passed depth n i all old e so = so ∙ ap (λ k. behind_items depth k old)
 
 -- ---- members
 
-pub member_passed : (depth n i : ℕ) (all old at new : List Token) → i < n → behind_members depth n all ≡ behind_members depth (n - i) old → behind_key old ≡ Some at → skip_value depth at ≡ Some new
+pub member_passed : (depth n i : ℕ) (all old new : List Token) → i < n → behind_members depth n all ≡ behind_members depth (n - i) old → behind_member depth old ≡ Some new
     → behind_members depth n all ≡ behind_members depth (n - (i + 1)) new
-member_passed depth n i all old at new l so k e =
-    so ∙ ap (λ m. behind_members depth m old) (one_left n i l) ∙ ap (option_and_then (λ us. option_and_then (behind_members depth (n - (i + 1))) (skip_value depth us))) k
-    ∙ ap (option_and_then (behind_members depth (n - (i + 1)))) e
+member_passed depth n i all old new l so e = so ∙ ap (λ m. behind_members depth m old) (one_left n i l) ∙ ap (option_and_then (behind_members depth (n - (i + 1)))) e
 
-pub key_refused : (depth n i : ℕ) (all old : List Token) → i < n → behind_members depth n all ≡ behind_members depth (n - i) old → behind_key old ≡ None → behind_members depth n all ≡ None
-key_refused depth n i all old l so k = so ∙ ap (λ m. behind_members depth m old) (one_left n i l) ∙ ap (option_and_then (λ us. option_and_then (behind_members depth (n - (i + 1))) (skip_value depth us))) k
-
-pub member_refused : (depth n i : ℕ) (all old at : List Token) → i < n → behind_members depth n all ≡ behind_members depth (n - i) old → behind_key old ≡ Some at → skip_value depth at ≡ None
-    → behind_members depth n all ≡ None
-member_refused depth n i all old at l so k e =
-    so ∙ ap (λ m. behind_members depth m old) (one_left n i l) ∙ ap (option_and_then (λ us. option_and_then (behind_members depth (n - (i + 1))) (skip_value depth us))) k
-    ∙ ap (option_and_then (behind_members depth (n - (i + 1)))) e
+pub member_refused : (depth n i : ℕ) (all old : List Token) → i < n → behind_members depth n all ≡ behind_members depth (n - i) old → behind_member depth old ≡ None → behind_members depth n all ≡ None
+member_refused depth n i all old l so e = so ∙ ap (λ m. behind_members depth m old) (one_left n i l) ∙ ap (option_and_then (behind_members depth (n - (i + 1)))) e
 
 pub members_passed : (depth n i : ℕ) (all old : List Token) → i ≡ n → behind_members depth n all ≡ behind_members depth (n - i) old → behind_members depth n all ≡ behind_key old
 members_passed depth n i all old e so = so ∙ ap (λ m. behind_members depth m old) (omega arith)

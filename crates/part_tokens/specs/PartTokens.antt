@@ -17,10 +17,14 @@ if_key (None, ts) = None
 abbrev pub behind_key : List Token → Option (List Token)
 behind_key ts = option_and_then if_key (read_key ts)
 
+-- behind a key and its value
+abbrev pub behind_member : ℕ → List Token → Option (List Token)
+behind_member depth ts = option_and_then (skip_value depth) (behind_key ts)
+
 -- behind so many members of an object, and the key of the next
 abbrev pub behind_members : ℕ → ℕ → List Token → Option (List Token)
 behind_members depth zero ts = behind_key ts
-behind_members depth (suc n) ts = option_and_then (λ us. option_and_then (behind_members depth n) (skip_value depth us)) (behind_key ts)
+behind_members depth (suc n) ts = option_and_then (behind_members depth n) (behind_member depth ts)
 
 -- from the value at an index of a list or an object on; what is passed over nests no deeper than the number
 abbrev pub tokens_inside : ℕ → ℕ → List Token → Option (List Token)

@@ -1,9 +1,10 @@
 //! The way through the tokens to a part.
 ghost use Rattle.std.specs.Prelude.{◌≡◌, Some, None, IfOk, option_map};
 ghost use Rattle.std.specs.Bool.{MatchBool};
+ghost use Rattle.json.specs.Json.{skip_value};
 ghost use Rattle.json.specs.Lex.{tokens};
 ghost use Rattle.json.specs.Reads.{token_of};
-ghost use Rattle.part_tokens.specs.PartTokens.{behind_items, behind_key, behind_members, token_at, tokens_from, tokens_inside};
+ghost use Rattle.part_tokens.specs.PartTokens.{behind_items, behind_key, behind_member, behind_members, token_at, tokens_from, tokens_inside};
 
 use collections::Memory;
 use json::{Reader, Scratch, Token};
@@ -64,7 +65,7 @@ fn pass_items(reader: &mut Reader<'_>, count: usize, depth: usize) -> bool
     ensures { MatchBool result (behind_items depth count reader.old ≡ Some reader.new) (behind_items depth count reader.old ≡ None) }
 {
     for i in 0..count {
-        if reader.skip_value(depth).is_err() {
+        if !pass_value(reader, depth) {
             return false;
         }
     }
@@ -75,11 +76,29 @@ fn pass_members(reader: &mut Reader<'_>, count: usize, depth: usize) -> bool
     ensures { MatchBool result (behind_members depth count reader.old ≡ Some reader.new) (behind_members depth count reader.old ≡ None) }
 {
     for i in 0..count {
-        if !pass_key(reader) || reader.skip_value(depth).is_err() {
+        if !pass_member(reader, depth) {
             return false;
         }
     }
     pass_key(reader)
+}
+
+fn pass_member(reader: &mut Reader<'_>, depth: usize) -> bool
+    ensures { MatchBool result (behind_member depth reader.old ≡ Some reader.new) (behind_member depth reader.old ≡ None) }
+{
+    if !pass_key(reader) {
+        return false;
+    }
+    pass_value(reader, depth)
+}
+
+fn pass_value(reader: &mut Reader<'_>, depth: usize) -> bool
+    ensures { MatchBool result (skip_value depth reader.old ≡ Some reader.new) (skip_value depth reader.old ≡ None) }
+{
+    match reader.skip_value(depth) {
+        Ok(()) => true,
+        Err(_) => false,
+    }
 }
 
 fn pass_key(reader: &mut Reader<'_>) -> bool
