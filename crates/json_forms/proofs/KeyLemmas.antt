@@ -1,8 +1,9 @@
 -- A list is searched from the front, one item after another.
-use Rattle.std.proofs.Common.{◌≡◌, ℕ, ◌+◌, ◌<◌, ◌≤◌, Bool, true, false, cond, ◌||◌, List, [], ◌∷◌, length, get_or, drop, map, Option, Some, None, find, refl, sym, ap, ◌∙◌}
+use Rattle.std.proofs.Common.{◌≡◌, ℕ, ◌+◌, ◌<◌, ◌≤◌, Bool, true, false, cond, ◌||◌, List, [], ◌∷◌, length, get_or, drop, map, Option, Some, None, find, take, count_by, refl, sym, ap, ◌∙◌}
 use Rattle.std.specs.Prelude.{option_map}
 use Rattle.std.specs.List.{list_any}
 use Rattle.std.proofs.lemmas.List.{drop_more, drop_all}
+use Rattle.std.proofs.lemmas.List.Sums.{sum_by_more}
 
 module _ {V X : Type 0} (f : V → X) (vs : List V) where
   -- what is seen of those from an index on
@@ -50,3 +51,9 @@ module _ {X : Type 0} (p : X → Bool) (xs : List X) where
 
   pub found_none : (i : ℕ) → length xs ≤ i → find p xs ≡ find p (drop i xs) → None ≡ find p xs
   found_none i l so = sym (so ∙ ap (find p) (drop_all i xs l))
+
+-- ---- counts
+
+pub counted_more : {X : Type 0} (p : X → Bool) (xs : List X) (i : ℕ) (x : X) (a b : ℕ) → i < length xs → x ≡ get_or xs i x → a ≡ count_by p (take i xs) → b ≡ cond (p x) 1 0 → a + b ≡ count_by p (take (i + 1) xs)
+counted_more p xs i x a b l is so e =
+    ap (λ n. n + b) so ∙ ap (λ n. count_by p (take i xs) + n) (e ∙ ap (λ y. cond (p y) 1 0) is) ∙ sym (sum_by_more (λ y. cond (p y) 1 0) xs i x l)

@@ -1,5 +1,5 @@
 //! Which key of a form lacks in an object, and how it may have been spelled.
-ghost use Rattle.std.specs.Prelude.{◌≡◌, not, ◌&&◌, map, count_by, find, option_map};
+ghost use Rattle.std.specs.Prelude.{◌≡◌, not, ◌&&◌, map, count_by, find, option_map, if◌then◌else◌};
 ghost use Rattle.std.specs.List.{list_any};
 ghost use Rattle.names.specs.Equal.{same_text};
 ghost use Rattle.json_forms.specs.Forms.{Field, key_word};
@@ -71,11 +71,15 @@ fn met_among(keys: &[&str], form: Form, fields: &[(Key, Sort)]) -> usize
 {
     let mut count = 0;
     for field in fields {
-        if is_met(keys, form, *field) {
-            count += 1;
-        }
+        count += as_count(is_met(keys, form, *field));
     }
     count
+}
+
+fn as_count(met: bool) -> usize
+    ensures { result ≡ (if met then 1 else 0) }
+{
+    if met { 1 } else { 0 }
 }
 
 fn is_met(keys: &[&str], form: Form, field: (Key, Sort)) -> bool
@@ -95,7 +99,8 @@ fn first_lacking(keys: &[&str], fields: &[(Key, Sort)]) -> Option<(Key, Sort)>
     ensures { result ≡ find (λ (f : Field). not (is_there (map (λ key. key.now) keys.now) (key_word f.0))) fields.now }
 {
     for field in fields {
-        if !is_there(keys, key_word(field.0)) {
+        let there = is_there(keys, key_word(field.0));
+        if !there {
             return Some(*field);
         }
     }
@@ -119,7 +124,8 @@ fn first_one_apart<'k>(form: Form, word: &str, keys: &[&'k str]) -> Option<&'k s
     ensures { option_map (λ found. found.now) result ≡ find (λ key. is_free form key && one_apart word.now key) (map (λ key. key.now) keys.now) }
 {
     for key in keys {
-        if is_free(form, key) && one_apart(word.as_bytes(), key.as_bytes()) {
+        let fits = is_free_and_one_apart(form, word, key);
+        if fits {
             return Some(*key);
         }
     }
@@ -130,11 +136,24 @@ fn first_near<'k>(form: Form, word: &str, keys: &[&'k str]) -> Option<&'k str>
     ensures { option_map (λ found. found.now) result ≡ find (λ key. is_free form key && is_near word.now key) (map (λ key. key.now) keys.now) }
 {
     for key in keys {
-        if is_free(form, key) && is_near(word, key) {
+        let fits = is_free_and_near(form, word, key);
+        if fits {
             return Some(*key);
         }
     }
     None
+}
+
+fn is_free_and_one_apart(form: Form, word: &str, key: &str) -> bool
+    ensures { result ≡ (is_free form key.now && one_apart word.now key.now) }
+{
+    is_free(form, key) && one_apart(word.as_bytes(), key.as_bytes())
+}
+
+fn is_free_and_near(form: Form, word: &str, key: &str) -> bool
+    ensures { result ≡ (is_free form key.now && is_near word.now key.now) }
+{
+    is_free(form, key) && is_near(word, key)
 }
 
 fn is_near(word: &str, key: &str) -> bool
@@ -160,7 +179,8 @@ fn is_word_among(fields: &[(Key, Sort)], key: &str) -> bool
     ensures { result ≡ list_any (λ word. same_text word key.now) (map (λ field. key_word field.0) fields.now) }
 {
     for field in fields {
-        if key_word(field.0) == key {
+        let same = key_word(field.0) == key;
+        if same {
             return true;
         }
     }
@@ -172,7 +192,8 @@ fn is_there(keys: &[&str], word: &str) -> bool
     ensures { result ≡ is_there (map (λ key. key.now) keys.now) word.now }
 {
     for key in keys {
-        if *key == word {
+        let same = *key == word;
+        if same {
             return true;
         }
     }
