@@ -1,0 +1,4 @@
+pub mod Words
+pub mod Told
+pub mod Lines
+pub mod Rows
