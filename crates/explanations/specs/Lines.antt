@@ -1,5 +1,5 @@
 -- The lines for people.
-use Rattle.std.specs.Prelude.{ℕ, ◌+◌, nat_lt, nat_le, ◌==◌, ◌&&◌, ◌||◌, Bool, true, false, not, List, [], ◌∷◌, ◌++◌, length, take, flat_map, if◌then◌else◌, Option, Some, None, codes, decimal, chars, encode_utf8_all}
+use Rattle.std.specs.Prelude.{ℕ, ◌+◌, nat_lt, nat_le, ◌==◌, ◌&&◌, ◌||◌, Bool, true, false, not, List, [], ◌∷◌, ◌++◌, length, take, flat_map, find, if◌then◌else◌, Option, Some, None, codes, decimal, chars, encode_utf8_all}
 use Rattle.std.specs.List.{join_by, list_all}
 use Rattle.serde_json.specs.Data.{string}
 use Rattle.serde_json.specs.Written.{compact_text}
@@ -127,11 +127,23 @@ no_form_hint t =
     else (if is_of_numbers t.sort && is_digits t.token then codes "a number stands without quotation marks"
     else meant_text t.sort t.keys (meant t.keys t.sort))))
 
+-- what is wrong with hexadecimal digits
+abbrev pub is_hex : ℕ → Bool
+is_hex c = is_digit c || (is_among 65 70 c || is_among 97 102 c)
+
+abbrev pub letter_text : List ℕ → Option ℕ → List ℕ
+letter_text s (Some c) = codes "the first letter that is none is " ++ text_shown (encode_utf8_all (c ∷ []))
+letter_text s None = codes "they come in pairs, and here are " ++ decimal (length s)
+
+abbrev pub hex_hint : Token → List ℕ
+hex_hint (Token.string s) = letter_text s (find (λ c. not (is_hex c)) (chars s))
+hex_hint token = []
+
 abbrev pub hint_text : JsonFault → Told → List ℕ
 hint_text faults.NoForm t = no_form_hint t
 hint_text faults.NotWhole t = sort_hint sorts.Whole
 hint_text faults.OutOfRange t = sort_hint sorts.Time
-hint_text faults.BadHex t = sort_hint sorts.Hex
+hint_text faults.BadHex t = hex_hint t.token
 hint_text faults.Merkleized t = codes "put what follows in its place, as \"then\""
 hint_text other t = []
 
