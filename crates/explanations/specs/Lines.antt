@@ -1,6 +1,6 @@
 -- The lines for people.
 use Rattle.std.specs.Prelude.{ℕ, ◌+◌, nat_lt, nat_le, ◌==◌, ◌&&◌, ◌||◌, Bool, true, false, not, List, [], ◌∷◌, ◌++◌, length, take, flat_map, find, if◌then◌else◌, Option, Some, None, codes, decimal, chars, encode_utf8_all}
-use Rattle.std.specs.List.{join_by, list_all}
+use Rattle.std.specs.List.{list_all}
 use Rattle.serde_json.specs.Data.{string}
 use Rattle.serde_json.specs.Written.{compact_text}
 use Rattle.json.specs.Token.{Token}
@@ -57,10 +57,14 @@ token_text (Token.boolean false) = codes "false"
 token_text Token.null = codes "null"
 token_text Token.bad = codes "nothing"
 
+-- nine keys more at most
+abbrev pub more_keys_text : List (List ℕ) → List ℕ
+more_keys_text ks = flat_map (λ k. codes ", " ++ text_shown k) (take 9 ks) ++ (if nat_lt 9 (length ks) then codes ", .." else [])
+
 -- the first ten keys
 abbrev pub keys_text : List (List ℕ) → List ℕ
 keys_text [] = codes "it has no keys"
-keys_text (k ∷ ks) = codes "its keys are " ++ (join_by text_shown (codes ", ") (take 10 (k ∷ ks)) ++ (if nat_lt 10 (length (k ∷ ks)) then codes ", .." else []))
+keys_text (k ∷ ks) = codes "its keys are " ++ (text_shown k ++ more_keys_text ks)
 
 abbrev pub stands_text : Token → List ℕ
 stands_text token = codes "here stands " ++ token_text token

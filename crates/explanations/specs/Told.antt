@@ -6,7 +6,7 @@ use Rattle.json_read_names.specs.declared.fault.JsonFault.{JsonFault}
 use Rattle.text_spots.specs.declared.spots.Spot.{Spot}
 use Rattle.json_forms.specs.declared.sort.Sort.{Sort}
 use Rattle.json_stops.specs.declared.stop.Step.{Step}
-use Rattle.explanations.specs.declared.told.Told as code
+use Rattle.explanations.specs.declared.part.Told as code
 
 -- the way to it and its spot in the text, what it is read as, why it isn't, the token with which it begins, and where it is an
 -- object its keys

@@ -6,11 +6,12 @@ mod explain;
 mod hints;
 mod laws;
 mod lines;
+mod part;
 mod pieces;
-mod told;
+
 mod words;
 
 pub use explain::explained;
 pub use laws::worked_lines;
 pub use lines::told_lines;
-pub use told::Told;
+pub use part::Told;

@@ -1,7 +1,7 @@
 //! Pieces of lines.
-ghost use Rattle.std.specs.Prelude.{◌≡◌, ◌++◌, IfOk, OnOk, string_bytes, take, map};
+ghost use Rattle.std.specs.Prelude.{◌≡◌, ◌++◌, IfOk, OnOk, codes, map, string_bytes};
 ghost use Rattle.json.specs.Reads.{token_of};
-ghost use Rattle.explanations.specs.Lines.{keys_text, path_text, piece_shown, step_text, text_shown, token_text};
+ghost use Rattle.explanations.specs.Lines.{keys_text, more_keys_text, path_text, piece_shown, step_text, text_shown, token_text};
 
 use collections::Memory;
 use json::Token;
@@ -40,4 +40,75 @@ pub(crate) fn token_text(alloc: Global, token: Token<'_>) -> Result<String, Memo
         Token::Null => format!(in alloc; "null"),
         Token::EndObject | Token::EndArray | Token::Bad => format!(in alloc; "nothing"),
     }
+}
+
+/// Puts the keys of an object behind a text, ten at most.
+pub(crate) fn put_keys(alloc: Global, out: &mut Vec<u8>, keys: &[&str]) -> Result<(), Memory>
+    ensures { OnOk result (out.new.items ≡ out.old.items ++ keys_text (map (λ key. key.now) keys.now)) }
+{
+    match keys {
+        [] => put_bytes(out, b"it has no keys"),
+        [first, rest @ ..] => {
+            put_bytes(out, b"its keys are ")?;
+            put_key(alloc, out, first)?;
+            put_more_keys(alloc, out, rest)
+        }
+    }
+}
+
+// Puts at most nine more, each behind a comma, and that there are others.
+fn put_more_keys(alloc: Global, out: &mut Vec<u8>, keys: &[&str]) -> Result<(), Memory>
+    ensures { OnOk result (out.new.items ≡ out.old.items ++ more_keys_text (map (λ key. key.now) keys.now)) }
+{
+    let mut count = 0;
+    for key in keys {
+        if count == 9 {
+            return put_bytes(out, b", ..");
+        }
+        put_bytes(out, b", ")?;
+        put_key(alloc, out, key)?;
+        count += 1;
+    }
+    Ok(())
+}
+
+fn put_key(alloc: Global, out: &mut Vec<u8>, key: &str) -> Result<(), Memory>
+    ensures { OnOk result (out.new.items ≡ out.old.items ++ text_shown key.now) }
+{
+    let text = text_shown(alloc, key)?;
+    put_bytes(out, text.as_bytes())
+}
+
+/// The path to a part as it is printed.
+pub(crate) fn path_text(alloc: Global, path: &[Step]) -> Result<Vec<u8>, Memory>
+    ensures { IfOk result (λ text. text.items ≡ path_text path.now) }
+{
+    let mut out = Vec::new(alloc);
+    for step in path {
+        put_step(alloc, &mut out, *step)?;
+    }
+    Ok(out)
+}
+
+fn put_step(alloc: Global, out: &mut Vec<u8>, step: Step) -> Result<(), Memory>
+    ensures { OnOk result (out.new.items ≡ out.old.items ++ step_text step) }
+{
+    match step {
+        Step::Key(key) => put_word(out, key_word(key)),
+        Step::Item(index) => put_index(alloc, out, index),
+    }
+}
+
+fn put_word(out: &mut Vec<u8>, word: &str) -> Result<(), Memory>
+    ensures { OnOk result (out.new.items ≡ out.old.items ++ (codes "." ++ word.now)) }
+{
+    put_bytes(out, b".")?;
+    put_bytes(out, word.as_bytes())
+}
+
+fn put_index(alloc: Global, out: &mut Vec<u8>, index: usize) -> Result<(), Memory>
+    ensures { OnOk result (out.new.items ≡ out.old.items ++ step_text (Step.Item index)) }
+{
+    let text = format!(in alloc; "[{index}]")?;
+    put_bytes(out, text.as_bytes())
 }
