@@ -5,12 +5,23 @@ use Rattle.std.proofs.lemmas.List.{take_more, take_all}
 use Rattle.std.proofs.lemmas.Grind.{flat_map-append}
 use Rattle.text_spots.specs.Shown.{seen, shown, rest_mark}
 
--- one character more of a list
-pub all_more : (cs : List ℕ) (i : ℕ) (a b c : List ℕ) → i < length cs → b ≡ a ++ encode_utf8_all (take i cs) → c ≡ b ++ encode_utf8 (get_or cs i 0) → c ≡ a ++ encode_utf8_all (take (i + 1) cs)
-all_more cs i a b c l e g =
-    g ∙ ap (λ z. z ++ encode_utf8 (get_or cs i 0)) e ∙ append_assoc a (encode_utf8_all (take i cs)) (encode_utf8 (get_or cs i 0))
-    ∙ ap (λ z. a ++ z)
-    (ap (λ z. encode_utf8_all (take i cs) ++ z) (sym (append-nil (encode_utf8 (get_or cs i 0)))) ∙ sym (encodes-append (take i cs) (get_or cs i 0 ∷ [])) ∙ ap encode_utf8_all (sym (take_more cs i 0 l)))
+-- one character
+pub one_char : (c : ℕ) (a b : List ℕ) → b ≡ a ++ encode_utf8 c → b ≡ a ++ encode_utf8_all (c ∷ [])
+one_char c a b e = e ∙ ap (λ z. a ++ z) (sym (append-nil (encode_utf8 c)))
+
+-- characters behind characters
+chars_more : (xs ys a b c : List ℕ) → b ≡ a ++ encode_utf8_all xs → c ≡ b ++ encode_utf8_all ys → c ≡ a ++ encode_utf8_all (xs ++ ys)
+chars_more xs ys a b c e g =
+    g ∙ ap (λ z. z ++ encode_utf8_all ys) e ∙ append_assoc a (encode_utf8_all xs) (encode_utf8_all ys) ∙ ap (λ z. a ++ z) (sym (encodes-append xs ys))
+
+pub six_chars : (u v w x y z : ℕ) (a b c d e f g : List ℕ) → b ≡ a ++ encode_utf8_all (u ∷ []) → c ≡ b ++ encode_utf8_all (v ∷ []) → d ≡ c ++ encode_utf8_all (w ∷ []) → e ≡ d ++ encode_utf8_all (x ∷ [])
+    → f ≡ e ++ encode_utf8_all (y ∷ []) → g ≡ f ++ encode_utf8_all (z ∷ []) → g ≡ a ++ encode_utf8_all (u ∷ v ∷ w ∷ x ∷ y ∷ z ∷ [])
+six_chars u v w x y z a b c d e f g h i j k l m =
+    let two = chars_more (u ∷ []) (v ∷ []) a b c h i in
+    let three = chars_more (u ∷ v ∷ []) (w ∷ []) a c d two j in
+    let four = chars_more (u ∷ v ∷ w ∷ []) (x ∷ []) a d e three k in
+    let five = chars_more (u ∷ v ∷ w ∷ x ∷ []) (y ∷ []) a e f four l in
+    chars_more (u ∷ v ∷ w ∷ x ∷ y ∷ []) (z ∷ []) a f g five m
 
 -- what is seen of one character more
 pub seen_more : (ys : List ℕ) (y : ℕ) (b c : List ℕ) → b ≡ encode_utf8_all (flat_map seen ys) → c ≡ b ++ encode_utf8_all (seen y) → c ≡ encode_utf8_all (flat_map seen (ys ++ y ∷ []))

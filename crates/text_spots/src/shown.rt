@@ -1,7 +1,7 @@
 //! Pieces of texts as they are shown.
-ghost use Rattle.std.specs.Prelude.{◌≡◌, ◌<◌, ◌++◌, IfOk, OnOk, chars, encode_utf8_all, string_bytes};
+ghost use Rattle.std.specs.Prelude.{◌≡◌, ◌<◌, ◌-◌, [], ◌∷◌, ◌++◌, length, take, drop, IfOk, OnOk, chars, encode_utf8_all, string_bytes};
 ghost use Rattle.std.specs.Char.{digit_char};
-ghost use Rattle.text_spots.specs.Shown.{escape, is_among, is_hidden, path_shown, seen, shown};
+ghost use Rattle.text_spots.specs.Shown.{escape, is_among, is_hidden, path_shown, rest_mark, seen, shown};
 
 use collections::Memory;
 use std::alloc::Global;
@@ -33,22 +33,30 @@ fn put_seen(out: &mut String, c: char) -> Result<(), Memory>
     if is_hidden(c) {
         put_escape(out, c as u32)
     } else {
-        put_all(out, &[c])
+        put_char(out, c)
     }
 }
 
 fn put_escape(out: &mut String, code: u32) -> Result<(), Memory>
     ensures { OnOk result (string_bytes out.new ≡ string_bytes out.old ++ encode_utf8_all (escape code)) }
 {
-    let digits = [
-        '\\',
-        'u',
-        digit(code / 4096 % 16),
-        digit(code / 256 % 16),
-        digit(code / 16 % 16),
-        digit(code % 16),
-    ];
-    put_all(out, &digits)
+    let first = digit(code / 4096 % 16);
+    let second = digit(code / 256 % 16);
+    let third = digit(code / 16 % 16);
+    let fourth = digit(code % 16);
+    put_char(out, '\\')?;
+    put_char(out, 'u')?;
+    put_char(out, first)?;
+    put_char(out, second)?;
+    put_char(out, third)?;
+    put_char(out, fourth)
+}
+
+fn put_char(out: &mut String, c: char) -> Result<(), Memory>
+    ensures { OnOk result (string_bytes out.new ≡ string_bytes out.old ++ encode_utf8_all (c ∷ [])) }
+{
+    out.push(c)?;
+    Ok(())
 }
 
 // The hexadecimal digit of a number.
@@ -61,15 +69,6 @@ fn digit(number: u32) -> char
     } else {
         (b'a' + (number as u8 - 10)) as char
     }
-}
-
-fn put_all(out: &mut String, characters: &[char]) -> Result<(), Memory>
-    ensures { OnOk result (string_bytes out.new ≡ string_bytes out.old ++ encode_utf8_all characters.now) }
-{
-    for c in characters {
-        out.push(*c)?;
-    }
-    Ok(())
 }
 
 fn is_hidden(c: char) -> bool
@@ -98,11 +97,27 @@ pub fn put_path_shown(out: &mut Vec<u8>, path: &[u8]) -> Result<(), Memory>
     ensures { OnOk result (out.new.items ≡ out.old.items ++ path_shown path.now) }
 {
     if path.len() <= MOST_OF_PATH {
-        out.extend_from_slice(path)?;
-        return Ok(());
+        put_bytes(out, path)
+    } else {
+        put_sides(out, path)
     }
-    out.extend_from_slice(&path[..SIDE])?;
-    out.extend_from_slice(b"..")?;
-    out.extend_from_slice(&path[path.len() - SIDE..])?;
+}
+
+#[tactic(auto, using(crate::proofs::ShownLemmas::three_pieces))]
+fn put_sides(out: &mut Vec<u8>, path: &[u8]) -> Result<(), Memory>
+    requires { 400 < length path.now }
+    ensures { OnOk result (out.new.items ≡ out.old.items ++ (take 199 path.now ++ (rest_mark ++ drop (length path.now - 199) path.now))) }
+{
+    let first = &path[..SIDE];
+    let last = &path[path.len() - SIDE..];
+    put_bytes(out, first)?;
+    put_bytes(out, b"..")?;
+    put_bytes(out, last)
+}
+
+fn put_bytes(out: &mut Vec<u8>, bytes: &[u8]) -> Result<(), Memory>
+    ensures { OnOk result (out.new.items ≡ out.old.items ++ bytes.now) }
+{
+    out.extend_from_slice(bytes)?;
     Ok(())
 }

@@ -7,7 +7,7 @@ use Rattle.text_spots.proofs.spots.spot_behind.Goals as goal
 
 pub loop-byte-preserved : goal.loop-byte-preserved
 loop-byte-preserved c = record {
-  at = c.past.ensures.next ∙ ap (λ s. next_spot s (get_or c.args.bytes.now c.loop-byte.byte-index 0)) c.loop-byte.invariant.at ∙ sym (spot_more c.args.bytes.now c.loop-byte.byte-index c.loop-byte-test.true);
+  at = c.past-spot.ensures.next ∙ ap (λ s. next_spot s (get_or c.args.bytes.now c.loop-byte.byte-index 0)) c.loop-byte.invariant.at ∙ sym (spot_more c.args.bytes.now c.loop-byte.byte-index c.loop-byte-test.true);
   line = omega arith;
   column = omega arith;
 }
