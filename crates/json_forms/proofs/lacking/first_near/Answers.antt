@@ -5,12 +5,12 @@ use Rattle.json_forms.proofs.lacking.first_near.Goals as goal
 
 pub returns-then-fits : goal.returns-then-fits
 returns-then-fits c =
-    find_here (λ key. key.now) c.args.keys.now (λ key. is_free c.args.form key && is_near c.args.word.now key) c.loop-key.key-index c.key-item.result c.loop-key-test.true c.key-item.is c.loop-key.invariant
+    find_here (λ key. key.now) c.args.keys.now (λ key. is_free c.args.form key && is_near c.args.word.now key) _ c.loop-key.key-index c.loop-key-test.true c.loop-key.invariant
     (sym c.is_free_and_near-fits.ensures ∙ c.if-fits.true)
 
 pub loop-key-preserved : goal.loop-key-preserved
 loop-key-preserved c =
-    find_past (λ key. key.now) c.args.keys.now (λ key. is_free c.args.form key && is_near c.args.word.now key) c.loop-key.key-index c.key-item.result c.loop-key-test.true c.key-item.is c.loop-key.invariant
+    find_past (λ key. key.now) c.args.keys.now (λ key. is_free c.args.form key && is_near c.args.word.now key) _ c.loop-key.key-index c.loop-key-test.true c.loop-key.invariant
     (sym c.is_free_and_near-fits.ensures ∙ c.if-fits.false)
 
 pub returns : goal.returns

@@ -5,11 +5,11 @@ use Rattle.json_forms.proofs.lacking.is_there.Goals as goal
 
 pub returns-then-same : goal.returns-then-same
 returns-then-same c =
-    any_here (λ key. key.now) c.args.keys.now (λ key. same_text key c.args.word.now) c.loop-key.key-index c.key-item.result c.loop-key-test.true c.key-item.is c.loop-key.invariant (sym c.eq-same.ensures ∙ c.if-same.true)
+    any_here (λ key. key.now) c.args.keys.now (λ key. same_text key c.args.word.now) _ c.loop-key.key-index c.loop-key-test.true c.loop-key.invariant (sym c.eq-same.ensures ∙ c.if-same.true)
 
 pub loop-key-preserved : goal.loop-key-preserved
 loop-key-preserved c =
-    any_past (λ key. key.now) c.args.keys.now (λ key. same_text key c.args.word.now) c.loop-key.key-index c.key-item.result c.loop-key-test.true c.key-item.is c.loop-key.invariant (sym c.eq-same.ensures ∙ c.if-same.false)
+    any_past (λ key. key.now) c.args.keys.now (λ key. same_text key c.args.word.now) _ c.loop-key.key-index c.loop-key-test.true c.loop-key.invariant (sym c.eq-same.ensures ∙ c.if-same.false)
 
 pub returns : goal.returns
 returns c = any_none (λ key. key.now) c.args.keys.now (λ key. same_text key c.args.word.now) c.loop-key.key-index c.loop-key-test.false c.loop-key.invariant
