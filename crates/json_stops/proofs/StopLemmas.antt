@@ -56,40 +56,40 @@ module _ (s : Sort) (d : Data) (fs : List Field) (n : item_sort s ≡ None) (e :
   fault_behind : fault_as s d ≡ behind_fault d fs
   fault_behind = fault_is s d ∙ ap (λ o. fault_by o s d) n ∙ ap (fields_fault d) e
 
-  -- what is left from an index on begins with the field there
-  field_at : (i : ℕ) (f : Field) → i < length fs → f ≡ get_or fs i f → drop i fs ≡ f ∷ drop (i + 1) fs
-  field_at i f below is = drop_more fs i f below ∙ ap (λ x. x ∷ drop (i + 1) fs) (sym is)
-
   -- its key lacks
-  pub key_lacks : (i : ℕ) (f : Field) → i < length fs → f ≡ get_or fs i f → first_unread (behind d fs) ≡ first_unread (behind d (drop i fs)) → behind_fault d fs ≡ behind_fault d (drop i fs)
-      → None ≡ get (key_word f.0) d → StopsAt s d (at_itself s d NoForm)
-  key_lacks i f below is unread fault none =
+  pub key_lacks : (x : Field) (i : ℕ) → i < length fs → first_unread (behind d fs) ≡ first_unread (behind d (drop i fs)) → behind_fault d fs ≡ behind_fault d (drop i fs)
+      → None ≡ get (key_word (get_or fs i x).0) d → StopsAt s d (at_itself s d NoForm)
+  key_lacks x i below unread fault none =
+      let f = get_or fs i x in
       stops_itself s d NoForm
-      (ap first_unread parts_are ∙ unread ∙ ap (λ xs. first_unread (behind d xs)) (field_at i f below is) ∙ ap (λ o. first_unread (and_rest f o (behind d (drop (i + 1) fs)))) (sym none))
-      (fault_behind ∙ fault ∙ ap (behind_fault d) (field_at i f below is) ∙ ap (λ o. first_or (lacking_or f.1 o) (behind_fault d (drop (i + 1) fs))) (sym none))
+      (ap first_unread parts_are ∙ unread ∙ ap (λ xs. first_unread (behind d xs)) (drop_more fs i x below) ∙ ap (λ o. first_unread (and_rest f o (behind d (drop (i + 1) fs)))) (sym none))
+      (fault_behind ∙ fault ∙ ap (behind_fault d) (drop_more fs i x below) ∙ ap (λ o. first_or (lacking_or f.1 o) (behind_fault d (drop (i + 1) fs))) (sym none))
 
   -- the value behind it isn't read
-  pub key_stops : (i : ℕ) (f : Field) (x : Data) (at : Place) → i < length fs → f ≡ get_or fs i f → first_unread (behind d fs) ≡ first_unread (behind d (drop i fs)) → behind_fault d fs ≡ behind_fault d (drop i fs)
-      → Some x ≡ get (key_word f.0) d → StopsAt f.1 x at → StopsAt s d (under (steps.Key f.0) at)
-  key_stops i f x at below is unread fault there stop =
-      stops_inside s d (part_at (steps.Key f.0) f.1 x) at
-      (ap first_unread parts_are ∙ unread ∙ ap (λ xs. first_unread (behind d xs)) (field_at i f below is) ∙ ap (λ o. first_unread (and_rest f o (behind d (drop (i + 1) fs)))) (sym there)
-      ∙ unread_here (part_at (steps.Key f.0) f.1 x) (behind d (drop (i + 1) fs)) at.fault stop.whole)
-      (fault_behind ∙ fault ∙ ap (behind_fault d) (field_at i f below is) ∙ ap (λ o. first_or (lacking_or f.1 o) (behind_fault d (drop (i + 1) fs))) (sym there)
+  pub key_stops : (x : Field) (i : ℕ) (v : Data) (at : Place) → i < length fs → first_unread (behind d fs) ≡ first_unread (behind d (drop i fs)) → behind_fault d fs ≡ behind_fault d (drop i fs)
+      → Some v ≡ get (key_word (get_or fs i x).0) d → StopsAt (get_or fs i x).1 v at → StopsAt s d (under (steps.Key (get_or fs i x).0) at)
+  key_stops x i v at below unread fault there stop =
+      let f = get_or fs i x in
+      stops_inside s d (part_at (steps.Key f.0) f.1 v) at
+      (ap first_unread parts_are ∙ unread ∙ ap (λ xs. first_unread (behind d xs)) (drop_more fs i x below) ∙ ap (λ o. first_unread (and_rest f o (behind d (drop (i + 1) fs)))) (sym there)
+      ∙ unread_here (part_at (steps.Key f.0) f.1 v) (behind d (drop (i + 1) fs)) at.fault stop.whole)
+      (fault_behind ∙ fault ∙ ap (behind_fault d) (drop_more fs i x below) ∙ ap (λ o. first_or (lacking_or f.1 o) (behind_fault d (drop (i + 1) fs))) (sym there)
       ∙ ap (λ o. first_or o (behind_fault d (drop (i + 1) fs))) stop.whole ∙ sym stop.whole)
       stop
 
   -- it is read
-  pub key_read : (i : ℕ) (f : Field) (x : Data) → i < length fs → f ≡ get_or fs i f → first_unread (behind d fs) ≡ first_unread (behind d (drop i fs)) → Some x ≡ get (key_word f.0) d → fault_as f.1 x ≡ None
+  pub key_read : (x : Field) (i : ℕ) (v : Data) → i < length fs → first_unread (behind d fs) ≡ first_unread (behind d (drop i fs)) → Some v ≡ get (key_word (get_or fs i x).0) d → fault_as (get_or fs i x).1 v ≡ None
       → first_unread (behind d fs) ≡ first_unread (behind d (drop (i + 1) fs))
-  key_read i f x below is unread there read =
-      unread ∙ ap (λ xs. first_unread (behind d xs)) (field_at i f below is) ∙ ap (λ o. first_unread (and_rest f o (behind d (drop (i + 1) fs)))) (sym there)
-      ∙ read_here (part_at (steps.Key f.0) f.1 x) (behind d (drop (i + 1) fs)) read
+  key_read x i v below unread there read =
+      let f = get_or fs i x in
+      unread ∙ ap (λ xs. first_unread (behind d xs)) (drop_more fs i x below) ∙ ap (λ o. first_unread (and_rest f o (behind d (drop (i + 1) fs)))) (sym there)
+      ∙ read_here (part_at (steps.Key f.0) f.1 v) (behind d (drop (i + 1) fs)) read
 
-  pub key_fine : (i : ℕ) (f : Field) (x : Data) → i < length fs → f ≡ get_or fs i f → behind_fault d fs ≡ behind_fault d (drop i fs) → Some x ≡ get (key_word f.0) d → fault_as f.1 x ≡ None
+  pub key_fine : (x : Field) (i : ℕ) (v : Data) → i < length fs → behind_fault d fs ≡ behind_fault d (drop i fs) → Some v ≡ get (key_word (get_or fs i x).0) d → fault_as (get_or fs i x).1 v ≡ None
       → behind_fault d fs ≡ behind_fault d (drop (i + 1) fs)
-  key_fine i f x below is fault there read =
-      fault ∙ ap (behind_fault d) (field_at i f below is) ∙ ap (λ o. first_or (lacking_or f.1 o) (behind_fault d (drop (i + 1) fs))) (sym there) ∙ ap (λ o. first_or o (behind_fault d (drop (i + 1) fs))) read
+  key_fine x i v below fault there read =
+      let f = get_or fs i x in
+      fault ∙ ap (behind_fault d) (drop_more fs i x below) ∙ ap (λ o. first_or (lacking_or f.1 o) (behind_fault d (drop (i + 1) fs))) (sym there) ∙ ap (λ o. first_or o (behind_fault d (drop (i + 1) fs))) read
 
   -- all are
   pub all_keys_read : (i : ℕ) → length fs ≤ i → behind_fault d fs ≡ behind_fault d (drop i fs) → fault_as s d ≡ None
