@@ -1,8 +1,12 @@
 -- A list is searched from the front, one item after another.
 use Rattle.std.proofs.Common.{◌≡◌, ℕ, ◌+◌, ◌<◌, ◌≤◌, Bool, true, false, cond, ◌||◌, List, [], ◌∷◌, length, get_or, drop, map, Option, Some, None, find, take, count_by, sym, ap, ◌∙◌}
+use Rattle.std.specs.Prelude.{◌&&◌}
 use Rattle.std.specs.List.{list_any}
 use Rattle.std.proofs.lemmas.List.{drop_more, drop_all}
 use Rattle.std.proofs.lemmas.List.Sums.{sum_by_more}
+use Rattle.json_forms.specs.declared.form.Form.{Form}
+use Rattle.json_forms.specs.Spelling.{one_apart}
+use Rattle.json_forms.specs.Lacking.{first_or, is_free, is_near, nearest}
 
 module _ {V X : Type 0} (f : V → X) (vs : List V) where
   -- what is seen of those from an index on
@@ -52,3 +56,13 @@ module _ {X : Type 0} (p : X → Bool) (xs : List X) where
 
 pub counted_more : {X : Type 0} (p : X → Bool) (xs : List X) (d : X) (i a b : ℕ) → i < length xs → a ≡ count_by p (take i xs) → b ≡ cond (p (get_or xs i d)) 1 0 → a + b ≡ count_by p (take (i + 1) xs)
 counted_more p xs d i a b l so e = ap (λ n. n + b) so ∙ ap (λ n. count_by p (take i xs) + n) e ∙ sym (sum_by_more (λ y. cond (p y) 1 0) xs i d l)
+
+-- ---- the nearest key
+
+-- none is one letter apart: it is the first that is near
+pub nearest_none : (form : Form) (w word : List ℕ) (keys : List (List ℕ)) (r : Option (List ℕ)) → w ≡ word → None ≡ find (λ key. is_free form key && one_apart w key) keys
+    → r ≡ find (λ key. is_free form key && is_near w key) keys → r ≡ nearest form word keys
+unfolding nearest
+nearest_none form w word keys r same none near =
+    near ∙ ap (λ v. find (λ key. is_free form key && is_near v key) keys) same
+    ∙ ap (λ o. first_or o (find (λ key. is_free form key && is_near word key) keys)) (none ∙ ap (λ v. find (λ key. is_free form key && one_apart v key) keys) same)

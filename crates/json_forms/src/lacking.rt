@@ -1,5 +1,5 @@
 //! Which key of a form lacks in an object, and how it may have been spelled.
-ghost use Rattle.std.specs.Prelude.{◌≡◌, not, ◌&&◌, map, count_by, find, option_map, if◌then◌else◌};
+ghost use Rattle.std.specs.Prelude.{◌≡◌, ◌≤◌, not, ◌&&◌, map, count_by, find, option_map, if◌then◌else◌};
 ghost use Rattle.std.specs.List.{list_any};
 ghost use Rattle.names.specs.Equal.{same_text};
 ghost use Rattle.json_forms.specs.Forms.{Field, key_word};
@@ -77,7 +77,8 @@ fn met_among(keys: &[&str], form: Form, fields: &[(Key, Sort)]) -> usize
 }
 
 fn as_count(met: bool) -> usize
-    ensures { result ≡ (if met then 1 else 0) }
+    ensures value { result ≡ (if met then 1 else 0) }
+    ensures small { result ≤ 1 }
 {
     if met { 1 } else { 0 }
 }
