@@ -21,7 +21,7 @@ use Rattle.json_stops.proofs.FaultLemmas.{fault_is}
 
 -- ---- a part that isn't read
 
-part_at : Step → Sort → Data → Part
+abbrev part_at : Step → Sort → Data → Part
 part_at step sort d = record { step = step; sort = sort; json = d }
 
 -- the part in front isn't read

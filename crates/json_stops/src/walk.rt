@@ -1,5 +1,5 @@
 //! The way down to the first part that isn't read.
-ghost use Rattle.std.specs.Prelude.{◌≡◌, Some, None, Ok, IfOk, option_map};
+ghost use Rattle.std.specs.Prelude.{◌≡◌, ◌≢◌, Some, None, Ok, IfOk, option_map};
 ghost use Rattle.json_stops.specs.FormsRead as read;
 ghost use Rattle.json_stops.specs.Stops.{IsStop, place};
 ghost use Rattle.json_stops.specs.StopsSupport.{at_itself, place_back, under};
@@ -52,8 +52,7 @@ fn stop_within<'j, J: JsonValue>(
     }
     match fields_read(alloc, sort, json) {
         Ok(fields) => stop_in_fields(alloc, sort, json, fields),
-        Err(JsonFault::Memory) => Err(AllocError),
-        Err(fault) => Ok(Some(stop_here(alloc, sort, json, fault))),
+        Err(fault) => stop_or_memory(alloc, sort, json, fault),
     }
 }
 
@@ -114,6 +113,21 @@ fn stop_here<'j, J: JsonValue>(
 {
     let path = Vec::new(alloc);
     (Stop { path, sort, fault }, json)
+}
+
+// The same, unless the fault is that memory was refused.
+fn stop_or_memory<'j, J: JsonValue>(
+    alloc: Global,
+    sort: Sort,
+    json: &'j J,
+    fault: JsonFault,
+) -> Result<Option<(Stop, &'j J)>, Memory>
+    ensures { IfOk result (λ found. (fault ≢ JsonFault.Memory) × (option_map (place_back J.json) found ≡ Some (at_itself sort (J.json json.now) fault))) }
+{
+    match fault {
+        JsonFault::Memory => Err(AllocError),
+        _ => Ok(Some(stop_here(alloc, sort, json, fault))),
+    }
 }
 
 // One step further up.
