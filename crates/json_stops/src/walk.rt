@@ -58,6 +58,7 @@ fn stop_within<'j, J: JsonValue>(
 
 // Of the values behind keys.
 #[cycle(stop_within)]
+#[tactic(auto, using(json_read_names::proofs::DepthLaws::deeper))]
 fn stop_in_fields<'j, J: JsonValue>(
     alloc: Global,
     sort: Sort,
@@ -82,6 +83,7 @@ fn stop_in_fields<'j, J: JsonValue>(
 
 // Of the items of a list.
 #[cycle(stop_within)]
+#[tactic(auto, using(json_read_names::proofs::DepthLaws::item_deeper))]
 fn stop_in_list<'j, J: JsonValue>(
     alloc: Global,
     sort: Sort,

@@ -1,8 +1,6 @@
-use Rattle.std.proofs.Common.{◌≡◌, ◌<◌, Some, None, ap, sym, subst, ◌∙◌, arith}
+use Rattle.std.proofs.Common.{ap, sym, subst, ◌∙◌}
 use Rattle.std.proofs.lemmas.Result.{IfOk-weaker}
-use Rattle.serde_json.specs.Data.{depth}
 use Rattle.serde_json.specs.Find.{get}
-use Rattle.json_read_names.proofs.DepthLaws.{deeper, item_deeper}
 use Rattle.json_stops.specs.Stops.{Place, StopsAt, IsStop}
 use Rattle.json_stops.specs.StopsSupport.{place_back}
 use Rattle.json_stops.proofs.StopLemmas.{form_stops, key_lacks, key_stops, all_keys_read, item_stops, all_items_read}
@@ -25,11 +23,6 @@ stop_in_fields-returns-in_default g t c =
     (key_lacks c.args.sort d c.args.fields.now c.requires.no_list c.requires.fields _ c.loop-field.field-index c.loop-field-test.true c.loop-field.invariant.unread c.loop-field.invariant.fault
     (c.in_default.ensures ∙ ap (λ w. get w d) c.key_word.ensures))
 
-pub stop_in_fields-stop_within-requires : goal.stop_in_fields-stop_within-requires
-stop_in_fields-stop_within-requires g t c =
-    let json = g.J.JsonValue.json in
-    omega (arith, deeper c.key_word.result.now (json c.args.json.now) (json c.in-Some.part.now) (sym c.in-Some.ensures))
-
 pub stop_in_fields-returns-in-Some-2 : goal.stop_in_fields-returns-in-Some-2
 stop_in_fields-returns-in-Some-2 g t c =
     let json = g.J.JsonValue.json in
@@ -47,14 +40,6 @@ stop_in_fields-returns g t c =
 
 -- ---- items of a list
 
-pub stop_in_list-stop_within-requires : goal.stop_in_list-stop_within-requires
-stop_in_list-stop_within-requires g t c =
-    let json = g.J.JsonValue.json in
-    let d = json c.args.json.now in
-    let inside = item_deeper json c.in-Some.items.now c.loop-index.index c.loop-index-item.result d c.loop-index-test.true c.in-Some.ensures in
-    let below : depth (json c.loop-index-item.result) < depth d = subst (λ v. depth (json v) < depth d) (sym c.loop-index-item.is) inside in
-    omega arith
-
 pub stop_in_list-returns-in-Some-2 : goal.stop_in_list-returns-in-Some-2
 stop_in_list-returns-in-Some-2 g t c =
     let json = g.J.JsonValue.json in
@@ -62,8 +47,8 @@ stop_in_list-returns-in-Some-2 g t c =
     let stop = rw c.in-Some-2.is at c.in_ok-found.ensures in
     IfOk-weaker c.behind.result _ _
     (λ up e. subst (λ at. IsStop c.args.sort d at) (sym e)
-    (item_stops json c.args.sort c.args.inner d c.in-Some.items.now c.requires c.in-Some.ensures c.loop-index.index c.loop-index-item.result (place_back json c.in-Some-2.found) c.loop-index-test.true
-    c.loop-index-item.is c.loop-index.invariant.unread c.loop-index.invariant.fault stop))
+    (item_stops json c.args.sort c.args.inner d c.in-Some.items.now c.requires c.in-Some.ensures c.loop-index.index c.index-items-index.result (place_back json c.in-Some-2.found) c.loop-index-test.true
+    c.index-items-index.is c.loop-index.invariant.unread c.loop-index.invariant.fault stop))
     c.behind.ensures
 
 pub stop_in_list-returns : goal.stop_in_list-returns
