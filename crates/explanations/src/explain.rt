@@ -16,12 +16,7 @@ const MAX_DEPTH: usize = 127;
 
 /// The lines that explain why a text isn't read as one of a sort, for the file of that name: a contract, a transaction. There is none
 /// where it is read, and none where it is no JSON.
-pub fn explained(
-    alloc: Global,
-    file: &str,
-    text: &[u8],
-    sort: Sort,
-) -> Result<Vec<u8>, Memory> {
+pub fn explained(alloc: Global, file: &str, text: &[u8], sort: Sort) -> Result<Vec<u8>, Memory> {
     let mut scratch = Scratch::new(alloc);
     match json_of(alloc, text, &mut scratch) {
         Ok(json) => explained_json(alloc, file, text, sort, &json),

@@ -41,9 +41,15 @@ fn no_form_hint(alloc: Global, told: &Told<'_>) -> Result<String, Memory>
     ensures { IfOk result (λ text. string_bytes text ≡ no_form_hint (seen told.now)) }
 {
     if has_key(told.keys, "constant_param") {
-        word(alloc, "fill in the template first: \"constant_param\" stands for a number")
+        word(
+            alloc,
+            "fill in the template first: \"constant_param\" stands for a number",
+        )
     } else if has_key(told.keys, "time_param") {
-        word(alloc, "fill in the template first: \"time_param\" stands for a time")
+        word(
+            alloc,
+            "fill in the template first: \"time_param\" stands for a time",
+        )
     } else if is_of_contracts(told.sort) && has_key(told.keys, "contract") {
         word(alloc, "take out what stands behind \"contract\"")
     } else if is_of_numbers(told.sort) && is_digits(told.token) {

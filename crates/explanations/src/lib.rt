@@ -8,7 +8,6 @@ mod laws;
 mod lines;
 mod part;
 mod pieces;
-
 mod words;
 
 pub use explain::explained;

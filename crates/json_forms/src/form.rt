@@ -94,8 +94,28 @@ pub fn forms_of(sort: Sort) -> &'static [Form]
         Sort::Contract => &[Form::Pay, Form::If, Form::When, Form::Let, Form::Assert],
         Sort::Case => &[Form::Case],
         Sort::Action => &[Form::Deposit, Form::Choice, Form::Notify],
-        Sort::Value => &[Form::AvailableMoney, Form::NegValue, Form::AddValue, Form::SubValue, Form::MulValue, Form::DivValue, Form::ChoiceValue, Form::UseValue, Form::Cond],
-        Sort::Observation => &[Form::AndObs, Form::OrObs, Form::NotObs, Form::ChoseSomething, Form::ValueGE, Form::ValueGT, Form::ValueLT, Form::ValueLE, Form::ValueEQ],
+        Sort::Value => &[
+            Form::AvailableMoney,
+            Form::NegValue,
+            Form::AddValue,
+            Form::SubValue,
+            Form::MulValue,
+            Form::DivValue,
+            Form::ChoiceValue,
+            Form::UseValue,
+            Form::Cond,
+        ],
+        Sort::Observation => &[
+            Form::AndObs,
+            Form::OrObs,
+            Form::NotObs,
+            Form::ChoseSomething,
+            Form::ValueGE,
+            Form::ValueGT,
+            Form::ValueLT,
+            Form::ValueLE,
+            Form::ValueEQ,
+        ],
         Sort::Bound => &[Form::Bound],
         Sort::ChoiceId => &[Form::ChoiceId],
         Sort::Token => &[Form::Token],
@@ -104,7 +124,13 @@ pub fn forms_of(sort: Sort) -> &'static [Form]
         Sort::Transaction => &[Form::Transaction],
         Sort::Interval => &[Form::Interval],
         Sort::Input => &[Form::DepositInput, Form::ChoiceInput],
-        Sort::Cases | Sort::Bounds | Sort::Text | Sort::Hex | Sort::Whole | Sort::Time | Sort::Inputs => &[],
+        Sort::Cases
+        | Sort::Bounds
+        | Sort::Text
+        | Sort::Hex
+        | Sort::Whole
+        | Sort::Time
+        | Sort::Inputs => &[],
     }
 }
 
@@ -113,16 +139,48 @@ pub fn fields_of(form: Form) -> &'static [(Key, Sort)]
     ensures { result.now ≡ fields_of form }
 {
     match form {
-        Form::Pay => &[(Key::Pay, Sort::Value), (Key::Token, Sort::Token), (Key::FromAccount, Sort::Party), (Key::To, Sort::Payee), (Key::Then, Sort::Contract)],
-        Form::If => &[(Key::If, Sort::Observation), (Key::Then, Sort::Contract), (Key::Else, Sort::Contract)],
-        Form::When => &[(Key::When, Sort::Cases), (Key::Timeout, Sort::Time), (Key::TimeoutContinuation, Sort::Contract)],
-        Form::Let => &[(Key::Let, Sort::Text), (Key::Be, Sort::Value), (Key::Then, Sort::Contract)],
-        Form::Assert => &[(Key::Assert, Sort::Observation), (Key::Then, Sort::Contract)],
+        Form::Pay => &[
+            (Key::Pay, Sort::Value),
+            (Key::Token, Sort::Token),
+            (Key::FromAccount, Sort::Party),
+            (Key::To, Sort::Payee),
+            (Key::Then, Sort::Contract),
+        ],
+        Form::If => &[
+            (Key::If, Sort::Observation),
+            (Key::Then, Sort::Contract),
+            (Key::Else, Sort::Contract),
+        ],
+        Form::When => &[
+            (Key::When, Sort::Cases),
+            (Key::Timeout, Sort::Time),
+            (Key::TimeoutContinuation, Sort::Contract),
+        ],
+        Form::Let => &[
+            (Key::Let, Sort::Text),
+            (Key::Be, Sort::Value),
+            (Key::Then, Sort::Contract),
+        ],
+        Form::Assert => &[
+            (Key::Assert, Sort::Observation),
+            (Key::Then, Sort::Contract),
+        ],
         Form::Case => &[(Key::Case, Sort::Action), (Key::Then, Sort::Contract)],
-        Form::Deposit => &[(Key::Party, Sort::Party), (Key::Deposits, Sort::Value), (Key::OfToken, Sort::Token), (Key::IntoAccount, Sort::Party)],
-        Form::Choice => &[(Key::ForChoice, Sort::ChoiceId), (Key::ChooseBetween, Sort::Bounds)],
+        Form::Deposit => &[
+            (Key::Party, Sort::Party),
+            (Key::Deposits, Sort::Value),
+            (Key::OfToken, Sort::Token),
+            (Key::IntoAccount, Sort::Party),
+        ],
+        Form::Choice => &[
+            (Key::ForChoice, Sort::ChoiceId),
+            (Key::ChooseBetween, Sort::Bounds),
+        ],
         Form::Notify => &[(Key::NotifyIf, Sort::Observation)],
-        Form::AvailableMoney => &[(Key::AmountOfToken, Sort::Token), (Key::InAccount, Sort::Party)],
+        Form::AvailableMoney => &[
+            (Key::AmountOfToken, Sort::Token),
+            (Key::InAccount, Sort::Party),
+        ],
         Form::NegValue => &[(Key::Negate, Sort::Value)],
         Form::AddValue => &[(Key::Add, Sort::Value), (Key::And, Sort::Value)],
         Form::SubValue => &[(Key::Value, Sort::Value), (Key::Minus, Sort::Value)],
@@ -130,9 +188,19 @@ pub fn fields_of(form: Form) -> &'static [(Key, Sort)]
         Form::DivValue => &[(Key::Divide, Sort::Value), (Key::By, Sort::Value)],
         Form::ChoiceValue => &[(Key::ValueOfChoice, Sort::ChoiceId)],
         Form::UseValue => &[(Key::UseValue, Sort::Text)],
-        Form::Cond => &[(Key::If, Sort::Observation), (Key::Then, Sort::Value), (Key::Else, Sort::Value)],
-        Form::AndObs => &[(Key::Both, Sort::Observation), (Key::And, Sort::Observation)],
-        Form::OrObs => &[(Key::Either, Sort::Observation), (Key::Or, Sort::Observation)],
+        Form::Cond => &[
+            (Key::If, Sort::Observation),
+            (Key::Then, Sort::Value),
+            (Key::Else, Sort::Value),
+        ],
+        Form::AndObs => &[
+            (Key::Both, Sort::Observation),
+            (Key::And, Sort::Observation),
+        ],
+        Form::OrObs => &[
+            (Key::Either, Sort::Observation),
+            (Key::Or, Sort::Observation),
+        ],
         Form::NotObs => &[(Key::Not, Sort::Observation)],
         Form::ChoseSomething => &[(Key::ChoseSomethingFor, Sort::ChoiceId)],
         Form::ValueGE => &[(Key::Value, Sort::Value), (Key::GeThan, Sort::Value)],
@@ -141,15 +209,32 @@ pub fn fields_of(form: Form) -> &'static [(Key, Sort)]
         Form::ValueLE => &[(Key::Value, Sort::Value), (Key::LeThan, Sort::Value)],
         Form::ValueEQ => &[(Key::Value, Sort::Value), (Key::EqualTo, Sort::Value)],
         Form::Bound => &[(Key::From, Sort::Whole), (Key::To, Sort::Whole)],
-        Form::ChoiceId => &[(Key::ChoiceName, Sort::Text), (Key::ChoiceOwner, Sort::Party)],
-        Form::Token => &[(Key::CurrencySymbol, Sort::Hex), (Key::TokenName, Sort::Text)],
+        Form::ChoiceId => &[
+            (Key::ChoiceName, Sort::Text),
+            (Key::ChoiceOwner, Sort::Party),
+        ],
+        Form::Token => &[
+            (Key::CurrencySymbol, Sort::Hex),
+            (Key::TokenName, Sort::Text),
+        ],
         Form::Address => &[(Key::Address, Sort::Text)],
         Form::Role => &[(Key::RoleToken, Sort::Text)],
         Form::ToAccount => &[(Key::Account, Sort::Party)],
         Form::ToParty => &[(Key::Party, Sort::Party)],
-        Form::Transaction => &[(Key::TxInterval, Sort::Interval), (Key::TxInputs, Sort::Inputs)],
+        Form::Transaction => &[
+            (Key::TxInterval, Sort::Interval),
+            (Key::TxInputs, Sort::Inputs),
+        ],
         Form::Interval => &[(Key::From, Sort::Time), (Key::To, Sort::Time)],
-        Form::DepositInput => &[(Key::InputFromParty, Sort::Party), (Key::ThatDeposits, Sort::Whole), (Key::OfToken, Sort::Token), (Key::IntoAccount, Sort::Party)],
-        Form::ChoiceInput => &[(Key::ForChoiceId, Sort::ChoiceId), (Key::InputThatChoosesNum, Sort::Whole)],
+        Form::DepositInput => &[
+            (Key::InputFromParty, Sort::Party),
+            (Key::ThatDeposits, Sort::Whole),
+            (Key::OfToken, Sort::Token),
+            (Key::IntoAccount, Sort::Party),
+        ],
+        Form::ChoiceInput => &[
+            (Key::ForChoiceId, Sort::ChoiceId),
+            (Key::InputThatChoosesNum, Sort::Whole),
+        ],
     }
 }

@@ -1,5 +1,5 @@
 -- The fault of readings one after another.
-use Rattle.std.proofs.Common.{◌≡◌, ℕ, List, [], ◌∷◌, Option, Some, None, Ok, Err, refl, sym, ap, ◌∙◌}
+use Rattle.std.proofs.Common.{◌≡◌, ◌∷◌, Option, Some, None, Ok, Err, refl, sym, ap, ◌∙◌}
 use Rattle.serde_json.specs.Data.{Data, Items, no_items, item}
 use Rattle.collections.specs.Answers.{◌>>=◌}
 use Rattle.json_read_names.specs.Parts.{Reading, needed, both_readings, of_one, all_items}

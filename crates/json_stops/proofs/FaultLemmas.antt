@@ -1,5 +1,5 @@
 -- The fault of a value of each sort, by those of its parts.
-use Rattle.std.proofs.Common.{◌≡◌, ℕ, List, ℤ, Bool, true, false, Option, Some, Ok, Err, refl, ap, ◌∙◌}
+use Rattle.std.proofs.Common.{◌≡◌, ℕ, List, ℤ, Bool, true, false, Ok, Err, refl, ap, ◌∙◌}
 use Rattle.std.specs.Prelude.{codes, if◌then◌else◌}
 use Rattle.serde_json.specs.Data.{Data}
 use Rattle.serde_json.specs.Find.{get, as_array}
@@ -14,19 +14,17 @@ use Rattle.contract.specs.declared.transaction.Transaction.{Transaction}
 use Rattle.names.specs.declared.payee.Payee.TheVariants as payees
 use Rattle.collections.specs.Answers.{◌>>=◌}
 use Rattle.json_read_names.specs.Forms.{has, has_two, contract_form, case_form, action_form, value_form, observation_form, input_form}
-use Rattle.json_read_names.specs.Parts.{Reading, reading_at, of_one, text, bytes, whole_number, time, list}
-use Rattle.json_read_names.specs.ReadsNames.{party, token, choice_id, payee, bound}
+use Rattle.json_read_names.specs.Parts.{reading_at, of_one, text, bytes, whole_number, time, list}
+use Rattle.json_read_names.specs.ReadsNames.{party, bound}
 use Rattle.json_read_names.specs.declared.fault.JsonFault.TheVariants.{NoForm}
-use Rattle.json_read_values.specs.ReadsValue.{value, observation}
-use Rattle.json_read_values.specs.ReadsAction.{action}
 use Rattle.json_read_values.proofs.ValueSteps.{value-step, observation-step}
-use Rattle.json_read_contracts.specs.ReadsContract.{contract, case}
+use Rattle.json_read_contracts.specs.ReadsContract.{case}
 use Rattle.json_read_contracts.proofs.ContractSteps.{contract-step, case-step}
-use Rattle.json_read_inputs.specs.ReadsInput.{transaction, interval, input}
+use Rattle.json_read_inputs.specs.ReadsInput.{interval, input}
 use Rattle.json_forms.specs.declared.sort.Sort.{Sort}
 use Rattle.json_forms.specs.declared.sort.Sort.TheVariants as sorts
 use Rattle.json_forms.specs.declared.form.Form.TheVariants as forms
-use Rattle.json_stops.specs.FormsRead.{item_sort, only_form, either_form, fields_read}
+use Rattle.json_stops.specs.FormsRead.{item_sort, only_form, either_form}
 use Rattle.json_stops.specs.Stops.{fault_of, fault_as}
 use Rattle.json_stops.specs.StopsSupport.{fields_fault, fault_by}
 use Rattle.json_stops.proofs.ChainLemmas.{field_then, itself_fault, list_is}

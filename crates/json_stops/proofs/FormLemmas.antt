@@ -6,7 +6,7 @@ use Rattle.serde_json.specs.Find.{get}
 use Rattle.contract.specs.declared.value.Value as made_values
 use Rattle.contract.specs.declared.value.Observation as made_observations
 use Rattle.contract.specs.declared.tree.Contract as made_contracts
-use Rattle.json_read_names.specs.Parts.{reading_at, text, bytes, whole_number, time, list}
+use Rattle.json_read_names.specs.Parts.{reading_at, text, whole_number, time, list}
 use Rattle.json_read_names.specs.ReadsNames.{party, token, choice_id, payee, bound}
 use Rattle.json_read_names.specs.declared.forms.ContractForm.{ContractForm}
 use Rattle.json_read_names.specs.declared.forms.ContractForm.TheVariants as contracts
@@ -23,7 +23,7 @@ use Rattle.json_read_names.specs.declared.forms.InputForm.TheVariants as inputs
 use Rattle.json_read_values.specs.ReadsValue.{value, value_by, observation, observation_by}
 use Rattle.json_read_values.specs.ReadsAction.{action, action_by}
 use Rattle.json_read_contracts.specs.ReadsContract.{contract, contract_by, case, case_by}
-use Rattle.json_read_inputs.specs.ReadsInput.{transaction, interval, input, input_by}
+use Rattle.json_read_inputs.specs.ReadsInput.{input_by}
 use Rattle.json_forms.specs.declared.sort.Sort.TheVariants as sorts
 use Rattle.json_stops.specs.FormsRead.{contract_fields, case_fields, action_fields, value_fields, observation_fields, input_fields}
 use Rattle.json_stops.specs.Stops.{fault_of}

@@ -1,8 +1,7 @@
 -- Where reading stops, one part after another.
-use Rattle.std.proofs.Common.{◌≡◌, ℕ, ◌+◌, ◌<◌, ◌≤◌, List, [], ◌∷◌, length, get_or, drop, map, Bool, true, false, cond, Option, Some, None, Ok, Err, refl, sym, ap, subst, ◌∙◌, arith}
+use Rattle.std.proofs.Common.{◌≡◌, ℕ, ◌+◌, ◌<◌, ◌≤◌, List, [], ◌∷◌, length, get_or, drop, map, cond, Option, Some, None, Ok, Err, refl, sym, ap, ◌∙◌}
 use Rattle.std.specs.Prelude.{is_some}
-use Rattle.std.specs.List.{find}
-use Rattle.std.proofs.lemmas.List.{drop_more, drop_all, at_drop_more}
+use Rattle.std.proofs.lemmas.List.{drop_more, drop_all}
 use Rattle.serde_json.specs.Data.{Data, Items, no_items, item}
 use Rattle.serde_json.specs.Find.{get, as_array}
 use Rattle.serde_json.specs.View.{items_of}
@@ -15,7 +14,7 @@ use Rattle.json_forms.specs.Lacking.{first_or}
 use Rattle.json_stops.specs.declared.stop.Step.{Step}
 use Rattle.json_stops.specs.declared.stop.Step.TheVariants as steps
 use Rattle.json_stops.specs.FormsRead.{item_sort, fields_read}
-use Rattle.json_stops.specs.Stops.{Part, Place, fault_as, and_rest, behind, items_from, fields_parts, items_parts, parts_by, parts, first_unread, StopsAt, IsStop}
+use Rattle.json_stops.specs.Stops.{Part, Place, fault_as, and_rest, behind, items_from, fields_parts, items_parts, parts_by, parts, first_unread, StopsAt}
 use Rattle.json_stops.specs.StopsSupport.{lacking_or, behind_fault, fields_fault, items_fault, list_fault, fault_by, at_itself, under}
 use Rattle.json_stops.proofs.FaultLemmas.{fault_is}
 

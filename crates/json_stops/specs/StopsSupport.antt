@@ -12,7 +12,7 @@ use Rattle.json_forms.specs.Forms.{Field, key_word}
 use Rattle.json_forms.specs.Lacking.{first_or}
 use Rattle.json_stops.specs.declared.stop.Step.{Step}
 use Rattle.json_stops.specs.declared.stop.Stop.{Stop}
-use Rattle.json_stops.specs.FormsRead.{item_sort, fields_read}
+use Rattle.json_stops.specs.FormsRead.{fields_read}
 use Rattle.json_stops.specs.Stops.{Place, fault_as}
 
 -- the fault of the value behind a key: that none is there is one

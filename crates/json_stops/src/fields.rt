@@ -49,7 +49,10 @@ pub(crate) fn fields_read<J: JsonValue>(
         Sort::Hex => hex_fields(alloc, json),
         Sort::Whole => whole_fields(json),
         Sort::Time => time_fields(json),
-        Sort::Transaction => only_form(has_two(json, "tx_interval", "tx_inputs"), Form::Transaction),
+        Sort::Transaction => only_form(
+            has_two(json, "tx_interval", "tx_inputs"),
+            Form::Transaction,
+        ),
         Sort::Interval => only_form(has_two(json, "from", "to"), Form::Interval),
         Sort::Input => input_fields(input_form(json)),
         Sort::Cases | Sort::Bounds | Sort::Inputs => Ok(&[]),
@@ -178,10 +181,7 @@ fn text_fields<J: JsonValue>(json: &J) -> Result<&'static [(Key, Sort)], JsonFau
     }
 }
 
-fn hex_fields<J: JsonValue>(
-    alloc: Global,
-    json: &J,
-) -> Result<&'static [(Key, Sort)], JsonFault>
+fn hex_fields<J: JsonValue>(alloc: Global, json: &J) -> Result<&'static [(Key, Sort)], JsonFault>
     ensures { AsideBy JsonFault.Memory (λ fields. fields.now) result (read.no_keys (bytes (J.json json.now))) }
 {
     match read_bytes(alloc, json) {

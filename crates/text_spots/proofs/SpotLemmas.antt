@@ -49,4 +49,3 @@ spot_push bs b = (λ i. record { line = line_push bs b i; column = column_push b
 
 pub spot_more : (bs : List ℕ) (i : ℕ) → i < length bs → spot_behind (take (i + 1) bs) ≡ next_spot (spot_behind (take i bs)) (get_or bs i 0)
 spot_more bs i l = ap spot_behind (take_more bs i 0 l) ∙ spot_push (take i bs) (get_or bs i 0)
-

@@ -90,6 +90,7 @@ fn is_among(first: u32, last: u32, code: u32) -> bool
 
 // How many bytes of a path are shown, and how many of them stand on each side of what is left out.
 const MOST_OF_PATH: usize = 400;
+
 const SIDE: usize = 199;
 
 /// Puts a path behind a text: whole where it has at most 400 bytes, and else its first 199, `..` and its last 199.
