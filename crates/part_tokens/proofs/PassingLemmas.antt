@@ -19,7 +19,7 @@ pub item_refused : (depth n i : ℕ) (all old : List Token) → i < n → behind
 item_refused depth n i all old l so e = so ∙ ap (λ k. behind_items depth k old) (one_left n i l) ∙ ap (option_and_then (behind_items depth (n - (i + 1)))) e
 
 pub items_passed : (depth n i : ℕ) (all old : List Token) → i ≡ n → behind_items depth n all ≡ behind_items depth (n - i) old → behind_items depth n all ≡ Some old
-items_passed depth n i all old e so = so ∙ ap (λ k. behind_items depth k old) (omega arith)
+items_passed depth n i all old e so = let none : n - i ≡ 0 = omega arith in so ∙ ap (λ k. behind_items depth k old) none
 
 -- ---- members
 
@@ -31,7 +31,7 @@ pub member_refused : (depth n i : ℕ) (all old : List Token) → i < n → behi
 member_refused depth n i all old l so e = so ∙ ap (λ m. behind_members depth m old) (one_left n i l) ∙ ap (option_and_then (behind_members depth (n - (i + 1)))) e
 
 pub members_passed : (depth n i : ℕ) (all old : List Token) → i ≡ n → behind_members depth n all ≡ behind_members depth (n - i) old → behind_members depth n all ≡ behind_key old
-members_passed depth n i all old e so = so ∙ ap (λ m. behind_members depth m old) (omega arith)
+members_passed depth n i all old e so = let none : n - i ≡ 0 = omega arith in so ∙ ap (λ m. behind_members depth m old) none
 
 -- ---- steps of a path
 
