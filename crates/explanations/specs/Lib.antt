@@ -1,4 +1,0 @@
-pub mod Words
-pub mod Told
-pub mod Lines
-pub mod Rows
