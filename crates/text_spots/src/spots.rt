@@ -4,7 +4,7 @@ ghost use Rattle.text_spots.specs.Spots.{begins_scalar, spot_at, spot_behind, wi
 ghost use Rattle.text_spots.specs.SpotsSupport.{next_spot};
 
 /// Where something stands in a text.
-#[derive(Clone, Copy, Debug, PartialEq, Eq)]
+#[derive(Clone, Copy, Debug)]
 pub struct Spot {
     /// The line, from 1. A line ends at a line feed.
     pub line: usize,
