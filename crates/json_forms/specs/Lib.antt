@@ -1,0 +1,4 @@
+pub mod Forms
+pub mod Spelling
+pub mod Lacking
+pub mod Rows

@@ -1,0 +1,115 @@
+-- The fault of a value of each sort, by those of its parts.
+use Rattle.std.proofs.Common.{◌≡◌, ℕ, List, ℤ, Bool, true, false, Ok, Err, refl, ap, ◌∙◌}
+use Rattle.std.specs.Prelude.{codes, if◌then◌else◌}
+use Rattle.serde_json.specs.Data.{Data}
+use Rattle.serde_json.specs.Find.{get, as_array}
+use Rattle.names.specs.declared.party.Party.{Party}
+use Rattle.names.specs.declared.party.Party.TheVariants as parties
+use Rattle.names.specs.declared.token.Token.{Token}
+use Rattle.names.specs.declared.choice_id.ChoiceId.{ChoiceId}
+use Rattle.names.specs.declared.bound.Bound.{Bound}
+use Rattle.contract.specs.declared.input.Input.{Input}
+use Rattle.contract.specs.declared.interval.Interval.{Interval}
+use Rattle.contract.specs.declared.transaction.Transaction.{Transaction}
+use Rattle.names.specs.declared.payee.Payee.TheVariants as payees
+use Rattle.collections.specs.Answers.{◌>>=◌}
+use Rattle.json_read_names.specs.Forms.{has, has_two, contract_form, case_form, action_form, value_form, observation_form, input_form}
+use Rattle.json_read_names.specs.Parts.{reading_at, of_one, text, bytes, whole_number, time, list}
+use Rattle.json_read_names.specs.ReadsNames.{party, bound}
+use Rattle.json_read_names.specs.declared.fault.JsonFault.TheVariants.{NoForm}
+use Rattle.json_read_values.proofs.ValueSteps.{value-step, observation-step}
+use Rattle.json_read_contracts.specs.ReadsContract.{case}
+use Rattle.json_read_contracts.proofs.ContractSteps.{contract-step, case-step}
+use Rattle.json_read_inputs.specs.ReadsInput.{interval, input}
+use Rattle.json_forms.specs.declared.sort.Sort.{Sort}
+use Rattle.json_forms.specs.declared.sort.Sort.TheVariants as sorts
+use Rattle.json_forms.specs.declared.form.Form.TheVariants as forms
+use Rattle.json_stops.specs.FormsRead.{item_sort, only_form, either_form}
+use Rattle.json_stops.specs.Stops.{fault_of, fault_as}
+use Rattle.json_stops.specs.StopsSupport.{fields_fault, fault_by}
+use Rattle.json_stops.proofs.ChainLemmas.{field_then, itself_fault, list_is}
+use Rattle.json_stops.proofs.FormLemmas.{value_fault, observation_fault, action_fault, contract_fault, case_fault, input_fault}
+
+-- ---- what is made of two
+abbrev made_token : List ℕ → List ℕ → Token
+made_token symbol name = record { symbol = symbol; name = name }
+
+abbrev made_choice_id : List ℕ → Party → ChoiceId
+made_choice_id name owner = record { name = name; owner = owner }
+
+abbrev made_bound : ℤ → ℤ → Bound
+made_bound from to = record { from = from; to = to }
+
+abbrev made_transaction : Interval → List Input → Transaction
+made_transaction interval inputs = record { interval = interval; inputs = inputs }
+
+abbrev made_interval : ℤ → ℤ → Interval
+made_interval from to = record { from = from; to = to }
+
+module _ (d : Data) where
+  -- ---- by one of two keys
+  party_fault : (b : Bool)
+      → fault_of (if b then of_one parties.Address (reading_at text d (codes "address")) else of_one parties.Role (reading_at text d (codes "role_token"))) ≡ fields_fault d (either_form b forms.Address forms.Role)
+  unfolding either_form
+  party_fault true = field_then sorts.Text (get (codes "address") d) text _ _ (λ e. refl) (λ x. refl)
+  party_fault false = field_then sorts.Text (get (codes "role_token") d) text _ _ (λ e. refl) (λ x. refl)
+
+  payee_fault : (b : Bool)
+      → fault_of (if b then of_one payees.Account (reading_at party d (codes "account")) else of_one payees.Party (reading_at party d (codes "party"))) ≡ fields_fault d (either_form b forms.ToAccount forms.ToParty)
+  unfolding either_form
+  payee_fault true = field_then sorts.Party (get (codes "account") d) party _ _ (λ e. refl) (λ x. refl)
+  payee_fault false = field_then sorts.Party (get (codes "party") d) party _ _ (λ e. refl) (λ x. refl)
+
+  -- ---- by both keys
+  token_fault : (b : Bool)
+      → fault_of (if b then (reading_at bytes d (codes "currency_symbol") >>= λ first. reading_at text d (codes "token_name") >>= λ second. Ok (made_token first second)) else Err NoForm) ≡ fields_fault d (only_form b forms.Token)
+  unfolding only_form
+  token_fault true = field_then sorts.Hex (get (codes "currency_symbol") d) bytes _ _ (λ e. refl) (λ x. field_then sorts.Text (get (codes "token_name") d) text _ _ (λ e. refl) (λ y. refl))
+  token_fault false = refl
+
+  choice_id_fault : (b : Bool)
+      → fault_of (if b then (reading_at text d (codes "choice_name") >>= λ first. reading_at party d (codes "choice_owner") >>= λ second. Ok (made_choice_id first second)) else Err NoForm) ≡ fields_fault d (only_form b forms.ChoiceId)
+  unfolding only_form
+  choice_id_fault true = field_then sorts.Text (get (codes "choice_name") d) text _ _ (λ e. refl) (λ x. field_then sorts.Party (get (codes "choice_owner") d) party _ _ (λ e. refl) (λ y. refl))
+  choice_id_fault false = refl
+
+  bound_fault : (b : Bool)
+      → fault_of (if b then (reading_at whole_number d (codes "from") >>= λ first. reading_at whole_number d (codes "to") >>= λ second. Ok (made_bound first second)) else Err NoForm) ≡ fields_fault d (only_form b forms.Bound)
+  unfolding only_form
+  bound_fault true = field_then sorts.Whole (get (codes "from") d) whole_number _ _ (λ e. refl) (λ x. field_then sorts.Whole (get (codes "to") d) whole_number _ _ (λ e. refl) (λ y. refl))
+  bound_fault false = refl
+
+  transaction_fault : (b : Bool)
+      → fault_of (if b then (reading_at interval d (codes "tx_interval") >>= λ first. reading_at (list input) d (codes "tx_inputs") >>= λ second. Ok (made_transaction first second)) else Err NoForm) ≡ fields_fault d (only_form b forms.Transaction)
+  unfolding only_form
+  transaction_fault true = field_then sorts.Interval (get (codes "tx_interval") d) interval _ _ (λ e. refl) (λ x. field_then sorts.Inputs (get (codes "tx_inputs") d) (list input) _ _ (λ e. refl) (λ y. refl))
+  transaction_fault false = refl
+
+  interval_fault : (b : Bool)
+      → fault_of (if b then (reading_at time d (codes "from") >>= λ first. reading_at time d (codes "to") >>= λ second. Ok (made_interval first second)) else Err NoForm) ≡ fields_fault d (only_form b forms.Interval)
+  unfolding only_form
+  interval_fault true = field_then sorts.Time (get (codes "from") d) time _ _ (λ e. refl) (λ x. field_then sorts.Time (get (codes "to") d) time _ _ (λ e. refl) (λ y. refl))
+  interval_fault false = refl
+
+-- the fault of a value of a sort is that of its form, or of the first part that has one
+pub fault_is : (s : Sort) (d : Data) → fault_as s d ≡ fault_by (item_sort s) s d
+fault_is sorts.Contract d = ap fault_of (contract-step d) ∙ contract_fault d (contract_form d)
+fault_is sorts.Cases d = list_is sorts.Case case (λ e. refl) (as_array d)
+fault_is sorts.Case d = ap fault_of (case-step d) ∙ case_fault d (case_form d)
+fault_is sorts.Action d = action_fault d (action_form d)
+fault_is sorts.Value d = ap fault_of (value-step d) ∙ value_fault d (value_form d)
+fault_is sorts.Observation d = ap fault_of (observation-step d) ∙ observation_fault d (observation_form d)
+fault_is sorts.Bounds d = list_is sorts.Bound bound (λ e. refl) (as_array d)
+fault_is sorts.Bound d = bound_fault d (has_two (codes "from") (codes "to") d)
+fault_is sorts.ChoiceId d = choice_id_fault d (has_two (codes "choice_name") (codes "choice_owner") d)
+fault_is sorts.Token d = token_fault d (has_two (codes "currency_symbol") (codes "token_name") d)
+fault_is sorts.Party d = party_fault d (has (codes "address") d)
+fault_is sorts.Payee d = payee_fault d (has (codes "account") d)
+fault_is sorts.Text d = itself_fault (text d) d
+fault_is sorts.Hex d = itself_fault (bytes d) d
+fault_is sorts.Whole d = itself_fault (whole_number d) d
+fault_is sorts.Time d = itself_fault (time d) d
+fault_is sorts.Transaction d = transaction_fault d (has_two (codes "tx_interval") (codes "tx_inputs") d)
+fault_is sorts.Interval d = interval_fault d (has_two (codes "from") (codes "to") d)
+fault_is sorts.Inputs d = list_is sorts.Input input (λ e. refl) (as_array d)
+fault_is sorts.Input d = input_fault d (input_form d)

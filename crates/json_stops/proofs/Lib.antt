@@ -1,0 +1,4 @@
+pub mod ChainLemmas
+pub mod FormLemmas
+pub mod FaultLemmas
+pub mod StopLemmas

@@ -1,0 +1,3 @@
+pub mod FormsRead
+pub mod Stops
+pub mod StopsSupport

@@ -1,0 +1,2 @@
+pub mod PassingLemmas
+mod Worked

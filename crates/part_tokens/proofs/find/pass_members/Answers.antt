@@ -1,0 +1,5 @@
+use Rattle.part_tokens.proofs.PassingLemmas.{member_passed}
+use Rattle.part_tokens.proofs.find.pass_members.Goals as goal
+
+pub loop-i-preserved : goal.loop-i-preserved
+loop-i-preserved c = member_passed c.args.depth c.args.count c.loop-i.i c.args.reader.now c.loop-i.reader c.pass_member.new.reader c.loop-i-test.true c.loop-i.invariant c.if-not-pass_member.ensures

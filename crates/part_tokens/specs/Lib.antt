@@ -1,0 +1,2 @@
+pub mod PartTokens
+pub mod Rows

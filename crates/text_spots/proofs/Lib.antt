@@ -1,0 +1,3 @@
+pub mod SpotLemmas
+pub mod ShownLemmas
+mod Worked

@@ -1,0 +1,4 @@
+pub mod Spots
+pub mod Shown
+pub mod Rows
+pub mod SpotsSupport
