@@ -115,7 +115,7 @@ def faults_of_pages():
 
 
 def faults_of_pairs(count, counts):
-    """Pairs of rules that random runs take, and no case. The suite was made with the first 20,000 of them."""
+    """Pairs of rules that random runs take, and no case. The first 20,000 of them were looked through when it was made."""
     missing = Counter()
     for number in range(count):
         compare.R.seed(f"mixed.{number}")
