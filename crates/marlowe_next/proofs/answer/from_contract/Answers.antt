@@ -16,7 +16,7 @@ returns-in-Ok c =
     let after = map (λ text. text.items) c.args.after.now in
     rw c.beside_dropped.ensures
     (reads_on c.args.asked (λ f. trace.Run (contract_fault f)) (λ given. reached_from c.args.asked (contract_tree given) start after) (of_text contract c.args.contract.now) c.in-Ok.whole c.from_state-text.result c.in-Ok.ensures.reading
-      c.from_state-text.ensures)
+    c.from_state-text.ensures)
 
 pub returns-in-Err : goal.returns-in-Err
 returns-in-Err c =

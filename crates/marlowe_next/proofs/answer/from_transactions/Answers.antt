@@ -8,7 +8,7 @@ returns-in-Ok c =
     let left = c.in-Ok.left in
     rw c.beside_dropped.ensures
     (leads_on c.args.asked (contract_tree c.args.whole.now) c.args.start.now c.args.transactions.now left.path (standing left.state (contract_tree left.contract.now)) c.from_left-text.result c.in-Ok.ensures.answer c.in-Ok.ensures.path
-      c.from_left-text.ensures)
+    c.from_left-text.ensures)
 
 pub returns-in-Err : goal.returns-in-Err
 returns-in-Err c = leads_badly c.args.asked (contract_tree c.args.whole.now) c.args.start.now c.args.transactions.now c.in-Err.refused c.fault_of.result c.in-Err.ensures.answer c.fault_of.ensures
