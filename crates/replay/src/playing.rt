@@ -7,6 +7,7 @@ ghost use Rattle.analysis_spec.specs.declared.kind.AlarmKind.TheVariants.{Leaves
 ghost use Rattle.analysis_spec.specs.Runs.{walk_from};
 ghost use Rattle.analysis_spec.specs.CounterRuns.{EndsIn, Tells};
 ghost use Rattle.analysis_spec.specs.Promises.{HasKind};
+ghost use Rattle.replay.specs.PlayedSupport.{played_on, left_standing};
 
 use crate::kinds::has_kind;
 use analysis_spec::AlarmKind;
@@ -89,8 +90,8 @@ fn played<'c>(
     state: &State,
     transaction: &Transaction,
 ) -> Result<Outcome<&'c Contract>, SemFault>
-    ensures answer { AsideBy SemFault.Memory (λ outcome. standing outcome.state (contract_tree outcome.place.now)) result (answer_of (walk_from (standing state.now (contract_tree contract.now)) transaction.now)) }
-    ensures warnings { IfOk result (λ outcome. outcome.warnings ≡ (walk_from (standing state.now (contract_tree contract.now)) transaction.now).warnings) }
+    ensures answer { AsideBy SemFault.Memory left_standing result (answer_of (played_on contract.now state.now transaction.now)) }
+    ensures warnings { IfOk result (λ outcome. outcome.warnings ≡ (played_on contract.now state.now transaction.now).warnings) }
 {
     Plain::new().compute(
         alloc,
