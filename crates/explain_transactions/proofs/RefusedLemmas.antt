@@ -158,8 +158,8 @@ pub unmatched_refused : (i : Interval) (s : StateMaps) (c : ContractTree) (xs : 
 unmatched_refused i s c xs n place there h =
     reached_fault i s c xs h.front (h.input ∷ h.rest) place there h.reaches NoMatch (λ m. cc) (unmatched_answer (trimmed i s) there h.input h.rest h.waits h.untaken h.within).0
 
-useless_refused : (i : Interval) (s : StateMaps) (c : ContractTree) (xs : List Input) → HasNothingToDo i s c xs → Refused i s c xs Useless
-useless_refused i s c xs h =
+useless_refused : (i : Interval) (s : StateMaps) (c : ContractTree) (xs : List Input) (place : List PathStep) (there : Standing) → HasNothingToDo i s c xs place there → Refused i s c xs Useless
+useless_refused i s c xs place there h =
     let j = trimmed i s in
     let a = standing (begun i s) c in
     ap (λ ys. answer_of (computed i s c ys)) h.inputs ∙ (ap answer_of (computed_rest i s c [] h.starts h.ends) ∙ ap (λ (w : Walk). answer_of (finished w)) (rest_quiet j a [] h.waits))
@@ -190,7 +190,7 @@ explained_is_refused i s c xs why.InvalidInterval h = ap answer_of (computed_inv
 explained_is_refused i s c xs (why.IntervalInPast least) h = ap answer_of (computed_past i s c xs h.0 h.1)
 explained_is_refused i s c xs (why.Ambiguous place t) h = ambiguous_refused i s c xs place t h
 explained_is_refused i s c xs (why.NoMatch n left) h = unmatched_refused i s c xs n left.path (standing left.state (contract_tree left.contract.now)) h
-explained_is_refused i s c xs why.Useless h = useless_refused i s c xs h
+explained_is_refused i s c xs (why.Useless left) h = useless_refused i s c xs left.path (standing left.state (contract_tree left.contract.now)) h
 explained_is_refused i s c xs (why.ValueLeaves place) h = either (reduced_refused i s c xs place) (tried_refused i s c xs place) h
 explained_is_refused i s c xs (why.SumLeaves place p t) h = either (paid_refused i s c xs place (account_of p.now t.now)) (deposited_refused i s c xs place (account_of p.now t.now)) h
 

@@ -78,11 +78,13 @@ pub record IsUnmatchedAt (i : Interval) (s : StateMaps) (c : ContractTree) (xs :
   pub untaken : taken_case (trimmed i s) there.state input (waits_for there.contract) ≡ None
   pub within : leaving_case (trimmed i s) there.state input (waits_for there.contract) ≡ None
 
--- there is no input, and nothing to reduce
-pub record HasNothingToDo (i : Interval) (s : StateMaps) (c : ContractTree) (xs : List Input) : Type 0 where
+-- there is no input, and nothing to reduce: it stands at its beginning
+pub record HasNothingToDo (i : Interval) (s : StateMaps) (c : ContractTree) (xs : List Input) (place : List PathStep) (there : Standing) : Type 0 where
+  pub inputs : xs ≡ []
+  pub path : place ≡ []
+  pub stands : there ≡ standing (begun i s) c
   pub starts : i.from ≤ℤ i.to
   pub ends : s.min_time ≤ℤ i.to
-  pub inputs : xs ≡ []
   pub waits : Quiet (trimmed i s) (begun i s) c
 
 -- ---- the first number that leaves 128 bits
@@ -144,7 +146,7 @@ Explains i s c xs why.InvalidInterval = i.to <ℤ i.from
 Explains i s c xs (why.IntervalInPast least) = (i.from ≤ℤ i.to) × (i.to <ℤ s.min_time) × (least ≡ s.min_time)
 Explains i s c xs (why.Ambiguous place timeout) = IsAmbiguousAt i s c xs place timeout
 Explains i s c xs (why.NoMatch n left) = IsUnmatchedAt i s c xs n left.path (standing left.state (contract_tree left.contract.now))
-Explains i s c xs why.Useless = HasNothingToDo i s c xs
+Explains i s c xs (why.Useless left) = HasNothingToDo i s c xs left.path (standing left.state (contract_tree left.contract.now))
 Explains i s c xs (why.ValueLeaves place) = ValueLeaves i s c xs place
 Explains i s c xs (why.SumLeaves place owner token) = SumLeaves i s c xs place (account_of owner.now token.now)
 
@@ -154,6 +156,6 @@ fault_of why.InvalidInterval = faults.InvalidInterval
 fault_of (why.IntervalInPast least) = faults.IntervalInPast
 fault_of (why.Ambiguous place timeout) = faults.Ambiguous
 fault_of (why.NoMatch n left) = faults.NoMatch
-fault_of why.Useless = faults.Useless
+fault_of (why.Useless left) = faults.Useless
 fault_of (why.ValueLeaves place) = faults.Leaves128
 fault_of (why.SumLeaves place owner token) = faults.Leaves128

@@ -17,8 +17,8 @@ pub enum Explanation<'a> {
     Ambiguous(Items<PathStep>, i64),
     /// `NoMatch`: the input at this index, from 0, is the first that no case takes. So the contract waits then, or it is closed.
     NoMatch(usize, Left<'a>),
-    /// `Useless`: there is no input, and nothing to reduce.
-    Useless,
+    /// `Useless`: there is no input, and nothing to reduce. So the contract waits, or it is closed.
+    Useless(Left<'a>),
     /// `Leaves128`: the first number that leaves 128 bits is one of the value or the observation at this place.
     ValueLeaves(Items<PathStep>),
     /// `Leaves128`: the first number that leaves 128 bits is the sum that is made at this place in the account of an owner and a

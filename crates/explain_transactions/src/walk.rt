@@ -40,10 +40,15 @@ pub fn explain<'a>(
     }
     let fixed = fixed(interval, state);
     let begun = begun(state, interval)?;
-    if inputs.is_empty() && is_quiet(contract, &begun, fixed) {
-        return Ok(Some(Explanation::Useless));
+    let left = Left {
+        state: begun,
+        contract,
+        path: Items::new(alloc),
+    };
+    if inputs.is_empty() && is_quiet(contract, &left.state, fixed) {
+        return Ok(Some(Explanation::Useless(left)));
     }
-    walk(alloc, contract, begun, fixed, inputs)
+    walk(alloc, left, fixed, inputs)
 }
 
 // The interval with its start moved up to the minimum time.
@@ -68,19 +73,14 @@ fn begun(state: &State, interval: Interval) -> Result<State, Memory>
 // What stops a transaction, once its interval is fixed; none where all inputs are taken.
 fn walk<'a>(
     alloc: Global,
-    contract: &'a Contract,
-    state: State,
+    mut left: Left<'a>,
     interval: Interval,
     inputs: &'a [Input],
 ) -> Result<Option<Explanation<'a>>, Memory>
-    ensures { IfOk result (Tells interval state (contract_tree contract.now) inputs.now) }
+    requires { left.entry.path ≡ [] }
+    ensures { IfOk result (Tells interval left.entry.state (contract_tree left.entry.contract.now) inputs.now) }
 {
     let mut log = Log::new(alloc);
-    let mut left = Left {
-        state,
-        contract,
-        path: Items::new(alloc),
-    };
     if let Some(stop) = settle(&mut left, interval, &mut log)? {
         return Ok(Some(told(left, 0, stop)));
     }

@@ -1,0 +1,2 @@
+mod IndentLemmas
+mod Worked
