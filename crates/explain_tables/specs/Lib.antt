@@ -1,0 +1,3 @@
+pub mod Depths
+pub mod Rows
+pub mod DepthsSupport
