@@ -5,4 +5,5 @@ pub mod AfterLemmas
 pub mod RefusedLemmas
 pub mod ToldLemmas
 pub mod PlacesLemmas
+pub mod SettledLemmas
 pub mod Worked

@@ -5,7 +5,10 @@ use Rattle.contract.specs.declared.input.Input.{Input}
 use Rattle.contract.specs.declared.interval.Interval.{Interval}
 use Rattle.contract.specs.Tree.{ContractTree}
 use Rattle.states.specs.States.{StateMaps}
-use Rattle.semantics.specs.Walk.{Standing, answer_of}
+use Rattle.semantics.specs.Walk.{Standing, ended, answer_of}
+use Rattle.semantics.specs.Reduction.{Quiet}
+use Rattle.semantics.specs.Transaction.{trimmed}
+use Rattle.next_inputs.specs.Opening.{opening}
 use Rattle.semantics.specs.Computed.{computed}
 use Rattle.analysis_spec.specs.declared.path.PathStep.{PathStep}
 use Rattle.analysis_spec.specs.Marks.{led}
@@ -33,3 +36,8 @@ PlacesStand = (i : Interval) (s : StateMaps) (c : ContractTree) (xs front rest :
 abbrev pub PlacesAreLed : Type 0
 PlacesAreLed = (i : Interval) (s : StateMaps) (c : ContractTree) (xs : List Input) (n : ℕ) (place : List PathStep) (there : Standing) → IsUnmatchedAt i s c xs n place there
     → place ≡ led [] (computed i s c xs).turns
+
+-- where it waits, nothing is left to reduce over the interval as it is fixed: so what can be done next there is what its cases take
+abbrev pub WaitingIsSettled : Type 0
+WaitingIsSettled = (i : Interval) (s : StateMaps) (c : ContractTree) (xs front rest : List Input) (place : List PathStep) (there : Standing) → Reaches i s c xs front rest place there → Quiet (trimmed i s) there.state there.contract
+    → opening (trimmed i s) there.state there.contract ≡ ended (Ok there)

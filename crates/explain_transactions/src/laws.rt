@@ -1,6 +1,6 @@
 //! What an explanation tells, in the terms of the transaction function: laws of the definitions, each the contract of a function that
 //! does nothing.
-ghost use Rattle.explain_transactions.specs.Laws.{ExplainedIsRefused, FirstIsTold, PlacesStand, PlacesAreLed};
+ghost use Rattle.explain_transactions.specs.Laws.{ExplainedIsRefused, FirstIsTold, PlacesStand, PlacesAreLed, WaitingIsSettled};
 ghost use Rattle.explain_transactions.specs.Rows.{SecondIsUnmatched, TimeoutIsInside, SumIsTold};
 
 /// A transaction that is explained is refused, with the fault that the explanation is of.
@@ -22,6 +22,12 @@ pub fn the_first_input_is_told()
 pub fn places_are_where_it_stands()
     ensures stands { PlacesStand }
     ensures led { PlacesAreLed }
+{}
+
+/// Where the contract waits when an input comes, nothing is left to reduce: so what can be done next there is what its cases take.
+#[tactic(auto, using(crate::proofs::SettledLemmas::waiting_is_settled))]
+pub fn waiting_is_settled()
+    ensures { WaitingIsSettled }
 {}
 
 /// Worked rows, each computed on the definitions.

@@ -15,5 +15,8 @@ mod stop;
 mod walk;
 
 pub use explanation::Explanation;
-pub use laws::{explained_transactions_are_refused, places_are_where_it_stands, the_first_input_is_told, worked_explanations};
+pub use laws::{
+    explained_transactions_are_refused, places_are_where_it_stands, the_first_input_is_told,
+    waiting_is_settled, worked_explanations,
+};
 pub use walk::explain;
