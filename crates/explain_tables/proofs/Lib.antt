@@ -1,0 +1,2 @@
+mod DepthLemmas
+mod Worked
