@@ -1,5 +1,5 @@
 -- One reduction of the code, as a move.
-use Rattle.std.proofs.Common.{◌≡◌, ◌≢◌, ℤ, pos, int_lt, int_le, Bool, true, false, cond, ◌&&◌, not, List, [], ◌∷◌, ◌++◌, map, append-nil, refl, sym, ap, ◌∙◌, subst, inl, inr, ◌⊎◌, Option, Some, None, Result, Ok, Err}
+use Rattle.std.proofs.Common.{◌≡◌, ◌≢◌, ◌<◌, ℤ, pos, int_lt, int_le, Bool, true, false, cond, ◌&&◌, not, List, [], ◌∷◌, ◌++◌, map, append-nil, refl, sym, ap, ◌∙◌, subst, inl, inr, ◌⊎◌, Option, Some, None, Result, Ok, Err}
 use Rattle.std.specs.Prelude.{is_err}
 use Rattle.std.specs.Int.{int_min}
 use Rattle.std.specs.FinMap.{entries}
@@ -22,7 +22,7 @@ use Rattle.semantics.specs.Computed.{pay_step, settled}
 use Rattle.semantics.specs.Reduced.{CodeStep, stops, goes, step, reply, stop_reply, state_after, turn_of, turns_of, is_quiet, is_none_left}
 use Rattle.semantics.proofs.Integers.{true_lt, false_lt, true_le, lt_true}
 use Rattle.semantics.proofs.Relations.{settles_so}
-use Rattle.semantics.proofs.Settling.{Last, stops_well}
+use Rattle.semantics.proofs.Settling.{height, step_less, Last, stops_well}
 use Rattle.analysis_spec.specs.declared.path.PathStep.{PathStep}
 use Rattle.analysis_spec.specs.Marks.{step_of, led}
 use Rattle.trace.proofs.ReducingLemmas.{stays}
@@ -87,6 +87,9 @@ moves_on i p q s c t d h e l =
       inputs = refl;
       path = l ∙ ap (λ (x : CodeStep). p ++ step_of (turn_of x)) g.1;
     }
+
+pub moves_less : (i : Interval) (s : StateMaps) (c d : ContractTree) → reply (step i s c) ≡ Ok (Some d) → height d < height c
+moves_less i s c d h = let g = went (step i s c) d h in subst (λ (x : ContractTree). height x < height c) (sym g.3) (step_less i s c g.0 g.1)
 
 -- the last one, behind which all is quiet
 pub moves_last : (i : Interval) (p : List PathStep) (s : StateMaps) (c : ContractTree) (t : StateMaps) → reply (step i s c) ≡ Ok None → t ≡ state_after s (step i s c)

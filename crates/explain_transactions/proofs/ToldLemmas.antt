@@ -19,9 +19,11 @@ use Rattle.trace.specs.declared.sequence.Left.{Left}
 use Rattle.explain_transactions.specs.declared.explanation.Explanation.{Explanation}
 use Rattle.explain_transactions.specs.declared.stop.Stop.{Stop}
 use Rattle.explain_transactions.specs.declared.stop.Stop.TheVariants as stops
+use Rattle.explain_transactions.specs.declared.stop.Moved.{Moved}
+use Rattle.explain_transactions.specs.declared.stop.Moved.TheVariants as moved
 use Rattle.explain_transactions.specs.Moves.{Move, IsTaken, Moves, turn_by, input_by, Comes}
 use Rattle.explain_transactions.specs.Explained.{Reaches, IsUnmatchedAt, Explains}
-use Rattle.explain_transactions.specs.Support.{here, Stops, LeadsTo, RestsAfter, StopsAfter, TakesOrStops, TakesAndSettles, explanation, Tells}
+use Rattle.explain_transactions.specs.Support.{here, Stops, LeadsTo, RestsAfter, StopsAfter, HasMoved, TakesOrStops, TakesAndSettles, explanation, Tells}
 use Rattle.explain_transactions.proofs.MovesLemmas.{comes_then, comes_by_input}
 use Rattle.explain_transactions.proofs.AfterLemmas.{rest, computed_rest, reached}
 use Rattle.explain_transactions.proofs.RefusedLemmas.{reached_end}
@@ -49,6 +51,12 @@ rests_then j xs old mid new h k = (subst (λ (zs : List Input). LeadsTo j zs old
 
 pub stops_then : (j : Interval) (xs : List Input) (old mid new : Left) (stop : Stop) → LeadsTo j xs old mid mid.state → StopsAfter j [] mid new stop → StopsAfter j xs old new stop
 stops_then j xs old mid new stop h k = (k.0, subst (λ (zs : List Input). LeadsTo j zs old new k.0) (append-nil xs) (leads_then j xs [] old mid new k.0 h k.1), k.2)
+
+-- a reduction behind others
+pub moved_then : (j : Interval) (old mid new : Left) (m : Moved) → LeadsTo j [] old mid mid.state → HasMoved j mid new m → HasMoved j old new m
+moved_then j old mid new moved.On h k = leads_then j [] [] old mid new new.state h k
+moved_then j old mid new moved.Rests h k = (leads_then j [] [] old mid new new.state h k.0, k.1)
+moved_then j old mid new (moved.Stops stop) h k = (k.0, leads_then j [] [] old mid new k.0 h k.1, k.2)
 
 -- ---- explanations
 

@@ -16,6 +16,7 @@ use Rattle.semantics.specs.Reduction.{Quiet, IsAmbiguous, account_of}
 use Rattle.semantics.specs.Applying.{taken}
 use Rattle.semantics.specs.Transaction.{trimmed, begun}
 use Rattle.semantics.specs.Computed.{computed}
+use Rattle.semantics.proofs.Settling.{height}
 use Rattle.next_inputs.specs.Taking.{taken_case, leaving_case}
 use Rattle.analysis_spec.specs.declared.path.PathStep.TheVariants.{Case, Action}
 use Rattle.trace.specs.declared.sequence.Left.{Left}
@@ -83,6 +84,11 @@ abbrev pub HasMoved : Interval → Left → Left → Moved → Type 0
 HasMoved j old new moved.On = LeadsTo j [] old new new.state
 HasMoved j old new moved.Rests = RestsAfter j [] old new
 HasMoved j old new (moved.Stops stop) = StopsAfter j [] old new stop
+
+-- one that goes on comes to a lesser part
+abbrev pub Descends : Left → Left → Moved → Type 0
+Descends old new moved.On = height (contract_tree new.contract.now) < height (contract_tree old.contract.now)
+Descends old new m = Unit {0}
 
 abbrev pub Settles : Interval → Left → Left → Option Stop → Type 0
 Settles j old new None = RestsAfter j [] old new

@@ -3,7 +3,7 @@ ghost use Rattle.std.specs.Prelude.{◌≡◌, not, IfOk, IfSome};
 ghost use Rattle.contract.specs.Tree.{contract_tree};
 ghost use Rattle.evaluation.specs.Numbers.{all_fit};
 ghost use Rattle.explain_transactions.specs.Explained.{own_numbers};
-ghost use Rattle.explain_transactions.specs.Support.{IsInside, IsPayment, HasMoved, Settles};
+ghost use Rattle.explain_transactions.specs.Support.{IsInside, IsPayment, HasMoved, Descends, Settles};
 
 use crate::stop::{Moved, Stop};
 use collections::Memory;
@@ -37,7 +37,8 @@ fn reduce_once<'a>(
     interval: Interval,
     log: &mut Log,
 ) -> Result<Moved<'a>, Memory>
-    ensures { IfOk result (HasMoved interval left.old left.new) }
+    ensures moved { IfOk result (HasMoved interval left.old left.new) }
+    ensures less { IfOk result (Descends left.old left.new) }
 {
     if let Some(timeout) = timeout_inside(&Plain::new(), left.contract, interval) {
         return Ok(Moved::Stops(Stop::Ambiguous(timeout)));
