@@ -117,7 +117,7 @@ further_on n (Some m) = let e : n + suc m ≡ (n + 1) + m = omega arith in ap (�
 
 pub further_none : (o : Option ℕ) → further 0 o ≡ o
 further_none None = refl
-further_none (Some m) = refl
+further_none (Some m) = let e : 0 + m ≡ m = omega arith in ap (λ l. let o : Option ℕ = Some l in o) e
 
 fault_false : (b m : Bool) (f : SemFault) → Err f ≡ cond b (Ok m) (Err Leaves128) → b ≡ false
 fault_false true m f h = absurd (cc)

@@ -33,7 +33,7 @@ use Rattle.explain_transactions.specs.declared.stop.Stop.{Stop}
 use Rattle.explain_transactions.specs.declared.stop.Stop.TheVariants as stops
 use Rattle.explain_transactions.specs.declared.stop.Moved.{Moved}
 use Rattle.explain_transactions.specs.declared.stop.Moved.TheVariants as moved
-use Rattle.explain_transactions.specs.Support.{here, PaysInto, IsPayment, Stops, StopsAfter, HasMoved}
+use Rattle.explain_transactions.specs.Support.{here, PaysInto, IsPayment, timeout_inside, IsInside, Stops, StopsAfter, HasMoved, is_on, Descends}
 use Rattle.explain_transactions.proofs.MovesLemmas.{comes_nowhere, runs_moves, no_inputs, turns_same}
 
 -- ---- what a step's reply tells
@@ -183,6 +183,35 @@ fails_leaving ns x = by (all_fit ns)
     by : (b : Bool) → is_err (cond b (Ok x) (Err Leaves128)) ≡ not b
     by true = refl
     by false = refl
+
+pub payment_less : (old new : Left) (c : ContractTree) (m : Moved) → IsPayment m c → Descends old new m
+payment_less old new c moved.On q = absurd q
+payment_less old new c moved.Rests q = tt
+payment_less old new c (moved.Stops stop) q = tt
+
+-- ---- a timeout inside the interval
+
+pub inside_so : (j : Interval) (c : ContractTree) (u : ℤ) → Some u ≡ timeout_inside j c → IsInside j c u
+inside_so j (when ks t d) u h = by (int_lt j.from t) (int_le t j.to) refl refl h
+  where
+    by : (b e : Bool) → int_lt j.from t ≡ b → int_le t j.to ≡ e → Some u ≡ cond (b && e) (Some t) None → IsInside j (when ks t d) u
+    by true true f g k =
+        let q : t ≡ u = cc in
+        subst (λ (x : ℤ). IsInside j (when ks t d) x) q (ks, d, refl, true_lt _ _ f, true_le _ _ g)
+    by true false f g k = absurd (cc)
+    by false e f g k = absurd (cc)
+inside_so j close u h = absurd (cc)
+inside_so j (pay p y t v c) u h = absurd (cc)
+inside_so j (if_obs o c d) u h = absurd (cc)
+inside_so j (let_be x v c) u h = absurd (cc)
+inside_so j (assert o c) u h = absurd (cc)
+
+-- ---- one reduction after another
+
+pub on_so : (m : Moved) → is_on m ≡ true → m ≡ moved.On
+on_so moved.On h = refl
+on_so moved.Rests h = absurd (cc)
+on_so (moved.Stops stop) h = absurd (cc)
 
 -- ---- whether there is something to reduce
 

@@ -152,7 +152,7 @@ Refused i s c xs f = answer_of (computed i s c xs) ≡ Err f
 ambiguous_refused : (i : Interval) (s : StateMaps) (c : ContractTree) (xs : List Input) (place : List PathStep) (t : ℤ) → IsAmbiguousAt i s c xs place t → Refused i s c xs Ambiguous
 ambiguous_refused i s c xs place t h =
     let j = trimmed i s in
-    reached_fault i s c xs h.front h.rest place h.there h.reaches Ambiguous (λ m. cc) (ap (λ (w : Walk). answer_of (then_walk w (all_inputs j h.rest))) (fails_when_ambiguous j h.there.state h.there.contract h.inside))
+    reached_fault i s c xs h.front h.rest place h.there h.reaches Ambiguous (λ m. cc) (ap (λ (w : Walk). answer_of (then_walk w (all_inputs j h.rest))) (fails_when_ambiguous j h.there.state h.there.contract (subst (λ (d : ContractTree). IsAmbiguous j h.there.state d) (sym h.waits) (h.after, h.within))))
 
 pub unmatched_refused : (i : Interval) (s : StateMaps) (c : ContractTree) (xs : List Input) (n : ℕ) (place : List PathStep) (there : Standing) → IsUnmatchedAt i s c xs n place there → Refused i s c xs NoMatch
 unmatched_refused i s c xs n place there h =

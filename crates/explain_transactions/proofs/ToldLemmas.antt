@@ -23,7 +23,7 @@ use Rattle.explain_transactions.specs.declared.stop.Moved.{Moved}
 use Rattle.explain_transactions.specs.declared.stop.Moved.TheVariants as moved
 use Rattle.explain_transactions.specs.Moves.{Move, IsTaken, Moves, turn_by, input_by, Comes}
 use Rattle.explain_transactions.specs.Explained.{Reaches, IsUnmatchedAt, Explains}
-use Rattle.explain_transactions.specs.Support.{here, Stops, LeadsTo, RestsAfter, StopsAfter, HasMoved, TakesOrStops, TakesAndSettles, explanation, Tells}
+use Rattle.explain_transactions.specs.Support.{here, Stops, LeadsTo, RestsAfter, StopsAfter, HasMoved, Settles, TakesOrStops, TakesAndSettles, explanation, Tells}
 use Rattle.explain_transactions.proofs.MovesLemmas.{comes_then, comes_by_input}
 use Rattle.explain_transactions.proofs.AfterLemmas.{rest, computed_rest, reached}
 use Rattle.explain_transactions.proofs.RefusedLemmas.{reached_end}
@@ -52,6 +52,11 @@ rests_then j xs old mid new h k = (subst (λ (zs : List Input). LeadsTo j zs old
 pub stops_then : (j : Interval) (xs : List Input) (old mid new : Left) (stop : Stop) → LeadsTo j xs old mid mid.state → StopsAfter j [] mid new stop → StopsAfter j xs old new stop
 stops_then j xs old mid new stop h k = (k.0, subst (λ (zs : List Input). LeadsTo j zs old new k.0) (append-nil xs) (leads_then j xs [] old mid new k.0 h k.1), k.2)
 
+-- an input, and the reductions behind it
+pub settles_on : (j : Interval) (x : Input) (old mid new : Left) → TakesOrStops j x old mid None → (stop : Option Stop) → Settles j mid new stop → TakesAndSettles j x old new stop
+settles_on j x old mid new h None k = rests_then j (x ∷ []) old mid new (takes_one j x old mid h) k
+settles_on j x old mid new h (Some stop) k = inr (stops_then j (x ∷ []) old mid new stop (takes_one j x old mid h) k)
+
 -- a reduction behind others
 pub moved_then : (j : Interval) (old mid new : Left) (m : Moved) → LeadsTo j [] old mid mid.state → HasMoved j mid new m → HasMoved j old new m
 moved_then j old mid new moved.On h k = leads_then j [] [] old mid new new.state h k
@@ -72,7 +77,8 @@ module _ (i : Interval) (s : StateMaps) (c : ContractTree) (xs : List Input) (st
     cases = k.0;
     then = k.1;
     waits = k.2;
-    inside = k.3;
+    after = k.3;
+    within = k.4;
   }
   stop_explains front ys new n stops.Value t e h k =
       inl (record { front = front; rest = ys; there = standing t (contract_tree new.contract.now); reaches = record { starts = starts; ends = ends; inputs = e; comes = h }; leaves = k })

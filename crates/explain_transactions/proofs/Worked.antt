@@ -60,7 +60,8 @@ timeout_is_inside = record {
   cases = no_cases;
   then = close;
   waits = refl;
-  inside = (omega (arith, ints), omega (arith, ints));
+  after = omega (arith, ints);
+  within = omega (arith, ints);
 }
 
 has_three : balance a_has_three party_a ada ≡ pos 3

@@ -15,7 +15,7 @@ use Rattle.evaluation.specs.Evaluation.{eval, visited, looked}
 use Rattle.evaluation.specs.Numbers.{all_fit}
 use Rattle.evaluation.specs.Path.{waits_for}
 use Rattle.semantics.specs.Walk.{Standing, standing}
-use Rattle.semantics.specs.Reduction.{Quiet, IsAmbiguous, account_of}
+use Rattle.semantics.specs.Reduction.{Quiet, account_of}
 use Rattle.semantics.specs.Applying.{taken_numbers}
 use Rattle.semantics.specs.Computed.{pay_step}
 use Rattle.semantics.specs.Transaction.{trimmed, begun}
@@ -65,7 +65,8 @@ pub record IsAmbiguousAt (i : Interval) (s : StateMaps) (c : ContractTree) (xs :
   pub cases : CaseTrees
   pub then : ContractTree
   pub waits : there.contract ≡ when cases timeout then
-  pub inside : IsAmbiguous (trimmed i s) there.state there.contract
+  pub after : (trimmed i s).from <ℤ timeout
+  pub within : timeout ≤ℤ i.to
 
 -- the input at an index is the first that no case takes: those before it are taken, and the contract waits so
 pub record IsUnmatchedAt (i : Interval) (s : StateMaps) (c : ContractTree) (xs : List Input) (n : ℕ) (place : List PathStep) (there : Standing) : Type 0 where

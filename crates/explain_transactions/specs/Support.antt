@@ -1,6 +1,6 @@
 -- No reader needs this file: it serves private functions.
 -- How a walk through a transaction goes on from where it stands, and where it stops.
-use Rattle.std.specs.Prelude.{◌≡◌, ℕ, ℤ, ◌≤ℤ◌, ◌<◌, false, List, [], ◌∷◌, ◌++◌, length, Option, Some, None, IsOk, MatchOption, ◌⊎◌}
+use Rattle.std.specs.Prelude.{◌≡◌, ℕ, ℤ, ◌≤ℤ◌, ◌<ℤ◌, int_lt, int_le, ◌<◌, ◌&&◌, if◌then◌else◌, Bool, true, false, List, [], ◌∷◌, ◌++◌, length, Option, Some, None, IsOk, MatchOption, ◌⊎◌}
 use Rattle.names.specs.declared.party.Party.{Party}
 use Rattle.names.specs.declared.payee.Payee.TheVariants.{Account as ToAccount}
 use Rattle.names.specs.declared.token.Token.{Token}
@@ -12,7 +12,7 @@ use Rattle.states.specs.States.{StateMaps}
 use Rattle.evaluation.specs.Numbers.{all_fit}
 use Rattle.evaluation.specs.Path.{waits_for}
 use Rattle.semantics.specs.Walk.{Standing, standing, answer_of}
-use Rattle.semantics.specs.Reduction.{Quiet, IsAmbiguous, account_of}
+use Rattle.semantics.specs.Reduction.{Quiet, account_of}
 use Rattle.semantics.specs.Applying.{taken}
 use Rattle.semantics.specs.Transaction.{trimmed, begun}
 use Rattle.semantics.specs.Computed.{computed}
@@ -46,12 +46,16 @@ IsFound j s x ks (found.Leaves n) = leaving_case j s x ks ≡ Some n
 -- ---- reductions
 
 -- the timeout of a When that lies inside the interval
-abbrev pub IsInside : Interval → StateMaps → ContractTree → ℤ → Type 0
-IsInside j s c t = (ks : CaseTrees) × (d : ContractTree) × (c ≡ when ks t d) × IsAmbiguous j s c
+abbrev pub timeout_inside : Interval → ContractTree → Option ℤ
+timeout_inside j (when ks t c) = if int_lt j.from t && int_le t j.to then Some t else None
+timeout_inside j c = None
+
+abbrev pub IsInside : Interval → ContractTree → ℤ → Type 0
+IsInside j c t = (ks : CaseTrees) × (d : ContractTree) × (c ≡ when ks t d) × (j.from <ℤ t) × (t ≤ℤ j.to)
 
 -- why a contract can't be reduced
 abbrev pub Stops : Interval → StateMaps → ContractTree → Stop → Type 0
-Stops j s c (stops.Ambiguous t) = IsInside j s c t
+Stops j s c (stops.Ambiguous t) = IsInside j c t
 Stops j s c stops.Value = all_fit (own_numbers j s c) ≡ false
 Stops j s c (stops.Sum p t) = PaymentLeaves j s c (account_of p.now t.now)
 Stops j s c stops.Unmatched = ⊥
@@ -84,6 +88,10 @@ abbrev pub HasMoved : Interval → Left → Left → Moved → Type 0
 HasMoved j old new moved.On = LeadsTo j [] old new new.state
 HasMoved j old new moved.Rests = RestsAfter j [] old new
 HasMoved j old new (moved.Stops stop) = StopsAfter j [] old new stop
+
+abbrev pub is_on : Moved → Bool
+is_on moved.On = true
+is_on m = false
 
 -- one that goes on comes to a lesser part
 abbrev pub Descends : Left → Left → Moved → Type 0

@@ -70,7 +70,8 @@ fn take_at<'a>(
 {
     match take(input, &mut left.state, log) {
         Ok(()) => {
-            let case = Plain::new().case(left.contract, index);
+            let plain = Plain::new();
+            let case = plain.case(left.contract, index);
             left.path.push(PathStep::Case(index))?;
             left.contract = case.then;
             Ok(None)

@@ -11,21 +11,18 @@ pub fn explained_transactions_are_refused()
 
 /// The input that is told is the first that is refused: with those before it the transaction is accepted or does nothing, and with
 /// it alone behind them it is refused for it.
-#[tactic(auto, using(crate::proofs::RefusedLemmas::first_is_told))]
 pub fn the_first_input_is_told()
     ensures { FirstIsTold }
 {}
 
 /// The place that is told is where the contract stands: the path leads there, and so do the turns of the transaction function up to
 /// where no case takes the input.
-#[tactic(auto, using(crate::proofs::PlacesLemmas::places_stand, crate::proofs::RefusedLemmas::places_are_led))]
 pub fn places_are_where_it_stands()
     ensures stands { PlacesStand }
     ensures led { PlacesAreLed }
 {}
 
 /// Where the contract waits when an input comes, nothing is left to reduce: so what can be done next there is what its cases take.
-#[tactic(auto, using(crate::proofs::SettledLemmas::waiting_is_settled))]
 pub fn waiting_is_settled()
     ensures { WaitingIsSettled }
 {}

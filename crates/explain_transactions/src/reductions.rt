@@ -1,9 +1,9 @@
 //! Reductions, up to where all is quiet or one can't be made.
-ghost use Rattle.std.specs.Prelude.{◌≡◌, not, IfOk, IfSome};
+ghost use Rattle.std.specs.Prelude.{◌≡◌, not, true, IfOk, MatchOption};
 ghost use Rattle.contract.specs.Tree.{contract_tree};
 ghost use Rattle.evaluation.specs.Numbers.{all_fit};
 ghost use Rattle.explain_transactions.specs.Explained.{own_numbers};
-ghost use Rattle.explain_transactions.specs.Support.{IsInside, IsPayment, HasMoved, Descends, Settles};
+ghost use Rattle.explain_transactions.specs.Support.{timeout_inside, IsPayment, Stops, HasMoved, is_on, Descends, Settles};
 
 use crate::stop::{Moved, Stop};
 use collections::Memory;
@@ -22,13 +22,20 @@ pub(crate) fn settle<'a>(
     ensures { IfOk result (Settles interval left.old left.new) }
 {
     let mut moved = reduce_once(left, interval, log)?;
-    while matches!(moved, Moved::On) {
+    while is_on(moved) {
         moved = reduce_once(left, interval, log)?;
     }
     match moved {
         Moved::Stops(stop) => Ok(Some(stop)),
-        _ => Ok(None),
+        Moved::Rests => Ok(None),
+        Moved::On => Err(AllocError),
     }
+}
+
+fn is_on(moved: Moved<'_>) -> bool
+    ensures { result ≡ is_on moved.entry }
+{
+    matches!(moved, Moved::On)
 }
 
 // One reduction, or why it can't be made.
@@ -40,12 +47,36 @@ fn reduce_once<'a>(
     ensures moved { IfOk result (HasMoved interval left.old left.new) }
     ensures less { IfOk result (Descends left.old left.new) }
 {
-    if let Some(timeout) = timeout_inside(&Plain::new(), left.contract, interval) {
-        return Ok(Moved::Stops(Stop::Ambiguous(timeout)));
+    match stop_before(left.contract, &left.state, interval) {
+        Some(stop) => Ok(Moved::Stops(stop)),
+        None => reduce_on(left, interval, log),
     }
-    if own_leaves(&Plain::new(), left.contract, &left.state, interval) {
-        return Ok(Moved::Stops(Stop::Value));
+}
+
+// Why a contract can't be reduced: a timeout inside the interval, or a number of its own that leaves 128 bits.
+fn stop_before<'a>(contract: &'a Contract, state: &State, interval: Interval) -> Option<Stop<'a>>
+    ensures { MatchOption result (all_fit (own_numbers interval state.now (contract_tree contract.now)) ≡ true)
+        (Stops interval state.now (contract_tree contract.now)) }
+{
+    if let Some(timeout) = timeout_inside(&Plain::new(), contract, interval) {
+        return Some(Stop::Ambiguous(timeout));
     }
+    if own_leaves(&Plain::new(), contract, state, interval) {
+        return Some(Stop::Value);
+    }
+    None
+}
+
+// One reduction, where no number of the value or the observation leaves 128 bits.
+fn reduce_on<'a>(
+    left: &mut Left<'a>,
+    interval: Interval,
+    log: &mut Log,
+) -> Result<Moved<'a>, Memory>
+    requires { all_fit (own_numbers interval left.old.state (contract_tree left.old.contract.now)) ≡ true }
+    ensures moved { IfOk result (HasMoved interval left.old left.new) }
+    ensures less { IfOk result (Descends left.old left.new) }
+{
     let here = Stepped {
         contract: left.contract,
         step: None,
@@ -65,7 +96,7 @@ fn reduce_once<'a>(
 // The timeout of a When that lies inside the interval, if one does.
 fn timeout_inside<S: Parts>(parts: &S, place: S::Place, interval: Interval) -> Option<i64>
     requires { S.contains parts.now place }
-    ensures { IfSome result (IsInside interval (S.tree parts.now place)) }
+    ensures { result ≡ timeout_inside interval (S.tree parts.now place) }
 {
     match parts.form(place) {
         Form::When(timeout, _) => {

@@ -63,7 +63,7 @@ fn fixed(interval: Interval, state: &State) -> Interval
 
 // The state with that start as its minimum time.
 fn begun(state: &State, interval: Interval) -> Result<State, Memory>
-    ensures { IfOk result (λ begun. begun ≡ begun interval state.now) }
+    ensures { IfOk result (λ it. it ≡ begun interval state.now) }
 {
     let mut begun = state.try_clone()?;
     begun.set_min_time(interval.from.max(state.min_time()));
@@ -77,7 +77,7 @@ fn walk<'a>(
     interval: Interval,
     inputs: &'a [Input],
 ) -> Result<Option<Explanation<'a>>, Memory>
-    requires { left.entry.path ≡ [] }
+    requires { left.path ≡ [] }
     ensures { IfOk result (Tells interval left.entry.state (contract_tree left.entry.contract.now) inputs.now) }
 {
     let mut log = Log::new(alloc);
