@@ -1,6 +1,8 @@
 -- One reduction of the code, as a move.
-use Rattle.std.proofs.Common.{◌≡◌, ◌≢◌, ◌<◌, ℤ, pos, int_lt, int_le, Bool, true, false, cond, ◌&&◌, not, List, [], ◌∷◌, ◌++◌, map, append-nil, refl, sym, ap, ◌∙◌, subst, inl, inr, ◌⊎◌, Option, Some, None, Result, Ok, Err}
+use Rattle.std.proofs.Common.{◌≡◌, ◌≢◌, ◌<◌, ◌==◌, length, arith, ℤ, pos, int_lt, int_le, Bool, true, false, cond, ◌&&◌, not, List, [], ◌∷◌, ◌++◌, map, append-nil, refl, sym, ap, ◌∙◌, subst, inl, inr, ◌⊎◌, Option, Some, None, Result, Ok, Err}
 use Rattle.std.specs.Prelude.{is_err}
+use Rattle.std.proofs.lemmas.Bool.Decides.{nat_tests}
+use Rattle.contract.specs.declared.input.Input.{Input}
 use Rattle.std.specs.Int.{int_min}
 use Rattle.std.specs.FinMap.{entries}
 use Rattle.names.specs.declared.party.Party.{Party}
@@ -222,6 +224,13 @@ none_left (e ∷ es) h = absurd (cc)
 some_left : {A : Type 0} (es : List A) → is_none_left es ≡ false → es ≡ [] → ⊥
 some_left [] h k = cc
 some_left (e ∷ es) h k = cc
+
+pub none_brought : (xs : List Input) → true ≡ (length xs == 0) → xs ≡ []
+none_brought [] h = refl
+none_brought (x ∷ xs) h = absurd (omega (arith, eqb_zero h))
+  where
+    eqb_zero : true ≡ (length (x ∷ xs) == 0) → length (x ∷ xs) ≡ 0
+    eqb_zero k = grind (arith, nat_tests)
 
 pub is_quiet_so : (i : Interval) (s : StateMaps) (c : ContractTree) → is_quiet i s c ≡ true → Quiet i s c
 is_quiet_so i s close h = none_left (entries s.accounts) h
