@@ -37,20 +37,6 @@ pub fn next(
     from_contract(alloc, contract, state, after, asked)
 }
 
-/// The same of a part of a contract that stands at the end of a path, in a state: what `next` prints once transactions have led
-/// there. The fault is that of the interval, or `Memory`.
-pub fn next_there(
-    alloc: Global,
-    whole: &Contract,
-    left: &Left<'_>,
-    asked: Asked,
-) -> Result<Vec<u8>, TraceFault>
-    ensures text { IfOk result (λ text. IsAnswer asked (Ok (reached_at whole.now left.now)) text.items) }
-    ensures answer { AsideBy (TraceFault.Run RunFault.Memory) (λ _. tt) result (answered asked (Ok (reached_at whole.now left.now))) }
-{
-    from_left(alloc, whole, left, asked)
-}
-
 // The contract is read first.
 fn from_contract(
     alloc: Global,

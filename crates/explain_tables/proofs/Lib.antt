@@ -1,2 +1,0 @@
-mod DepthLemmas
-mod Worked

@@ -1,3 +1,0 @@
-pub mod Depths
-pub mod Rows
-pub mod DepthsSupport

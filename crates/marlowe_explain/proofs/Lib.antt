@@ -1,2 +1,0 @@
-mod IndentLemmas
-mod Worked
