@@ -7,3 +7,4 @@ pub mod NamingSupport
 pub mod PartsSupport
 pub mod LocksSupport
 pub mod UnderLocksSupport
+pub mod LentSupport
