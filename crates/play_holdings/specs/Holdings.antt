@@ -1,0 +1,95 @@
+-- WHO HOLDS WHAT after a history: what stands unspent, summed by holder and token.
+use Rattle.std.specs.Prelude.{◌≡◌, ℕ, ◌+◌, ℤ, pos, ◌<ℤ◌, Bool, false, if◌then◌else◌, List, [], ◌∷◌, map, Option, Some, None}
+use Rattle.std.specs.List.{flat_map}
+use Rattle.std.specs.FinMap.{entries}
+use Rattle.std.specs.declared.cmp.Ordering.TheVariants.{Less}
+use Rattle.collections.specs.Total.{total}
+use Rattle.names.specs.declared.token.Token.{Token}
+use Rattle.names.specs.Equal.{same_token}
+use Rattle.bundle.specs.Totals.{total_of}
+use Rattle.eutxo_types.specs.declared.lock.Lock.{Lock}
+use Rattle.eutxo_types.specs.declared.lock.Lock.TheVariants as locks
+use Rattle.eutxo_types.specs.declared.output.Output.{Output}
+use Rattle.eutxo_types.specs.declared.output_ref.OutputRef.{OutputRef}
+use Rattle.eutxo_types.specs.Parts.{same_ref}
+use Rattle.ledger_laws.specs.Past.{Past, unspent}
+use Rattle.ledger_spec.specs.Replay.{Course, world, past_of, published, published_at}
+use Rattle.ledger_spec.specs.Views.{end_of}
+use Rattle.play_holdings.specs.declared.holder.Holder.{Holder}
+use Rattle.play_holdings.specs.declared.holder.Holder.TheVariants.{Address, Payout, Thread, Elsewhere}
+use Rattle.play_holdings.specs.declared.holding.Holding.{Holding}
+use Rattle.play_holdings.specs.Holders.{holding_cmp}
+
+-- ---- one by one
+
+-- whether a thread ends at an output
+abbrev pub ends_at : OutputRef → Option OutputRef → Bool
+ends_at r None = false
+ends_at r (Some q) = same_ref q r
+
+-- the first thread that ends there, of these, whose places count from n
+abbrev pub thread_from : ℕ → OutputRef → List (Option OutputRef) → Option ℕ
+thread_from n r [] = None
+thread_from n r (end ∷ ends) = if ends_at r end then Some n else thread_from (n + 1) r ends
+
+abbrev pub thread_holder : Option ℕ → Holder
+thread_holder None = Elsewhere
+thread_holder (Some place) = Thread place
+
+-- who holds an output: the address of a key; whoever shows the token of a payout's role; of a contract the first of the threads that end there
+abbrev pub holder_under : List (Option OutputRef) → OutputRef → Lock → Holder
+holder_under ends r (locks.Key address) = Address address
+holder_under ends r (locks.Payout currency role) = Payout currency role
+holder_under ends r (locks.Contract script digest) = thread_holder (thread_from 0 r ends)
+
+abbrev pub holding_of : Holder → Token × ℤ → Holding
+holding_of holder e = record { holder = holder; token = e.0; amount = e.1 }
+
+-- what an output holds
+abbrev pub held_in : List (Option OutputRef) → OutputRef × Output → List Holding
+held_in ends e = map (holding_of (holder_under ends e.0 e.1.lock)) (entries e.1.amount)
+
+-- what each unspent output holds, in order of creation
+abbrev pub one_by_one : List (Option OutputRef) → Past → List Holding
+one_by_one ends past = flat_map (held_in ends) (unspent past)
+
+-- ---- sums
+
+-- how much these come to, of the holders and tokens that are asked for
+abbrev pub come_to : (Holder → Token → Bool) → List Holding → ℤ
+come_to asked hs = total (λ (h : Holding). if asked h.holder h.token then h.amount else pos 0) hs
+
+-- it stands before each of these
+abbrev pub IsBefore : Holding → List Holding → Type 0
+IsBefore x [] = Unit {0}
+IsBefore x (h ∷ hs) = (holding_cmp x h ≡ Less) × IsBefore x hs
+
+-- each holder and token once, in order
+abbrev pub Ascend : List Holding → Type 0
+Ascend [] = Unit {0}
+Ascend (h ∷ hs) = IsBefore h hs × Ascend hs
+
+abbrev pub AllAbove : List Holding → Type 0
+AllAbove [] = Unit {0}
+AllAbove (h ∷ hs) = (pos 0 <ℤ h.amount) × AllAbove hs
+
+-- SUMS: each holder and token once, in order, with an amount above 0; and whichever holders and tokens are asked for, they come to what they come to
+-- one by one
+pub record AreSums (singly hs : List Holding) : Type 0 where
+  pub ascend : Ascend hs
+  pub above : AllAbove hs
+  pub same : (asked : Holder → Token → Bool) → come_to asked hs ≡ come_to asked singly
+
+-- ---- after a history
+
+-- where the threads that begin at these outputs end
+abbrev pub ends_after : Course → List OutputRef → List (Option OutputRef)
+ends_after c starts = map (end_of (published_at (published c.entries)) (past_of (world c))) starts
+
+-- HOLDINGS: of the threads that begin at these outputs, and of all others
+abbrev pub AreHoldings : Course → List OutputRef → List Holding → Type 0
+AreHoldings c starts hs = AreSums (one_by_one (ends_after c starts) (past_of (world c))) hs
+
+-- TOGETHER, token by token, they are what the ledger began with
+abbrev pub AreWhatThereWas : Course → List Holding → Type 0
+AreWhatThereWas c hs = (t : Token) → come_to (λ holder token. same_token t token) hs ≡ total_of (λ (o : Output). o.amount) t c.genesis
