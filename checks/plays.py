@@ -4,6 +4,7 @@
 Needs    readings.py, ledger.py and random_scenarios.py beside it, and for `--compare` the built program:
          (cd crates/marlowe && rt run -- --version)
 Usage    plays.py SCENARIO                      prints what `marlowe play --one SCENARIO` has to print
+         plays.py --holdings SCENARIO           prints who holds what then, as `--explain` has to tell it
          plays.py --replay SCENARIO PRINTED     makes the calls of a printed play again, in its order
          plays.py --compare N SEED PROGRAM      compares the program on N random scenarios, played on one thread and on many
          plays.py --race N SEED PROGRAM         has the program play N times, with ten plans of a hundred steps each that race for twenty threads
@@ -68,6 +69,23 @@ class Play:
         steps, end = self.chain.spine(start)
         return f"steps {steps} {'open' if end else 'closed'}"
 
+    def holdings(self):
+        """A line for each holder and token: addresses, payouts by currency and role, threads in order, and tokens in their order."""
+        ends = {self.chain.spine(start)[1]: place for place, start in reversed(list(enumerate(self.starts)))}
+        held = collections.Counter()
+        for reference, output in self.chain.unspent.items():
+            for of, number in output.amount.items():
+                held[holder(output.lock, ends.get(reference)), of] += number
+        return [f"{self.holder_text(who)} {token_text(of)} {number}" for (who, of), number in sorted(held.items())]
+
+    def holder_text(self, who):
+        kind, currency, name, place = who
+        if kind == ADDRESS:
+            return f"holds {ledger.compact(name.decode())}"
+        if kind == PAYOUT:
+            return f"unclaimed {ledger.compact(currency.hex())} {ledger.compact(name.decode())}"
+        return f"in thread {ledger.compact(self.scenario['threads'][place]['name'])}" if kind == THREAD else "in no thread"
+
     # The calls of a seat, one after the other; each is sent its reply.
 
     def setup(self):
@@ -129,6 +147,22 @@ class Play:
         return [ledger.Ask(self.starts[step["step"]], plan["keys"], []) for step in steps_of(intent)]
 
 
+ADDRESS, PAYOUT, THREAD, ELSEWHERE = range(4)
+
+
+def holder(lock, place):
+    """Who holds an output under a lock, so that holders stand in the order in which they are told."""
+    if lock[0] == "key":
+        return ADDRESS, b"", lock[1].encode(), 0
+    if lock[0] == "payout":
+        return PAYOUT, lock[1], lock[2].encode(), 0
+    return (ELSEWHERE, b"", b"", 0) if place is None else (THREAD, b"", b"", place)
+
+
+def token_text(of):
+    return "ADA" if of == ledger.ADA else ledger.compact(ledger.token_json(of))
+
+
 def steps_of(intent):
     return intent["steps"] if "steps" in intent else [intent]
 
@@ -163,13 +197,18 @@ def next_call(calls, reply):
         return None
 
 
-def played(text):
-    """The lines of a play whose plans take turns, each whole, on one thread."""
+def played_whole(text):
+    """A play whose plans took turns, each whole, on one thread."""
     play = Play(text)
     run_whole(play, 0, play.setup())
     for place, plan in enumerate(play.scenario["plans"]):
         run_whole(play, place + 1, play.plan(plan))
-    return play.whole()
+    return play
+
+
+def played(text):
+    """The lines of such a play."""
+    return played_whole(text).whole()
 
 
 def run_whole(play, seat, calls):
@@ -350,6 +389,10 @@ def kind(line):
 def main(words):
     if words[:1] == ["--compare"]:
         return compare(int(words[1]), words[2], words[3])
+    if words[:1] == ["--holdings"]:
+        with open(words[1], "rb") as scenario:
+            print(*played_whole(scenario.read()).holdings(), sep="\n")
+        return None
     if words[:1] == ["--race"]:
         return race(int(words[1]), words[2], words[3])
     if words[:1] == ["--replay"]:
