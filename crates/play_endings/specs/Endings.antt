@@ -13,17 +13,13 @@ use Rattle.plans.specs.declared.intent.Intent.{Intent}
 use Rattle.plans.specs.declared.intent.Intent.TheVariants.{Step, Steps, Claim, Round, Advance}
 use Rattle.parties.specs.declared.left_out.LeftOut.{LeftOut}
 use Rattle.play_endings.specs.declared.ending.Ending.{Ending}
+use Rattle.play_endings.specs.declared.endings.Ended.{Ended}
 use Rattle.play_endings.specs.declared.ending.Ending.TheVariants as endings
 
 -- an answered call of a seat: its place in the history, and its reply
 pub record Made : Type 0 where
   pub place : ℕ
   pub reply : Reply
-
--- how an intent ended, and how many calls of its seat were made for it
-pub record Ended : Type 0 where
-  pub ending : Ending
-  pub calls : ℕ
 
 -- ---- what an intent asks to be shown before it is built
 

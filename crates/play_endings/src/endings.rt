@@ -100,3 +100,100 @@ fn after_looks(
         }),
     }
 }
+
+// One attempt, by these calls.
+fn attempt<T, C>(
+    judged: &[Judged<'_>],
+    left: Option<&LeftOut>,
+    intent: &Intent<T, C>,
+    made: &[Made<'_>],
+) -> Result<Ended, Memory>
+    ensures is { IfOk result (λ ended. ended ≡ attempt judged.now (option_copied left.entry) intent.now made.now) }
+    ensures within { IfOk result (λ ended. ended.calls ≤ length made.now) }
+{
+    let looks = looks_of(intent);
+    if made.len() < looks {
+        return Ok(Ended {
+            ending: Ending::Stopped,
+            calls: made.len(),
+        });
+    }
+    match left_by(&made[..looks], left) {
+        Some(fault) => {
+            let ending = unbuilt(is_claim(intent), fault)?;
+            Ok(Ended {
+                ending,
+                calls: looks,
+            })
+        }
+        None => after_looks(judged, looks, made.get(looks)),
+    }
+}
+
+// One attempt, and so many more as long as others are faster.
+fn attempts<T, C>(
+    judged: &[Judged<'_>],
+    left: Option<&LeftOut>,
+    intent: &Intent<T, C>,
+    made: &[Made<'_>],
+) -> Result<Ended, Memory>
+    ensures is { IfOk result (λ ended. ended ≡ attempts 16 judged.now (option_copied left.entry) intent.now made.now) }
+    ensures within { IfOk result (λ ended. ended.calls ≤ length made.now) }
+{
+    let mut calls = 0;
+    for _ in 0..AGAIN {
+        let ended = attempt(judged, left, intent, &made[calls..])?;
+        calls += ended.calls;
+        if !is_overtaken(&ended.ending) {
+            let ending = ended.ending;
+            return Ok(Ended { ending, calls });
+        }
+    }
+    let ended = attempt(judged, left, intent, &made[calls..])?;
+    calls += ended.calls;
+    let ending = ended.ending;
+    Ok(Ended { ending, calls })
+}
+
+// What was left out of the intent at a place, if that is the next.
+fn left_at(left: &[LeftOut], place: usize) -> Option<&LeftOut>
+    ensures { option_copied result ≡ left_at place left.now }
+{
+    match left.first() {
+        Some(first) => {
+            if first.intent == place {
+                Some(first)
+            } else {
+                None
+            }
+        }
+        None => None,
+    }
+}
+
+/// How each intent of a plan ended, in order, each once: by the verdicts of all rounds in their order, by what the party left out,
+/// and by the calls of the plan's seat. It costs what these are long. Answers `Memory` only where a growth was refused.
+pub fn endings_of<T, C>(
+    alloc: Global,
+    judged: &[Judged<'_>],
+    left: &[LeftOut],
+    intents: &[Intent<T, C>],
+    made: &[Made<'_>],
+) -> Result<Vec<Ended>, Memory>
+    ensures endings { IfOk result (λ endings. endings.items ≡ endings_of judged.now left.now intents.now made.now) }
+    ensures once { IfOk result (λ endings. length endings.items ≡ length intents.now) }
+{
+    let mut endings = Vec::new(alloc);
+    let mut calls = 0;
+    let mut told = 0;
+    for (place, intent) in intents.iter().enumerate() {
+        let next = left_at(&left[told..], place);
+        let ended = attempts(judged, next, intent, &made[calls..])?;
+        calls += ended.calls;
+        if next.is_some() {
+            told += 1;
+        }
+        endings.push(ended)?;
+    }
+    Ok(endings)
+}

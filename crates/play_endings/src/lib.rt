@@ -9,5 +9,5 @@ mod made;
 mod replies;
 
 pub use ending::Ending;
-pub use endings::Ended;
+pub use endings::{Ended, endings_of};
 pub use made::{Judged, Made};
