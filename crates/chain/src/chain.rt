@@ -12,12 +12,11 @@ ghost use Rattle.ledger_spec.specs.Records.{AreSteps};
 ghost use Rattle.ledger_spec.specs.Publishing.{InUseByAnother};
 ghost use Rattle.ledger_spec.specs.Standing.{StandsAsTold};
 ghost use Rattle.ledger_spec.specs.Shown.{ShowsWhatWasMade};
-ghost use Rattle.ledger_spec.specs.Views.{end_of, pool_front};
-ghost use Rattle.ledger_laws.specs.Past.{unspent};
+ghost use Rattle.ledger_spec.specs.Views.{pool_front};
 ghost use Rattle.ledger_kept.specs.Kept.{IsTally, IsIndexOf, world_with};
 
 use crate::laws::both_halves_hold_of_legal_histories;
-use chain_index::{Index, LentUnspent, index_follows_threads};
+use chain_index::Index;
 use collections::{Items, Memory, TryClone};
 use eutxo::{Checked, Resolved, found_is_enough};
 use eutxo_types::{Output, OutputRef, Tx};
@@ -351,24 +350,6 @@ impl Chain {
         // touch: brings the invariant
         let _tick = self.first_tick;
         steps_of(alloc, &self.kept(&[]), &self.index, reference)
-    }
-
-    /// All unspent outputs, in order of creation, each once, lent with their references. It costs what there is of them.
-    /// Answers `Memory` only where a growth was refused.
-    pub fn unspent(&self, alloc: Global) -> Result<Vec<LentUnspent<'_>>, Memory>
-        ensures { IfOk result (λ lent. lent.items ≡ unspent (past_of (world self.now))) }
-    {
-        self.index.unspent(alloc)
-    }
-
-    /// Where the thread from a start output ends: at an unspent output of a contract, or nowhere once it is closed. Of
-    /// another output, nowhere. It costs one look-up for each step of the thread, and takes no memory.
-    pub fn end_of(&self, start: &OutputRef) -> Option<OutputRef>
-        ensures { result ≡ end_of (published_at (published self.now.entries)) (past_of (world self.now)) start.now }
-    {
-        // touch: where threads end
-        index_follows_threads();
-        self.index.end_of(start)
     }
 
     /// A chain without entries, whose tick is the one given, in POSIX milliseconds. Refused are outputs of which

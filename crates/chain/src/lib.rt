@@ -11,7 +11,6 @@ mod chain;
 mod laws;
 
 pub use chain::Chain;
-pub use chain_index::LentUnspent;
 pub use laws::both_halves_hold_of_legal_histories;
 pub use ledger::{Call, Entry, Reply, Ticketed};
 pub use ledger_spec::{GenesisFault, StepRecord};

@@ -10,7 +10,6 @@ pub mod DataLemmas
 pub mod ObjectLemmas
 pub mod PlaceLemmas
 pub mod ShownLemmas
-pub mod LentLemmas
 pub mod PartsLemmas
 pub mod PastLemmas
 pub mod ThreadLemmas

@@ -7,4 +7,3 @@ pub mod NamingSupport
 pub mod PartsSupport
 pub mod LocksSupport
 pub mod UnderLocksSupport
-pub mod LentSupport

@@ -10,7 +10,6 @@ ghost use Rattle.chain_index.specs.Contents.{beginning, blocks_in, accepting, pu
 ghost use Rattle.chain_index.specs.Contents.{is_used, is_among, end_in, under_locks_in};
 ghost use Rattle.chain_index.specs.Moves.{along};
 
-use crate::lent::LentUnspent;
 use crate::moves::StepPlace;
 use crate::parts::{Parts, Sizes};
 use collections::{Items, Memory, Text};
@@ -26,8 +25,8 @@ use std::marker::Model;
 /// Clauses see what there was when it was last settled, and what there is now.
 ///
 /// A look-up costs the same whatever there is, and takes no memory; but `steps` and `end_of` make one for each step of
-/// the thread, `keys_shown` and `payouts_shown` one for each lock that is asked for and each output under it, `unspent`
-/// goes over all outputs, and what these and `steps` answer takes memory.
+/// the thread, `keys_shown` and `payouts_shown` one for each lock that is asked for and each output under it, and what
+/// these and `steps` answer takes memory.
 /// Keys are found by their hashes, whose seed is fixed (docs/DECISIONS.md).
 #[derive(Drop)]
 pub struct Index {
@@ -176,13 +175,6 @@ impl Index {
         ensures { IfOk result (λ steps. steps ≡ along start.now self.now.present.moves) }
     {
         self.parts.steps(alloc, start)
-    }
-
-    /// All unspent outputs, in order of creation, each once, lent with their references.
-    pub fn unspent(&self, alloc: Global) -> Result<Vec<LentUnspent<'_>>, Memory>
-        ensures { IfOk result (λ lent. lent.items ≡ self.now.present.unspent) }
-    {
-        self.parts.unspent(alloc)
     }
 
     /// The unspent outputs under the keys of these addresses, in order of creation, each once. It costs what is asked

@@ -13,7 +13,6 @@ mod holes;
 mod index;
 mod index_at;
 mod laws;
-mod lent;
 mod lock_name;
 mod moves;
 mod naming;
@@ -29,5 +28,4 @@ pub use laws::{
     index_accepts_alike, index_follows_threads, index_publishes_alike, index_reads_alike,
     index_tells_data,
 };
-pub use lent::LentUnspent;
 pub use moves::{Move, StepPlace};

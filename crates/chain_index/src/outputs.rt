@@ -1,6 +1,6 @@
 //! Outputs in the order in which they came, with holes where some were spent, found by reference and by lock.
 ghost use Rattle.std.specs.Prelude.{◌≡◌, ◌++◌, ◌∷◌, [], ◌-◌, ◌||◌, ℕ, false, not, filter, length, take, slice_get};
-ghost use Rattle.std.specs.Prelude.{Some, IfOk, OnOk, OnErr, option_copied};
+ghost use Rattle.std.specs.Prelude.{Some, OnOk, OnErr, option_copied};
 ghost use Rattle.std.specs.Map.{lookup, keys_of};
 ghost use Rattle.eutxo_types.specs.Parts.{same_ref};
 ghost use Rattle.chain_index.specs.Contents.{is_among};
@@ -10,7 +10,6 @@ ghost use Rattle.chain_index.specs.UnderLocksSupport.{is_shown, passes_at, has_p
 
 use crate::by_lock::{ByLock, list, refs_under, unlist};
 use crate::holes::{Slots, close_if_many, put, take_out, value_at};
-use crate::lent::{LentUnspent, all_lent};
 use crate::lock_name::LockName;
 use crate::places::{collect, show};
 use collections::{Items, Memory};
@@ -140,17 +139,6 @@ impl Outputs {
         ensures { OnOk result (shown.new ≡ shown.old ++ row (slice_get self.now place)) }
     {
         show(&self.entries, place, shown)
-    }
-
-    /// The outputs that are there and don't leave, in order, lent.
-    pub(crate) fn lent(
-        &self,
-        alloc: Global,
-        leaving: &IndexSet<OutputRef>,
-    ) -> Result<Vec<LentUnspent<'_>>, Memory>
-        ensures { IfOk result (λ lent. lent.items ≡ staying leaving.now.keys (live self.now)) }
-    {
-        all_lent(alloc, &self.entries, leaving)
     }
 }
 

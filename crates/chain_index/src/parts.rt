@@ -15,7 +15,6 @@ ghost use Rattle.chain_index.specs.PartsSupport.{contents_in, no_parts, first_pa
 
 use crate::additions::{bring_all, leave_all, move_all, put_all, start_all};
 use crate::holes::{Slots, close_if_many, is_noted, value_at};
-use crate::lent::LentUnspent;
 use crate::moves::{Move, StepPlace, end_along, steps_along};
 use crate::naming::Naming;
 use crate::objects::{Objects, object_at, put_object};
@@ -307,13 +306,6 @@ impl Parts {
         ensures { IfOk result (λ steps. steps ≡ along start.now self.now.moves) }
     {
         steps_along(alloc, &self.moves, *start)
-    }
-
-    /// All unspent outputs, in order of creation, lent.
-    pub(crate) fn unspent(&self, alloc: Global) -> Result<Vec<LentUnspent<'_>>, Memory>
-        ensures { IfOk result (λ lent. lent.items ≡ (contents_in self.now).unspent) }
-    {
-        self.outputs.lent(alloc, &self.leaving)
     }
 
     /// The unspent outputs under the keys of these addresses, in order of creation.

@@ -1,36 +1,33 @@
--- Holdings of a ledger whose sums are kept.
+-- What outputs hold, summed.
 use Rattle.std.proofs.Common.{◌≡◌, ◌≤ℤ◌, List, [], sym, ◌∙◌, ap, subst}
 use Rattle.std.specs.List.{flat_map}
 use Rattle.std.specs.List.Sorted.{IsPermutation}
 use Rattle.names.specs.declared.token.Token.{Token}
-use Rattle.names.specs.Equal.{same_token}
 use Rattle.bundle.specs.Totals.{total_of}
 use Rattle.eutxo_types.specs.declared.output.Output.{Output}
 use Rattle.eutxo_types.specs.declared.output_ref.OutputRef.{OutputRef}
-use Rattle.ledger_laws.specs.Past.{Past, unspent}
-use Rattle.ledger_laws.specs.Laws.{IsPreserved}
-use Rattle.ledger_spec.specs.Genesis.{SumsFit}
 use Rattle.play_holdings.specs.declared.holding.Holding.{Holding}
-use Rattle.play_holdings.specs.Holdings.{come_to, held_in, one_by_one, AllAbove, AreSums}
-use Rattle.play_holdings.specs.SumsSupport.{Fit, NeverFall, with_all}
-use Rattle.play_holdings.proofs.TotalLemmas.{of_token, in_outputs, come_to_moved, above_moved}
+use Rattle.play_holdings.specs.Holdings.{come_to, of_token, held_in, AllAbove, AreSums}
+use Rattle.play_holdings.specs.SumsSupport.{most, Fit, NeverFall, with_all}
+use Rattle.play_holdings.proofs.TotalLemmas.{in_outputs, come_to_moved, above_moved}
 use Rattle.play_holdings.proofs.SumLemmas.{sums_ascend, sums_above, sums_same}
 
--- what is held one by one is what the ledger began with
-kept : (past : Past) (ends : List _) → IsPreserved past → (t : Token) → come_to (of_token t) (one_by_one ends past) ≡ total_of (λ (o : Output). o.amount) t past.genesis
-kept past ends preserved t = in_outputs ends t (unspent past) ∙ preserved t
+abbrev Lent : Type 0
+Lent = List (OutputRef × Output)
 
-pub rows_fit : (past : Past) (ends : List _) (rows : List Holding) → rows ≡ one_by_one ends past → IsPreserved past → SumsFit past.genesis → Fit rows
-rows_fit past ends rows are preserved fit t = subst (λ n. n ≤ℤ _) (sym (ap (come_to (of_token t)) are ∙ kept past ends preserved t)) (fit t)
+abbrev held : Token → Lent → _
+held t es = total_of (λ (e : OutputRef × Output). e.1.amount) t es
 
-pub are_what_there_was : (past : Past) (ends : List _) (rows hs : List Holding) → rows ≡ one_by_one ends past → IsPreserved past → AreSums rows hs → (t : Token) →
-    come_to (of_token t) hs ≡ total_of (λ (o : Output). o.amount) t past.genesis
-are_what_there_was past ends rows hs are preserved sums t = sums.same (of_token t) ∙ ap (come_to (of_token t)) are ∙ kept past ends preserved t
+pub rows_fit : (ends : List _) (es : Lent) (rows : List Holding) → rows ≡ flat_map (held_in ends) es → ((t : Token) → held t es ≤ℤ most) → Fit rows
+rows_fit ends es rows are fit t = subst (λ n. n ≤ℤ most) (sym (ap (come_to (of_token t)) are ∙ in_outputs ends t es)) (fit t)
+
+pub are_held : (ends : List _) (es : Lent) (rows hs : List Holding) → rows ≡ flat_map (held_in ends) es → AreSums rows hs → (t : Token) → come_to (of_token t) hs ≡ held t es
+are_held ends es rows hs are sums t = sums.same (of_token t) ∙ ap (come_to (of_token t)) are ∙ in_outputs ends t es
 
 -- ---- sorted
 
 pub fit_moved : (xs ys : List Holding) → IsPermutation xs ys → Fit xs → Fit ys
-fit_moved xs ys p fit t = subst (λ n. n ≤ℤ _) (sym (come_to_moved (of_token t) xs ys p)) (fit t)
+fit_moved xs ys p fit t = subst (λ n. n ≤ℤ most) (sym (come_to_moved (of_token t) xs ys p)) (fit t)
 
 pub are_sums : (rows ordered : List Holding) → IsPermutation rows ordered → NeverFall ordered → AllAbove rows → AreSums rows (with_all [] ordered)
 are_sums rows ordered p n a = record {

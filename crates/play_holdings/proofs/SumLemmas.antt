@@ -14,10 +14,10 @@ use Rattle.names.specs.Totals.{token_total}
 use Rattle.play_holdings.specs.declared.holder.Holder.{Holder}
 use Rattle.play_holdings.specs.declared.holding.Holding.{Holding}
 use Rattle.play_holdings.specs.Holders.{holding_cmp}
-use Rattle.play_holdings.specs.Holdings.{come_to, IsBefore, Ascend, AllAbove}
+use Rattle.play_holdings.specs.Holdings.{come_to, of_token, IsBefore, Ascend, AllAbove}
 use Rattle.play_holdings.specs.SumsSupport.{most, Fit, NoneBefore, NeverFall, is_same, joined, behind, with_next, with_all, HasRoom}
 use Rattle.play_holdings.proofs.HolderLemmas.{holding_total, same_parts}
-use Rattle.play_holdings.proofs.TotalLemmas.{share, natural, share_natural, of_token}
+use Rattle.play_holdings.proofs.TotalLemmas.{share, natural, share_natural}
 
 -- ---- one behind the last
 

@@ -15,7 +15,6 @@ use Rattle.collections.specs.Positive.{AllPositive}
 use Rattle.collections.specs.Total.{total}
 use Rattle.collections.proofs.Places.{second, third, below_head, below_tail, below_equal}
 use Rattle.names.specs.declared.token.Token.{Token}
-use Rattle.names.specs.Equal.{same_token}
 use Rattle.names.specs.Orders.{token_cmp}
 use Rattle.names.specs.Totals.{token_total}
 use Rattle.bundle.specs.Bundles.{Amounts, amount_of}
@@ -24,7 +23,7 @@ use Rattle.eutxo_types.specs.declared.output.Output.{Output}
 use Rattle.eutxo_types.specs.declared.output_ref.OutputRef.{OutputRef}
 use Rattle.play_holdings.specs.declared.holder.Holder.{Holder}
 use Rattle.play_holdings.specs.declared.holding.Holding.{Holding}
-use Rattle.play_holdings.specs.Holdings.{come_to, holding_of, holder_under, held_in, AllAbove}
+use Rattle.play_holdings.specs.Holdings.{come_to, of_token, holding_of, holder_under, held_in, AllAbove}
 
 -- ---- above 0
 
@@ -91,10 +90,6 @@ natural asked [] a = zero_natural
 natural asked (h ∷ hs) a = no_less (share asked h) (come_to asked hs) (share_natural asked h a.0) (natural asked hs a.1)
 
 -- ---- what outputs hold of a token
-
--- one token is asked for, whoever holds it
-abbrev pub of_token : Token → Holder → Token → Bool
-of_token t = λ holder token. same_token t token
 
 later : (t : Token) (holder : Holder) (es : List (Token × ℤ)) → T (below_all token_cmp t es) → come_to (of_token t) (map (holding_of holder) es) ≡ pos 0
 later t holder [] h = refl

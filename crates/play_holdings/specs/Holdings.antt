@@ -59,6 +59,10 @@ one_by_one ends past = flat_map (held_in ends) (unspent past)
 abbrev pub come_to : (Holder → Token → Bool) → List Holding → ℤ
 come_to asked hs = total (λ (h : Holding). if asked h.holder h.token then h.amount else pos 0) hs
 
+-- one token is asked for, whoever holds it
+abbrev pub of_token : Token → Holder → Token → Bool
+of_token t holder token = same_token t token
+
 -- it stands before each of these
 abbrev pub IsBefore : Holding → List Holding → Type 0
 IsBefore x [] = Unit {0}
@@ -92,4 +96,4 @@ AreHoldings c starts hs = AreSums (one_by_one (ends_after c starts) (past_of (wo
 
 -- TOGETHER, token by token, they are what the ledger began with
 abbrev pub AreWhatThereWas : Course → List Holding → Type 0
-AreWhatThereWas c hs = (t : Token) → come_to (λ holder token. same_token t token) hs ≡ total_of (λ (o : Output). o.amount) t c.genesis
+AreWhatThereWas c hs = (t : Token) → come_to (of_token t) hs ≡ total_of (λ (o : Output). o.amount) t c.genesis

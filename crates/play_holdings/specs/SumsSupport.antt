@@ -2,11 +2,9 @@
 use Rattle.std.specs.Prelude.{◌≡◌, ℕ, ℤ, pos, ◌+ℤ◌, ◌≤ℤ◌, ◌-◌, ◌^◌, Bool, true, false, if◌then◌else◌, List, [], ◌∷◌, Option, Some, None}
 use Rattle.std.specs.Ordering.{eq_by_cmp, is_lt}
 use Rattle.names.specs.declared.token.Token.{Token}
-use Rattle.names.specs.Equal.{same_token}
-use Rattle.play_holdings.specs.declared.holder.Holder.{Holder}
 use Rattle.play_holdings.specs.declared.holding.Holding.{Holding}
 use Rattle.play_holdings.specs.Holders.{holding_cmp}
-use Rattle.play_holdings.specs.Holdings.{come_to}
+use Rattle.play_holdings.specs.Holdings.{come_to, of_token}
 
 -- the most that an amount can be
 abbrev pub most : ℤ
@@ -14,7 +12,7 @@ most = pos (2 ^ 127 - 1)
 
 -- what all of these hold of each token is an amount
 abbrev pub Fit : List Holding → Type 0
-Fit hs = (t : Token) → come_to (λ holder token. same_token t token) hs ≤ℤ most
+Fit hs = (t : Token) → come_to (of_token t) hs ≤ℤ most
 
 -- none of these stands before it
 abbrev pub NoneBefore : Holding → List Holding → Type 0

@@ -3,11 +3,10 @@ ghost use Rattle.std.specs.Prelude.{◌≡◌, ◌++◌, ◌∷◌, [], IfOk, On
 ghost use Rattle.std.specs.Map.{lookup};
 ghost use Rattle.eutxo_types.specs.declared.output_ref.OutputRef.{OutputRef as Reference};
 ghost use Rattle.eutxo_types.specs.Parts.{same_ref};
-ghost use Rattle.play_holdings.specs.Holdings.{ends_at, thread_from, thread_holder, holder_under, ends_after};
+ghost use Rattle.play_holdings.specs.Holdings.{ends_at, thread_from, thread_holder, holder_under};
 ghost use Rattle.play_holdings.specs.SumsSupport.{or_place};
 
 use crate::holder::Holder;
-use chain::Chain;
 use collections::{Memory, TryClone};
 use eutxo_types::{Lock, OutputRef};
 use indexmap::IndexMap;
@@ -84,13 +83,13 @@ impl Ends {
         Ok(Ends { ends, places })
     }
 
-    /// Where the threads end that begin at these outputs, in order. Each step of a thread costs one look-up.
-    pub(crate) fn of(alloc: Global, chain: &Chain, starts: &[OutputRef]) -> Result<Ends, Memory>
-        ensures { IfOk result (λ ends. ends ≡ ends_after chain.now starts.now) }
+    /// Where threads end, in order.
+    pub(crate) fn of(alloc: Global, all: &[Option<OutputRef>]) -> Result<Ends, Memory>
+        ensures { IfOk result (λ ends. ends ≡ all.now) }
     {
         let mut ends = Ends::new(alloc);
-        for start in starts {
-            ends = ends.with(chain.end_of(start))?;
+        for end in all {
+            ends = ends.with(*end)?;
         }
         Ok(ends)
     }

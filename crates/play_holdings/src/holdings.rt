@@ -1,32 +1,34 @@
 //! Who holds what.
-ghost use Rattle.std.specs.Prelude.{IfOk};
-ghost use Rattle.play_holdings.specs.Holdings.{AreHoldings, AreWhatThereWas};
+ghost use Rattle.std.specs.Prelude.{◌≡◌, ◌≤ℤ◌, IfOk};
+ghost use Rattle.std.specs.List.{flat_map};
+ghost use Rattle.bundle.specs.Totals.{total_of};
+ghost use Rattle.names.specs.declared.token.Token.{Token as AToken};
+ghost use Rattle.play_holdings.specs.Holdings.{AreSums, come_to, held_in, of_token};
+ghost use Rattle.play_holdings.specs.SumsSupport.{most};
 
 use crate::ends::Ends;
 use crate::holding::Holding;
+use crate::lent::LentOutput;
 use crate::one_by_one::one_by_one;
 use crate::sums::sums_of;
-use chain::Chain;
 use collections::Memory;
 use eutxo_types::OutputRef;
 use std::alloc::Global;
 
-/// Who holds what after a chain's history: what its unspent outputs hold, summed by holder and token, in the order of both. What
-/// the contract of a thread holds is under the thread's place among those that begin at these outputs. Together, token by token,
-/// that is what the ledger began with. It takes n log n steps in the unspent outputs and their tokens, and one look-up for each
-/// step of a thread. Answers `Memory` only where a growth was refused.
+/// Who holds what of these unspent outputs: what they hold, summed by holder and token, in the order of both. What the contract of
+/// a thread holds is under the thread's place in the list of where threads end, from 0. Together, token by token, it is what
+/// the outputs hold. It takes n log n steps in the outputs and their tokens. Answers `Memory` only where a growth was refused.
 pub fn holdings_of(
     alloc: Global,
-    chain: &Chain,
-    starts: &[OutputRef],
+    ends: &[Option<OutputRef>],
+    unspent: &[LentOutput<'_>],
 ) -> Result<Vec<Holding>, Memory>
-    ensures holdings { IfOk result (λ holdings. AreHoldings chain.now starts.now holdings.items) }
-    ensures together { IfOk result (λ holdings. AreWhatThereWas chain.now holdings.items) }
+    requires fit { (t : AToken) → total_of (λ e. e.1.amount) t unspent.now ≤ℤ most }
+    ensures sums { IfOk result (λ holdings. AreSums (flat_map (held_in ends.now) unspent.now) holdings.items) }
+    ensures together { IfOk result (λ holdings. (t : AToken) →
+        come_to (of_token t) holdings.items ≡ total_of (λ e. e.1.amount) t unspent.now) }
 {
-    // touch: sums are kept
-    let _entries = chain.history();
-    let ends = Ends::of(alloc, chain, starts)?;
-    let unspent = chain.unspent(alloc)?;
-    let rows = one_by_one(alloc, &ends, &unspent)?;
+    let ends = Ends::of(alloc, ends)?;
+    let rows = one_by_one(alloc, &ends, unspent)?;
     sums_of(alloc, rows)
 }

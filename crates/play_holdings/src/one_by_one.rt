@@ -6,7 +6,7 @@ ghost use Rattle.play_holdings.specs.Holdings.{AllAbove, held_in, holding_of};
 use crate::ends::Ends;
 use crate::holder::Holder;
 use crate::holding::Holding;
-use chain::LentUnspent;
+use crate::lent::LentOutput;
 use collections::{Memory, TryClone};
 use eutxo_types::{Output, OutputRef};
 use names::Token;
@@ -51,7 +51,7 @@ fn put_output(
 pub(crate) fn one_by_one(
     alloc: Global,
     ends: &Ends,
-    unspent: &[LentUnspent<'_>],
+    unspent: &[LentOutput<'_>],
 ) -> Result<Vec<Holding>, Memory>
     ensures rows { IfOk result (λ rows. rows.items ≡ flat_map (held_in ends.now) unspent.now) }
     ensures above { IfOk result (λ rows. AllAbove rows.items) }

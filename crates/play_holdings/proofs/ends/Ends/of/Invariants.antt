@@ -1,6 +1,5 @@
 use Rattle.std.proofs.Common.{◌≡◌, take}
-use Rattle.play_holdings.specs.Holdings.{ends_after}
 use Rattle.play_holdings.proofs.ends.Ends.of.Given as goal
 
-abbrev pub invariant-loop-start : goal.invariant-loop-start
-invariant-loop-start l = l.ends ≡ ends_after l.chain (take l.start-index l.starts)
+abbrev pub invariant-loop-end : goal.invariant-loop-end
+invariant-loop-end l = l.ends ≡ take l.end-index l.all
