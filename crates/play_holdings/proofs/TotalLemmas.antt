@@ -3,6 +3,7 @@ use Rattle.std.proofs.Common.{◌≡◌, ℕ, ℤ, pos, negsuc, zero, suc, ◌+�
 use Rattle.std.proofs.Math.Dec.{T}
 use Rattle.std.proofs.lemmas.Int.{ints}
 use Rattle.std.proofs.lemmas.List.Sorted.{sum_by-IsPermutation, All-permutation}
+use Rattle.std.proofs.lemmas.List.Elements.{All-cons}
 use Rattle.std.proofs.lemmas.List.Sums.{sum_by-cons}
 use Rattle.std.specs.List.{sum_by, flat_map}
 use Rattle.std.specs.List.Sorted.{IsPermutation}
@@ -40,11 +41,7 @@ IsAbove h = pos 0 <ℤ h.amount
 
 each_above : (hs : List Holding) → AllAbove hs → All IsAbove hs
 each_above [] a = λ i d l. absurd (omega (arith, l))
-each_above (h ∷ hs) a = at
-  where
-    at : (i : ℕ) (d : Holding) → i < length (h ∷ hs) → IsAbove (get_or (h ∷ hs) i d)
-    at zero d l = a.0
-    at (suc i) d l = each_above hs a.1 i d (omega (arith, l))
+each_above (h ∷ hs) a = All-cons IsAbove h hs a.0 (each_above hs a.1)
 
 all_above : (hs : List Holding) → All IsAbove hs → AllAbove hs
 all_above [] a = tt

@@ -37,8 +37,8 @@ same_sums a b c d =
 
 pub outputs_are_summed : OutputsAreSummed
 outputs_are_summed = record {
-  ascend = ((refl, refl, refl, tt), (refl, refl, tt), (refl, tt), tt, tt);
-  above = (omega (arith, ints), omega (arith, ints), omega (arith, ints), omega (arith, ints), tt);
+  ascend = ((refl, (refl, (refl, tt))), ((refl, (refl, tt)), ((refl, tt), (tt, tt))));
+  above = (omega (arith, ints), (omega (arith, ints), (omega (arith, ints), (omega (arith, ints), tt))));
   same = λ asked. same_sums (asked (Address (codes "ann")) ada) (asked (Address (codes "ann")) gold) (asked (Address (codes "bank")) ada) (asked (Payout (0xaa ∷ []) (codes "b")) ada);
 }
 
