@@ -28,8 +28,11 @@ NeverFall (h ∷ hs) = NoneBefore h hs × NeverFall hs
 abbrev pub is_same : Holding → Holding → Bool
 is_same a b = eq_by_cmp holding_cmp a b
 
+abbrev pub with_amount : Holding → ℤ → Holding
+with_amount h n = record h { amount = n }
+
 abbrev pub joined : Holding → Holding → Holding
-joined a b = record a { amount = a.amount +ℤ b.amount }
+joined a b = with_amount a (a.amount +ℤ b.amount)
 
 -- one behind another
 abbrev pub behind : Holding → Holding → List Holding

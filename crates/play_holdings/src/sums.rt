@@ -3,15 +3,15 @@ ghost use Rattle.std.specs.Prelude.{◌≡◌, ◌++◌, ◌+ℤ◌, ◌≤ℤ�
 ghost use Rattle.std.specs.List.Sorted.{IsPermutation};
 ghost use Rattle.play_holdings.specs.Holdings.{AllAbove, AreSums};
 ghost use Rattle.play_holdings.specs.SumsSupport as support;
-ghost use Rattle.play_holdings.specs.SumsSupport.{most, Fit, NeverFall, behind, with_next, with_all, HasRoom};
+ghost use Rattle.play_holdings.specs.SumsSupport.{most, Fit, NeverFall, with_amount, behind, with_next, with_all, HasRoom};
 
 use crate::holding::{Holding, compare_holdings};
 use collections::{Memory, TryClone};
 use std::alloc::Global;
 
-fn sort_holdings(rows: &mut [Holding])
-    ensures sorted { NeverFall rows.new }
-    ensures same { IsPermutation rows.old rows.new }
+fn sort_holdings(rows: &mut Vec<Holding>)
+    ensures sorted { NeverFall rows.new.items }
+    ensures same { IsPermutation rows.old.items rows.new.items }
 {
     rows.sort_unstable_by(|a, b| compare_holdings(a, b));
 }
@@ -23,6 +23,31 @@ fn is_same(a: &Holding, b: &Holding) -> bool
     compare_holdings(a, b).is_eq()
 }
 
+fn sum(a: i128, b: i128) -> i128
+    requires above { pos 0 <ℤ a }
+    requires b_above { pos 0 <ℤ b }
+    requires room { (a +ℤ b) ≤ℤ most }
+    ensures { result ≡ a +ℤ b }
+{
+    a + b
+}
+
+// The same holder and token, with another amount.
+fn with_amount(holding: Holding, amount: i128) -> Holding
+    ensures { result ≡ with_amount holding amount }
+{
+    let Holding {
+        holder,
+        token,
+        amount: _,
+    } = holding;
+    Holding {
+        holder,
+        token,
+        amount,
+    }
+}
+
 // Puts two behind these: as one, where they are of one holder and token.
 fn put_behind(sums: &mut Vec<Holding>, last: Holding, next: Holding) -> Result<(), Memory>
     requires above { pos 0 <ℤ last.amount }
@@ -31,17 +56,8 @@ fn put_behind(sums: &mut Vec<Holding>, last: Holding, next: Holding) -> Result<(
     ensures { OnOk result (sums.new.items ≡ sums.old.items ++ behind last next) }
 {
     if is_same(&last, &next) {
-        let Holding {
-            holder,
-            token,
-            amount,
-        } = last;
-        let amount = amount + next.amount;
-        sums.push(Holding {
-            holder,
-            token,
-            amount,
-        })?;
+        let amount = sum(last.amount, next.amount);
+        sums.push(with_amount(last, amount))?;
     } else {
         sums.push(last)?;
         sums.push(next)?;
