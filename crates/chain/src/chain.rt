@@ -1,5 +1,5 @@
 //! The ledger of one thread.
-ghost use Rattle.std.specs.Prelude.{◌≡◌, ℕ, ◌≤◌, ◌++◌, ◌∷◌, [], All, IfOk, IfErr, OnErr, OnOk};
+ghost use Rattle.std.specs.Prelude.{◌≡◌, ℕ, ◌≤◌, ◌++◌, ◌∷◌, [], All, IfOk, IfErr, OnErr, OnOk, slice_get, option_copied};
 ghost use Rattle.ledger_laws.specs.Sound.{AreKeys, IsMore};
 ghost use Rattle.eutxo.specs.Judgement.{found};
 ghost use Rattle.ledger_spec.specs.Genesis.{SumsFit, RefusesGenesis};
@@ -12,11 +12,12 @@ ghost use Rattle.ledger_spec.specs.Records.{AreSteps};
 ghost use Rattle.ledger_spec.specs.Publishing.{InUseByAnother};
 ghost use Rattle.ledger_spec.specs.Standing.{StandsAsTold};
 ghost use Rattle.ledger_spec.specs.Shown.{ShowsWhatWasMade};
-ghost use Rattle.ledger_spec.specs.Views.{pool_front};
+ghost use Rattle.ledger_spec.specs.Views.{end_of, pool_front};
+ghost use Rattle.ledger_laws.specs.Past.{unspent_at};
 ghost use Rattle.ledger_kept.specs.Kept.{IsTally, IsIndexOf, world_with};
 
 use crate::laws::both_halves_hold_of_legal_histories;
-use chain_index::Index;
+use chain_index::{Index, index_follows_threads};
 use collections::{Items, Memory, TryClone};
 use eutxo::{Checked, Resolved, found_is_enough};
 use eutxo_types::{Output, OutputRef, Tx};
@@ -350,6 +351,37 @@ impl Chain {
         // touch: brings the invariant
         let _tick = self.first_tick;
         steps_of(alloc, &self.kept(&[]), &self.index, reference)
+    }
+
+    /// The outputs that it began with, in order. Takes no memory.
+    pub fn first_outputs(&self) -> &[Output]
+        ensures { result.now ≡ self.now.genesis }
+    {
+        self.genesis.as_slice()
+    }
+
+    /// The accepted transaction of a number, counted from 0. Takes no memory.
+    pub fn accepted_at(&self, number: u64) -> Option<&Tx>
+        ensures { option_copied result ≡ slice_get (world self.now).replay.accepted number }
+    {
+        self.kept(&[]).accepted_at(number)
+    }
+
+    /// The unspent output that a reference names. Takes no memory.
+    pub fn unspent_at(&self, reference: &OutputRef) -> Option<&Output>
+        ensures { option_copied result ≡ unspent_at (past_of (world self.now)) reference.now }
+    {
+        self.index.unspent_at(reference)
+    }
+
+    /// Where the thread from a start output ends: at an unspent output of a contract, or nowhere once it is closed. Of
+    /// another output, nowhere. It costs one look-up for each step of the thread, and takes no memory.
+    pub fn end_of(&self, start: &OutputRef) -> Option<OutputRef>
+        ensures { result ≡ end_of (published_at (published self.now.entries)) (past_of (world self.now)) start.now }
+    {
+        // touch: where threads end
+        index_follows_threads();
+        self.index.end_of(start)
     }
 
     /// A chain without entries, whose tick is the one given, in POSIX milliseconds. Refused are outputs of which
