@@ -39,20 +39,21 @@ same_empty f g (x ∷ xs) ys e h = absurd (cc)
 pub tells_of_tree : (reader : Reader) (s : StateMaps) (c : ContractTree) (alarms : List Alarm) (ranges : List PaidRange) (told : List ToldAlarm) (clear : Bool) (out : List ℕ) → NamesWhereItComes alarms s c → NamesWhereItLeaves alarms s c → NamesWhatComes alarms s c → StaysUnlessTold alarms s c
     → PaysWithinRanges ranges s c → PaysOthersNothing ranges s c → TellsAll s c alarms told → (clear ≡ true ↔ told ≡ []) → out ≡ printed reader (map line_of told) ranges → TellsOfTree reader s c clear out
 tells_of_tree reader s c alarms ranges told clear out places leaving names stays paid unpaid t k e =
-    let all = t.0 in (
+    let all = t.all in (
       all,
       ranges,
       record {
-        places = λ kind place z. places kind place (fewer (λ (a : Alarm). a.kind ≡ kind → a.place ≢ place) (without_runs all) alarms t.2 z);
-        leaving = λ place z. leaving place (fewer (λ (a : Alarm). a.kind ≡ Leaves128 → a.place ≢ place) (without_runs all) alarms t.2 z);
-        warnings = λ kind z. names kind (fewer (λ (a : Alarm). a.kind ≢ kind) (without_runs all) alarms t.2 z);
-        numbers = λ z. stays (fewer (λ (a : Alarm). a.kind ≢ Leaves128) (without_runs all) alarms t.2 z);
-        runs = t.1.ends;
+        places = λ kind place z. places kind place (fewer (λ (a : Alarm). a.kind ≡ kind → a.place ≢ place) (without_runs all) alarms t.has z);
+        leaving = λ place z. leaving place (fewer (λ (a : Alarm). a.kind ≡ Leaves128 → a.place ≢ place) (without_runs all) alarms t.has z);
+        warnings = λ kind z. names kind (fewer (λ (a : Alarm). a.kind ≢ kind) (without_runs all) alarms t.has z);
+        numbers = λ z. stays (fewer (λ (a : Alarm). a.kind ≢ Leaves128) (without_runs all) alarms t.has z);
+        runs = t.told.ends;
+        ordered = t.ordered;
         paid = paid;
         unpaid = unpaid;
       },
-      e ∙ ap (λ (ls : List Line). printed reader ls ranges) t.1.lines,
-      (λ h. same_empty line_of (line_at c) told all t.1.lines (k.0 h), λ h. k.1 (same_empty (line_at c) line_of all told (sym t.1.lines) h)),
+      e ∙ ap (λ (ls : List Line). printed reader ls ranges) t.told.lines,
+      (λ h. same_empty line_of (line_at c) told all t.told.lines (k.0 h), λ h. k.1 (same_empty (line_at c) line_of all told (sym t.told.lines) h)),
     )
 
 pub never_alarms : (reader : Reader) (s : StateMaps) (c : ContractTree) (clear : Bool) (out : List ℕ) → TellsOfTree reader s c clear out → clear ≡ true → NeverAlarms s c

@@ -1,4 +1,5 @@
 mod LinesLemmas
+mod KeyLemmas
 mod RunsLemmas
 mod WrittenLemmas
 mod AnalysedLemmas

@@ -1,3 +1,4 @@
+pub mod Order
 pub mod Told
 pub mod ToldLines
 pub mod Lines

@@ -14,6 +14,7 @@ use Rattle.analysis_spec.specs.declared.alarm.Alarm.{Alarm}
 use Rattle.analysis_spec.specs.declared.paid.PaidRange.{PaidRange}
 use Rattle.analysis_spec.specs.Analysed.{NamesWhatComes, NamesWhereItComes, StaysUnlessTold, NamesWhereItLeaves, PaysWithinRanges, PaysOthersNothing}
 use Rattle.analysis_spec.specs.PlacedRuns.{EndsAt}
+use Rattle.marlowe_analyse.specs.Order.{AreInOrder}
 
 -- alarms, and of each a run that ends in it where one is known
 abbrev pub Alarms : Type 0
@@ -27,13 +28,14 @@ abbrev pub EndSo : StateMaps → ContractTree → Alarms → Type 0
 EndSo s c = AllByRecursion (λ (a : Alarm × Option (List Transaction)). IfSome a.1 (EndsAt a.0.kind a.0.place s c))
 
 -- a kind never comes at a place without an alarm of it, and one without any alarm never comes; each run ends in its alarm at its
--- place, and what is paid lies in its range, or is nothing
+-- place, and what is paid lies in its range, or is nothing. Alarms are told in order, none twice
 pub record IsSo (s : StateMaps) (c : ContractTree) (alarms : Alarms) (ranges : List PaidRange) : Type 0 where
   pub places : NamesWhereItComes (without_runs alarms) s c
   pub leaving : NamesWhereItLeaves (without_runs alarms) s c
   pub warnings : NamesWhatComes (without_runs alarms) s c
   pub numbers : StaysUnlessTold (without_runs alarms) s c
   pub runs : EndSo s c alarms
+  pub ordered : AreInOrder (without_runs alarms)
   pub paid : PaysWithinRanges ranges s c
   pub unpaid : PaysOthersNothing ranges s c
 
