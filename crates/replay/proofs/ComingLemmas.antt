@@ -83,7 +83,7 @@ module _ (kind : AlarmKind) (place here : List PathStep) (i : Interval) (s : Sta
   by_time false false a c r e h = absurd (cc)
 
   behind_step : (c : ContractTree) (r : Reduction) → step i s c ≡ goes r → Behind (step_from i s c) c r
-  behind_step close r e f h = absurd (cc)
+  behind_step close r e = absurd (cc)
   behind_step (pay p y t v c) r e =
       let q = pay_step s p y t (eval i s v) (visited i s v) c in
       subst (λ (x : Reduction). Behind Then (pay p y t v c) x) (goes_same q r e) (behind_pay p y t v c)
