@@ -1,5 +1,5 @@
 -- What is told of all alarms.
-use Rattle.std.proofs.Common.{◌≡◌, ◌≢◌, ℕ, zero, suc, ◌+◌, ◌<◌, ◌≤◌, List, [], ◌∷◌, ◌++◌, map, take, length, false, refl, sym, ap, ◌∙◌, subst, Option, IfSome, ◌⊎◌, inl, inr, arith}
+use Rattle.std.proofs.Common.{◌≡◌, ◌≢◌, ℕ, zero, suc, ◌+◌, ◌-◌, ◌<◌, Bool, true, ◌≤◌, List, [], ◌∷◌, ◌++◌, map, take, length, false, refl, sym, ap, ◌∙◌, subst, Option, IfSome, ◌⊎◌, inl, inr, arith}
 use Rattle.std.specs.Prelude.{All, Contains}
 use Rattle.std.specs.List.{AllByRecursion}
 use Rattle.std.specs.List.Sorted.{IsPermutation, IsSortedByKey}
@@ -56,6 +56,35 @@ ties k l h g = by (key_cmp k l) (key_cmp l k) refl (nat_list_cmp_total.antisymm 
     by Greater Less e f q = absurd (cc)
     by Greater Equal e f q = absurd (let u : Greater ≡ Equal = sym e ∙ f in cc)
     by Greater Greater e f q = absurd (let u : Greater ≡ Less = sym e ∙ f in cc)
+
+is_less : (o : Ordering) → is_lt o ≡ true → o ≡ Less
+is_less Less e = refl
+is_less Equal e = absurd (cc)
+is_less Greater e = absurd (cc)
+
+is_not_less : (o : Ordering) → is_lt o ≡ false → o ≢ Less
+is_not_less Less e = absurd (cc)
+is_not_less Equal e = λ f. cc
+is_not_less Greater e = λ f. cc
+
+pub new_at_first : (ss : List Standing) → IsNewAt ss 0
+new_at_first ss i s t e f g = absurd (omega (arith, e))
+
+module _ (ss : List Standing) (n : ℕ) (p t : Standing) (few : n < length ss) (some : 0 < n) (p_is : p ≡ get_or ss (n - 1) p) (t_is : t ≡ get_or ss n t) where
+  -- the one before it, and it, as others have them
+  same_two : (i : ℕ) (q u : Standing) → i + 1 ≡ n → q ≡ get_or ss i q → u ≡ get_or ss n u → (q ≡ p) × (u ≡ t)
+  same_two i q u e f g =
+      let d : i ≡ n - 1 = omega (arith, e, some) in
+      (f ∙ (get_or_default ss i q p (omega (arith, e, few)) ∙ (ap (λ j. get_or ss j p) d ∙ sym p_is)), g ∙ (get_or_default ss n u t few ∙ sym t_is))
+
+  moved : (P : Standing → Standing → Type 0) (i : ℕ) (q u : Standing) → i + 1 ≡ n → q ≡ get_or ss i q → u ≡ get_or ss n u → P p t → P q u
+  moved P i q u e f g h = let z = same_two i q u e f g in subst (λ x. P x u) (sym z.0) (subst (λ x. P p x) (sym z.1) h)
+
+  pub new_at : (b : Bool) → b ≡ is_lt (key_cmp p.key.items t.key.items) → b ≡ true → IsNewAt ss n
+  new_at b e h i q u f g k = moved (λ (x y : Standing). key_cmp x.key.items y.key.items ≡ Less) i q u f g k (is_less (key_cmp p.key.items t.key.items) (sym e ∙ h))
+
+  pub old_at : (b : Bool) → b ≡ is_lt (key_cmp p.key.items t.key.items) → b ≡ false → IsOldAt ss n
+  old_at b e h = (some, λ i q u f g k. moved (λ (x y : Standing). key_cmp x.key.items y.key.items ≢ Less) i q u f g k (is_not_less (key_cmp p.key.items t.key.items) (sym e ∙ h)))
 
 -- ---- all alarms
 

@@ -37,7 +37,12 @@ pub(crate) fn is_new(standings: &[Standing<'_>], index: usize) -> bool
     ensures new { result ≡ true → IsNewAt standings.now index }
     ensures old { result ≡ false → IsOldAt standings.now index }
 {
-    index == 0 || standings[index - 1].key.cmp(&standings[index].key).is_lt()
+    if index == 0 {
+        return true;
+    }
+    let before = &standings[index - 1];
+    let this = &standings[index];
+    before.key.cmp(&this.key).is_lt()
 }
 
 fn standings_of<'a>(alloc: Global, alarms: &'a [Alarm]) -> Result<Vec<Standing<'a>>, Memory>
