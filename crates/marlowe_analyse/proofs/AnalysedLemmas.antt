@@ -36,9 +36,9 @@ same_empty f g [] [] e h = refl
 same_empty f g [] (y ∷ ys) e h = absurd (cc)
 same_empty f g (x ∷ xs) ys e h = absurd (cc)
 
-pub tells_of_tree : (reader : Reader) (s : StateMaps) (c : ContractTree) (alarms : List Alarm) (ranges : List PaidRange) (told : List ToldAlarm) (clear : Bool) (out : List ℕ) → NamesWhereItComes alarms s c → NamesWhereItLeaves alarms s c → NamesWhatComes alarms s c → StaysUnlessTold alarms s c
-    → PaysWithinRanges ranges s c → PaysOthersNothing ranges s c → TellsAll s c alarms told → (clear ≡ true ↔ told ≡ []) → out ≡ printed reader (map line_of told) ranges → TellsOfTree reader s c clear out
-tells_of_tree reader s c alarms ranges told clear out places leaving names stays paid unpaid t k e =
+pub tells_of_tree : (reader : Reader) (given : Bool) (s : StateMaps) (c : ContractTree) (alarms : List Alarm) (ranges : List PaidRange) (told : List ToldAlarm) (clear : Bool) (out : List ℕ) → NamesWhereItComes alarms s c → NamesWhereItLeaves alarms s c → NamesWhatComes alarms s c → StaysUnlessTold alarms s c
+    → PaysWithinRanges ranges s c → PaysOthersNothing ranges s c → TellsAll s c alarms told → (clear ≡ true ↔ told ≡ []) → out ≡ printed reader given (map line_of told) ranges → TellsOfTree reader given s c clear out
+tells_of_tree reader given s c alarms ranges told clear out places leaving names stays paid unpaid t k e =
     let all = t.all in (
       all,
       ranges,
@@ -52,11 +52,11 @@ tells_of_tree reader s c alarms ranges told clear out places leaving names stays
         paid = paid;
         unpaid = unpaid;
       },
-      e ∙ ap (λ (ls : List Line). printed reader ls ranges) t.told.lines,
+      e ∙ ap (λ (ls : List Line). printed reader given ls ranges) t.told.lines,
       (λ h. same_empty line_of (line_at c) told all t.told.lines (k.0 h), λ h. k.1 (same_empty (line_at c) line_of all told (sym t.told.lines) h)),
     )
 
-pub never_alarms : (reader : Reader) (s : StateMaps) (c : ContractTree) (clear : Bool) (out : List ℕ) → TellsOfTree reader s c clear out → clear ≡ true → NeverAlarms s c
-never_alarms reader s c clear out h e =
+pub never_alarms : (reader : Reader) (given : Bool) (s : StateMaps) (c : ContractTree) (clear : Bool) (out : List ℕ) → TellsOfTree reader given s c clear out → clear ≡ true → NeverAlarms s c
+never_alarms reader given s c clear out h e =
     let none : (kind : AlarmKind) → IsSilent (without_runs h.0) kind = λ kind. subst (λ (found : Alarms). IsSilent (without_runs found) kind) (sym (h.4.0 e)) tt in
     (λ kind. h.2.warnings kind (none kind), h.2.numbers (none Leaves128))

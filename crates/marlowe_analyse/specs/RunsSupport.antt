@@ -61,8 +61,8 @@ pub record TellsAll (s : StateMaps) (c : ContractTree) (alarms : List Alarm) (to
 
 -- ---- a contract, and the state from which it starts
 
-abbrev pub TellsFrom : Reader → ContractTree → Result StateMaps JsonFault → Bool → List ℕ → Type 0
-TellsFrom reader c start clear out = (s : StateMaps) → start ≡ Ok s → TellsOfTree reader s c clear out
+abbrev pub TellsFrom : Reader → Bool → ContractTree → Result StateMaps JsonFault → Bool → List ℕ → Type 0
+TellsFrom reader given c start clear out = (s : StateMaps) → start ≡ Ok s → TellsOfTree reader given s c clear out
 
 -- or why there is no state
 abbrev pub is_started : Result StateMaps JsonFault → Result (Unit {0}) RunFault

@@ -1,16 +1,18 @@
+use Rattle.std.proofs.Common.{sym}
 use Rattle.std.specs.Option.{option_map}
+use Rattle.std.specs.Prelude.{is_some}
 use Rattle.contract.specs.Tree.{contract_tree}
 use Rattle.marlowe_analyse.specs.Told.{start_of}
-use Rattle.marlowe_analyse.proofs.ReadLemmas.{tells_from, started, not_started}
+use Rattle.marlowe_analyse.proofs.ReadLemmas.{tells_from, started, not_started, some_seen}
 use Rattle.marlowe_analyse.proofs.analysed.analysed_from.Goals as goal
 
 pub returns-in_ok-told-in-Ok : goal.returns-in_ok-told-in-Ok
 returns-in_ok-told-in-Ok c =
     let start = start_of c.args.texts (option_map (λ t. t.now) c.args.state) in
     let told = c.in_ok-told-in-Ok.told in
-    let h = rw (← c.in_ok-told-in-Ok.ensures) at c.analysis_text-text.ensures in
+    let h = rw (sym (some_seen (λ t. t.now) c.args.state)) (rw (sym c.is_some-given.ensures) (rw (← c.in_ok-told-in-Ok.ensures) at c.analysis_text-text.ensures)) in
     record {
-      told = tells_from c.args.reader (contract_tree c.args.contract.now) start c.in-Ok.first told.is_clear told.text.items c.in-Ok.ensures h;
+      told = tells_from c.args.reader (is_some (option_map (λ t. t.now) c.args.state)) (contract_tree c.args.contract.now) start c.in-Ok.first told.is_clear told.text.items c.in-Ok.ensures h;
       read = started start c.in-Ok.first c.in-Ok.ensures;
     }
 
