@@ -1,5 +1,5 @@
 //! The way to a place.
-use crate::constants::{gather_observation, gather_value, with_neighbours, with_sums};
+use crate::constants::{add_once, gather_observation, gather_value, with_neighbours, with_sums};
 use crate::weights::{of_bounds, weigh_settling, weigh_state, weigh_step};
 use crate::work::spend;
 use analysis_spec::PathStep;
@@ -11,6 +11,11 @@ use std::alloc::Global;
 // What the sums and differences of constants take, for the square of their number.
 const NUMBERS: u64 = 48;
 
+// How many cases before one that a run takes are asked for the ends of their bounds, and how many ends are kept.
+const MOST_EARLIER: usize = 8;
+
+const MOST_EDGES: usize = 16;
+
 // How much more playing a run again takes than finding it: what it makes are payments and warnings.
 const REPLAY: u64 = 4;
 
@@ -18,7 +23,10 @@ const REPLAY: u64 = 4;
 pub(crate) struct Way {
     /// The first constants that stand along it.
     constants: Vec<i128>,
-    /// Numbers to try: the constants, their sums and differences, and what is about these. None until they are made.
+    // What lies next to the bounds of cases before those that it takes.
+    edges: Vec<i128>,
+    /// Numbers to try: the constants, their sums and differences, and what is about these; 0, and what lies next to the bounds
+    /// of earlier cases. None until they are made.
     pub(crate) numbers: Vec<i128>,
     /// For each step the last moment at which every When still waits that is left by a case from there on; none where
     /// there is no such When.
@@ -35,6 +43,7 @@ impl Drop for Way {
     fn drop(self) {
         let Way {
             constants: _,
+            edges: _,
             numbers: _,
             untils: _,
             copy: _,
@@ -55,6 +64,7 @@ impl Way {
     ) -> Result<Way, Memory> {
         let mut way = Way {
             constants: Vec::new(alloc),
+            edges: Vec::new(alloc),
             numbers: Vec::new(alloc),
             untils: Vec::new(alloc),
             copy: weigh_state(state, left),
@@ -111,6 +121,7 @@ impl Way {
         let before = *left;
         if weigh_step(here, step, looks, left) {
             gather_at(here, step, &mut self.constants)?;
+            gather_edges(here, step, &mut self.edges)?;
         }
         self.weights.push(before.saturating_sub(*left))?;
         self.behind = self.behind.saturating_add(bounds_of(here, step));
@@ -123,6 +134,10 @@ impl Way {
         if spend(left, count.saturating_mul(count).saturating_mul(NUMBERS)) {
             let sums = with_sums(alloc, self.constants.as_slice())?;
             self.numbers = with_neighbours(alloc, sums.as_slice())?;
+            add_once(&mut self.numbers, 0)?;
+            for edge in &self.edges {
+                add_once(&mut self.numbers, *edge)?;
+            }
         }
         Ok(())
     }
@@ -188,6 +203,40 @@ fn gather_case(
         Action::Choice(_, _) => Ok(()),
         Action::Notify(observation) => gather_observation(observation, constants),
     }
+}
+
+// Adds what lies next to the bounds of the choices before a case that is taken.
+fn gather_edges(
+    contract: &Contract,
+    step: Option<PathStep>,
+    edges: &mut Vec<i128>,
+) -> Result<(), Memory> {
+    let (cases, index) = match (contract, step) {
+        (Contract::When(cases, _, _), Some(PathStep::Case(index))) => (cases.as_slice(), index),
+        _ => return Ok(()),
+    };
+    for before in index.saturating_sub(MOST_EARLIER)..index {
+        if edges.len() >= MOST_EDGES {
+            return Ok(());
+        }
+        if let Some(case) = cases.get(before) {
+            add_edges(&case.action, edges)?;
+        }
+    }
+    Ok(())
+}
+
+fn add_edges(action: &Action, edges: &mut Vec<i128>) -> Result<(), Memory> {
+    let Action::Choice(_, bounds) = action else {
+        return Ok(());
+    };
+    if let Some(first) = bounds.as_slice().first() {
+        add_once(edges, first.from.saturating_sub(1))?;
+    }
+    if let Some(last) = bounds.as_slice().last() {
+        add_once(edges, last.to.saturating_add(1))?;
+    }
+    Ok(())
 }
 
 // The last moment at which a When waits that a step leaves by a case.
