@@ -1,7 +1,7 @@
 -- The line and the column behind one byte more.
-use Rattle.std.proofs.Common.{◌≡◌, ℕ, suc, ◌+◌, ◌<◌, Bool, true, false, cond, not, List, [], ◌∷◌, ◌++◌, length, take, reverse, get_or, refl, sym, ap, ◌∙◌, arith}
+use Rattle.std.proofs.Common.{◌≡◌, ℕ, suc, ◌+◌, ◌<◌, Bool, true, false, cond, not, List, [], ◌∷◌, ◌++◌, length, take, reverse, get_or, refl, ap, ◌∙◌, arith}
 use Rattle.std.specs.Prelude.{◌==◌, count_by, if◌then◌else◌}
-use Rattle.std.specs.List.{take_while, sum_by}
+use Rattle.std.specs.List.{take_while}
 use Rattle.std.proofs.lemmas.List.{reverse-append, take_more}
 use Rattle.std.proofs.lemmas.List.Sums.{take_while-cons, sum_by-cons, sum_by_push}
 use Rattle.text_spots.specs.declared.spots.Spot.{Spot}
