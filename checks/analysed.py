@@ -409,7 +409,8 @@ def placed(contract, state, tx, at):
             left = machine.settle(machine.apply(given, left))
         return told, machine.at if machine.turned else at
     except interpreter.Refused as fault:
-        return told + [("Leaves128", machine.here)] * (str(fault) == "Leaves128"), at
+        # (one that is refused for its interval was never anywhere)
+        return told + ([("Leaves128", machine.here)] if str(fault) == "Leaves128" else []), at
 
 
 class Difference(Exception):
