@@ -5,12 +5,12 @@ from words import (A, B, C, CLOSE, FAILS, NOTIFY, X, account, add, both, choice,
                        subtract, to,
                    transaction, use, when)
 
-P63, P64 = 2**63, 2**64
+TWO_TO_63, TWO_TO_64 = 2**63, 2**64
 # the greatest and the least number, one beyond each, and halves of those
-MOST = add(multiply(P63, P64 - 1), P63 - 1)
-LEAST = multiply(multiply(-P63, P63), 2)
-ABOVE = multiply(multiply(P63, P63), 2)
-BELOW = subtract(multiply(multiply(-P63, P63), 2), 1)
+MOST = add(multiply(TWO_TO_63, TWO_TO_64 - 1), TWO_TO_63 - 1)
+LEAST = multiply(multiply(-TWO_TO_63, TWO_TO_63), 2)
+ABOVE = multiply(multiply(TWO_TO_63, TWO_TO_63), 2)
+BELOW = subtract(multiply(multiply(-TWO_TO_63, TWO_TO_63), 2), 1)
 LEAVES = refused("Leaves128")
 WAIT = when([], 100)
 BITS, DIGITS = "128 bits", "texts of digits"
@@ -31,11 +31,11 @@ FIT = [
     ("the greatest and the least", add(MOST, LEAST), -1), ("the greatest less itself", subtract(MOST, MOST), 0),
         ("the least less itself", subtract(LEAST, LEAST), 0),
     ("the greatest times 0", multiply(MOST, 0), 0), ("the least by 0", divide(LEAST, 0), 0), ("-1 less the greatest", subtract(-1, MOST), -2**127),
-    ("2^126 twice less 1", add(multiply(P63, P63), subtract(multiply(P63, P63), 1)), 2**127 - 1),
-        ("-2^126 twice", add(multiply(-P63, P63), multiply(-P63, P63)), -2**127),
-    ("2^64 - 1 times 2^63", multiply(P64 - 1, P63), 2**127 - 2**63),
+    ("2^126 twice less 1", add(multiply(TWO_TO_63, TWO_TO_63), subtract(multiply(TWO_TO_63, TWO_TO_63), 1)), 2**127 - 1),
+        ("-2^126 twice", add(multiply(-TWO_TO_63, TWO_TO_63), multiply(-TWO_TO_63, TWO_TO_63)), -2**127),
+    ("2^64 - 1 times 2^63", multiply(TWO_TO_64 - 1, TWO_TO_63), 2**127 - 2**63),
 ]
-CASES = [run("bits", name, "fits", let("x", value), ok(bound=[("x", number)]), choice=[] if -P63 <= number < P64 else DIGITS) for name, value,
+CASES = [run("bits", name, "fits", let("x", value), ok(bound=[("x", number)]), choice=[] if -TWO_TO_63 <= number < TWO_TO_64 else DIGITS) for name, value,
     number in FIT]
 
 LEAVE = [
@@ -46,8 +46,8 @@ LEAVE = [
     ("0 less the least", subtract(0, LEAST)), ("the greatest less -1", subtract(MOST, -1)), ("the greatest twice", multiply(MOST, 2)),
         ("the least twice", multiply(LEAST, 2)),
     ("the greatest squared", multiply(MOST, MOST)), ("the least squared", multiply(LEAST, LEAST)),
-        ("2^64 - 1 three times", multiply(multiply(P64 - 1, P64 - 1), P64 - 1)),
-    ("2^64 - 1 squared", multiply(P64 - 1, P64 - 1)), ("-2^126 twice and 1 less", subtract(multiply(multiply(-P63, P63), 2), 1)),
+        ("2^64 - 1 three times", multiply(multiply(TWO_TO_64 - 1, TWO_TO_64 - 1), TWO_TO_64 - 1)),
+    ("2^64 - 1 squared", multiply(TWO_TO_64 - 1, TWO_TO_64 - 1)), ("-2^126 twice and 1 less", subtract(multiply(multiply(-TWO_TO_63, TWO_TO_63), 2), 1)),
     # what comes back into 128 bits was outside all the same
     ("the greatest and 1 less 1", subtract(add(MOST, 1), 1)), ("2^127 by 2", divide(ABOVE, 2)), ("2^127 times 0", multiply(ABOVE, 0)),
         ("0 times 2^127", multiply(0, ABOVE)),
@@ -141,46 +141,46 @@ CASES += [
     run("bits", "a Pay of the greatest number", "digits", pay(MOST, A, to(B)),
         ok(payments=[paid(A, to(B), 3)], warnings=[pays_part(A, to(B), 3, 2**127 - 1)]), state([account(A, 3)]), choice=DIGITS),
     run("bits", "a Pay of the least number", "digits", pay(LEAST, A, to(B)), ok(warnings=[pays_nothing(A, to(B), -2**127)]), choice=DIGITS),
-    run("bits", "a Pay of 2^64", "digits", pay(add(P64 - 1, 1), A, to(B)),
-        ok(payments=[paid(A, to(B), P64 - 1)], warnings=[pays_part(A, to(B), P64 - 1, P64)]),
-        state([account(A, P64 - 1)]), choice=DIGITS),
+    run("bits", "a Pay of 2^64", "digits", pay(add(TWO_TO_64 - 1, 1), A, to(B)),
+        ok(payments=[paid(A, to(B), TWO_TO_64 - 1)], warnings=[pays_part(A, to(B), TWO_TO_64 - 1, TWO_TO_64)]),
+        state([account(A, TWO_TO_64 - 1)]), choice=DIGITS),
     run("bits", "the greatest number shadows the least", "digits", let("x", LEAST, let("x", MOST)),
         ok(bound=[("x", 2**127 - 1)], warnings=[shadows("x", -2**127, 2**127 - 1)]), choice=DIGITS),
-    run("bits", "2^64 - 1 is a number", "digits", let("x", P64 - 1), ok(bound=[("x", P64 - 1)])),
-    run("bits", "2^64 is a text", "digits", let("x", add(P64 - 1, 1)), ok(bound=[("x", P64)]), choice=DIGITS),
-    run("bits", "-2^63 is a number", "digits", let("x", -P63), ok(bound=[("x", -P63)])),
-    run("bits", "-2^63 - 1 is a text", "digits", let("x", subtract(-P63, 1)), ok(bound=[("x", -P63 - 1)]), choice=DIGITS),
-    run("bits", "a name that is a text goes on", "digits", let("x", add(P64 - 1, 1), let("y", subtract(use("x"), 1))),
-        ok(bound=[("x", P64), ("y", P64 - 1)]), choice=[DIGITS, "orders"]),
-    run("bits", "2^64 of two accounts in one", "account sums", pay(P64 - 1, A, into(B), WAIT),
-        ok(WAIT, [paid(A, into(B), P64 - 1)], [account(B, P64)]),
-        state([account(A, P64 - 1), account(B, 1)]), choice=[DIGITS, "records"]),
-    run("bits", "2^64 by a deposit", "account sums", when([(deposit(P64 - 1, B, A), WAIT)]), ok(WAIT, accounts=[account(A, P64)]),
+    run("bits", "2^64 - 1 is a number", "digits", let("x", TWO_TO_64 - 1), ok(bound=[("x", TWO_TO_64 - 1)])),
+    run("bits", "2^64 is a text", "digits", let("x", add(TWO_TO_64 - 1, 1)), ok(bound=[("x", TWO_TO_64)]), choice=DIGITS),
+    run("bits", "-2^63 is a number", "digits", let("x", -TWO_TO_63), ok(bound=[("x", -TWO_TO_63)])),
+    run("bits", "-2^63 - 1 is a text", "digits", let("x", subtract(-TWO_TO_63, 1)), ok(bound=[("x", -TWO_TO_63 - 1)]), choice=DIGITS),
+    run("bits", "a name that is a text goes on", "digits", let("x", add(TWO_TO_64 - 1, 1), let("y", subtract(use("x"), 1))),
+        ok(bound=[("x", TWO_TO_64), ("y", TWO_TO_64 - 1)]), choice=[DIGITS, "orders"]),
+    run("bits", "2^64 of two accounts in one", "account sums", pay(TWO_TO_64 - 1, A, into(B), WAIT),
+        ok(WAIT, [paid(A, into(B), TWO_TO_64 - 1)], [account(B, TWO_TO_64)]),
+        state([account(A, TWO_TO_64 - 1), account(B, 1)]), choice=[DIGITS, "records"]),
+    run("bits", "2^64 by a deposit", "account sums", when([(deposit(TWO_TO_64 - 1, B, A), WAIT)]), ok(WAIT, accounts=[account(A, TWO_TO_64)]),
         state([account(A, 1)]),
-        transaction(deposits(P64 - 1, B, A)), DIGITS),
-    run("bits", "2^65 - 2 by a deposit", "account sums", when([(deposit(P64 - 1, B, A), WAIT)]), ok(WAIT, accounts=[account(A, 2 * P64 - 2)]),
-        state([account(A, P64 - 1)]),
-        transaction(deposits(P64 - 1, B, A)), DIGITS),
-    run("bits", "2^64 by two deposits", "account sums", when([(deposit(P64 - 1, B, A), when([(deposit(1, C, A), WAIT)]))]),
-        ok(WAIT, accounts=[account(A, P64)]), state(),
-        transaction(deposits(P64 - 1, B, A), deposits(1, C, A)), DIGITS),
-    run("bits", "a refund of 2^64", "account sums", when([(deposit(1, B, A), CLOSE)]), ok(payments=[refund(A, P64)]), state([account(A, P64 - 1)]),
+        transaction(deposits(TWO_TO_64 - 1, B, A)), DIGITS),
+    run("bits", "2^65 - 2 by a deposit", "account sums", when([(deposit(TWO_TO_64 - 1, B, A), WAIT)]), ok(WAIT, accounts=[account(A, 2 * TWO_TO_64 - 2)]),
+        state([account(A, TWO_TO_64 - 1)]),
+        transaction(deposits(TWO_TO_64 - 1, B, A)), DIGITS),
+    run("bits", "2^64 by two deposits", "account sums", when([(deposit(TWO_TO_64 - 1, B, A), when([(deposit(1, C, A), WAIT)]))]),
+        ok(WAIT, accounts=[account(A, TWO_TO_64)]), state(),
+        transaction(deposits(TWO_TO_64 - 1, B, A), deposits(1, C, A)), DIGITS),
+    run("bits", "a refund of 2^64", "account sums", when([(deposit(1, B, A), CLOSE)]), ok(payments=[refund(A, TWO_TO_64)]), state([account(A, TWO_TO_64 - 1)]),
         transaction(deposits(1, B, A)), DIGITS),
-    run("bits", "2^64 paid out", "account sums", when([(deposit(1, B, A), pay(money(A), A, to(X)))]), ok(payments=[paid(A, to(X), P64)]),
-        state([account(A, P64 - 1)]),
+    run("bits", "2^64 paid out", "account sums", when([(deposit(1, B, A), pay(money(A), A, to(X)))]), ok(payments=[paid(A, to(X), TWO_TO_64)]),
+        state([account(A, TWO_TO_64 - 1)]),
         transaction(deposits(1, B, A)), DIGITS),
     run("bits", "2^64 paid into another account", "account sums", when([(deposit(1, B, A), pay(money(A), A, into(X), WAIT))]),
-        ok(WAIT, [paid(A, into(X), P64)], [account(X, P64)]),
-        state([account(A, P64 - 1)]), transaction(deposits(1, B, A)), [DIGITS, "records"]),
+        ok(WAIT, [paid(A, into(X), TWO_TO_64)], [account(X, TWO_TO_64)]),
+        state([account(A, TWO_TO_64 - 1)]), transaction(deposits(1, B, A)), [DIGITS, "records"]),
     run("bits", "2^64 paid to itself", "account sums", when([(deposit(1, B, A), pay(money(A), A, into(A), WAIT))]),
-        ok(WAIT, [paid(A, into(A), P64)], [account(A, P64)]),
-        state([account(A, P64 - 1)]), transaction(deposits(1, B, A)), [DIGITS, "records", "paying account first"]),
+        ok(WAIT, [paid(A, into(A), TWO_TO_64)], [account(A, TWO_TO_64)]),
+        state([account(A, TWO_TO_64 - 1)]), transaction(deposits(1, B, A)), [DIGITS, "records", "paying account first"]),
     run("bits", "what an account of 2^64 pays in part", "account sums", when([(deposit(1, B, A), pay(add(money(A), 1), A, to(X)))]),
-        ok(payments=[paid(A, to(X), P64)], warnings=[pays_part(A, to(X), P64, P64 + 1)]), state([account(A, P64 - 1)]),
+        ok(payments=[paid(A, to(X), TWO_TO_64)], warnings=[pays_part(A, to(X), TWO_TO_64, TWO_TO_64 + 1)]), state([account(A, TWO_TO_64 - 1)]),
             transaction(deposits(1, B, A)), DIGITS),
-    run("bits", "an account's number doubled until it leaves", "account sums", let("x", multiply(multiply(money(A), P64 - 1), 1), CLOSE), LEAVES,
-        state([account(A, P64 - 1)]), choice=BITS),
+    run("bits", "an account's number doubled until it leaves", "account sums", let("x", multiply(multiply(money(A), TWO_TO_64 - 1), 1), CLOSE), LEAVES,
+        state([account(A, TWO_TO_64 - 1)]), choice=BITS),
     run("bits", "a choice of the greatest number of JSON, squared", "Leaves128",
-        when([(choice("n", A, (0, P64 - 1)), let("x", multiply(chosen("n", A), chosen("n", A))))]), LEAVES, state(),
-        transaction(chooses("n", A, P64 - 1)), BITS),
+        when([(choice("n", A, (0, TWO_TO_64 - 1)), let("x", multiply(chosen("n", A), chosen("n", A))))]), LEAVES, state(),
+        transaction(chooses("n", A, TWO_TO_64 - 1)), BITS),
 ]

@@ -25,7 +25,7 @@ ARITHMETIC = [
     ("cond", choose(compare("gt", 2, 3), 9, negate(4)), -4), ("cond", choose(True, choose(False, 1, 2), 3), 2),
     ("cond", add(choose(True, 1, 2), choose(False, 10, 20)), 21),
 ]
-CASES = [run("evaluation", f"{rule} {number}, row {row}", rule, let("x", value), ok(bound=[("x", number)]))
+CASES = [run("evaluation", f"{rule} {number} ({row})", rule, let("x", value), ok(bound=[("x", number)]))
          for row, (rule, value, number) in enumerate(ARITHMETIC, 1)]
 
 LOOK_UPS = [
@@ -65,7 +65,7 @@ TIMES = [
     ((1, 2), -5, END, 2), ((1, 2), 2, END, 2), ((1, 2), 2, START, 2), ((-1, 1), 0, START, 0), ((-1, 1), -1, START, -1),
         ((7, 9), 8, add(START, END), 17),
 ]
-CASES += [run("evaluation", f"times, row {row}", "interval end" if value == END else "interval start", let("x", value),
+CASES += [run("evaluation", f"times ({row})", "interval end" if value == END else "interval start", let("x", value),
               ok(bound=[("x", number)], time=max(within[0], time)), state(time=time), transaction(within=within))
           for row, (within, time, value, number) in enumerate(TIMES, 1)]
 
@@ -100,7 +100,7 @@ TRUE_AND_FALSE = [
     ("gt", compare("gt", 18446744073709551615, 9223372036854775807), 1), ("lt", compare("lt", -9223372036854775808, 0), 1),
     ("equal_to", compare("equal_to", 9223372036854775807, 9223372036854775808), 0),
 ]
-CASES += [run("evaluation", f"{rule} is {'true' if truth else 'false'}, row {row}", rule, ensure(observation), ok(warnings=[] if truth else [FAILS]))
+CASES += [run("evaluation", f"{rule} is {'true' if truth else 'false'} ({row})", rule, ensure(observation), ok(warnings=[] if truth else [FAILS]))
           for row, (rule, observation, truth) in enumerate(TRUE_AND_FALSE, 1)]
 
 CHOICES = [

@@ -143,7 +143,7 @@ FAULTS = {"NoForm": (NO_FORM, None), "NotWhole": (NOT_WHOLE, "whole numbers"), "
           "BadState": (BAD_STATE, "states")}
 CASES = []
 for fault, (rows, rests) in FAULTS.items():
-    CASES += [text_case("faults", f"{fault}, row {row}", fault, of, text, fault,
+    CASES += [text_case("faults", f"{fault} ({row})", fault, of, text, fault,
         rests or ("states" if of in ("state", "transaction") else None)) for row, (of, text) in enumerate(rows, 1)]
 
 FIRST = [

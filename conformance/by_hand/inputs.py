@@ -121,7 +121,7 @@ BOUNDS = [
         ([(0, GREATEST_NUMBER - 1)], GREATEST_NUMBER, 0),
     ([(LEAST_NUMBER + 1, 0)], LEAST_NUMBER, 0), ([(0, 5), (7, 9)], 6, 0), ([(0, 5), (6, 9)], 6, 1),
 ]
-CASES += [takes(f"a choice within bounds, row {row}", "choice", [choice("n", A, *bounds)], chooses("n", A, number), taken,
+CASES += [takes(f"a choice within bounds ({row})", "choice", [choice("n", A, *bounds)], chooses("n", A, number), taken,
                 **({"choices": [made("n", A, number)]} if taken else {})) for row, (bounds, number, taken) in enumerate(BOUNDS, 1)]
 
 WHOLE = [(0, 9)]

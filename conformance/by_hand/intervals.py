@@ -32,7 +32,7 @@ def closed(within, time, told):
 CASES = []
 for row, (within, time, told) in enumerate(CLOSED, 1):
     rule, answer = closed(within, time, told)
-    CASES.append(run("intervals", f"an interval beside the minimum time, row {row}", rule, "close", answer, state(HELD, time=time),
+    CASES.append(run("intervals", f"an interval beside the minimum time ({row})", rule, "close", answer, state(HELD, time=time),
         transaction(within=within)))
 
 # interval, minimum time, timeout, what a When without cases answers: a fault, or "out" where it is timed out
@@ -54,7 +54,7 @@ RULE_OF = {"Useless": "when waits", "Ambiguous": "Ambiguous", "out": "timed out"
     "IntervalInPast": "IntervalInPast"}
 for row, (within, time, timeout, told) in enumerate(TIMEOUTS, 1):
     answer = ok(payments=PAID, time=max(within[0], time)) if told == "out" else refused(told)
-    CASES.append(run("intervals", f"a timeout beside the interval, row {row}", RULE_OF[told], when([], timeout), answer, state(HELD, time=time),
+    CASES.append(run("intervals", f"a timeout beside the interval ({row})", RULE_OF[told], when([], timeout), answer, state(HELD, time=time),
                      transaction(within=within)))
 
 WAITS = when([], 100)
@@ -96,6 +96,6 @@ CASES += [run("intervals", name, rule, contract, answer, state(HELD), transactio
 # the minimum time that is left, of a contract that binds the start
 KEPT = [((3, 9), 0, 3), ((3, 9), 3, 3), ((3, 9), 4, 4), ((3, 9), 9, 9), ((-3, 9), -5, -3), ((-3, 9), -1, -1), ((0, 9), -1, 0), ((9, 9), 8, 9),
     ((0, 1), 1, 1), ((0, 0), -9, 0)]
-CASES += [run("intervals", f"the minimum time that is left, row {row}", "time goes on", let("x", START, let("y", use("x"))),
+CASES += [run("intervals", f"the minimum time that is left ({row})", "time goes on", let("x", START, let("y", use("x"))),
               ok(bound=[("x", after), ("y", after)], time=after), state(time=time), transaction(within=within), choice="orders")
           for row, (within, time, after) in enumerate(KEPT, 1)]

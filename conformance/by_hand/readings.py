@@ -74,7 +74,7 @@ FORMS = {
 }
 CASES = []
 for (of, rule), texts in FORMS.items():
-    CASES += [text_case("readings", f"{rule} of a {of}, row {row}", rule, of, text, {"ok": json.loads(text)}) for row, text in enumerate(texts, 1)]
+    CASES += [text_case("readings", f"{rule} of {'an' if of == 'input' else 'a'} {of} ({row})", rule, of, text, {"ok": json.loads(text)}) for row, text in enumerate(texts, 1)]
 
 FIRST = [
     ("keys of a Pay and of an Assert", "contract", '{"assert":true,"pay":1,%s}' % PAY, {"pay": 1, **DATA_OF_PAY}),
