@@ -25,7 +25,7 @@ use Rattle.marlowe_refusals.specs.declared.trace_fault.TraceFault.TheVariants as
 use Rattle.marlowe_refusals.specs.Faults.{read_as, semantics_fault}
 use Rattle.marlowe_refusals.specs.TraceFaults.{told_as, refused_fault}
 use Rattle.marlowe_next.specs.declared.asked.Asked.{Asked}
-use Rattle.marlowe_next.specs.Question.{Reached, reached_by, interval_at, settled_of, answered}
+use Rattle.marlowe_next.specs.Question.{Reached, reached_by, interval_at, answered}
 use Rattle.marlowe_next.specs.Answer.{IsAnswer}
 use Rattle.marlowe_next.specs.AnswerSupport.{Answers, TellsSettled}
 

@@ -1,5 +1,5 @@
 -- What is told of cases, one after another.
-use Rattle.std.proofs.Common.{◌≡◌, ℕ, zero, suc, ◌+◌, ◌<◌, ℤ, Bool, true, false, ◌&&◌, List, [], ◌∷◌, ◌++◌, length, take, add-one, refl, sym, ap, ◌∙◌, subst, append-nil, append_assoc, arith, Option, Some, None, Result, Ok, Err}
+use Rattle.std.proofs.Common.{◌≡◌, ℕ, zero, suc, ◌+◌, ◌<◌, ℤ, true, ◌&&◌, List, [], ◌∷◌, ◌++◌, length, take, add-one, refl, sym, ap, ◌∙◌, subst, append-nil, append_assoc, arith, Option, Some}
 use Rattle.std.specs.Prelude.{slice_get}
 use Rattle.std.specs.Ordering.{int_eq}
 use Rattle.std.proofs.Math.ListN.{get_or}
@@ -16,14 +16,13 @@ use Rattle.contract.specs.declared.interval.Interval.{Interval}
 use Rattle.contract.specs.Tree.{ValueTree, ObservationTree, ActionTree, deposit, notify, ContractTree}
 use Rattle.states.specs.States.{StateMaps}
 use Rattle.evaluation.specs.Path.{waits_for}
-use Rattle.semantics.specs.Walk.{Standing, standing, answer_of}
 use Rattle.semantics.specs.Transaction.{trimmed}
 use Rattle.semantics.specs.Applying.{agrees}
 use Rattle.next_inputs.specs.declared.offer.Offer.{Offer}
 use Rattle.next_inputs.specs.declared.offer.Offer.TheVariants as offers
 use Rattle.next_inputs.specs.Behind.{IsRefusedBehind}
 use Rattle.next_inputs.specs.Offers.{has, offered, AreOffers}
-use Rattle.next_inputs.specs.Opening.{opening, case_from, next_case}
+use Rattle.next_inputs.specs.Opening.{case_from, next_case}
 use Rattle.next_inputs.specs.Taking.{taken_case}
 use Rattle.next_lines.specs.Applicable.{Applicable, deposits, notifies}
 use Rattle.marlowe_next.specs.Applicable.{refusal, applicable, applicable_from}

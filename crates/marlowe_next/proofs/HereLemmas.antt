@@ -1,5 +1,5 @@
 -- What is told of a contract that has settled.
-use Rattle.std.proofs.Common.{◌≡◌, ℕ, ℤ, Bool, true, false, List, [], ◌∷◌, ◌++◌, map, refl, sym, ap, ◌∙◌, Option, Result, Ok, Err, is_ok}
+use Rattle.std.proofs.Common.{◌≡◌, ℕ, ℤ, Bool, true, false, List, [], ◌++◌, map, refl, sym, ap, ◌∙◌, Option, Result, Ok, Err, is_ok}
 use Rattle.std.proofs.lemmas.Simd.{map-map}
 use Rattle.std.specs.Prelude.{◌↔◌, IsOk, IsTrue}
 use Rattle.contract.specs.declared.fault.SemFault.{SemFault}

@@ -8,7 +8,7 @@ use Rattle.contract.specs.Tree.{ContractTree, close, pay, if_obs, when, let_be, 
 use Rattle.states.specs.States.{StateMaps}
 use Rattle.evaluation.specs.Evaluation.{eval, visited, holds, looked}
 use Rattle.semantics.specs.Walk.{Turn}
-use Rattle.semantics.specs.Reduction.{Reduction, binding, asserting}
+use Rattle.semantics.specs.Reduction.{binding, asserting}
 use Rattle.semantics.specs.Computed.{pay_step}
 use Rattle.analysis_spec.specs.declared.path.PathStep.{PathStep}
 use Rattle.analysis_spec.specs.declared.path.PathStep.TheVariants.{Then, Else, TimeoutContinuation}

@@ -2,7 +2,6 @@
 use Rattle.std.specs.Prelude.{◌≡◌, ◌≢◌, ◌↔◌, ℕ, Bool, true, List, [], ◌∷◌, ◌++◌, slice_get, map, Option, Some, None, Result, Ok, Err, IsOk, IsTrue, MatchResult}
 use Rattle.std.specs.declared.vec.Vec.{Vec}
 use Rattle.std.specs.declared.alloc.Global.{Global}
-use Rattle.contract.specs.declared.tree.Contract.{Contract}
 use Rattle.contract.specs.declared.input.Input.{Input}
 use Rattle.contract.specs.declared.interval.Interval.{Interval}
 use Rattle.contract.specs.Tree.{ActionTree, ContractTree, contract_tree}
@@ -41,10 +40,6 @@ seen_if (Some c) = seen_case c ∷ []
 -- a text that answers, or why there is no answer
 abbrev pub Answers : Asked → Result Reached TraceFault → Result (Vec ℕ Global) TraceFault → Type 0
 Answers q reached result = MatchResult result (λ text. IsAnswer q reached text.items) (λ fault. fault ≢ trace.Run run.Memory → answered q reached ≡ Err fault)
-
--- where the code has come
-abbrev pub reached_at : Contract → Left → Reached
-reached_at whole left = record { whole = contract_tree whole; path = left.path; there = standing left.state (contract_tree left.contract.now) }
 
 -- a contract has settled: in this fixed interval it stands so
 pub record SettlesTo (i : Interval) (s : StateMaps) (c : ContractTree) (fixed : Interval) (left : StateMaps) (rest : ContractTree) : Type 0 where

@@ -7,6 +7,7 @@ use Rattle.std.specs.declared.alloc.Global.{Global}
 use Rattle.collections.specs.Answers.{◌>>=◌}
 use Rattle.contract.specs.declared.interval.Interval.{Interval}
 use Rattle.contract.specs.declared.transaction.Transaction.{Transaction}
+use Rattle.contract.specs.declared.tree.Contract.{Contract}
 use Rattle.contract.specs.Tree.{ContractTree, contract_tree}
 use Rattle.states.specs.States.{StateMaps}
 use Rattle.json_read_names.specs.ReadsText.{of_text}
@@ -17,6 +18,7 @@ use Rattle.next_inputs.specs.Opening.{opening}
 use Rattle.analysis_spec.specs.declared.path.PathStep.{PathStep}
 use Rattle.analysis_spec.specs.Marks.{leads_after}
 use Rattle.trace.specs.declared.refused.Refused.{Refused}
+use Rattle.trace.specs.declared.sequence.Left.{Left}
 use Rattle.trace.specs.Traces.{left_by}
 use Rattle.marlowe_refusals.specs.declared.trace_fault.TraceFault.{TraceFault}
 use Rattle.marlowe_refusals.specs.declared.trace_fault.TraceFault.TheVariants as trace
@@ -32,6 +34,10 @@ pub record Reached : Type 0 where
   pub whole : ContractTree
   pub path : List PathStep
   pub there : Standing
+
+-- a part of a contract that is left, at the end of its path
+abbrev pub reached_at : Contract → Left → Reached
+reached_at whole left = record { whole = contract_tree whole; path = left.path; there = standing left.state (contract_tree left.contract.now) }
 
 -- the text of a state, if one is given, and texts of transactions
 abbrev pub text_given : Option (Bor (List ℕ)) → Option (List ℕ)

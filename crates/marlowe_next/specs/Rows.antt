@@ -1,5 +1,5 @@
 -- Worked rows of what is asked and told, computed on the definitions.
-use Rattle.std.specs.Prelude.{◌≡◌, ℤ, pos, false, List, [], ◌∷◌, Option, Some, None, Ok, Err}
+use Rattle.std.specs.Prelude.{◌≡◌, ℤ, pos, false, [], ◌∷◌, Option, Some, None, Ok, Err}
 use Rattle.contract.specs.declared.fault.SemFault.TheVariants.{NoMatch, Ambiguous}
 use Rattle.contract.specs.Tree.{ContractTree, notify, close, when, no_cases, case_then, true_obs}
 use Rattle.semantics.specs.Rows.{interval, nothing}

@@ -3,9 +3,9 @@ ghost use Rattle.std.specs.Prelude.{◌≡◌, ◌≢◌, ◌+◌, ◌<◌, IfOk
 ghost use Rattle.collections.specs.Answers.{AsideBy};
 ghost use Rattle.contract.specs.Tree.{contract_tree};
 ghost use Rattle.marlowe_refusals.specs.TraceFaults.{refused_fault};
-ghost use Rattle.marlowe_next.specs.Question.{text_given, texts_given, reached_given, reached_from, reached_with, reached_by, answered};
+ghost use Rattle.marlowe_next.specs.Question.{answered, reached_at, reached_by, reached_from, reached_given, reached_with, text_given, texts_given};
 ghost use Rattle.marlowe_next.specs.Answer.{IsAnswer};
-ghost use Rattle.marlowe_next.specs.AnswerSupport.{Answers, reached_at};
+ghost use Rattle.marlowe_next.specs.AnswerSupport.{Answers};
 
 use crate::asked::{Asked, interval_of};
 use crate::told_here::settled_text;
@@ -35,6 +35,21 @@ pub fn next(
         (answered asked (reached_given asked contract.now state.entry after.now)) }
 {
     from_contract(alloc, contract, state, after, asked)
+}
+
+/// The same of a part of a contract that is left at the end of a path: what `next` prints once transactions have led there. The fault
+/// is that of the interval, or `Memory`.
+pub fn next_there(
+    alloc: Global,
+    whole: &Contract,
+    left: &Left<'_>,
+    asked: Asked,
+) -> Result<Vec<u8>, TraceFault>
+    ensures text { IfOk result (λ text. IsAnswer asked (Ok (reached_at whole.now left.now)) text.items) }
+    ensures answer { AsideBy (TraceFault.Run RunFault.Memory) (λ _. tt) result
+        (answered asked (Ok (reached_at whole.now left.now))) }
+{
+    from_left(alloc, whole, left, asked)
 }
 
 // The contract is read first.

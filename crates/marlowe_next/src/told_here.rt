@@ -3,8 +3,9 @@ ghost use Rattle.std.specs.Prelude.{◌≡◌, ◌++◌, map, IfOk, OnOk, IfSome
 ghost use Rattle.contract.specs.Tree.{contract_tree};
 ghost use Rattle.semantics.specs.Walk.{standing};
 ghost use Rattle.marlowe_next.specs.Answer.{printed, told_of, warning_told};
+ghost use Rattle.marlowe_next.specs.Question.{reached_at};
 ghost use Rattle.next_lines.specs.Seen.{IsMoment, seen, seen_warning};
-ghost use Rattle.marlowe_next.specs.AnswerSupport.{reached_at, HasSettled, TellsSettled, AreOffersThere, under, warnings_under};
+ghost use Rattle.marlowe_next.specs.AnswerSupport.{HasSettled, TellsSettled, AreOffersThere, under, warnings_under};
 
 use crate::asked::fixed;
 use crate::cases::told_cases;

@@ -6,7 +6,8 @@ use Rattle.std.specs.declared.alloc.AllocError.{AllocError}
 use Rattle.contract.specs.Tree.{contract_tree}
 use Rattle.semantics.specs.Walk.{standing}
 use Rattle.marlowe_refusals.specs.declared.trace_fault.TraceFault.TheVariants as trace
-use Rattle.marlowe_next.specs.AnswerSupport.{reached_at, TellsSettled}
+use Rattle.marlowe_next.specs.Question.{reached_at}
+use Rattle.marlowe_next.specs.AnswerSupport.{TellsSettled}
 use Rattle.marlowe_next.proofs.AnswerLemmas.{left_answer, left_badly}
 use Rattle.marlowe_next.proofs.answer.from_left.Goals as goal
 

@@ -10,7 +10,8 @@ use Rattle.places.specs.Places.{path_keys}
 use Rattle.next_lines.specs.Told.{Told}
 use Rattle.marlowe_next.specs.Answer.{told_of, printed, warning_told}
 use Rattle.next_lines.specs.Seen.{seen_cases, seen_warning}
-use Rattle.marlowe_next.specs.AnswerSupport.{reached_at, under}
+use Rattle.marlowe_next.specs.Question.{reached_at}
+use Rattle.marlowe_next.specs.AnswerSupport.{under}
 use Rattle.marlowe_next.proofs.HereLemmas.{path_here, reduces_here, warned_here, same_told}
 use Rattle.marlowe_next.proofs.told_here.offered_text.Goals as goal
 

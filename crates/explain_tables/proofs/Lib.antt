@@ -1,0 +1,3 @@
+pub mod DepthLemmas
+pub mod RefusedLemmas
+mod Worked

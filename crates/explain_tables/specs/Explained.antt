@@ -1,0 +1,46 @@
+-- Why a contract has no table, and the line that says so.
+use Rattle.std.specs.Prelude.{◌≡◌, ℕ, ◌^◌, ◌<◌, ◌≤◌, List, Some, None, ◌⊎◌}
+use Rattle.contract.specs.Tree.{ContractTree}
+use Rattle.table.specs.Heights.{contract_height}
+use Rattle.lowering.specs.Sizes.{conts, others}
+use Rattle.compiler.specs.declared.fault.CompileFault.{CompileFault}
+use Rattle.compiler.specs.declared.fault.CompileFault.TheVariants as faults
+use Rattle.compiler.specs.Limits.{compile_fault}
+use Rattle.explain_tables.specs.declared.explanation.Explanation.{Explanation}
+use Rattle.explain_tables.specs.declared.explanation.Explanation.TheVariants as why
+use Rattle.explain_tables.specs.Depths.{IsTooDeepAt}
+use Rattle.explain_tables.specs.Lines.{deep_line, continuations_line, others_line}
+
+-- an explanation is right of a contract
+abbrev pub Explains : ContractTree → Explanation → Type 0
+Explains c (why.Deep place) = IsTooDeepAt c place
+Explains c (why.Continuations n) = (contract_height c ≤ 999) × (conts c ≡ n) × (65535 < n)
+Explains c (why.Others n) = (contract_height c ≤ 999) × (conts c ≤ 65535) × (others c ≡ n) × (1000000 < n)
+
+-- a contract has a table, or so many nodes that they aren't counted
+abbrev pub IsUntold : ContractTree → Type 0
+IsUntold c = (compile_fault c ≡ None) ⊎ ((2 ^ 32 ≤ conts c) ⊎ (2 ^ 32 ≤ others c))
+
+-- the fault that it explains
+abbrev pub fault_of : Explanation → CompileFault
+fault_of (why.Deep place) = faults.TooDeep
+fault_of (why.Continuations n) = faults.TooManyNodes
+fault_of (why.Others n) = faults.TooManyNodes
+
+-- its line
+abbrev pub line_of : ContractTree → Explanation → List ℕ
+line_of c (why.Deep place) = deep_line c place
+line_of c (why.Continuations n) = continuations_line n
+line_of c (why.Others n) = others_line n
+
+-- a text explains why a contract has no table: it is the line of an explanation that is right of it
+pub record IsExplanation (c : ContractTree) (text : List ℕ) : Type 0 where
+  pub explanation : Explanation
+  pub explains : Explains c explanation
+  pub is : text ≡ line_of c explanation
+
+-- ---- laws
+
+-- a contract that is explained is refused, with the fault that the explanation is of
+abbrev pub ExplainedIsRefused : Type 0
+ExplainedIsRefused = (c : ContractTree) (e : Explanation) → Explains c e → compile_fault c ≡ Some (fault_of e)

@@ -1,0 +1,5 @@
+pub mod PieceLemmas
+pub mod SearchLemmas
+pub mod IndexLemmas
+pub mod ExplainLemmas
+mod Worked

@@ -1,0 +1,14 @@
+use Rattle.explanations.proofs.Worked.{misspelled_keys_are_told, words_are_told, numbers_are_told, broken_texts_are_told}
+use Rattle.explanations.proofs.laws.worked_lines.Goals as goal
+
+pub returns-clause-misspelled : goal.returns-clause-misspelled
+returns-clause-misspelled c = misspelled_keys_are_told
+
+pub returns-clause-words : goal.returns-clause-words
+returns-clause-words c = words_are_told
+
+pub returns-clause-numbers : goal.returns-clause-numbers
+returns-clause-numbers c = numbers_are_told
+
+pub returns-clause-broken : goal.returns-clause-broken
+returns-clause-broken c = broken_texts_are_told

@@ -1,0 +1,126 @@
+//! From the name and the text of a file to the lines.
+ghost use Rattle.std.specs.Prelude.{◌≢◌, IfOk};
+ghost use Rattle.std.specs.Str.{IsUtf8};
+ghost use Rattle.json.specs.Reads.{token_of};
+ghost use Rattle.json_tree.specs.View.{view};
+ghost use Rattle.json_stops.specs.Stops.{StopsAt, fault_as};
+ghost use Rattle.explanations.specs.Explained.{Explains, FaultIsTold, IsTold, IsToldBy};
+ghost use Rattle.explanations.specs.ExplainedSupport.{Begins, place_of};
+
+use crate::indexes::{indexes_of, keys_in};
+use crate::lines::told_lines;
+use crate::part::Told;
+use crate::standing::sure_offset;
+use crate::text_lines::{no_json_lines, too_long_line};
+use collections::Memory;
+use json::{Scratch, Token};
+use json_forms::Sort;
+use json_read_names::{JsonFault, json_of};
+use json_stops::{Stop, first_stop};
+use json_tree::Json;
+use part_tokens::beginning_of;
+use std::alloc::{AllocError, Global};
+use text_spots::{Spot, spot_at};
+
+// How deep texts may nest.
+const MAX_DEPTH: usize = 127;
+
+/// The lines that explain why the text of a file isn't read as one of a sort: a contract, a transaction. `file` is the name that
+/// they tell. Where the text is read there is none. `Memory` where memory was refused.
+///
+/// Of a text that is JSON they tell the first part at which reading stops; of one that isn't, where it breaks the form of JSON; of one
+/// of more than 1,048,576 bytes, how long it is.
+pub fn explained(alloc: Global, file: &str, text: &[u8], sort: Sort) -> Result<Vec<u8>, Memory>
+    ensures { IfOk result (λ lines. Explains file.now text.now sort lines.items) }
+{
+    let mut scratch = Scratch::new(alloc);
+    match json_of(alloc, text, &mut scratch) {
+        Ok(json) => told_json(alloc, file, text, sort, &json),
+        Err(fault) => told_fault(alloc, file, text, fault),
+    }
+}
+
+// Of a text that isn't read as JSON.
+fn told_fault(alloc: Global, file: &str, text: &[u8], fault: JsonFault) -> Result<Vec<u8>, Memory>
+    ensures { IfOk result (λ lines. (fault ≢ JsonFault.Memory) × FaultIsTold file.now text.now lines.items fault) }
+{
+    match fault {
+        JsonFault::NotJson => no_json_lines(alloc, file, text),
+        JsonFault::TooLong => too_long_line(alloc, file, text.len()),
+        JsonFault::Memory => Err(AllocError),
+        JsonFault::NoForm
+        | JsonFault::NotWhole
+        | JsonFault::OutOfRange
+        | JsonFault::BadHex
+        | JsonFault::Merkleized
+        | JsonFault::BadState => Ok(Vec::new(alloc)),
+    }
+}
+
+// Of a text that is.
+fn told_json(
+    alloc: Global,
+    file: &str,
+    text: &[u8],
+    sort: Sort,
+    json: &Json<'_>,
+) -> Result<Vec<u8>, Memory>
+    requires { IsUtf8 text.now }
+    ensures { IfOk result (λ lines. IsToldBy file.now text.now sort (view json.now) lines.items (fault_as sort (view json.now))) }
+{
+    let found = first_stop(alloc, sort, json)?;
+    match found {
+        Some((stop, part)) => told_stop(alloc, file, text, sort, json, &stop, part),
+        None => Ok(Vec::new(alloc)),
+    }
+}
+
+// The lines of a stop.
+fn told_stop(
+    alloc: Global,
+    file: &str,
+    text: &[u8],
+    sort: Sort,
+    json: &Json<'_>,
+    stop: &Stop,
+    part: &Json<'_>,
+) -> Result<Vec<u8>, Memory>
+    requires utf8 { IsUtf8 text.now }
+    requires stops { StopsAt sort (view json.now) (place_of stop.now part.now) }
+    ensures { IfOk result (λ lines. IsTold file.now text.now sort (view json.now) lines.items) }
+{
+    let indexes = indexes_of(alloc, json, &stop.path)?;
+    let keys = keys_in(alloc, part)?;
+    let mut scratch = Scratch::new(alloc);
+    let found = begins(alloc, text, &mut scratch, &indexes)?;
+    let told = Told {
+        path: &stop.path,
+        spot: found.0,
+        sort: stop.sort,
+        fault: stop.fault,
+        token: found.1,
+        keys: &keys,
+    };
+    told_lines(alloc, file, &told)
+}
+
+// Where the part behind these indexes begins, and its first token.
+fn begins<'a>(
+    alloc: Global,
+    text: &'a [u8],
+    scratch: &'a mut Scratch,
+    indexes: &[usize],
+) -> Result<(Spot, Token<'a>), Memory>
+    ensures { IfOk result (λ found. Begins text.now indexes.now found.0 (token_of found.1)) }
+{
+    let Ok(characters) = std::str::from_utf8(text) else {
+        return Ok((spot_at(text, text.len()), Token::Bad));
+    };
+    match beginning_of(characters, scratch, indexes, MAX_DEPTH)? {
+        Some(beginning) => {
+            let offset = sure_offset(alloc, text, beginning.offset, beginning.token)?;
+            Ok((spot_at(text, offset), beginning.token))
+        }
+        None => Ok((spot_at(text, text.len()), Token::Bad)),
+    }
+}

@@ -1,0 +1,21 @@
+//! What is told of a contract or a transaction that can't be read: where reading stops, what was wanted there and what stands
+//! there, in lines for people.
+#![tactic(auto)]
+
+mod broken;
+mod explain;
+mod hints;
+mod indexes;
+mod laws;
+mod lines;
+mod part;
+mod pieces;
+mod standing;
+mod text_lines;
+mod words;
+
+pub use broken::NoJson;
+pub use explain::explained;
+pub use laws::worked_lines;
+pub use lines::told_lines;
+pub use part::Told;

@@ -1,0 +1,147 @@
+//! The words of sorts and forms.
+ghost use Rattle.std.specs.Prelude.{◌≡◌};
+ghost use Rattle.explanations.specs.Words as words;
+
+use json_forms::{Form, Sort};
+
+/// What a part is read as, with its article.
+pub(crate) fn sort_text(sort: Sort) -> &'static str
+    ensures { result.now ≡ words.sort_text sort }
+{
+    match sort {
+        Sort::Contract => "a contract",
+        Sort::Cases => "a list of cases",
+        Sort::Case => "a case",
+        Sort::Action => "an action",
+        Sort::Value => "a value",
+        Sort::Observation => "an observation",
+        Sort::Bounds => "a list of bounds",
+        Sort::Bound => "a bound",
+        Sort::ChoiceId => "a choice id",
+        Sort::Token => "a token",
+        Sort::Party => "a party",
+        Sort::Payee => "a payee",
+        Sort::Text => "a text",
+        Sort::Hex => "a text of hexadecimal digits",
+        Sort::Whole => "a whole number",
+        Sort::Time => "a time",
+        Sort::Transaction => "a transaction",
+        Sort::Interval => "an interval",
+        Sort::Inputs => "a list of inputs",
+        Sort::Input => "an input",
+    }
+}
+
+/// The same without it.
+pub(crate) fn bare_sort_text(sort: Sort) -> &'static str
+    ensures { result.now ≡ words.bare_sort_text sort }
+{
+    match sort {
+        Sort::Contract => "contract",
+        Sort::Cases => "list of cases",
+        Sort::Case => "case",
+        Sort::Action => "action",
+        Sort::Value => "value",
+        Sort::Observation => "observation",
+        Sort::Bounds => "list of bounds",
+        Sort::Bound => "bound",
+        Sort::ChoiceId => "choice id",
+        Sort::Token => "token",
+        Sort::Party => "party",
+        Sort::Payee => "payee",
+        Sort::Text => "text",
+        Sort::Hex => "text of hexadecimal digits",
+        Sort::Whole => "whole number",
+        Sort::Time => "time",
+        Sort::Transaction => "transaction",
+        Sort::Interval => "interval",
+        Sort::Inputs => "list of inputs",
+        Sort::Input => "input",
+    }
+}
+
+/// What a part of a sort is.
+pub(crate) fn sort_hint(sort: Sort) -> &'static str
+    ensures { result.now ≡ words.sort_hint sort }
+{
+    match sort {
+        Sort::Contract => {
+            "a contract is \"close\", or has \"pay\", \"if\", \"when\", \"let\" or \"assert\""
+        }
+        Sort::Cases => "cases stand in a list, also none or one",
+        Sort::Case => "a case has \"case\" and \"then\"",
+        Sort::Action => "an action has \"party\", \"for_choice\" or \"notify_if\"",
+        Sort::Value => {
+            "a value is a number, \"time_interval_start\" or \"time_interval_end\", or has \"amount_of_token\", \"negate\", \"add\", \"value\", \"multiply\", \"divide\", \"value_of_choice\", \"use_value\" or \"if\""
+        }
+        Sort::Observation => {
+            "an observation is true or false, or has \"both\", \"either\", \"not\", \"chose_something_for\" or \"value\""
+        }
+        Sort::Bounds => "bounds stand in a list, also none or one",
+        Sort::Bound => "a bound has \"from\" and \"to\"",
+        Sort::ChoiceId => "a choice id has \"choice_name\" and \"choice_owner\"",
+        Sort::Token => "a token has \"currency_symbol\" and \"token_name\"",
+        Sort::Party => "a party has \"address\" or \"role_token\"",
+        Sort::Payee => "a payee has \"account\" or \"party\"",
+        Sort::Text => "a text stands in quotation marks",
+        Sort::Hex => "a currency symbol is a text of hexadecimal digits; of ada it is \"\"",
+        Sort::Whole => {
+            "a whole number lies from -9223372036854775808 to 18446744073709551615, without point and exponent"
+        }
+        Sort::Time => {
+            "a time lies from -9223372036854775808 to 9223372036854775807, in milliseconds"
+        }
+        Sort::Transaction => "a transaction has \"tx_interval\" and \"tx_inputs\"",
+        Sort::Interval => "an interval has \"from\" and \"to\"",
+        Sort::Inputs => "inputs stand in a list, also none or one",
+        Sort::Input => {
+            "an input is \"input_notify\", or has \"input_from_party\" or \"for_choice_id\""
+        }
+    }
+}
+
+/// The name of a form, with its article.
+pub(crate) fn form_text(form: Form) -> &'static str
+    ensures { result.now ≡ words.form_text form }
+{
+    match form {
+        Form::Pay => "a pay",
+        Form::If => "an if",
+        Form::When => "a when",
+        Form::Let => "a let",
+        Form::Assert => "an assert",
+        Form::Case => "a case",
+        Form::Deposit => "a deposit",
+        Form::Choice => "a choice",
+        Form::Notify => "a notify",
+        Form::AvailableMoney => "an amount_of_token",
+        Form::NegValue => "a negate",
+        Form::AddValue => "an add",
+        Form::SubValue => "a minus",
+        Form::MulValue => "a multiply",
+        Form::DivValue => "a divide",
+        Form::ChoiceValue => "a value_of_choice",
+        Form::UseValue => "a use_value",
+        Form::Cond => "an if",
+        Form::AndObs => "a both",
+        Form::OrObs => "an either",
+        Form::NotObs => "a not",
+        Form::ChoseSomething => "a chose_something_for",
+        Form::ValueGE => "a ge_than",
+        Form::ValueGT => "a gt",
+        Form::ValueLT => "an lt",
+        Form::ValueLE => "a le_than",
+        Form::ValueEQ => "an equal_to",
+        Form::Bound => "a bound",
+        Form::ChoiceId => "a choice id",
+        Form::Token => "a token",
+        Form::Address => "an address",
+        Form::Role => "a role",
+        Form::ToAccount => "an account",
+        Form::ToParty => "a party",
+        Form::Transaction => "a transaction",
+        Form::Interval => "an interval",
+        Form::DepositInput => "a deposit",
+        Form::ChoiceInput => "a choice",
+    }
+}

@@ -1,0 +1,72 @@
+-- The text that explains why a transaction is refused.
+use Rattle.std.specs.Prelude.{◌≡◌, ℕ, false, List, ◌++◌, slice_get, Some, Ok}
+use Rattle.contract.specs.declared.input.Input.{Input}
+use Rattle.contract.specs.declared.interval.Interval.{Interval}
+use Rattle.contract.specs.declared.transaction.Transaction.{Transaction}
+use Rattle.contract.specs.Tree.{ContractTree, contract_tree}
+use Rattle.states.specs.States.{StateMaps}
+use Rattle.semantics.specs.Walk.{Standing, standing}
+use Rattle.semantics.specs.Transaction.{trimmed}
+use Rattle.analysis_spec.specs.declared.path.PathStep.{PathStep}
+use Rattle.trace.specs.declared.sequence.Left.{Left}
+use Rattle.explain_transactions.specs.declared.explanation.Explanation.{Explanation}
+use Rattle.explain_transactions.specs.declared.explanation.Explanation.TheVariants as why
+use Rattle.explain_transactions.specs.Explained.{Explains}
+use Rattle.marlowe_next.specs.declared.asked.Asked.{Asked}
+use Rattle.marlowe_next.specs.Answer.{IsAnswer}
+use Rattle.marlowe_explain.specs.Lines.{place_of, invalid_line, past_line, ambiguous_line, value_line, sum_line, unmatched_lines, useless_lines}
+
+-- what can be done over an interval is asked, for people
+abbrev pub asks_over : Interval → Asked
+asks_over j = record { from = Some j.from; to = Some j.to; texts = false; json = false }
+
+-- a text tells what the part of a contract takes over an interval that is left at the end of a path
+abbrev pub IsNext : Interval → ContractTree → Left → List ℕ → Type 0
+IsNext j whole left text =
+    IsAnswer (asks_over j) (Ok (record { whole = whole; path = left.path; there = standing left.state (contract_tree left.contract.now) })) text
+
+-- a text tells of the input at an index that no case takes it, and what the contract takes where it comes
+pub record TellsUnmatched (j : Interval) (c : ContractTree) (xs : List Input) (n : ℕ) (left : Left) (text : List ℕ) : Type 0 where
+  pub input : Input
+  pub brought : slice_get xs n ≡ Some input
+  pub next : List ℕ
+  pub tells : IsNext j c left next
+  pub is : text ≡ unmatched_lines n input (place_of c left.path) next
+
+-- a text tells that there is nothing to do, and what the contract takes
+pub record TellsUseless (j : Interval) (c : ContractTree) (left : Left) (text : List ℕ) : Type 0 where
+  pub next : List ℕ
+  pub tells : IsNext j c left next
+  pub is : text ≡ useless_lines (place_of c left.path) next
+
+-- a text is that of an explanation
+abbrev pub Says : Interval → StateMaps → ContractTree → List Input → Explanation → List ℕ → Type 0
+Says i s c xs why.InvalidInterval text = text ≡ invalid_line i
+Says i s c xs (why.IntervalInPast least) text = text ≡ past_line i least
+Says i s c xs (why.Ambiguous place t) text = text ≡ ambiguous_line (trimmed i s) (place_of c place) t
+Says i s c xs (why.NoMatch n left) text = TellsUnmatched (trimmed i s) c xs n left text
+Says i s c xs (why.Useless left) text = TellsUseless (trimmed i s) c left text
+Says i s c xs (why.ValueLeaves place) text = text ≡ value_line (place_of c place)
+Says i s c xs (why.SumLeaves place p t) text = text ≡ sum_line (place_of c place) p.now t.now
+
+-- ---- of a part of a contract
+
+-- what is left of the part at the end of a path, by its path in the whole contract
+abbrev pub left_behind : List PathStep → Left → Left
+left_behind path left = record { state = left.state; contract = left.contract; path = path ++ left.path }
+
+-- an explanation of that part, with places of the whole contract
+abbrev pub behind : List PathStep → Explanation → Explanation
+behind path why.InvalidInterval = why.InvalidInterval
+behind path (why.IntervalInPast least) = why.IntervalInPast least
+behind path (why.Ambiguous place t) = why.Ambiguous (path ++ place) t
+behind path (why.NoMatch n left) = why.NoMatch n (left_behind path left)
+behind path (why.Useless left) = why.Useless (left_behind path left)
+behind path (why.ValueLeaves place) = why.ValueLeaves (path ++ place)
+behind path (why.SumLeaves place p t) = why.SumLeaves (path ++ place) p t
+
+-- a text explains a transaction on the part of a contract at the end of a path: it is that of an explanation that is right of it
+pub record IsExplanation (whole : ContractTree) (path : List PathStep) (a : Standing) (t : Transaction) (text : List ℕ) : Type 0 where
+  pub explanation : Explanation
+  pub explains : Explains t.interval a.state a.contract t.inputs explanation
+  pub says : Says t.interval a.state whole t.inputs (behind path explanation) text

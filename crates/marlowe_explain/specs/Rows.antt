@@ -1,0 +1,33 @@
+-- Worked rows of the lines, computed on the definitions.
+use Rattle.std.specs.Prelude.{◌≡◌, pos, true, codes}
+use Rattle.names.specs.Equal.{ada}
+use Rattle.contract.specs.declared.input.Input.TheVariants.{Deposit, Choice, Notify}
+use Rattle.contract.specs.declared.interval.Interval.{Interval}
+use Rattle.next_lines.specs.Rows.{party_a, party_b, release}
+use Rattle.marlowe_explain.specs.Lines.{input_text, indented, invalid_line, past_line, ambiguous_line, value_line, sum_line, unmatched_lines, useless_lines}
+
+abbrev pub from_to : Interval
+from_to = record { from = pos 3; to = pos 10 }
+
+-- the three sorts of inputs
+abbrev pub InputsAreTold : Type 0
+InputsAreTold =
+    (input_text (Deposit party_a party_b ada (pos 40)) ≡ codes "deposit 40 ADA by {\"role_token\":\"b\"} into {\"role_token\":\"a\"}")
+    × (input_text (Choice release (pos 4)) ≡ codes "choose \"release\" of {\"role_token\":\"b\"}: 4") × (input_text Notify ≡ codes "notify")
+
+-- two lines, and no blanks behind the last
+abbrev pub LinesAreIndented : Type 0
+LinesAreIndented = indented true (codes "notify\nclosed\n") ≡ codes "    notify\n    closed\n"
+
+abbrev pub FaultsAreTold : Type 0
+FaultsAreTold =
+    (invalid_line (record { from = pos 1; to = pos 0 }) ≡ codes "  the interval ends at 0, before it begins at 1\n")
+    × (past_line from_to (pos 11) ≡ codes "  the interval ends at 10, before the minimum time 11\n")
+    × (ambiguous_line from_to (codes ".when") (pos 5) ≡ codes "  the timeout 5 at .when lies inside the interval from 3 to 10\n")
+    × (value_line (codes ".let") ≡ codes "  at .let: a number leaves 128 bits\n")
+    × (sum_line (codes ".pay") party_a ada ≡ codes "  at .pay: the sum of ADA in the account of {\"role_token\":\"a\"} leaves 128 bits\n")
+
+abbrev pub StandingIsTold : Type 0
+StandingIsTold =
+    (unmatched_lines 1 Notify (codes ".close") (codes "closed\n") ≡ codes "  at .tx_inputs[1]: no case takes notify\n  the contract stands at .close\n    closed\n")
+    × (useless_lines (codes ".close") (codes "closed\n") ≡ codes "  there is no input, and nothing to reduce; the contract stands at .close\n    closed\n")

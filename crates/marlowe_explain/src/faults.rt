@@ -1,0 +1,87 @@
+//! One line a fault.
+ghost use Rattle.std.specs.Prelude.{◌≡◌, IfOk, string_bytes};
+ghost use Rattle.contract.specs.Tree.{contract_tree};
+ghost use Rattle.marlowe_explain.specs.Lines.{ambiguous_head, ambiguous_line, invalid_line, past_line, place_of, sum_line, value_line};
+
+use crate::words::line_at;
+use analysis_spec::PathStep;
+use collections::Memory;
+use contract::{Contract, Interval, Party, Token};
+use json_write_contracts::term_text;
+use places::token_text;
+use std::alloc::Global;
+
+/// The interval ends before it begins.
+pub(crate) fn invalid_text(alloc: Global, interval: Interval) -> Result<Vec<u8>, Memory>
+    ensures { IfOk result (λ text. text.items ≡ invalid_line interval) }
+{
+    let Interval { from, to } = interval;
+    let line = format!(in alloc; "  the interval ends at {to}, before it begins at {from}\n")?;
+    Ok(line.into_bytes())
+}
+
+/// The interval ends before the minimum time.
+pub(crate) fn past_text(alloc: Global, interval: Interval, least: i64) -> Result<Vec<u8>, Memory>
+    ensures { IfOk result (λ text. text.items ≡ past_line interval least) }
+{
+    let to = interval.to;
+    let line = format!(in alloc; "  the interval ends at {to}, before the minimum time {least}\n")?;
+    Ok(line.into_bytes())
+}
+
+/// A timeout lies inside the interval, as it is fixed.
+pub(crate) fn ambiguous_text(
+    alloc: Global,
+    contract: &Contract,
+    place: &[PathStep],
+    timeout: i64,
+    fixed: Interval,
+) -> Result<Vec<u8>, Memory>
+    ensures { IfOk result (λ text. text.items ≡ ambiguous_line fixed (place_of (contract_tree contract.now) place.now) timeout) }
+{
+    let Interval { from, to } = fixed;
+    let head = ambiguous_head(alloc, timeout)?;
+    let end = format!(in alloc; " lies inside the interval from {from} to {to}\n")?;
+    line_at(alloc, head.as_bytes(), contract, place, end.as_bytes())
+}
+
+fn ambiguous_head(alloc: Global, timeout: i64) -> Result<String, Memory>
+    ensures { IfOk result (λ text. string_bytes text ≡ ambiguous_head timeout) }
+{
+    format!(in alloc; "  the timeout {timeout} at ")
+}
+
+/// A number leaves 128 bits.
+pub(crate) fn value_text(
+    alloc: Global,
+    contract: &Contract,
+    place: &[PathStep],
+) -> Result<Vec<u8>, Memory>
+    ensures { IfOk result (λ text. text.items ≡ value_line (place_of (contract_tree contract.now) place.now)) }
+{
+    line_at(
+        alloc,
+        b"  at ",
+        contract,
+        place,
+        b": a number leaves 128 bits\n",
+    )
+}
+
+/// The sum in an account leaves 128 bits.
+pub(crate) fn sum_text(
+    alloc: Global,
+    contract: &Contract,
+    place: &[PathStep],
+    owner: &Party,
+    token: &Token,
+) -> Result<Vec<u8>, Memory>
+    ensures { IfOk result (λ text. text.items ≡ sum_line (place_of (contract_tree contract.now) place.now) owner.now token.now) }
+{
+    let token = token_text(alloc, token)?;
+    let owner = term_text(alloc, owner)?;
+    let end = format!(in alloc;
+        ": the sum of {token} in the account of {owner} leaves 128 bits\n"
+    )?;
+    line_at(alloc, b"  at ", contract, place, end.as_bytes())
+}

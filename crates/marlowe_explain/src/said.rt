@@ -1,0 +1,186 @@
+//! Explanations as lines.
+ghost use Rattle.std.specs.Prelude.{◌≡◌, [], IfOk, IfSome, string_bytes};
+ghost use Rattle.contract.specs.Tree.{contract_tree};
+ghost use Rattle.semantics.specs.Transaction.{trimmed};
+ghost use Rattle.semantics.specs.Walk.{standing};
+ghost use Rattle.marlowe_explain.specs.Explained.{IsExplanation, Says, TellsUnmatched, TellsUseless, behind};
+
+use crate::faults::{ambiguous_text, invalid_text, past_text, sum_text, value_text};
+use crate::paths::behind;
+use crate::standing::{next_text, unmatched_text, useless_text};
+use analysis_spec::PathStep;
+use collections::Memory;
+use contract::{Contract, Input, Interval, State, Transaction};
+use explain_transactions::{Explanation, explain};
+use marlowe_run::beside_dropped;
+use std::alloc::{AllocError, Global};
+use trace::Left;
+
+/// Why a transaction on a contract and a state is refused, as lines for people: what the first fault is and where. Each ends with a
+/// line feed, and begins with two blanks. None where the transaction is accepted, or where memory was refused.
+pub fn explained(
+    alloc: Global,
+    contract: &Contract,
+    state: &State,
+    transaction: &Transaction,
+) -> Option<String>
+    ensures { IfSome result (λ text. IsExplanation (contract_tree contract.now) []
+        (standing state.now (contract_tree contract.now)) transaction.now (string_bytes text)) }
+{
+    told(alloc, contract, &[], contract, state, transaction)
+}
+
+/// The same of a transaction that comes behind others: it is refused on what they leave of a whole contract. Places are those of the whole
+/// contract.
+pub fn explained_behind(
+    alloc: Global,
+    whole: &Contract,
+    left: &Left<'_>,
+    transaction: &Transaction,
+) -> Option<String>
+    ensures { IfSome result (λ text. IsExplanation (contract_tree whole.now) left.now.path
+        (standing left.now.state (contract_tree left.now.contract.now)) transaction.now (string_bytes text)) }
+{
+    let path = left.path.as_slice();
+    told(alloc, whole, path, left.contract, &left.state, transaction)
+}
+
+// Of the part of a contract at the end of a path.
+fn told(
+    alloc: Global,
+    whole: &Contract,
+    path: &[PathStep],
+    contract: &Contract,
+    state: &State,
+    transaction: &Transaction,
+) -> Option<String>
+    ensures { IfSome result (λ text. IsExplanation (contract_tree whole.now) path.now
+        (standing state.now (contract_tree contract.now)) transaction.now (string_bytes text)) }
+{
+    let interval = transaction.interval;
+    let inputs = transaction.inputs.as_slice();
+    match explain(alloc, contract, state, interval, inputs) {
+        Ok(Some(explanation)) => {
+            said_text(alloc, whole, path, state, interval, inputs, explanation)
+        }
+        _ => None,
+    }
+}
+
+// The lines of an explanation of the part at the end of a path.
+fn said_behind(
+    alloc: Global,
+    whole: &Contract,
+    path: &[PathStep],
+    state: &State,
+    interval: Interval,
+    inputs: &[Input],
+    explanation: Explanation<'_>,
+) -> Result<Vec<u8>, Memory>
+    ensures { IfOk result (λ text. Says interval state.now (contract_tree whole.now) inputs.now
+        (behind path.now explanation.entry) text.items) }
+{
+    let there = behind(alloc, path, explanation)?;
+    let said = said(alloc, whole, state, interval, inputs, &there);
+    beside_dropped(there, said)
+}
+
+// The same as a text.
+fn said_text(
+    alloc: Global,
+    whole: &Contract,
+    path: &[PathStep],
+    state: &State,
+    interval: Interval,
+    inputs: &[Input],
+    explanation: Explanation<'_>,
+) -> Option<String>
+    ensures { IfSome result (λ text. Says interval state.now (contract_tree whole.now) inputs.now
+        (behind path.now explanation.entry) (string_bytes text)) }
+{
+    match said_behind(alloc, whole, path, state, interval, inputs, explanation) {
+        Ok(bytes) => text_of(bytes),
+        Err(_) => None,
+    }
+}
+
+fn text_of(bytes: Vec<u8>) -> Option<String>
+    ensures { IfSome result (λ text. string_bytes text ≡ bytes.items) }
+{
+    match String::from_utf8(bytes) {
+        Ok(text) => Some(text),
+        Err(_) => None,
+    }
+}
+
+// The interval with its start moved up to the minimum time.
+fn fixed(interval: Interval, state: &State) -> Interval
+    ensures { result ≡ trimmed interval state.now }
+{
+    Interval {
+        from: interval.from.max(state.min_time()),
+        to: interval.to,
+    }
+}
+
+// The lines of an explanation.
+fn said(
+    alloc: Global,
+    contract: &Contract,
+    state: &State,
+    interval: Interval,
+    inputs: &[Input],
+    explanation: &Explanation<'_>,
+) -> Result<Vec<u8>, Memory>
+    ensures { IfOk result (λ text. Says interval state.now (contract_tree contract.now) inputs.now explanation.now text.items) }
+{
+    let fixed = fixed(interval, state);
+    match explanation {
+        Explanation::InvalidInterval => invalid_text(alloc, interval),
+        Explanation::IntervalInPast(least) => past_text(alloc, interval, *least),
+        Explanation::Ambiguous(place, timeout) => {
+            ambiguous_text(alloc, contract, place.as_slice(), *timeout, fixed)
+        }
+        Explanation::ValueLeaves(place) => value_text(alloc, contract, place.as_slice()),
+        Explanation::SumLeaves(place, owner, token) => {
+            sum_text(alloc, contract, place.as_slice(), owner, token)
+        }
+        Explanation::NoMatch(index, left) => unmatched(
+            alloc, contract, fixed, inputs, *index, left,
+        ),
+        Explanation::Useless(left) => useless(alloc, contract, fixed, left),
+    }
+}
+
+// An input that no case takes.
+fn unmatched(
+    alloc: Global,
+    contract: &Contract,
+    fixed: Interval,
+    inputs: &[Input],
+    index: usize,
+    left: &Left<'_>,
+) -> Result<Vec<u8>, Memory>
+    ensures { IfOk result (λ text. TellsUnmatched fixed (contract_tree contract.now) inputs.now index left.now text.items) }
+{
+    match inputs.get(index) {
+        Some(input) => {
+            let next = next_text(alloc, contract, left, fixed)?;
+            unmatched_text(alloc, contract, index, input, left.path.as_slice(), &next)
+        }
+        None => Err(AllocError),
+    }
+}
+
+// Nothing to do.
+fn useless(
+    alloc: Global,
+    contract: &Contract,
+    fixed: Interval,
+    left: &Left<'_>,
+) -> Result<Vec<u8>, Memory>
+    ensures { IfOk result (λ text. TellsUseless fixed (contract_tree contract.now) left.now text.items) }
+{
+    let next = next_text(alloc, contract, left, fixed)?;
+    useless_text(alloc, contract, left.path.as_slice(), &next)
+}

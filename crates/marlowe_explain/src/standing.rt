@@ -1,0 +1,92 @@
+//! Where a contract stands, and what it takes there.
+ghost use Rattle.std.specs.Prelude.{◌≡◌, ◌∷◌, ◌++◌, true, IfOk, string_bytes};
+ghost use Rattle.contract.specs.Tree.{contract_tree};
+ghost use Rattle.marlowe_explain.specs.Lines.{indented, place_of, unmatched_head, unmatched_lines, useless_lines};
+ghost use Rattle.marlowe_explain.specs.Explained.{IsNext, asks_over};
+
+use crate::indent::put_indented;
+use crate::words::{input_text, line_at};
+use analysis_spec::PathStep;
+use collections::Memory;
+use contract::{Contract, Input, Interval};
+use marlowe_next::{Asked, next_there};
+use std::alloc::{AllocError, Global};
+use trace::Left;
+
+/// What the part of a contract takes that is left, over a fixed interval, as what can be done next is told.
+pub(crate) fn next_text(
+    alloc: Global,
+    contract: &Contract,
+    left: &Left<'_>,
+    fixed: Interval,
+) -> Result<Vec<u8>, Memory>
+    ensures { IfOk result (λ text. IsNext fixed (contract_tree contract.now) left.now text.items) }
+{
+    match next_there(alloc, contract, left, asks_over(fixed)) {
+        Ok(text) => Ok(text),
+        Err(_) => Err(AllocError),
+    }
+}
+
+fn asks_over(interval: Interval) -> Asked
+    ensures { result ≡ asks_over interval }
+{
+    Asked {
+        from: Some(interval.from),
+        to: Some(interval.to),
+        texts: false,
+        json: false,
+    }
+}
+
+/// No case takes an input.
+pub(crate) fn unmatched_text(
+    alloc: Global,
+    contract: &Contract,
+    index: usize,
+    input: &Input,
+    place: &[PathStep],
+    next: &[u8],
+) -> Result<Vec<u8>, Memory>
+    ensures { IfOk result (λ text. text.items
+        ≡ unmatched_lines index input.now (place_of (contract_tree contract.now) place.now) next.now) }
+{
+    let head = unmatched_head(alloc, index, input)?;
+    standing_text(alloc, head.as_bytes(), contract, place, next)
+}
+
+fn unmatched_head(alloc: Global, index: usize, input: &Input) -> Result<String, Memory>
+    ensures { IfOk result (λ text. string_bytes text ≡ unmatched_head index input.now) }
+{
+    let input = input_text(alloc, input)?;
+    format!(in alloc; "  at .tx_inputs[{index}]: no case takes {input}\n  the contract stands at ")
+}
+
+/// There is nothing to do.
+pub(crate) fn useless_text(
+    alloc: Global,
+    contract: &Contract,
+    place: &[PathStep],
+    next: &[u8],
+) -> Result<Vec<u8>, Memory>
+    ensures { IfOk result (λ text. text.items ≡ useless_lines (place_of (contract_tree contract.now) place.now) next.now) }
+{
+    let head = b"  there is no input, and nothing to reduce; the contract stands at ";
+    standing_text(alloc, head, contract, place, next)
+}
+
+// Where a contract stands, and what it takes there.
+fn standing_text(
+    alloc: Global,
+    head: &[u8],
+    contract: &Contract,
+    place: &[PathStep],
+    next: &[u8],
+) -> Result<Vec<u8>, Memory>
+    ensures { IfOk result (λ text. text.items
+        ≡ head.now ++ (place_of (contract_tree contract.now) place.now ++ 10 ∷ indented true next.now)) }
+{
+    let mut out = line_at(alloc, head, contract, place, b"\n")?;
+    put_indented(&mut out, next)?;
+    Ok(out)
+}

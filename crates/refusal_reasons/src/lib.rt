@@ -1,0 +1,13 @@
+//! Why a command refuses, as lines for people: a second look at its texts, made only once something is refused. The first text that isn't
+//! read is explained; where all are read it is the transaction that is refused, or the contract that has no table. The lines stand behind
+//! the line of the refusal, each behind two blanks and ended by a line feed. Where memory is refused there are none.
+#![tactic(auto)]
+
+mod pieces;
+mod second_look;
+mod sequences;
+mod source;
+mod texts;
+
+pub use second_look::{reasons, table_reasons};
+pub use source::{Behind, Over, Source, Sources};
