@@ -16,7 +16,8 @@ warn. The others are those of rows_commands/data/analyses with a few numbers, pa
   that leaves 128 bits is visited there;
 - in no random run a warning of a kind comes at a place without such an alarm, not even in a transaction that is refused, nor Leaves128 without its alarm
   at the place;
-- in each what a party was paid of a token is never above its `most`, 0 where it has no line, and no less than its `least` once all is closed.
+- in each what a party was paid of a token is never above its `most`, 0 where it has no line, and no less than its `least` once all is closed;
+- alarms stand in the order of the contract, none twice, and no `least` is told where a transaction at the last timeout doesn't close the contract.
 A random run takes choices at the ends of their bounds and elsewhere, intervals about timeouts, deposits as asked, and now and then others.
 """
 import argparse, collections, copy, glob, json, multiprocessing, os, random, re, subprocess, sys, tempfile, time
@@ -430,6 +431,44 @@ def whole(number):
     return int(number) if isinstance(number, str) else number
 
 
+STEPS = {"then": 1, "else": 2, "timeout_continuation": 4}
+KINDS = ["NonPositiveDeposit", "NonPositivePay", "PartialPay", "Shadowing", "AssertionFailed", "Leaves128"]
+
+
+def standing(alarm):
+    """Numbers by which an alarm stands before others: those of its steps, and then its kind."""
+    keys, numbers = list(alarm["place"][:-1]), []
+    while keys:
+        step = keys.pop(0)
+        if step == "when":
+            number, what = keys.pop(0), keys.pop(0)
+            numbers.append((3, number, int(what == "then")))
+        else:
+            numbers.append((STEPS[step], 0, 0))
+    return numbers + [(0, KINDS.index(alarm["kind"]), 0)]
+
+
+def last_timeout(contract):
+    """The last timeout to which a transaction without inputs comes."""
+    last, todo = WRITTEN[0], [contract]
+    while todo:
+        it = todo.pop()
+        if it != "close":
+            last = max(last, it.get("timeout", last))
+            todo += [it[key] for key in ("then", "else", "timeout_continuation") if key in it]
+    return last
+
+
+def closes(contract, state):
+    """Whether a transaction without inputs closes a contract from its last timeout on, or it is closed."""
+    time = max(last_timeout(contract), state["minTime"])
+    try:
+        machine = interpreter.Transaction(state, {"from": time, "to": time})
+        return machine.settle(contract) == "close"
+    except interpreter.Refused:
+        return False
+
+
 def analysis_of(program, contract, state):
     status, out, err = program.ask("analyse", contract, state, flags=["--json"])
     if status not in (0, 3):
@@ -437,6 +476,11 @@ def analysis_of(program, contract, state):
     told = json.loads(out)
     if (status == 3) != bool(told["alarms"]):
         raise Difference(f"status {status} with {len(told['alarms'])} alarms")
+    order = [standing(it) for it in told["alarms"]]
+    if any(one >= other for one, other in zip(order, order[1:])):
+        raise Difference("alarms don't stand in order, or one stands twice")
+    if not closes(contract, state) and any(it["least"] is not None for it in told["ranges"]):
+        raise Difference("a least is told of a contract that nothing closes")
     return told
 
 

@@ -2,8 +2,9 @@
 """Spoils the texts of the examples and the rows of transactions, and asks the built programs what they make of each.
 
 Needs    (cd crates/marlowe && rt run -- --version); for --rows also (cd crates/rows_chain && rt run -- transactions/sums.txt)
-Usage    checks/spoiled.py [--seconds N] [--seed N] [--workers N] [--words WORD,..] [--program FILE] [--slow N] [--rows]
+Usage    checks/spoiled.py [--seconds N] [--seed N] [--workers N] [--words WORD,..] [--program FILE] [--slow N] [--explain] [--count N] [--rows]
          for N seconds (60) with so many workers (1), each a process; a worker spoils the same texts in the same order again for the same seed;
+         --explain asks each refusal of run, table and analyse again with that flag, and --count N ends once so many texts were asked about;
          --words takes some of run, table, play and analyse in place of all; --program asks another program, which may take --slow N times as long;
          --rows spoils the rows of transactions in place of the texts
 Expect   how many texts there were of each command, were spoiled in each way and were answered in each kind, and `N spoiled texts, none at fault`;
@@ -23,8 +24,12 @@ search costs most, of bench/analysis_growth.py: many bounds of a choice, far con
 - that it has the lines, or the keys, of docs/formats.md, in its order; that its places are in the contract's text, with a form that can warn so;
 - that it has alarms where its status is 3, and none where it is 0;
 - that it refuses the contract or the state just where `run` does, by the same line.
+With --explain status, standard output and the first line stay, and the lines behind it are what `explained.py` says that they must be. 100,000 texts
+are a long run: `--explain --count 100000 --workers 4 --seconds 7200`.
 """
 import argparse, collections, glob, itertools, json, multiprocessing, os, random, re, shutil, signal, sys, tempfile, time, typing
+import explained
+import readings
 from analysed import EMPTY, rows_of
 from interpreter import has
 
@@ -73,6 +78,7 @@ PART = re.compile(rb'\{[^{}]*\}|\[[^][]*\]|(?<![^\s{[,:])"(?:[^"\\]|\\.)*"|-?\d+
 
 
 CLEAR = "never warns, stays within 128 bits"
+FROM_NOTHING = "from a start without accounts"
 ALARM = re.compile(r"(\w+) at (\S+)(?:, by this run:|(, not known))")
 CASE = r"\.when\[(?:0|[1-9]\d*)\]"
 PLACE = re.compile(rf"(?:\.then|\.else|\.timeout_continuation|{CASE}\.then)*(?:\.(?:pay|if|let|assert)|{CASE}\.case\.(?:deposits|notify_if))")
@@ -185,8 +191,8 @@ class Answer(typing.NamedTuple):
 class Runner:
     """Runs one program after another. Their streams are files in memory, and a clock ends a program that stays."""
 
-    def __init__(self, slow=1.0):
-        self.slow = slow
+    def __init__(self, slow=1.0, explains=False):
+        self.slow, self.explains = slow, explains
         self.streams = os.memfd_create("out"), os.memfd_create("err")
         self.actions = [(os.POSIX_SPAWN_DUP2, it, number) for number, it in enumerate(self.streams, 1)]
         self.pid, self.begun, self.most = 0, 0.0, 0.0
@@ -235,7 +241,11 @@ def judged(runner, word, line, text):
     """The answer to a command line about a text, and what is wrong with it, or None."""
     answer = runner.ask(word, line)
     fault = fault_of(runner, word, text, answer)
-    return answer, fault_beside(runner, line, answer) if word == "analyse" and not fault else fault
+    if not fault and word == "analyse":
+        fault = fault_beside(runner, line, answer)
+    if not fault and runner.explains and answer.status == 1:
+        fault = fault_explained(runner, word, line, answer)
+    return answer, fault
 
 
 def fault_of(runner, word, text, answer):
@@ -286,6 +296,40 @@ def fault_beside(runner, line, answer):
         return f"{type(fault).__name__}: {fault}"
 
 
+def fault_explained(runner, word, line, answer):
+    """What is wrong with the lines that explain a refusal, or None."""
+    again = runner.ask(word, [*line, "--explain"])
+    if again[:2] != answer[:2] or not again.err.startswith(answer.err):
+        return f"explained otherwise: status {again.status}, {again.err[:300]!r}"
+    try:
+        first, *lines = again.err.decode().split("\n")[:-1]
+        found = explained.FIRST.fullmatch(first)
+        if not found:
+            see(lines and all(it.startswith("  ") for it in lines), f"nothing is told of {first}")
+        elif found[1] != "state":
+            see_explained(runner, word, line, found, lines)
+        return None
+    except (explained.Wrong, readings.Fault, ValueError, LookupError, TypeError, AttributeError) as fault:
+        return f"explained: {type(fault).__name__}: {fault}: {again.err[:500]!r}"
+
+
+def see_explained(runner, word, line, found, lines):
+    """Sees that what is told of a text is so, and that reading goes on once a smallest part is in the place of the one at fault."""
+    place = 2 + ["contract", "state", "transaction"].index(found[1])
+    told = explained.explained(text_of(line[place]), lines, found[3])
+    if told is None:
+        return
+    file = f"{line[place]}.mended"
+    with open(file, "wb") as it:
+        it.write(told.with_smallest().encode())
+    after = runner.ask(word, [*line[:place], file, *line[place + 1 :], "--explain"])
+    os.remove(file)
+    first, *rest = after.err.decode().split("\n")[:-1] or [""]
+    stops = explained.FIRST.fullmatch(first)
+    if stops and stops[1] == found[1] and rest and (where := explained.PLACE.fullmatch(rest[0])):
+        see(not explained.is_inside(where["path"] or "", told.path), f"with {told.smallest} there it stops at {where['path']}")
+
+
 def see(is_so, what):
     if not is_so:
         raise ValueError(what)
@@ -298,6 +342,8 @@ def told_of(answer):
     if text.startswith('{"alarms"'):
         return told_by_json(text[:-1])
     lines, alarms = text.split("\n")[-2::-1], []
+    if lines[0] == FROM_NOTHING:
+        lines.pop(0)
     is_clear = lines[-1] == CLEAR
     if is_clear:
         lines.pop()
@@ -514,10 +560,11 @@ def work(arguments):
     number, given = arguments
     chance, spoil, ends = random.Random(f"{given.seed} {number}"), spoil_rows if given.rows else spoil_texts, time.monotonic() + given.seconds
     kinds, faults, seconds, kib = collections.Counter(), [], 0, 0
-    with tempfile.TemporaryDirectory(prefix="spoiled-", dir="/dev/shm") as room, Runner(given.slow) as runner:
+    count = given.count // given.workers
+    with tempfile.TemporaryDirectory(prefix="spoiled-", dir="/dev/shm") as room, Runner(given.slow, given.explain) as runner:
         file = os.open(f"{room}/spoiled", os.O_WRONLY | os.O_CREAT)
-        for word, line, text, done in spoil(chance, room, given):
-            if time.monotonic() > ends or len(faults) == MOST_FAULTS:
+        for asked, (word, line, text, done) in enumerate(spoil(chance, room, given)):
+            if time.monotonic() > ends or len(faults) == MOST_FAULTS or count and asked == count:
                 break
             os.pwrite(file, text, 0)
             os.ftruncate(file, len(text))
@@ -531,10 +578,10 @@ def work(arguments):
     return kinds, faults, seconds, kib
 
 
-def ask_again(faults, slow):
+def ask_again(faults, slow, explains):
     """Of the inputs at fault those that are so still. What was late beside other workers is asked again alone."""
     still = []
-    with Runner(slow) as runner:
+    with Runner(slow, explains) as runner:
         for word, line, text, answer, fault in faults:
             if is_late(fault):
                 answer, fault = judged(runner, word, line, text)
@@ -552,7 +599,11 @@ def main():
     words.add_argument("--program", default=PROGRAM)
     words.add_argument("--slow", type=float, default=1)
     words.add_argument("--rows", action="store_true")
+    words.add_argument("--explain", action="store_true")
+    words.add_argument("--count", type=int, default=0)
     given = words.parse_args()
+    if given.explain:
+        given.words = [it for it in given.words if it != "play"]
     if not set(given.words) <= set(WORDS):
         words.error(f"--words takes some of {','.join(WORDS)}")
     program = ROWS if given.rows else given.program
@@ -563,7 +614,7 @@ def main():
     kinds, faults = sum((it[0] for it in told), collections.Counter()), [it for part in told for it in part[1]]
     for kind, count in sorted(kinds.items()):
         print(f"{count:9} {kind}")
-    late, still = sum(is_late(it[4]) for it in faults), ask_again(faults, given.slow)
+    late, still = sum(is_late(it[4]) for it in faults), ask_again(faults, given.slow, given.explain)
     for line, answer, fault in still:
         print(f"{fault}: {' '.join(line)}: {answer.err[:300]!r}")
     asked = sum(count for kind, count in kinds.items() if kind.startswith("asked "))

@@ -2,7 +2,8 @@
 //! warn of and pay in any run; and what becomes of contracts that many parties step on one ledger.
 //!
 //! What a command line prints, and its status, is told by `command` of `marlowe_commands`. Here are the words, the files and the
-//! streams. Where standard output can't be written, `unwritable` is on standard error, and the status is 2.
+//! streams. Refusals are explained where standard error is a terminal. Where standard output can't be written, `unwritable` is on
+//! standard error, and the status is 2.
 #![tactic(auto)]
 
 mod files;
@@ -21,8 +22,10 @@ use std::process::ExitCode;
 fn main(rt: HostRuntime) -> ExitCode {
     match words(&rt) {
         Ok(words) => {
-            let progress = Progress::new(&rt, rt.stderr().is_terminal());
-            let printed = command(&rt, &HostFiles { rt: &rt }, &progress, words.as_slice());
+            let for_people = rt.stderr().is_terminal();
+            let progress = Progress::new(&rt, for_people);
+            let files = HostFiles { rt: &rt };
+            let printed = command(&rt, &files, &progress, words.as_slice(), for_people);
             progress.clear();
             tell(&rt, &rt.stderr(), printed)
         }

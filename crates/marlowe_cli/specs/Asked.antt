@@ -33,6 +33,7 @@ AsksRun words task = (first_of (codes "CONTRACT") words ≡ Some task.contract.n
     × (first_of (codes "STATE") words ≡ Some task.state.now)
     × (first_of (codes "TX") words ≡ Some task.transaction.now)
     × IsFlag (one_of (codes "text-numbers") words) task.text_numbers
+    × IsFlag (one_of (codes "explain") words) task.explain
 
 abbrev pub AsksTrace : List Row → TraceTask → Type 0
 AsksTrace words task = (first_of (codes "CONTRACT") words ≡ Some task.contract.now)
@@ -40,6 +41,7 @@ AsksTrace words task = (first_of (codes "CONTRACT") words ≡ Some task.contract
     × (first_of (codes "state") words ≡ option_map (λ path. path.now) task.state)
     × IsFlag (one_of (codes "last") words) task.last
     × IsFlag (one_of (codes "text-numbers") words) task.text_numbers
+    × IsFlag (one_of (codes "explain") words) task.explain
 
 abbrev pub AsksNext : List Row → NextTask → Type 0
 AsksNext words task = (first_of (codes "CONTRACT") words ≡ Some task.contract.now)
@@ -49,9 +51,10 @@ AsksNext words task = (first_of (codes "CONTRACT") words ≡ Some task.contract.
     × (given_for (codes "after") words ≡ map (λ path. path.now) task.after.items)
     × IsFlag (one_of (codes "json") words) task.json
     × IsFlag (one_of (codes "text-numbers") words) task.text_numbers
+    × IsFlag (one_of (codes "explain") words) task.explain
 
 abbrev pub AsksTable : List Row → TableTask → Type 0
-AsksTable words task = first_of (codes "CONTRACT") words ≡ Some task.contract.now
+AsksTable words task = (first_of (codes "CONTRACT") words ≡ Some task.contract.now) × IsFlag (one_of (codes "explain") words) task.explain
 
 abbrev pub AsksAnalysis : List Row → AnalyseTask → Type 0
 AsksAnalysis words task = (first_of (codes "CONTRACT") words ≡ Some task.contract.now)
@@ -59,6 +62,7 @@ AsksAnalysis words task = (first_of (codes "CONTRACT") words ≡ Some task.contr
     × IsFlag (one_of (codes "json") words) task.json
     × IsFlag (one_of (codes "no-runs") words) task.no_runs
     × IsFlag (one_of (codes "text-numbers") words) task.text_numbers
+    × IsFlag (one_of (codes "explain") words) task.explain
 
 abbrev pub AsksPlay : List Row → PlayTask → Type 0
 AsksPlay words task = (first_of (codes "SCENARIO") words ≡ Some task.scenario.now) × IsFlag (one_of (codes "one") words) task.one

@@ -19,6 +19,8 @@ pub struct AnalyseTask<'a> {
     pub no_runs: bool,
     /// Numbers of the state may be texts.
     pub text_numbers: bool,
+    /// Lines behind a refusal say where and why.
+    pub explain: bool,
 }
 
 /// What `analyse` is asked, from what was found for its words.
@@ -31,5 +33,6 @@ pub(crate) fn analyse_task<'a>(analyse: &ArgMatches<'a>) -> Result<Task<'a>, NoT
         json: is_given(analyse, "json"),
         no_runs: is_given(analyse, "no-runs"),
         text_numbers: is_given(analyse, "text-numbers"),
+        explain: is_given(analyse, "explain"),
     }))
 }

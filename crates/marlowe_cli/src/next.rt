@@ -24,6 +24,8 @@ pub struct NextTask<'a> {
     pub json: bool,
     /// Numbers of the state may be texts.
     pub text_numbers: bool,
+    /// Lines behind a refusal say where and why.
+    pub explain: bool,
 }
 
 /// What `next` is asked, from what was found for its words.
@@ -38,5 +40,6 @@ pub(crate) fn next_task<'a>(alloc: Global, next: &ArgMatches<'a>) -> Result<Task
         after: words_for(alloc, next, "after")?,
         json: is_given(next, "json"),
         text_numbers: is_given(next, "text-numbers"),
+        explain: is_given(next, "explain"),
     }))
 }

@@ -15,6 +15,8 @@ pub struct RunTask<'a> {
     pub transaction: &'a str,
     /// Numbers of the state may be texts.
     pub text_numbers: bool,
+    /// Lines behind a refusal say where and why.
+    pub explain: bool,
 }
 
 /// What `run` is asked, from what was found for its words.
@@ -26,5 +28,6 @@ pub(crate) fn run_task<'a>(run: &ArgMatches<'a>) -> Result<Task<'a>, NoTask>
         state: word(run, "STATE")?,
         transaction: word(run, "TX")?,
         text_numbers: is_given(run, "text-numbers"),
+        explain: is_given(run, "explain"),
     }))
 }

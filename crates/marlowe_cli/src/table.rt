@@ -3,7 +3,7 @@ ghost use Rattle.std.specs.Prelude.{IfOk, Some, codes};
 ghost use Rattle.clap.specs.Words.{found_of, rows_of};
 ghost use Rattle.marlowe_cli.specs.Asked.{IsAsked};
 
-use crate::found::{NoTask, word};
+use crate::found::{NoTask, is_given, word};
 use crate::task::Task;
 use clap::ArgMatches;
 
@@ -11,6 +11,8 @@ use clap::ArgMatches;
 #[derive(Clone, Copy)]
 pub struct TableTask<'a> {
     pub contract: &'a str,
+    /// Lines behind a refusal say where and why.
+    pub explain: bool,
 }
 
 /// What `table` is asked, from what was found for its words.
@@ -19,5 +21,6 @@ pub(crate) fn table_task<'a>(table: &ArgMatches<'a>) -> Result<Task<'a>, NoTask>
 {
     Ok(Task::Table(TableTask {
         contract: word(table, "CONTRACT")?,
+        explain: is_given(table, "explain"),
     }))
 }

@@ -20,6 +20,8 @@ pub struct TraceTask<'a> {
     pub last: bool,
     /// Numbers of the state may be texts.
     pub text_numbers: bool,
+    /// Lines behind a refusal say where and why.
+    pub explain: bool,
 }
 
 /// What `trace` is asked, from what was found for its words.
@@ -32,5 +34,6 @@ pub(crate) fn trace_task<'a>(alloc: Global, trace: &ArgMatches<'a>) -> Result<Ta
         state: word_if(trace, "state"),
         last: is_given(trace, "last"),
         text_numbers: is_given(trace, "text-numbers"),
+        explain: is_given(trace, "explain"),
     }))
 }

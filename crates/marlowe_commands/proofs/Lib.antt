@@ -1,1 +1,2 @@
 mod TaskLemmas
+mod ExplainedLemmas

@@ -1,12 +1,12 @@
 -- Which words ask for an analysis or a trace, and what is printed for one.
-use Rattle.std.proofs.Common.{◌≡◌, ◌⊎◌, ℕ, Bool, true, false, List, Option, Some, None, inl, inr, subst, codes}
+use Rattle.std.proofs.Common.{◌≡◌, ℕ, Bool, true, false, List, Option, Some, None, inl, inr, subst, codes}
 use Rattle.clap.specs.Words.{Row, Text}
 use Rattle.marlowe_cli.specs.declared.task.Task.{Task}
 use Rattle.marlowe_cli.specs.declared.task.Task.TheVariants.{Run, Trace, Next, Table, Analyse, Play}
 use Rattle.marlowe_cli.specs.Asked.{IsAsked}
 use Rattle.marlowe_analyse.specs.declared.analysed.Reader.{Reader}
 use Rattle.marlowe_analyse.specs.Printed.{TellsSo}
-use Rattle.marlowe_commands.specs.Streams.{Streams, on_output, IsCut, IsOnOneStream, IsOnStreams}
+use Rattle.marlowe_commands.specs.Streams.{Streams, on_output, IsOnStreams}
 use Rattle.marlowe_commands.specs.Tasks.{AsksFor, IsAnalysis, IsTrace, PrintsAnalysis}
 
 -- a task that is an analysis is asked for by its name

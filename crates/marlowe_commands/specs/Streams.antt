@@ -1,5 +1,5 @@
 -- What is printed: on which stream, and with which status.
-use Rattle.std.specs.Prelude.{◌≡◌, ◌⊎◌, ℕ, List, [], ◌∷◌, ◌++◌}
+use Rattle.std.specs.Prelude.{◌≡◌, ◌⊎◌, ℕ, Bool, true, false, List, [], ◌∷◌, ◌++◌}
 use Rattle.marlowe_refusals.specs.declared.trace_fault.TraceFault.{TraceFault}
 use Rattle.marlowe_refusals.specs.Refusals.{trace_refusal}
 use Rattle.marlowe_commands.specs.declared.printed.Printed.{Printed}
@@ -36,3 +36,25 @@ IsCut streams = (text : List ℕ) × (fault : TraceFault) × (streams ≡ cut_by
 -- on one stream; or, where a trace is asked for, outcomes and the refusal that ends them
 abbrev pub IsOnStreams : Type 0 → Streams → Type 0
 IsOnStreams is_trace streams = IsOnOneStream streams ⊎ is_trace × IsCut streams
+
+-- ---- with explanations
+
+-- lines behind what is on standard error: the rest stays
+abbrev pub with_lines : List ℕ → Streams → Streams
+with_lines lines (output, errors, status) = (output, errors ++ lines, status)
+
+abbrev pub IsRefusal : Streams → Type 0
+IsRefusal (output, errors, status) = status ≡ 1
+
+-- what is printed is what is printed without explanations, and behind a refusal the lines that explain it, or none for want of memory
+pub record IsExplained (Prints : Streams → Type 0) (Explains : List ℕ → Type 0) (streams : Streams) : Type 0 where
+  pub plain : Streams
+  pub prints : Prints plain
+  pub lines : List ℕ
+  pub explains : (lines ≡ []) ⊎ IsRefusal plain × Explains lines
+  pub is : streams ≡ with_lines lines plain
+
+-- .. where explanations are wanted
+abbrev pub MayExplain : Bool → (Streams → Type 0) → Streams → Type 0
+MayExplain false Prints streams = Prints streams
+MayExplain true Prints streams = IsExplained Prints (λ lines. Unit {0}) streams

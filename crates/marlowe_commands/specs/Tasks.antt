@@ -1,6 +1,6 @@
 -- What is printed for each task.
 use Rattle.std.specs.Prelude.{◌≡◌, ◌⊎◌, ℕ, Bool, true, false, List, [], ◌∷◌, ◌++◌, Option, Some, None, Result, Ok, Err, codes}
-use Rattle.clap.specs.Words.{Row, Text}
+use Rattle.clap.specs.Words.{Row, Text, one_of}
 use Rattle.marlowe_refusals.specs.declared.fault.RunFault.{RunFault}
 use Rattle.marlowe_refusals.specs.declared.table_fault.TableFault.{TableFault}
 use Rattle.marlowe_refusals.specs.declared.trace_fault.TraceFault.{TraceFault}
@@ -11,8 +11,9 @@ use Rattle.marlowe_next.specs.Answer.{IsAnswer}
 use Rattle.marlowe_next.specs.Question.{Reached, answered}
 use Rattle.marlowe_analyse.specs.declared.analysed.Reader.{Reader}
 use Rattle.marlowe_analyse.specs.Printed.{TellsSo, is_read}
+use Rattle.refusal_reasons.specs.declared.source.Over.{Over}
 use Rattle.marlowe_cli.specs.declared.task.Task.{Task}
-use Rattle.marlowe_cli.specs.declared.task.Task.TheVariants.{Analyse, Trace}
+use Rattle.marlowe_cli.specs.declared.task.Task.TheVariants.{Run, Trace, Next, Table, Analyse, Play}
 use Rattle.marlowe_commands.specs.Streams.{Streams, cut_by, on_output, on_errors}
 
 -- a refusal: a line on standard error, with status 1
@@ -47,6 +48,10 @@ PrintsAnalysis reader texts contract state streams =
     ⊎ ((text : List ℕ) × (streams ≡ on_output text 3) × TellsSo reader texts contract state false text)
     ⊎ ((fault : RunFault) × (is_read texts contract state ≡ Err fault) × (streams ≡ refused (run_refusal fault)))
 
+-- the interval that is asked about
+abbrev pub over_of : Asked → Over
+over_of asked = record { from = asked.from; to = asked.to }
+
 -- ---- which task it is
 
 abbrev pub IsAnalysis : Task → Type 0
@@ -61,3 +66,20 @@ IsTrace other = ⊥
 abbrev pub AsksFor : Text → Option (Text × List Row) → Type 0
 AsksFor name None = ⊥
 AsksFor name (Some (asked, words)) = asked ≡ name
+
+-- a task wants explanations
+abbrev pub wants_explanations : Task → Bool
+wants_explanations (Run task) = task.explain
+wants_explanations (Trace task) = task.explain
+wants_explanations (Next task) = task.explain
+wants_explanations (Table task) = task.explain
+wants_explanations (Analyse task) = task.explain
+wants_explanations (Play task) = false
+
+-- the words of a command line leave out the flag for explanations
+abbrev pub LeavesOut : Option Text → Type 0
+LeavesOut text = (text ≡ None) ⊎ (text ≡ Some (codes "false"))
+
+abbrev pub WantsNoExplanations : Option (Text × List Row) → Type 0
+WantsNoExplanations None = ⊥
+WantsNoExplanations (Some (asked, words)) = LeavesOut (one_of (codes "explain") words)

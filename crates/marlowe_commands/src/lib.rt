@@ -2,10 +2,11 @@
 //! paths hold.
 //!
 //! `command` is the whole program but for its files and its streams. `run_printed` and its like are its tasks, from texts.
-//! docs/formats.md has what is printed.
+//! `run_explained` and its like are those with explanations behind a refusal. docs/formats.md has what is printed.
 #![tactic(auto)]
 
 mod command_line;
+mod explained;
 mod printed;
 mod stops;
 mod tasks;
@@ -13,7 +14,10 @@ mod texts;
 mod told;
 
 pub use command_line::command;
-pub use marlowe_play::{NoWatch, Watch};
+pub use explained::{
+    analysis_explained, next_explained, run_explained, table_explained, trace_explained,
+};
+pub use marlowe_play::{NoWatch, PlayFault, Watch};
 pub use printed::Printed;
 pub use tasks::{
     analysis_printed, next_printed, play_printed, run_printed, table_printed, trace_printed,

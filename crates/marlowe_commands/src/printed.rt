@@ -1,13 +1,13 @@
 //! What is printed.
-ghost use Rattle.std.specs.Prelude.{◌≡◌, [], ◌∷◌, ◌++◌, IfOk};
-ghost use Rattle.marlowe_commands.specs.Streams.{streams_of, cut_by, on_output, on_errors};
+ghost use Rattle.std.specs.Prelude.{◌≡◌, ◌⊎◌, [], ◌∷◌, ◌++◌, IfOk};
+ghost use Rattle.marlowe_commands.specs.Streams.{streams_of, cut_by, on_output, on_errors, with_lines};
 
 use collections::Memory;
 use std::alloc::Global;
 
 /// What a command prints, and its status: 0 for a text on standard output, 3 for an analysis there that has alarms, 1 for a refusal
 /// on standard error, and 2 for a file that can't be read or a fault of the command line, there too. A trace that a refusal ends has
-/// outcomes on standard output as well.
+/// outcomes on standard output as well. Behind a refusal may be lines that explain it.
 #[derive(Drop)]
 pub struct Printed {
     pub output: Vec<u8>,
@@ -45,6 +45,7 @@ impl Printed {
         line.push(b'\n')?;
         Ok(Printed::on_errors(alloc, line, 1))
     }
+
     /// Outcomes, and the refusal that ends them, from its line without a line feed.
     pub(crate) fn cut(text: Vec<u8>, mut line: Vec<u8>) -> Result<Printed, Memory>
         ensures { IfOk result (λ printed. streams_of printed ≡ cut_by text.items line.items) }
@@ -55,5 +56,22 @@ impl Printed {
             errors: line,
             status: 1,
         })
+    }
+
+    /// The same with lines behind what is on standard error, or without them where memory is refused.
+    pub(crate) fn with_lines(self, lines: Vec<u8>) -> Printed
+        ensures { (streams_of result ≡ streams_of self) ⊎ (streams_of result ≡ with_lines lines.items (streams_of self)) }
+    {
+        let Printed {
+            output,
+            mut errors,
+            status,
+        } = self;
+        let _ = errors.extend_from_slice(lines.as_slice());
+        Printed {
+            output,
+            errors,
+            status,
+        }
     }
 }

@@ -49,26 +49,30 @@ command name rules = fold with_rule (new_app name) rules
 abbrev pub text_numbers : Rule
 text_numbers = flag (codes "text-numbers")
 
--- `run CONTRACT STATE TX [--text-numbers]`
+-- lines behind a refusal say where and why
+abbrev pub explain : Rule
+explain = flag (codes "explain")
+
+-- `run CONTRACT STATE TX [--text-numbers] [--explain]`
 abbrev pub run_rules : List Rule
-run_rules = given (codes "CONTRACT") ∷ given (codes "STATE") ∷ given (codes "TX") ∷ text_numbers ∷ []
+run_rules = given (codes "CONTRACT") ∷ given (codes "STATE") ∷ given (codes "TX") ∷ text_numbers ∷ explain ∷ []
 
--- `trace CONTRACT TX.. [--state STATE] [--last] [--text-numbers]`
+-- `trace CONTRACT TX.. [--state STATE] [--last] [--text-numbers] [--explain]`
 abbrev pub trace_rules : List Rule
-trace_rules = given (codes "CONTRACT") ∷ several (codes "TX") ∷ option (codes "state") ∷ flag (codes "last") ∷ text_numbers ∷ []
+trace_rules = given (codes "CONTRACT") ∷ several (codes "TX") ∷ option (codes "state") ∷ flag (codes "last") ∷ text_numbers ∷ explain ∷ []
 
--- `next CONTRACT [STATE] [--from T] [--to T] [--after TX].. [--json] [--text-numbers]`
+-- `next CONTRACT [STATE] [--from T] [--to T] [--after TX].. [--json] [--text-numbers] [--explain]`
 abbrev pub next_rules : List Rule
 next_rules = given (codes "CONTRACT") ∷ optional (codes "STATE") ∷ time (codes "from") ∷ time (codes "to") ∷ options (codes "after")
-    ∷ flag (codes "json") ∷ text_numbers ∷ []
+    ∷ flag (codes "json") ∷ text_numbers ∷ explain ∷ []
 
--- `table CONTRACT`
+-- `table CONTRACT [--explain]`
 abbrev pub table_rules : List Rule
-table_rules = given (codes "CONTRACT") ∷ []
+table_rules = given (codes "CONTRACT") ∷ explain ∷ []
 
--- `analyse CONTRACT [STATE] [--json] [--no-runs] [--text-numbers]`
+-- `analyse CONTRACT [STATE] [--json] [--no-runs] [--text-numbers] [--explain]`
 abbrev pub analyse_rules : List Rule
-analyse_rules = given (codes "CONTRACT") ∷ optional (codes "STATE") ∷ flag (codes "json") ∷ flag (codes "no-runs") ∷ text_numbers ∷ []
+analyse_rules = given (codes "CONTRACT") ∷ optional (codes "STATE") ∷ flag (codes "json") ∷ flag (codes "no-runs") ∷ text_numbers ∷ explain ∷ []
 
 -- `play SCENARIO [--one]`
 abbrev pub play_rules : List Rule

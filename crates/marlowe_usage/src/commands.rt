@@ -1,6 +1,6 @@
 //! The commands, with their arguments and help.
 ghost use Rattle.std.specs.Prelude.{IfOk, codes};
-ghost use Rattle.marlowe_usage.specs.Lines.{IsArgument, IsCommand, IsDraft, given, text_numbers, command, program};
+ghost use Rattle.marlowe_usage.specs.Lines.{IsArgument, IsCommand, IsDraft, given, text_numbers, explain, command, program};
 ghost use Rattle.marlowe_usage.specs.Lines.{run_rules, trace_rules, next_rules, table_rules, analyse_rules, play_rules, command_line};
 
 use crate::draft::Draft;
@@ -52,6 +52,14 @@ fn text_numbers<'a>(alloc: Global) -> Arg<'a>
     flag(alloc, "text-numbers", help)
 }
 
+// The flag for explanations.
+fn explain<'a>(alloc: Global) -> Arg<'a>
+    ensures { IsArgument explain result }
+{
+    let help = "Says where and why something is refused, in lines behind the refusal";
+    flag(alloc, "explain", help)
+}
+
 fn run_command<'a>(alloc: Global) -> Draft<'a>
     ensures { IsDraft (command (codes "run") run_rules) result }
 {
@@ -63,6 +71,7 @@ fn run_command<'a>(alloc: Global) -> Draft<'a>
         .with(given(alloc, "STATE", state))
         .with(given(alloc, "TX", transaction))
         .with(text_numbers(alloc))
+        .with(explain(alloc))
 }
 
 fn trace_command<'a>(alloc: Global) -> Draft<'a>
@@ -81,6 +90,7 @@ fn trace_command<'a>(alloc: Global) -> Draft<'a>
         .with(option(alloc, "state", "STATE", state))
         .with(flag(alloc, "last", last))
         .with(text_numbers(alloc))
+        .with(explain(alloc))
 }
 
 fn next_command<'a>(alloc: Global) -> Draft<'a>
@@ -103,13 +113,16 @@ fn next_command<'a>(alloc: Global) -> Draft<'a>
         .with(options(alloc, "after", "TX", after))
         .with(flag(alloc, "json", json))
         .with(text_numbers(alloc))
+        .with(explain(alloc))
 }
 
 fn table_command<'a>(alloc: Global) -> Draft<'a>
     ensures { IsDraft (command (codes "table") table_rules) result }
 {
     let about = "Compiles a contract and prints its table, a line for each node.";
-    Draft::new(alloc, "table", about).with(contract(alloc))
+    Draft::new(alloc, "table", about)
+        .with(contract(alloc))
+        .with(explain(alloc))
 }
 
 fn analyse_command<'a>(alloc: Global) -> Draft<'a>
@@ -129,6 +142,7 @@ fn analyse_command<'a>(alloc: Global) -> Draft<'a>
         .with(flag(alloc, "json", json))
         .with(flag(alloc, "no-runs", no_runs))
         .with(text_numbers(alloc))
+        .with(explain(alloc))
 }
 
 fn play_command<'a>(alloc: Global) -> Draft<'a>

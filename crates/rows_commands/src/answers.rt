@@ -62,7 +62,7 @@ pub fn printed<R: Files + AllocGlobal + Threads + Wait + Sync>(
     words.push(String::from_str(alloc, "marlowe")?)?;
     put_words(alloc, &mut words, line)?;
     put_words(alloc, &mut words, more)?;
-    let printed = command(rt, &Folder { rt, given }, &NoWatch, words.as_slice());
+    let printed = command(rt, &Folder { rt, given }, &NoWatch, words.as_slice(), false);
     Ok(printed?)
 }
 

@@ -1,6 +1,6 @@
 //! The values of the fault of `play`, one after another.
 use contract_json::JsonFault;
-use marlowe_play::PlayFault;
+use marlowe_commands::PlayFault;
 use rows_text::{RowFault, texts_of};
 use std::alloc::Global;
 

@@ -1,5 +1,5 @@
 //! What command lines ask for.
-use marlowe_cli::{AnalyseTask, NextTask, PlayTask, RunTask, Task, TraceTask, line};
+use marlowe_cli::{AnalyseTask, NextTask, PlayTask, RunTask, TableTask, Task, TraceTask, line};
 use std::alloc::{AllocError, Global};
 
 /// What a command line asks for, or where the text of `clap` goes.
@@ -20,7 +20,7 @@ fn task_told(alloc: Global, task: &Task<'_>) -> Result<String, AllocError> {
         Task::Run(run) => run_told(alloc, run),
         Task::Trace(trace) => trace_told(alloc, trace),
         Task::Next(next) => next_told(alloc, next),
-        Task::Table(table) => format!(in alloc; "table {}", table.contract),
+        Task::Table(table) => table_told(alloc, table),
         Task::Analyse(analyse) => analysis_told(alloc, analyse),
         Task::Play(play) => play_told(alloc, play),
     }
@@ -28,8 +28,9 @@ fn task_told(alloc: Global, task: &Task<'_>) -> Result<String, AllocError> {
 
 fn run_told(alloc: Global, run: &RunTask<'_>) -> Result<String, AllocError> {
     let texts = texts_told(run.text_numbers);
+    let explained = explain_told(run.explain);
     format!(in alloc;
-        "run {} {} {}{texts}",
+        "run {} {} {}{texts}{explained}",
         run.contract, run.state, run.transaction
     )
 }
@@ -42,6 +43,7 @@ fn trace_told(alloc: Global, trace: &TraceTask<'_>) -> Result<String, AllocError
         told.push_str(", the last alone")?;
     }
     told.push_str(texts_told(trace.text_numbers))?;
+    told.push_str(explain_told(trace.explain))?;
     Ok(told)
 }
 
@@ -60,7 +62,13 @@ fn next_told(alloc: Global, next: &NextTask<'_>) -> Result<String, AllocError> {
     }
     told.push_str(form_told(next.json))?;
     told.push_str(texts_told(next.text_numbers))?;
+    told.push_str(explain_told(next.explain))?;
     Ok(told)
+}
+
+fn table_told(alloc: Global, table: &TableTask<'_>) -> Result<String, AllocError> {
+    let explained = explain_told(table.explain);
+    format!(in alloc; "table {}{explained}", table.contract)
 }
 
 fn analysis_told(alloc: Global, analyse: &AnalyseTask<'_>) -> Result<String, AllocError> {
@@ -68,7 +76,11 @@ fn analysis_told(alloc: Global, analyse: &AnalyseTask<'_>) -> Result<String, All
     let form = form_told(analyse.json);
     let runs = if analyse.no_runs { " without runs" } else { "" };
     let texts = texts_told(analyse.text_numbers);
-    format!(in alloc; "analyse {} {state}{form}{runs}{texts}", analyse.contract)
+    let explained = explain_told(analyse.explain);
+    format!(in alloc;
+        "analyse {} {state}{form}{runs}{texts}{explained}",
+        analyse.contract
+    )
 }
 
 fn play_told(alloc: Global, play: &PlayTask<'_>) -> Result<String, AllocError> {
@@ -90,6 +102,10 @@ fn form_told(json: bool) -> &'static str {
 
 fn texts_told(text_numbers: bool) -> &'static str {
     if text_numbers { " with texts" } else { "" }
+}
+
+fn explain_told(explain: bool) -> &'static str {
+    if explain { " with explanations" } else { "" }
 }
 
 fn put_paths(told: &mut String, paths: &[&str]) -> Result<(), AllocError> {

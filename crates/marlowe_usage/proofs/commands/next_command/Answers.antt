@@ -1,6 +1,6 @@
 use Rattle.std.proofs.Common.{codes}
 use Rattle.clap.specs.Words.{new_app, with_rule}
-use Rattle.marlowe_usage.specs.Lines.{given, optional, time, options, flag, text_numbers}
+use Rattle.marlowe_usage.specs.Lines.{given, optional, time, options, flag, text_numbers, explain}
 use Rattle.marlowe_usage.proofs.commands.next_command.Goals as goal
 
 pub returns : goal.returns
@@ -19,4 +19,6 @@ returns c =
     let five = with_rule four (options (codes "after")) in
     let with_six = c.with-6.ensures five (flag (codes "json")) with_five c.flag.ensures in
     let six = with_rule five (flag (codes "json")) in
-    c.with-7.ensures six text_numbers with_six c.text_numbers.ensures
+    let with_seven = c.with-7.ensures six text_numbers with_six c.text_numbers.ensures in
+    let seven = with_rule six text_numbers in
+    c.with-8.ensures seven explain with_seven c.explain.ensures

@@ -1,6 +1,6 @@
 use Rattle.std.proofs.Common.{codes}
 use Rattle.clap.specs.Words.{new_app, with_rule}
-use Rattle.marlowe_usage.specs.Lines.{given, several, option, flag, text_numbers}
+use Rattle.marlowe_usage.specs.Lines.{given, several, option, flag, text_numbers, explain}
 use Rattle.marlowe_usage.proofs.commands.trace_command.Goals as goal
 
 pub returns : goal.returns
@@ -15,4 +15,6 @@ returns c =
     let three = with_rule two (option (codes "state")) in
     let with_four = c.with-4.ensures three (flag (codes "last")) with_three c.flag.ensures in
     let four = with_rule three (flag (codes "last")) in
-    c.with-5.ensures four text_numbers with_four c.text_numbers.ensures
+    let with_five = c.with-5.ensures four text_numbers with_four c.text_numbers.ensures in
+    let five = with_rule four text_numbers in
+    c.with-6.ensures five explain with_five c.explain.ensures

@@ -1,0 +1,154 @@
+//! The tasks of the program with explanations: behind the line of a refusal stand lines that say where and why, by a second look at the
+//! texts. Paths are the names by which texts are told.
+ghost use Rattle.std.specs.Prelude.{◌≡◌, ◌⊎◌, true, Some, IfOk, map, option_map};
+ghost use Rattle.marlowe_run.specs.Run.{run_by};
+ghost use Rattle.marlowe_run.specs.Start.{state_reading};
+ghost use Rattle.marlowe_run.specs.TableText.{table_text};
+ghost use Rattle.marlowe_trace.specs.Traced.{trace_text};
+ghost use Rattle.marlowe_next.specs.Question.{reached};
+ghost use Rattle.refusal_reasons.specs.Reasons.{Tells, TellsOfTable};
+ghost use Rattle.refusal_reasons.specs.declared.source.Behind.TheVariants as behind;
+ghost use Rattle.marlowe_commands.specs.Streams.{streams_of, IsCut, IsExplained, IsOnOneStream, IsTextOr, MayExplain};
+ghost use Rattle.marlowe_commands.specs.Tasks.{PrintsRun, PrintsTrace, PrintsNext, PrintsTable, PrintsAnalysis, over_of};
+
+use crate::printed::Printed;
+use crate::tasks::{analysis_printed, next_printed, run_printed, table_printed, trace_printed};
+use collections::Memory;
+use marlowe_analyse::Reader;
+use refusal_reasons::{Behind, Over, Source, Sources, reasons, table_reasons};
+use std::alloc::Global;
+
+// The status of a refusal.
+const REFUSED: u8 = 1;
+
+/// What `run_printed` prints, with explanations.
+#[tactic(auto, using(crate::proofs::ExplainedLemmas::as_it_is, crate::proofs::ExplainedLemmas::explained))]
+pub fn run_explained(
+    alloc: Global,
+    contract: Source<'_>,
+    state: Source<'_>,
+    transaction: Source<'_>,
+    texts: bool,
+) -> Result<Printed, Memory>
+    ensures told { IfOk result (λ printed. IsExplained
+        (PrintsRun (run_by (state_reading texts) contract.entry.text.now state.entry.text.now transaction.entry.text.now))
+        (Tells contract.entry (Some state.entry) texts (behind.One transaction.entry)) (streams_of printed)) }
+    ensures stream { IfOk result (λ printed. MayExplain true (IsTextOr 1) (streams_of printed)) }
+{
+    let printed = run_printed(alloc, contract.text, state.text, transaction.text, texts)?;
+    if printed.status != REFUSED {
+        return Ok(printed);
+    }
+    let behind = Behind::One(transaction);
+    let lines = reasons(alloc, contract, Some(state), texts, behind);
+    Ok(printed.with_lines(lines))
+}
+
+/// What `trace_printed` prints, with explanations.
+#[tactic(auto, using(crate::proofs::ExplainedLemmas::as_it_is, crate::proofs::ExplainedLemmas::explained))]
+pub fn trace_explained(
+    alloc: Global,
+    contract: Source<'_>,
+    state: Option<Source<'_>>,
+    transactions: Sources<'_>,
+    asked: marlowe_trace::Asked,
+) -> Result<Printed, Memory>
+    ensures told { IfOk result (λ printed. IsExplained
+        (PrintsTrace (trace_text asked contract.entry.text.now (option_map (λ source. source.text.now) state.entry)
+        (map (λ text. text.items) transactions.entry.texts.now)))
+        (Tells contract.entry state.entry asked.texts (behind.Many transactions.entry)) (streams_of printed)) }
+    ensures stream { IfOk result (λ printed. MayExplain true (λ plain. IsTextOr 1 plain ⊎ IsCut plain) (streams_of printed)) }
+{
+    let printed = trace_printed(
+        alloc,
+        contract.text,
+        text_if(state),
+        transactions.texts,
+        asked,
+    )?;
+    if printed.status != REFUSED {
+        return Ok(printed);
+    }
+    let behind = Behind::Many(transactions);
+    let lines = reasons(alloc, contract, state, asked.texts, behind);
+    Ok(printed.with_lines(lines))
+}
+
+/// What `next_printed` prints, with explanations.
+#[tactic(auto, using(crate::proofs::ExplainedLemmas::as_it_is, crate::proofs::ExplainedLemmas::explained))]
+pub fn next_explained(
+    alloc: Global,
+    contract: Source<'_>,
+    state: Option<Source<'_>>,
+    after: Sources<'_>,
+    asked: marlowe_next::Asked,
+) -> Result<Printed, Memory>
+    ensures told { IfOk result (λ printed. IsExplained
+        (PrintsNext asked (reached asked contract.entry.text.now (option_map (λ source. source.text.now) state.entry)
+        (map (λ text. text.items) after.entry.texts.now)))
+        (Tells contract.entry state.entry asked.texts (behind.Next after.entry (over_of asked))) (streams_of printed)) }
+    ensures stream { IfOk result (λ printed. MayExplain true (IsTextOr 1) (streams_of printed)) }
+{
+    let printed = next_printed(alloc, contract.text, text_if(state), after.texts, asked)?;
+    if printed.status != REFUSED {
+        return Ok(printed);
+    }
+    let behind = Behind::Next(after, over_of(asked));
+    let lines = reasons(alloc, contract, state, asked.texts, behind);
+    Ok(printed.with_lines(lines))
+}
+
+fn over_of(asked: marlowe_next::Asked) -> Over
+    ensures { result ≡ over_of asked }
+{
+    Over {
+        from: asked.from,
+        to: asked.to,
+    }
+}
+
+/// What `table_printed` prints, with explanations.
+#[tactic(auto, using(crate::proofs::ExplainedLemmas::as_it_is, crate::proofs::ExplainedLemmas::explained))]
+pub fn table_explained(alloc: Global, contract: Source<'_>) -> Result<Printed, Memory>
+    ensures told { IfOk result (λ printed. IsExplained (PrintsTable (table_text contract.entry.text.now)) (TellsOfTable contract.entry)
+        (streams_of printed)) }
+    ensures stream { IfOk result (λ printed. MayExplain true (IsTextOr 1) (streams_of printed)) }
+{
+    let printed = table_printed(alloc, contract.text)?;
+    if printed.status != REFUSED {
+        return Ok(printed);
+    }
+    let lines = table_reasons(alloc, contract);
+    Ok(printed.with_lines(lines))
+}
+
+/// What `analysis_printed` prints, with explanations.
+#[tactic(auto, using(crate::proofs::ExplainedLemmas::as_it_is, crate::proofs::ExplainedLemmas::explained))]
+pub fn analysis_explained(
+    alloc: Global,
+    contract: Source<'_>,
+    state: Option<Source<'_>>,
+    texts: bool,
+    reader: Reader,
+) -> Result<Printed, Memory>
+    ensures told { IfOk result (λ printed. IsExplained
+        (PrintsAnalysis reader texts contract.entry.text.now (option_map (λ source. source.text.now) state.entry))
+        (Tells contract.entry state.entry texts behind.Nothing) (streams_of printed)) }
+    ensures stream { IfOk result (λ printed. MayExplain true IsOnOneStream (streams_of printed)) }
+{
+    let printed = analysis_printed(alloc, contract.text, text_if(state), texts, reader)?;
+    if printed.status != REFUSED {
+        return Ok(printed);
+    }
+    let lines = reasons(alloc, contract, state, texts, Behind::Nothing);
+    Ok(printed.with_lines(lines))
+}
+
+fn text_if<'a>(state: Option<Source<'a>>) -> Option<&'a [u8]>
+    ensures { option_map (λ text. text.now) result ≡ option_map (λ source. source.text.now) state.entry }
+{
+    match state {
+        Some(source) => Some(source.text),
+        None => None,
+    }
+}
