@@ -1,9 +1,12 @@
 //! What may be tried where a run has a choice.
+use crate::ends::Ends;
 use crate::written::is_written;
-use contract::{Account, Bound, Interval};
+use contract::{Account, Bound, ChoiceId, Interval};
 
-// The most accounts whose amounts are tried.
+// The most accounts whose amounts are tried, and the most choices whose numbers are.
 const MOST_ACCOUNTS: usize = 8;
+
+const MOST_CHOSEN: usize = 8;
 
 /// What may be tried at a point of a run, each by its index. There is no list of it, and an index may have none.
 pub(crate) trait Candidates {
@@ -82,11 +85,14 @@ fn moment(time: i64) -> Interval {
     }
 }
 
-/// Numbers within bounds that JSON can write: the ends of each, then numbers of the way, then those about what an
+/// Numbers within bounds that JSON can write: first the ends of those with which the run can go on, as far as these are known;
+/// then the ends of each bound, 0, one more than what was chosen before, numbers of the way, and those about what an
 /// account holds.
 #[derive(Clone, Copy)]
 pub(crate) struct Numbers<'a> {
+    pub(crate) ends: Option<Ends>,
     pub(crate) bounds: &'a [Bound],
+    pub(crate) chosen: &'a [(ChoiceId, i128)],
     pub(crate) numbers: &'a [i128],
     pub(crate) accounts: &'a [(Account, i128)],
 }
@@ -96,8 +102,9 @@ impl Candidates for Numbers<'_> {
 
     fn count(&self) -> usize {
         let held = self.accounts.len().min(MOST_ACCOUNTS).saturating_mul(3);
-        let others = self.numbers.len().saturating_add(held);
-        self.ends().saturating_add(others)
+        let others = self.before().saturating_add(self.numbers.len());
+        let inner = others.saturating_add(held);
+        self.outer().saturating_add(inner)
     }
 
     fn at(&self, index: usize) -> Option<i128> {
@@ -106,7 +113,7 @@ impl Candidates for Numbers<'_> {
     }
 
     fn cost(&self, index: usize) -> u64 {
-        if index < self.ends() {
+        if index < self.outer() {
             1
         } else {
             let looked = self.bounds.len().saturating_add(self.numbers.len());
@@ -116,37 +123,66 @@ impl Candidates for Numbers<'_> {
 }
 
 impl Numbers<'_> {
-    fn ends(&self) -> usize {
-        self.bounds.len().saturating_mul(2)
+    // How many indices the ends have: two of the numbers with which the run can go on, and two of each bound.
+    fn outer(&self) -> usize {
+        self.bounds.len().saturating_mul(2).saturating_add(2)
+    }
+
+    // How many there are for 0 and what was chosen before.
+    fn before(&self) -> usize {
+        self.chosen.len().min(MOST_CHOSEN).saturating_add(1)
     }
 
     fn number(&self, index: usize) -> Option<i128> {
-        let ends = self.ends();
-        if index < ends {
+        let outer = self.outer();
+        if index < outer {
             self.end(index)
         } else {
-            self.inner(index.saturating_sub(ends))
+            self.inner(index.saturating_sub(outer))
         }
     }
 
-    // The end of a bound: first where it begins, then where it ends, unless that is the same number.
+    // The end of the numbers with which the run can go on, or of a bound: first where it begins, then where it ends, unless
+    // that is the same number.
     fn end(&self, index: usize) -> Option<i128> {
-        let bound = self.bounds.get(index / 2)?;
-        end_of(bound.from, bound.to, index % 2 == 0)
+        let first = index % 2 == 0;
+        if index < 2 {
+            let ends = self.ends?;
+            return end_of(ends.least, ends.most, first);
+        }
+        let bound = self.bounds.get(index.saturating_sub(2) / 2)?;
+        let number = end_of(bound.from, bound.to, first)?;
+        some_if(!is_known(self.ends, number), number)
     }
 
-    // A number of the way or about an account, if it lies within bounds and is the end of none.
+    // Another number, if it lies within bounds and is no end.
     fn inner(&self, index: usize) -> Option<i128> {
         let number = self.other(index)?;
-        some_if(lies_inside(self.bounds, number), number)
+        let is_new = lies_inside(self.bounds, number) && !is_known(self.ends, number);
+        some_if(is_new, number)
     }
 
-    // A number of the way, or about an account.
+    // 0, one more than what was chosen, a number of the way, or one about an account.
     fn other(&self, index: usize) -> Option<i128> {
+        let before = self.before();
+        if index < before {
+            return self.early(index);
+        }
+        let index = index.saturating_sub(before);
         match self.numbers.get(index) {
-            Some(number) => Some(*number),
+            Some(number) => some_if(*number != 0, *number),
             None => self.about_account(index.saturating_sub(self.numbers.len())),
         }
+    }
+
+    // 0, or one more than what was chosen, unless that is a number of the way.
+    fn early(&self, index: usize) -> Option<i128> {
+        if index == 0 {
+            return Some(0);
+        }
+        let entry = self.chosen.get(index.saturating_sub(1))?;
+        let number = entry.1.saturating_add(1);
+        some_if(number != 0 && !self.numbers.contains(&number), number)
     }
 
     // What an account holds, one less or one more, unless it is a number of the way.
@@ -154,6 +190,14 @@ impl Numbers<'_> {
         let entry = self.accounts.get(index / 3)?;
         let number = about(entry.1, index % 3);
         some_if(!self.numbers.contains(&number), number)
+    }
+}
+
+// Whether a number is an end of those with which the run can go on.
+fn is_known(ends: Option<Ends>, number: i128) -> bool {
+    match ends {
+        Some(ends) => number == ends.least || number == ends.most,
+        None => false,
     }
 }
 

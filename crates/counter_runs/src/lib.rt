@@ -2,6 +2,7 @@
 //!
 //! For an alarm that an analysis raises, `run_to` looks for a run from the start state that comes to its place and
 //! warns there. Nothing of how it looks has to be believed: a run is told only after the crate `replay` has played it again.
+//! `can_close` plays one run that closes a contract.
 //!
 //! The search follows the place, from the contract down, and has a choice of intervals, of numbers and of nothing
 //! else: what is deposited is what is asked. Where it has a choice, it takes the first candidate; then runs with one
@@ -10,7 +11,9 @@
 #![tactic(auto)]
 
 mod candidates;
+mod closing;
 mod constants;
+mod ends;
 mod search;
 mod turns;
 mod walk;
@@ -19,5 +22,6 @@ mod weights;
 mod work;
 mod written;
 
+pub use closing::can_close;
 pub use search::run_to;
 pub use written::is_written;

@@ -234,7 +234,7 @@ impl Walk<'_> {
         if !self.is_early(*timeout) || !self.begin(way, now, until)? {
             return Ok(Brought::Nothing);
         }
-        self.take_case(way, at, index, case)
+        self.take_case(way, place, at, index, case)
     }
 
     // Whether a When with this timeout still waits at the end of the transaction that is open, if one is.
@@ -383,11 +383,12 @@ impl Walk<'_> {
     fn take_case(
         &mut self,
         way: &Way,
+        place: usize,
         at: &Contract,
         index: usize,
         case: &Case,
     ) -> Result<Brought, Memory> {
-        let offer = self.offer(way, &case.action)?;
+        let offer = self.offer(way, place, &case.action)?;
         if !self.is_left_by(at, index) {
             return Ok(Brought::Nothing);
         }
@@ -400,12 +401,12 @@ impl Walk<'_> {
 
     // Offers an input that an action waits for: what is asked to be deposited, a number that may be chosen, or a
     // notification.
-    fn offer(&mut self, way: &Way, action: &Action) -> Result<Offer, Memory> {
+    fn offer(&mut self, way: &Way, place: usize, action: &Action) -> Result<Offer, Memory> {
         match action {
             Action::Deposit(account, party, token, amount) => {
                 self.deposits(account, party, token, amount)
             }
-            Action::Choice(id, bounds) => self.chooses(way, id, bounds.as_slice()),
+            Action::Choice(id, bounds) => self.chooses(way, place, id, bounds.as_slice()),
             Action::Notify(observation) => self.notifies(observation),
         }
     }
@@ -420,9 +421,17 @@ impl Walk<'_> {
     }
 
     // The choice of a number, if one is left.
-    fn chooses(&mut self, way: &Way, id: &ChoiceId, bounds: &[Bound]) -> Result<Offer, Memory> {
+    fn chooses(
+        &mut self,
+        way: &Way,
+        place: usize,
+        id: &ChoiceId,
+        bounds: &[Bound],
+    ) -> Result<Offer, Memory> {
         let numbers = Numbers {
+            ends: way.ends(place),
             bounds,
+            chosen: self.state.choices(),
             numbers: way.numbers.as_slice(),
             accounts: self.state.accounts(),
         };

@@ -1,5 +1,6 @@
 //! The way to a place.
-use crate::constants::{gather_observation, gather_value, with_neighbours, with_sums};
+use crate::constants::{add_once, gather_observation, gather_value, with_neighbours, with_sums};
+use crate::ends::{Chosen, Ends, ends_of, note_step};
 use crate::weights::{of_bounds, weigh_settling, weigh_state, weigh_step};
 use crate::work::spend;
 use analysis_spec::PathStep;
@@ -11,6 +12,11 @@ use std::alloc::Global;
 // What the sums and differences of constants take, for the square of their number.
 const NUMBERS: u64 = 48;
 
+// How many cases before one that a run takes are asked for what lies next to their bounds, and how many numbers are kept.
+const MOST_EARLIER: usize = 8;
+
+const MOST_EDGES: usize = 16;
+
 // How much more playing a run again takes than finding it: what it makes are payments and warnings.
 const REPLAY: u64 = 4;
 
@@ -18,8 +24,13 @@ const REPLAY: u64 = 4;
 pub(crate) struct Way {
     /// The first constants that stand along it.
     constants: Vec<i128>,
-    /// Numbers to try: the constants, their sums and differences, and what is about these. None until they are made.
+    // What lies next to the bounds of cases before those that it takes.
+    edges: Vec<i128>,
+    /// Numbers to try: the constants, their sums and differences, and what is about these; and what lies next to the bounds
+    /// of earlier cases. None until they are made.
     pub(crate) numbers: Vec<i128>,
+    // For each step the ends of the number that it chooses, as far as the way tells.
+    ends: Vec<Option<Ends>>,
     /// For each step the last moment at which every When still waits that is left by a case from there on; none where
     /// there is no such When.
     untils: Vec<Option<i64>>,
@@ -35,7 +46,9 @@ impl Drop for Way {
     fn drop(self) {
         let Way {
             constants: _,
+            edges: _,
             numbers: _,
+            ends: _,
             untils: _,
             copy: _,
             weights: _,
@@ -55,7 +68,9 @@ impl Way {
     ) -> Result<Way, Memory> {
         let mut way = Way {
             constants: Vec::new(alloc),
+            edges: Vec::new(alloc),
             numbers: Vec::new(alloc),
+            ends: Vec::new(alloc),
             untils: Vec::new(alloc),
             copy: weigh_state(state, left),
             weights: Vec::new(alloc),
@@ -64,6 +79,8 @@ impl Way {
         let looks = looks_of(entries_of(state).saturating_add(steps.len()));
         let waits = way.read(alloc, contract, steps, looks, left)?;
         way.untils = earliest_behind(alloc, waits.as_slice())?;
+        let chosen = read_choices(alloc, contract, steps, left)?;
+        way.ends = ends_of(alloc, chosen.as_slice(), steps.len(), left)?;
         Ok(way)
     }
 
@@ -111,6 +128,7 @@ impl Way {
         let before = *left;
         if weigh_step(here, step, looks, left) {
             gather_at(here, step, &mut self.constants)?;
+            gather_edges(here, step, &mut self.edges)?;
         }
         self.weights.push(before.saturating_sub(*left))?;
         self.behind = self.behind.saturating_add(bounds_of(here, step));
@@ -123,8 +141,16 @@ impl Way {
         if spend(left, count.saturating_mul(count).saturating_mul(NUMBERS)) {
             let sums = with_sums(alloc, self.constants.as_slice())?;
             self.numbers = with_neighbours(alloc, sums.as_slice())?;
+            for edge in &self.edges {
+                add_once(&mut self.numbers, *edge)?;
+            }
         }
         Ok(())
+    }
+
+    /// The ends of the number that a step chooses, if they are known.
+    pub(crate) fn ends(&self, step: usize) -> Option<Ends> {
+        self.ends.get(step).copied().unwrap_or(None)
     }
 
     /// The work that a copy of the start state takes.
@@ -151,6 +177,26 @@ impl Way {
             _ => i64::MAX,
         }
     }
+}
+
+// The choices on the way by these steps, with what is known of their numbers.
+fn read_choices<'c>(
+    alloc: Global,
+    contract: &'c Contract,
+    steps: &[PathStep],
+    left: &mut u64,
+) -> Result<Vec<Chosen<'c>>, Memory> {
+    let mut chosen = Vec::new(alloc);
+    let mut at = contract;
+    for index in 0..steps.len() {
+        let step = steps[index];
+        note_step(&mut chosen, at, step, index, left)?;
+        match part_behind(at, step) {
+            Some(next) => at = next,
+            None => return Ok(chosen),
+        }
+    }
+    Ok(chosen)
 }
 
 // Adds the constants of what a run looks at on the way from a contract on.
@@ -188,6 +234,40 @@ fn gather_case(
         Action::Choice(_, _) => Ok(()),
         Action::Notify(observation) => gather_observation(observation, constants),
     }
+}
+
+// Adds what lies next to the bounds of the choices before a case that is taken.
+fn gather_edges(
+    contract: &Contract,
+    step: Option<PathStep>,
+    edges: &mut Vec<i128>,
+) -> Result<(), Memory> {
+    let (cases, index) = match (contract, step) {
+        (Contract::When(cases, _, _), Some(PathStep::Case(index))) => (cases.as_slice(), index),
+        _ => return Ok(()),
+    };
+    for before in index.saturating_sub(MOST_EARLIER)..index {
+        if edges.len() >= MOST_EDGES {
+            return Ok(());
+        }
+        if let Some(case) = cases.get(before) {
+            add_edges(&case.action, edges)?;
+        }
+    }
+    Ok(())
+}
+
+fn add_edges(action: &Action, edges: &mut Vec<i128>) -> Result<(), Memory> {
+    let Action::Choice(_, bounds) = action else {
+        return Ok(());
+    };
+    if let Some(first) = bounds.as_slice().first() {
+        add_once(edges, first.from.saturating_sub(1))?;
+    }
+    if let Some(last) = bounds.as_slice().last() {
+        add_once(edges, last.to.saturating_add(1))?;
+    }
+    Ok(())
 }
 
 // The last moment at which a When waits that a step leaves by a case.

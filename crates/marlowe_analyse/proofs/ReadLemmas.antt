@@ -1,6 +1,6 @@
 -- What is read, and what is told of it.
-use Rattle.std.proofs.Common.{◌≡◌, ◌≢◌, ℕ, Bool, true, List, refl, sym, ap, ◌∙◌, subst, Option, Result, Ok, Err}
-use Rattle.std.specs.Prelude.{IfOk}
+use Rattle.std.proofs.Common.{◌≡◌, ◌≢◌, ℕ, Bool, true, List, refl, sym, ap, ◌∙◌, subst, Option, Some, None, Result, Ok, Err}
+use Rattle.std.specs.Prelude.{IfOk, is_some, option_map}
 use Rattle.collections.specs.Answers.{◌>>=◌, AsideBy}
 use Rattle.contract.specs.declared.tree.Contract.{Contract}
 use Rattle.contract.specs.Tree.{ContractTree, contract_tree}
@@ -14,7 +14,7 @@ use Rattle.json_read_names.specs.ReadsText.{of_text}
 use Rattle.json_read_contracts.specs.ReadsContract.{contract}
 use Rattle.marlowe_analyse.specs.declared.analysed.Analysed.{Analysed}
 use Rattle.marlowe_analyse.specs.declared.analysed.Reader.{Reader}
-use Rattle.marlowe_analyse.specs.Told.{start_of}
+use Rattle.marlowe_run.specs.Start.{start_of}
 use Rattle.marlowe_analyse.specs.Printed.{is_read, IsClear, TellsOfTree, TellsSo}
 use Rattle.marlowe_analyse.specs.RunsSupport.{TellsFrom, is_started}
 use Rattle.marlowe_analyse.proofs.AnalysedLemmas.{never_alarms}
@@ -35,17 +35,17 @@ the_parts (Ok g) (Ok z) given s c e h =
     (ap (λ (q : StateMaps × ContractTree). let y : Result StateMaps JsonFault = Ok q.0 in y) p, ap contract_tree (sym same) ∙ ap (λ (q : StateMaps × ContractTree). q.1) p)
 
 module _ (reader : Reader) (texts : Bool) (text : List ℕ) (start : Option (List ℕ)) (given : Contract) (is : of_text contract text ≡ Ok given) where
-  tells : (clear : Bool) (out : List ℕ) → TellsFrom reader (contract_tree given) (start_of texts start) clear out → TellsSo reader texts text start clear out
+  tells : (clear : Bool) (out : List ℕ) → TellsFrom reader (is_some start) (contract_tree given) (start_of texts start) clear out → TellsSo reader texts text start clear out
   tells clear out h s c e =
       let p = the_parts (of_text contract text) (start_of texts start) given s c is e in
-      subst (λ (t : ContractTree). TellsOfTree reader s t clear out) p.1 (h s p.0)
+      subst (λ (t : ContractTree). TellsOfTree reader (is_some start) s t clear out) p.1 (h s p.0)
 
-  pub all_told_so : (r : Result Analysed RunFault) → IfOk r (λ t. TellsFrom reader (contract_tree given) (start_of texts start) t.is_clear t.text.items) → IfOk r (λ t. TellsSo reader texts text start t.is_clear t.text.items)
+  pub all_told_so : (r : Result Analysed RunFault) → IfOk r (λ t. TellsFrom reader (is_some start) (contract_tree given) (start_of texts start) t.is_clear t.text.items) → IfOk r (λ t. TellsSo reader texts text start t.is_clear t.text.items)
   all_told_so (Ok t) h = tells t.is_clear t.text.items h
   all_told_so (Err f) h = tt
 
-  pub is_clear_so : (r : Result Analysed RunFault) → IfOk r (λ t. TellsFrom reader (contract_tree given) (start_of texts start) t.is_clear t.text.items) → IfOk r (λ t. t.is_clear ≡ true → IsClear texts text start)
-  is_clear_so (Ok t) h = λ e s c q. never_alarms reader s c t.is_clear t.text.items (tells t.is_clear t.text.items h s c q) e
+  pub is_clear_so : (r : Result Analysed RunFault) → IfOk r (λ t. TellsFrom reader (is_some start) (contract_tree given) (start_of texts start) t.is_clear t.text.items) → IfOk r (λ t. t.is_clear ≡ true → IsClear texts text start)
+  is_clear_so (Ok t) h = λ e s c q. never_alarms reader (is_some start) s c t.is_clear t.text.items (tells t.is_clear t.text.items h s c q) e
   is_clear_so (Err f) h = tt
 
 -- why nothing is read
@@ -64,8 +64,8 @@ pub not_read : (texts : Bool) (text : List ℕ) (start : Option (List ℕ)) (f :
 not_read texts text start f g h e n = fault_of (of_text contract text) (start_of texts start) f g h e n
 
 -- where the state is read
-pub tells_from : (reader : Reader) (c : ContractTree) (start : Result StateMaps JsonFault) (s : StateMaps) (clear : Bool) (out : List ℕ) → start ≡ Ok s → TellsOfTree reader s c clear out → TellsFrom reader c start clear out
-tells_from reader c start s clear out e h z f = let same : s ≡ z = cc in subst (λ (x : StateMaps). TellsOfTree reader x c clear out) same h
+pub tells_from : (reader : Reader) (given : Bool) (c : ContractTree) (start : Result StateMaps JsonFault) (s : StateMaps) (clear : Bool) (out : List ℕ) → start ≡ Ok s → TellsOfTree reader given s c clear out → TellsFrom reader given c start clear out
+tells_from reader given c start s clear out e h z f = let same : s ≡ z = cc in subst (λ (x : StateMaps). TellsOfTree reader given x c clear out) same h
 
 pub started : (start : Result StateMaps JsonFault) (s : StateMaps) → start ≡ Ok s → is_started start ≡ Ok tt
 started (Ok z) s e = refl
@@ -73,3 +73,8 @@ started (Err f) s e = absurd (cc)
 
 pub not_started : (start : Result StateMaps JsonFault) (f : JsonFault) (g : RunFault) → (f ≢ json.Memory → start ≡ Err f) → g ≡ state_fault f → g ≢ run.Memory → is_started start ≡ Err g
 not_started start f g h e n = ap is_started (h (λ m. n (e ∙ ap state_fault m))) ∙ ap (λ (x : RunFault). let y : Result (Unit {0}) RunFault = Err x in y) (sym e)
+
+-- whether there is one, as it is seen
+pub some_seen : {A B : Type 0} (f : A → B) (o : Option A) → is_some o ≡ is_some (option_map f o)
+some_seen f None = refl
+some_seen f (Some x) = refl

@@ -28,6 +28,11 @@ abbrev pub alarms_lines : Bool → List Line → List ℕ
 alarms_lines runs [] = codes "never warns, stays within 128 bits" ++ 10 ∷ []
 alarms_lines runs (l ∷ ls) = flat_map (alarm_lines runs) (l ∷ ls)
 
+-- that runs start without accounts, where no state is given
+abbrev pub start_line : Bool → List ℕ
+start_line true = []
+start_line false = codes "from a start without accounts" ++ 10 ∷ []
+
 -- what a party is paid of a token
 abbrev pub bounds_text : Option ℤ → Option ℤ → List ℕ
 bounds_text (Some m) (Some n) = codes "at least " ++ (signed_decimal m ++ (codes ", at most " ++ signed_decimal n))

@@ -1,15 +1,16 @@
 //! The analysis of a contract, from text to text.
-ghost use Rattle.std.specs.Prelude.{◌≡◌, ◌++◌, true, map, Some, All, IfOk, OnOk};
-ghost use Rattle.collections.specs.Answers.{Aside, AsideBy};
+ghost use Rattle.std.specs.Prelude.{◌≡◌, ◌++◌, true, map, All, IfOk};
+ghost use Rattle.collections.specs.Answers.{AsideBy};
 ghost use Rattle.contract.specs.Tree.{contract_tree};
-ghost use Rattle.marlowe_analyse.specs.Told.{text_given, start_of};
+ghost use Rattle.marlowe_run.specs.Start.{start_of};
+ghost use Rattle.marlowe_analyse.specs.Told.{text_given};
 ghost use Rattle.marlowe_analyse.specs.ToldLines.{line_of, LineFits};
-ghost use Rattle.marlowe_analyse.specs.Lines.{lines_of};
+ghost use Rattle.marlowe_analyse.specs.Lines.{lines_of, start_line};
 ghost use Rattle.marlowe_analyse.specs.Printed.{printed, IsClear, TellsOfTree, TellsSo, is_read};
 ghost use Rattle.marlowe_analyse.specs.RunsSupport.{AnalysedFrom, is_started};
 
-use crate::dropped::beside_dropped;
-use crate::lines::{put_alarms, put_ranges};
+use crate::lines::{put_alarms, put_ranges, put_start};
+use crate::ranges::told_ranges;
 use crate::runs::{told_alarms, work_of};
 use crate::told::Told;
 use crate::tools::put_told;
@@ -17,8 +18,9 @@ use analysis::analyse;
 use analysis_walk::Analysis;
 use collections::Memory;
 use contract::{Contract, State};
-use contract_json::{JsonFault, read_contract, read_state, read_state_with_texts};
+use contract_json::read_contract;
 use marlowe_refusals::RunFault;
+use marlowe_run::{beside_dropped, read_start};
 use std::alloc::Global;
 
 /// Who reads what is printed.
@@ -45,6 +47,7 @@ pub struct Analysed {
 /// without entries, at time 0. With `texts` a number of the state may also be a text of its digits, as outcomes
 /// have it where JSON lacks it. Refused is a text that is no contract or no state. For each alarm it looks for a run
 /// that ends in it, unless the reader wants none. All searches together do no more work than the length of the texts allows.
+/// Alarms stand in the order of the contract, none twice. A least is told only where a run is known that closes the contract.
 pub fn analyse_text(
     alloc: Global,
     contract: &[u8],
@@ -75,12 +78,13 @@ fn analysed_from(
     length: usize,
     reader: Reader,
 ) -> Result<Analysed, RunFault>
-    ensures told { IfOk result (AnalysedFrom reader (contract_tree contract.now) (start_of texts (text_given state.entry))) }
+    ensures told { IfOk result (AnalysedFrom reader texts (contract_tree contract.now) (text_given state.entry)) }
     ensures read { AsideBy RunFault.Memory (λ _. tt) result (is_started (start_of texts (text_given state.entry))) }
 {
-    match start(alloc, state, texts) {
+    match read_start(alloc, state, texts) {
         Ok(first) => {
-            let text = analysis_text(alloc, contract, &first, length, reader);
+            let given = state.is_some();
+            let text = analysis_text(alloc, contract, &first, given, length, reader);
             let told = beside_dropped(first, text)?;
             Ok(told)
         }
@@ -88,22 +92,25 @@ fn analysed_from(
     }
 }
 
-// What is printed of a contract that starts in a state, of which the texts have so many bytes.
+// What is printed of a contract that starts in a state, which may be given or the one without entries; the texts have so
+// many bytes.
 fn analysis_text(
     alloc: Global,
     contract: &Contract,
     state: &State,
+    given: bool,
     length: usize,
     reader: Reader,
 ) -> Result<Analysed, Memory>
-    ensures { IfOk result (λ told. TellsOfTree reader state.now (contract_tree contract.now) told.is_clear told.text.items) }
+    ensures { IfOk result (λ told. TellsOfTree reader given state.now (contract_tree contract.now) told.is_clear told.text.items) }
 {
     let Analysis { alarms, ranges } = analyse(alloc, contract, state)?;
     let work = if has_runs(reader) { work_of(length) } else { 0 };
     let alarms = told_alarms(alloc, contract, state, alarms.as_slice(), work)?;
+    let ranges = told_ranges(alloc, contract, state, ranges)?;
     let is_clear = alarms.is_empty();
     let told = Told { alarms, ranges };
-    let text = printed(alloc, &told, reader)?;
+    let text = printed(alloc, &told, given, reader)?;
     Ok(Analysed { text, is_clear })
 }
 
@@ -122,44 +129,25 @@ fn length_of(state: Option<&[u8]>) -> usize {
     }
 }
 
-// The state of a text, or where there is none the one without entries, at time 0.
-fn start(alloc: Global, state: Option<&[u8]>, texts: bool) -> Result<State, JsonFault>
-    ensures { Aside JsonFault.Memory result (start_of texts (text_given state.entry)) }
-{
-    match state {
-        Some(text) => given_state(alloc, text, texts),
-        None => Ok(State::new(alloc, 0)),
-    }
-}
-
-fn given_state(alloc: Global, text: &[u8], texts: bool) -> Result<State, JsonFault>
-    ensures { Aside JsonFault.Memory result (start_of texts (Some text.now)) }
-{
-    if texts {
-        read_state_with_texts(alloc, text)
-    } else {
-        read_state(alloc, text)
-    }
-}
-
-fn printed(alloc: Global, told: &Told, reader: Reader) -> Result<Vec<u8>, Memory>
+fn printed(alloc: Global, told: &Told, given: bool, reader: Reader) -> Result<Vec<u8>, Memory>
     requires { All LineFits told.now.alarms.items }
-    ensures { IfOk result (λ text. text.items ≡ printed reader (map line_of told.now.alarms.items) told.now.ranges) }
+    ensures { IfOk result (λ text. text.items ≡ printed reader given (map line_of told.now.alarms.items) told.now.ranges) }
 {
     match reader {
-        Reader::People => for_people(alloc, told, true),
+        Reader::People => for_people(alloc, told, given, true),
         Reader::Tools => put_told(alloc, told, true),
-        Reader::PeopleWithoutRuns => for_people(alloc, told, false),
+        Reader::PeopleWithoutRuns => for_people(alloc, told, given, false),
         Reader::ToolsWithoutRuns => put_told(alloc, told, false),
     }
 }
 
-fn for_people(alloc: Global, told: &Told, runs: bool) -> Result<Vec<u8>, Memory>
+fn for_people(alloc: Global, told: &Told, given: bool, runs: bool) -> Result<Vec<u8>, Memory>
     requires { All LineFits told.now.alarms.items }
-    ensures { IfOk result (λ text. text.items ≡ lines_of runs (map line_of told.now.alarms.items) told.now.ranges) }
+    ensures { IfOk result (λ text. text.items ≡ lines_of runs (map line_of told.now.alarms.items) told.now.ranges ++ start_line given) }
 {
     let mut out = Vec::new(alloc);
     put_alarms(alloc, &mut out, &told.alarms, runs)?;
     put_ranges(alloc, &mut out, told.ranges.as_slice())?;
+    put_start(&mut out, given)?;
     Ok(out)
 }

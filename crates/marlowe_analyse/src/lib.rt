@@ -2,9 +2,9 @@
 #![tactic(auto)]
 
 mod analysed;
-mod dropped;
 mod lines;
 mod order;
+mod ranges;
 mod runs;
 mod told;
 mod tools;

@@ -3,7 +3,7 @@ ghost use Rattle.std.specs.Prelude.{◌≡◌, [], ◌∷◌, ◌++◌, true, ma
 ghost use Rattle.serde_json.specs.Written.{compact_text};
 ghost use Rattle.contract_json.specs.WrittenInput.{transaction_json, transaction_fits};
 ghost use Rattle.marlowe_analyse.specs.ToldLines.{line_of, LineFits, RunFits};
-ghost use Rattle.marlowe_analyse.specs.Lines.{transaction_line, run_lines, alarm_lines, alarms_lines, bounds_text, range_line};
+ghost use Rattle.marlowe_analyse.specs.Lines.{transaction_line, run_lines, alarm_lines, alarms_lines, bounds_text, range_line, start_line};
 
 use crate::told::ToldAlarm;
 use analysis_spec::PaidRange;
@@ -45,6 +45,16 @@ fn put_each(
         put_alarm(alloc, out, alarm, runs)?;
     }
     Ok(())
+}
+
+/// Where no state is given, a line that runs start without accounts.
+pub(crate) fn put_start(out: &mut Vec<u8>, given: bool) -> Result<(), Memory>
+    ensures { OnOk result (out.new.items ≡ out.old.items ++ start_line given) }
+{
+    if given {
+        return Ok(());
+    }
+    put_bytes(out, b"from a start without accounts\n")
 }
 
 fn put_bytes(out: &mut Vec<u8>, bytes: &[u8]) -> Result<(), Memory>

@@ -1,78 +1,100 @@
 //! The order in which alarms are told: that of their places in the contract.
-ghost use Rattle.std.specs.Prelude.{◌≡◌, map, length, IfOk};
-ghost use Rattle.marlowe_analyse.specs.RunsSupport.{HasAllPlaces, StandForAll};
+ghost use Rattle.std.specs.Prelude.{◌≡◌, ◌<◌, ◌++◌, false, true, flat_map, length, All, IfOk, OnOk};
+ghost use Rattle.std.specs.List.Sorted.{IsSortedByKey};
+ghost use Rattle.marlowe_analyse.specs.Order.{alarm_key, key_cmp, kind_rank, step_key};
+ghost use Rattle.marlowe_analyse.specs.OrderSupport.{HasKey, StandForAll, IsNewAt, IsOldAt};
 
-use analysis_spec::{Alarm, PathStep};
+use analysis_spec::{Alarm, AlarmKind, PathStep};
 use collections::Memory;
 use std::alloc::Global;
 
-// Where an alarm stands, so that the derived order is that of places: what stands nearer the beginning is less, a
-// place less than those behind it, and of one place what was raised first.
-#[derive(PartialEq, Eq, PartialOrd, Ord, Drop)]
-pub(crate) struct Standing {
-    steps: Vec<StepOrder>,
-    pub(crate) index: usize,
+/// An alarm, with the numbers by which it stands before others.
+#[derive(Drop)]
+#[derive_where(PartialEq, Eq, PartialOrd, Ord)]
+pub(crate) struct Standing<'a> {
+    key: Vec<usize>,
+    #[derive_where(skip)]
+    pub(crate) alarm: &'a Alarm,
 }
 
-// Where a step leads: of a When its cases come in their order, each action before what follows it, and then what
-// follows the timeout; of an If first `then` and then `else`.
-#[derive(Clone, Copy, PartialEq, Eq, PartialOrd, Ord)]
-struct StepOrder {
-    is_last: bool,
-    case: usize,
-    is_behind: bool,
-}
-
-/// The places of alarms in their list, in the order in which they are told: each of them.
-pub(crate) fn told_order(alloc: Global, alarms: &[Alarm]) -> Result<Vec<usize>, Memory>
-    ensures { IfOk result (λ order. HasAllPlaces (length alarms.now) order.items) }
+/// The alarms in the order in which they are told. Those that are equal stand side by side.
+pub(crate) fn in_order<'a>(alloc: Global, alarms: &'a [Alarm]) -> Result<Vec<Standing<'a>>, Memory>
+    ensures all { IfOk result (λ all. StandForAll alarms.now all.items) }
+    ensures keys { IfOk result (λ all. All HasKey all.items) }
+    ensures sorted { IfOk result (λ all. IsSortedByKey (λ s. s.key.items) key_cmp all.items) }
 {
     let mut standings = standings_of(alloc, alarms)?;
     standings.sort()?;
-    let order = places_of(alloc, &standings)?;
-    Ok(order)
+    Ok(standings)
 }
 
-fn standings_of(alloc: Global, alarms: &[Alarm]) -> Result<Vec<Standing>, Memory>
-    ensures { IfOk result (λ all. StandForAll (length alarms.now) all.items) }
+/// Whether the alarm at an index is another than the one before it.
+pub(crate) fn is_new(standings: &[Standing<'_>], index: usize) -> bool
+    requires { index < length standings.now }
+    ensures new { result ≡ true → IsNewAt standings.now index }
+    ensures old { result ≡ false → IsOldAt standings.now index }
+{
+    if index == 0 {
+        return true;
+    }
+    let before = &standings[index - 1];
+    let this = &standings[index];
+    before.key.cmp(&this.key).is_lt()
+}
+
+fn standings_of<'a>(alloc: Global, alarms: &'a [Alarm]) -> Result<Vec<Standing<'a>>, Memory>
+    ensures all { IfOk result (λ all. StandForAll alarms.now all.items) }
+    ensures keys { IfOk result (λ all. All HasKey all.items) }
 {
     let mut standings = Vec::new(alloc);
-    for index in 0..alarms.len() {
-        let steps = steps_of(alloc, alarms[index].place.as_slice())?;
-        standings.push(Standing { steps, index })?;
+    for alarm in alarms {
+        let key = key_of(alloc, alarm)?;
+        standings.push(Standing { key, alarm })?;
     }
     Ok(standings)
 }
 
-fn places_of(alloc: Global, standings: &[Standing]) -> Result<Vec<usize>, Memory>
-    ensures { IfOk result (λ order. order.items ≡ map (λ s. s.index) standings.now) }
+fn key_of(alloc: Global, alarm: &Alarm) -> Result<Vec<usize>, Memory>
+    ensures { IfOk result (λ key. key.items ≡ alarm_key alarm.now) }
 {
-    let mut order = Vec::new(alloc);
-    for standing in standings {
-        order.push(standing.index)?;
-    }
-    Ok(order)
+    let mut key = Vec::new(alloc);
+    put_steps(&mut key, alarm.place.as_slice())?;
+    key.push(rank(alarm.kind))?;
+    Ok(key)
 }
 
-fn steps_of(alloc: Global, place: &[PathStep]) -> Result<Vec<StepOrder>, Memory> {
-    let mut steps = Vec::new(alloc);
+fn put_steps(key: &mut Vec<usize>, place: &[PathStep]) -> Result<(), Memory>
+    ensures { OnOk result (key.new.items ≡ key.old.items ++ flat_map step_key place.now) }
+{
     for step in place {
-        steps.push(order_of(*step))?;
+        put_step(key, *step)?;
     }
-    Ok(steps)
+    Ok(())
 }
 
-fn order_of(step: PathStep) -> StepOrder {
-    let (is_last, case, is_behind) = match step {
-        PathStep::Then => (false, 0, false),
-        PathStep::Else => (true, 0, false),
-        PathStep::Action(case) => (false, case, false),
-        PathStep::Case(case) => (false, case, true),
-        PathStep::TimeoutContinuation => (true, 0, false),
+fn put_step(key: &mut Vec<usize>, step: PathStep) -> Result<(), Memory>
+    ensures { OnOk result (key.new.items ≡ key.old.items ++ step_key step) }
+{
+    let (form, index, behind) = match step {
+        PathStep::Then => (6, 0, 0),
+        PathStep::Else => (7, 0, 0),
+        PathStep::Action(index) => (8, index, 0),
+        PathStep::Case(index) => (8, index, 1),
+        PathStep::TimeoutContinuation => (9, 0, 0),
     };
-    StepOrder {
-        is_last,
-        case,
-        is_behind,
+    key.extend_from_slice(&[form, index, behind])?;
+    Ok(())
+}
+
+fn rank(kind: AlarmKind) -> usize
+    ensures { result ≡ kind_rank kind }
+{
+    match kind {
+        AlarmKind::NonPositiveDeposit => 0,
+        AlarmKind::NonPositivePay => 1,
+        AlarmKind::PartialPay => 2,
+        AlarmKind::Shadowing => 3,
+        AlarmKind::AssertionFailed => 4,
+        AlarmKind::Leaves128 => 5,
     }
 }

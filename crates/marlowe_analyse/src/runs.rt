@@ -1,13 +1,16 @@
 //! Runs to all alarms.
-ghost use Rattle.std.specs.Prelude.{◌≡◌, ℕ, List, [], ◌∷◌, ◌++◌, true, IfOk, IfSome, OnOk};
+ghost use Rattle.std.specs.Prelude.{◌≡◌, true, length, All, IfOk, IfSome};
 ghost use Rattle.std.specs.List.{list_all};
+ghost use Rattle.std.specs.List.Sorted.{IsSortedByKey};
 ghost use Rattle.contract.specs.Tree.{contract_tree};
 ghost use Rattle.contract_json.specs.WrittenInput.{input_fits, transaction_fits};
 ghost use Rattle.analysis_spec.specs.PlacedRuns.{EndsAt};
 ghost use Rattle.marlowe_analyse.specs.ToldLines.{line_at, line_of, LineFits, RunFits};
+ghost use Rattle.marlowe_analyse.specs.Order.{key_cmp};
+ghost use Rattle.marlowe_analyse.specs.OrderSupport.{HasKey};
 ghost use Rattle.marlowe_analyse.specs.RunsSupport.{TellsAll, TellsOf};
 
-use crate::order::told_order;
+use crate::order::{Standing, in_order, is_new};
 use crate::told::ToldAlarm;
 use analysis_spec::Alarm;
 use collections::{Items, Memory};
@@ -27,8 +30,8 @@ pub(crate) fn work_of(length: usize) -> u64 {
     WORK.saturating_add((length as u64).saturating_mul(WORK_OF_A_BYTE))
 }
 
-/// The alarms in the order of their places, each with a run that ends in it if one was found, by no more than so much
-/// work for all of them.
+/// The alarms in the order of their places, none twice, each with a run that ends in it if one was found, by no more than
+/// so much work for all of them.
 pub(crate) fn told_alarms(
     alloc: Global,
     contract: &Contract,
@@ -39,35 +42,33 @@ pub(crate) fn told_alarms(
     ensures { IfOk result (λ told. TellsAll state.now (contract_tree contract.now) alarms.now told.items) }
 {
     let mut left = work;
-    let order = told_order(alloc, alarms)?;
-    let mut told = Vec::new(alloc);
-    for place in &order {
-        put_told(alloc, contract, state, alarms, *place, &mut left, &mut told)?;
-    }
+    let standings = in_order(alloc, alarms)?;
+    let told = told_each(alloc, contract, state, &standings, &mut left)?;
     Ok(told)
 }
 
-// One more alarm is told, if there is one at the place.
-fn put_told(
+// Each of these that is another than the one before it.
+fn told_each(
     alloc: Global,
     contract: &Contract,
     state: &State,
-    alarms: &[Alarm],
-    place: usize,
+    standings: &[Standing<'_>],
     left: &mut u64,
-    told: &mut Vec<ToldAlarm>,
-) -> Result<(), Memory>
-    ensures { OnOk result ((places : List ℕ) → TellsOf state.now (contract_tree contract.now) alarms.now places told.old.items
-        → TellsOf state.now (contract_tree contract.now) alarms.now (places ++ place ∷ []) told.new.items) }
+) -> Result<Vec<ToldAlarm>, Memory>
+    requires keys { All HasKey standings.now }
+    requires sorted { IsSortedByKey (λ s. s.key.items) key_cmp standings.now }
+    ensures { IfOk result (λ told. TellsOf state.now (contract_tree contract.now) standings.now (length standings.now) told.items) }
 {
-    if place >= alarms.len() {
-        return Ok(());
+    let mut told = Vec::new(alloc);
+    for index in 0..standings.len() {
+        if is_new(standings, index) {
+            let others = standings.len().saturating_sub(index);
+            let alarm = standings[index].alarm;
+            let one = told_alarm(alloc, contract, state, alarm, others as u64, left)?;
+            told.push(one)?;
+        }
     }
-    let others = alarms.len().saturating_sub(told.len());
-    let alarm = &alarms[place];
-    let one = told_alarm(alloc, contract, state, alarm, others as u64, left)?;
-    told.push(one)?;
-    Ok(())
+    Ok(told)
 }
 
 fn told_alarm(

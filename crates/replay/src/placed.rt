@@ -133,7 +133,8 @@ fn pass_case<'a>(
     index: usize,
 ) -> Result<Option<(&'a Contract, &'a [Input])>, Memory>
     ensures { IfOk result (λ next. IfSome next (λ n.
-        ComesBehind (PathStep.Case index) interval state.old (contract_tree contract.now) inputs.now state.new (contract_tree n.0.now) n.1.now)) }
+        ComesBehind (PathStep.Case index) interval state.old (contract_tree contract.now) inputs.now
+        state.new (contract_tree n.0.now) n.1.now)) }
 {
     match inputs {
         [] => Ok(None),
