@@ -173,7 +173,7 @@ RULES = {
     "BadState": ("faults", "An account has a number of 0 or less, or a key stands twice in one list of a state.", FORMATS, "| 8 | BadState |"),
     "first fault": ("faults", "The first fault that is met answers: the keys of an object in the order of its form, lists from the front.", FORMATS, FIRST_FAULT),
     "first text": ("faults", "Of a run's texts the contract is read first, then the state, then the transaction.", "docs/refusals.md",
-                   "The first fault that is met answers, so mend it and run again."),
+                   "The first fault that is met answers, so mend it and run again"),
     # round trips
     "canonical": ("round_trips", "What is read is written with the keys of its form alone, and symbols in lower case.", FORMATS, WRITTEN),
     "rows in order": ("round_trips", "The rows of a state stand in the order of their keys.", FORMATS, "whose rows stand in the order of their keys"),
