@@ -2,7 +2,9 @@
 use Rattle.std.specs.Prelude.{◌≡◌, ℤ, pos, ◌+ℤ◌, ◌-ℤ◌, ◌≤ℤ◌, ◌<ℤ◌, int_lt, Bool, true, if◌then◌else◌, Option}
 use Rattle.std.specs.Int.{int_min, int_max}
 use Rattle.linear.specs.Linear.{Linear, Valuation, number_at, IsBelow, IsFrom, IsUpTo}
+use Rattle.linear.specs.Bounded.{IsShown, IsFromAll, IsUpToAll}
 use Rattle.symbols.specs.Symbols.{Symbols, IsValued, IsClosed, Knows, Gives}
+use Rattle.symbols.specs.Either.{IsAtLeast}
 
 -- an expression is above 0, as far as what is known allows
 abbrev pub IsAbove : Symbols → Linear → Type 0
@@ -11,6 +13,10 @@ IsAbove k l = (r : Valuation) → IsValued r k → pos 0 <ℤ number_at r l
 -- more is known where one expression is at most another, if that is asked
 abbrev pub LearnsIf : Bool → Symbols → Symbols → Linear → Linear → Type 0
 LearnsIf asked k m l n = (r : Valuation) → IsClosed k → IsValued r k → IsBelow k.next l → IsBelow k.next n → (asked ≡ true → number_at r l ≤ℤ number_at r n) → Knows k r m
+
+-- what is due is shown to be at least 0, and a balance to have it
+abbrev pub HasAllDue : Symbols → Linear → Linear → Type 0
+HasAllDue k balance due = IsShown k.ranges k.facts due × IsAtLeast k balance due
 
 -- what is paid from a balance of an amount that is due: nothing of 0 or less
 abbrev pub amount_paid : ℤ → ℤ → ℤ
@@ -39,3 +45,10 @@ IsFromSum a b o = (x y : ℤ) → IsFrom a x → IsFrom b y → IsFrom o (x +ℤ
 
 abbrev pub IsUpToSum : Option ℤ → Option ℤ → Option ℤ → Type 0
 IsUpToSum a b o = (x y : ℤ) → IsUpTo a x → IsUpTo b y → IsUpTo o (x +ℤ y)
+
+-- .. of the sum of two expressions, as far as what is known allows
+abbrev pub SumIsFrom : Symbols → Linear → Linear → Option ℤ → Type 0
+SumIsFrom k l n o = IsFromAll k.ranges k.facts (λ r. number_at r l +ℤ number_at r n) o
+
+abbrev pub SumIsUpTo : Symbols → Linear → Linear → Option ℤ → Type 0
+SumIsUpTo k l n o = IsUpToAll k.ranges k.facts (λ r. number_at r l +ℤ number_at r n) o

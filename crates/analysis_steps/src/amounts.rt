@@ -5,7 +5,7 @@ ghost use Rattle.std.specs.Option.{IfSome};
 ghost use Rattle.linear.specs.Linear.{Linear as Expression, IsUpTo};
 ghost use Rattle.linear.specs.Bounded.{IsShown};
 ghost use Rattle.symbols.specs.Either.{IsAtLeast};
-ghost use Rattle.analysis_steps.specs.Amounts.{IsAbove, LearnsIf, GivesPaid, GivesAdded, GivesSum, GivesRest, IsFromSum, IsUpToSum};
+ghost use Rattle.analysis_steps.specs.Amounts.{IsAbove, LearnsIf, HasAllDue, GivesPaid, GivesAdded, GivesSum, GivesRest, IsFromSum, IsUpToSum};
 
 use analysis_values::Known;
 use collections::{Memory, TryClone};
@@ -67,7 +67,7 @@ pub(crate) fn paid(
     due: &Linear,
     whole: bool,
 ) -> Result<Linear, Memory>
-    requires { whole ≡ true → IsShown known.old.symbols.ranges known.old.symbols.facts due.now × IsAtLeast known.old.symbols balance.now due.now }
+    requires { whole ≡ true → HasAllDue known.old.symbols balance.now due.now }
     ensures symbols { IfOk result (λ e. GivesPaid known.old.symbols known.new.symbols balance.now due.now e) }
     ensures view { known.new.view ≡ known.old.view }
 {

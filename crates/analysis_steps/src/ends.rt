@@ -1,10 +1,9 @@
 //! What parties are paid in the end.
-ghost use Rattle.std.specs.Prelude.{◌+ℤ◌, [], ◌∷◌, IfOk};
-ghost use Rattle.linear.specs.Linear.{number_at};
-ghost use Rattle.linear.specs.Bounded.{IsFromAll, IsUpToAll};
+ghost use Rattle.std.specs.Prelude.{[], ◌∷◌, IfOk};
 ghost use Rattle.analysis_walk.specs.Conclusions.{ClosesIn};
 ghost use Rattle.analysis_walk.specs.Rows.{range_of};
 ghost use Rattle.analysis_values.specs.Known.{IsDescribed};
+ghost use Rattle.analysis_steps.specs.Amounts.{SumIsFrom, SumIsUpTo};
 
 use crate::amounts::sum_of_bounds;
 use analysis_values::Known;
@@ -15,8 +14,8 @@ use names::Account;
 
 // Bounds of the sum of two expressions.
 fn bounds_of_sum(known: &Known, l: &Linear, m: &Linear) -> Result<Bounds, Memory>
-    ensures least { IfOk result (λ b. IsFromAll known.now.symbols.ranges known.now.symbols.facts (λ r. number_at r l.now +ℤ number_at r m.now) b.least) }
-    ensures greatest { IfOk result (λ b. IsUpToAll known.now.symbols.ranges known.now.symbols.facts (λ r. number_at r l.now +ℤ number_at r m.now) b.greatest) }
+    ensures least { IfOk result (λ b. SumIsFrom known.now.symbols l.now m.now b.least) }
+    ensures greatest { IfOk result (λ b. SumIsUpTo known.now.symbols l.now m.now b.greatest) }
 {
     let sum = l.plus(m)?;
     match sum {

@@ -2,9 +2,8 @@
 ghost use Rattle.std.specs.Prelude.{◌≡◌, true, IfOk, OnOk};
 ghost use Rattle.names.specs.declared.payee.Payee.TheVariants.{Account as ToAccount, Party as ToParty};
 ghost use Rattle.semantics.specs.Reduction.{account_of};
-ghost use Rattle.linear.specs.Bounded.{IsShown};
-ghost use Rattle.symbols.specs.Either.{IsAtLeast};
 ghost use Rattle.analysis_values.specs.Known.{held};
+ghost use Rattle.analysis_steps.specs.Amounts.{HasAllDue};
 ghost use Rattle.analysis_steps.specs.Moved.{Debits, Grows, PaysOut, Moves, Transfers};
 
 use crate::amounts::{paid, rest, sum};
@@ -109,7 +108,7 @@ pub(crate) fn transfer(
     whole: bool,
 ) -> Result<bool, Memory>
     requires balance { balance.now ≡ held known.old.view.accounts (account_of from.now token.now) }
-    requires whole { whole ≡ true → IsShown known.old.symbols.ranges known.old.symbols.facts due.now × IsAtLeast known.old.symbols balance.now due.now }
+    requires whole { whole ≡ true → HasAllDue known.old.symbols balance.now due.now }
     ensures { IfOk result (λ fit. Transfers known.old known.new from.now to.now token.now due.now fit) }
 {
     let amount = paid(known, balance, due, whole)?;

@@ -14,6 +14,8 @@ use Rattle.analysis_spec.specs.declared.kind.AlarmKind.{AlarmKind}
 use Rattle.analysis_spec.specs.declared.kind.AlarmKind.TheVariants.{Leaves128}
 use Rattle.analysis_spec.specs.Promises.{IsWritten}
 use Rattle.analysis_walk.specs.Limits.{Scope, any_runs, written_runs, Allowed, GoesOn}
+use Rattle.analysis_walk.specs.declared.conclusion.Branches.{Branches}
+use Rattle.analysis_values.specs.declared.observed.Observed.{Observed}
 use Rattle.analysis_values.specs.Known.{Known, AreTimes, IsSeen, SeesBelow, IsDescribed}
 
 -- an alarm unless it is shown not to come
@@ -41,6 +43,10 @@ FitsWhereSaid k v said = (scope : Scope) (i : Interval) (s : StateMaps) (ps : Li
 -- what is known where an observation is true, and where it is false; none where it can't be so
 abbrev pub Decides : Known → ObservationTree → Option Known → Option Known → Type 0
 Decides k o if_true if_false = (scope : Scope) (i : Interval) (s : StateMaps) (ps : List Payment) → (d : IsDescribed scope k i s ps) → IsSomeAnd (cond (holds i s o) if_true if_false) (GoesTo k d.numbers)
+
+-- what is answered of an observation: with the alarm, where its numbers are not shown to fit
+abbrev pub branches_of : Observed → Branches Known
+branches_of b = record { kinds = unless b.fits Leaves128; if_true = b.if_true; if_false = b.if_false }
 
 -- what is known in either of two cases, of which one can be at least
 abbrev pub Unites : Known → Option Known → Option Known → Option Known → Type 0

@@ -1,6 +1,7 @@
 -- Observations that are joined.
 use Rattle.std.specs.Prelude.{Bool, Option}
-use Rattle.contract.specs.Tree.{ObservationTree, and_obs, or_obs}
+use Rattle.contract.specs.declared.value.Observation.{Observation}
+use Rattle.contract.specs.Tree.{ObservationTree, observation_tree, and_obs, or_obs}
 use Rattle.symbols.specs.Symbols.{Symbols}
 use Rattle.analysis_values.specs.Known.{View}
 use Rattle.analysis_values.specs.declared.junctions.Junction.{Junction}
@@ -11,6 +12,9 @@ use Rattle.analysis_values.specs.Steps.{IsObserved, ObservesIn}
 abbrev pub junction_of : Junction → ObservationTree → ObservationTree → ObservationTree
 junction_of And x y = and_obs x y
 junction_of Or x y = or_obs x y
+
+abbrev pub joined_by : Junction → Observation → Observation → ObservationTree
+joined_by j o p = junction_of j (observation_tree o) (observation_tree p)
 
 -- truths as they are for And, turned round for Or
 abbrev pub side_of : Junction → Truths → Truths

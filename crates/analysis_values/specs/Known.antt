@@ -47,6 +47,19 @@ held es a = unwrap_or (find account_cmp a es) (number (pos 0))
 abbrev pub with_amount : View → Party → Token → Linear → View
 with_amount v p t l = record v { accounts = (account_of p t, l) ∷ v.accounts }
 
+-- .. of what is known: an account holds an amount, a party was paid one, a number was chosen, a value is bound
+abbrev pub with_account : Known → Party → Token → Linear → Known
+with_account k p t l = known k.symbols (with_amount k.view p t l)
+
+abbrev pub with_paid : Known → Party → Token → Linear → Known
+with_paid k p t l = known k.symbols (record (k.view) { paid = (account_of p t, l) ∷ k.view.paid })
+
+abbrev pub with_choice : Known → ChoiceId → Linear → Known
+with_choice k id l = known k.symbols (record (k.view) { choices = (id, l) ∷ k.view.choices })
+
+abbrev pub with_bound : Known → List ℕ → Linear → Known
+with_bound k x l = known k.symbols (record (k.view) { bound = (x, l) ∷ k.view.bound })
+
 -- in runs whose times JSON can write these symbols are such times
 abbrev pub AreTimes : Scope → Valuation → List ℕ → Type 0
 AreTimes any_runs r xs = Unit {0}

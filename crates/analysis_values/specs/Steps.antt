@@ -20,6 +20,7 @@ use Rattle.analysis_values.specs.declared.comparisons.Comparison.TheVariants.{No
 use Rattle.analysis_values.specs.declared.operations.Arithmetic.{Arithmetic}
 use Rattle.analysis_values.specs.declared.operations.Arithmetic.TheVariants.{Sum, Difference, Product, Quotient}
 use Rattle.analysis_values.specs.declared.values.Evaluated.{Evaluated}
+use Rattle.analysis_values.specs.declared.values.Operands.{Operands}
 use Rattle.analysis_values.specs.declared.observations.Truths.{Truths}
 
 -- ---- values
@@ -43,6 +44,9 @@ pub record GivesBoth (k : Symbols) (r : Valuation) (m : Symbols) (a b : Linear) 
 abbrev pub EvaluatesBoth : View → Symbols → ValueTree → ValueTree → Symbols → Linear → Linear → Type 0
 EvaluatesBoth v k x y m a b =
     (scope : Scope) (i : Interval) (s : StateMaps) (ps : List Payment) → (d : IsDescribed scope (known k v) i s ps) → GivesBoth k d.numbers m a b (eval i s x) (eval i s y)
+
+abbrev pub EvaluatesOperands : View → Symbols → ValueTree → ValueTree → Symbols → Operands → Type 0
+EvaluatesOperands v k x y m ab = EvaluatesBoth v k x y m ab.left ab.right
 
 abbrev pub BothFitWhereSaid : View → Symbols → ValueTree → ValueTree → Bool → Type 0
 BothFitWhereSaid v k x y said =
@@ -130,8 +134,8 @@ pub record Leaves (k m : Symbols) (p q : Option Symbols) (n : Symbols) (if_true 
   pub settles : ((n ≡ m) × (if_true ≡ p) × (if_false ≡ q)) ⊎ (((n ≡ k) × (if_true ≡ Some k) × (q ≡ None)) ⊎ ((n ≡ k) × (if_false ≡ Some k) × (p ≡ None)))
 
 -- what a comparison leaves behind, by what is known where it is true and where it is false
-abbrev pub Compares : Comparison → Symbols → Symbols → Linear → Linear → Symbols → Option Symbols → Option Symbols → Type 0
-Compares c k m a b n if_true if_false = (p : Option Symbols) × (q : Option Symbols) × KnowsWhere (HoldsOf c) m a b p × KnowsWhere (FailsOf c) m a b q × Leaves k m p q n if_true if_false
+abbrev pub Compares : Comparison → Symbols → Symbols → Operands → Symbols → Truths → Type 0
+Compares c k m ab n t = (p : Option Symbols) × (q : Option Symbols) × KnowsWhere (HoldsOf c) m ab.left ab.right p × KnowsWhere (FailsOf c) m ab.left ab.right q × Leaves k m p q n t.if_true t.if_false
 
 -- where the numbers that it looks at are said to fit, the runs that are spoken of may visit them
 abbrev pub LooksWhereSaid : View → Symbols → ObservationTree → Bool → Type 0

@@ -63,7 +63,7 @@ pub(crate) fn compared(
     operands: &Operands,
 ) -> Result<Truths, Memory>
     ensures fits { IfOk result (λ t. t.fits ≡ operands.now.fits) }
-    ensures leaves { IfOk result (λ t. Compares comparison symbols.old there operands.now.left operands.now.right symbols.new t.if_true t.if_false) }
+    ensures leaves { IfOk result (Compares comparison symbols.old there operands.now symbols.new) }
 {
     let if_true = where_true(&there, comparison, &operands.left, &operands.right)?;
     let if_false = where_false(&there, comparison, &operands.left, &operands.right)?;

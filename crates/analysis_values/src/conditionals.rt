@@ -1,8 +1,8 @@
 //! The number of a `Cond`: of one of two values, by an observation that is taken apart.
 ghost use Rattle.std.specs.Prelude.{IfOk, OnOk};
-ghost use Rattle.contract.specs.Tree.{value_tree, cond_value, observation_tree, and_obs, or_obs, not_obs};
+ghost use Rattle.contract.specs.Tree.{observation_tree};
 ghost use Rattle.analysis_values.specs.Steps.{IsEvaluated, LeadsOn, EvaluatesIn};
-ghost use Rattle.analysis_values.specs.Branches.{branch_tree};
+ghost use Rattle.analysis_values.specs.Branches.{opposite_of, both_of, one_of, cond_by, branch_tree, branches_by};
 
 use crate::cases::{Counted, of_either};
 use crate::observations::{Truths, truth_in};
@@ -33,7 +33,7 @@ pub(crate) fn one_of_two(
     first: &Boxed<Value>,
     second: &Boxed<Value>,
 ) -> Result<Evaluated, Memory>
-    ensures { IfOk result (IsEvaluated symbols.old view.now (cond_value (observation_tree condition.now) (value_tree first.now) (value_tree second.now)) symbols.new) }
+    ensures { IfOk result (IsEvaluated symbols.old view.now (cond_by (observation_tree condition.now) first.now second.now) symbols.new) }
 {
     name_operations(view, symbols, first)?;
     name_operations(view, symbols, second)?;
@@ -53,7 +53,7 @@ fn taken_apart(
     second: &Boxed<Value>,
     joined: u32,
 ) -> Result<Evaluated, Memory>
-    ensures { IfOk result (IsEvaluated symbols.old view.now (cond_value (observation_tree condition.now) (value_tree first.now) (value_tree second.now)) symbols.new) }
+    ensures { IfOk result (IsEvaluated symbols.old view.now (cond_by (observation_tree condition.now) first.now second.now) symbols.new) }
 {
     let one = Branch::Value(first);
     let other = Branch::Value(second);
@@ -91,7 +91,7 @@ fn by_opposite(
     second: &Boxed<Value>,
     joined: u32,
 ) -> Result<Evaluated, Memory>
-    ensures { IfOk result (IsEvaluated symbols.old view.now (cond_value (not_obs (observation_tree condition.now)) (value_tree first.now) (value_tree second.now)) symbols.new) }
+    ensures { IfOk result (IsEvaluated symbols.old view.now (cond_by (opposite_of condition.now) first.now second.now) symbols.new) }
 {
     let inner = condition.get();
     taken_apart(view, symbols, inner, second, first, joined)
@@ -108,7 +108,7 @@ fn by_both(
     second: &Boxed<Value>,
     joined: u32,
 ) -> Result<Evaluated, Memory>
-    ensures { IfOk result (IsEvaluated symbols.old view.now (cond_value (and_obs (observation_tree left.now) (observation_tree right.now)) (value_tree first.now) (value_tree second.now)) symbols.new) }
+    ensures { IfOk result (IsEvaluated symbols.old view.now (cond_by (both_of left.now right.now) first.now second.now) symbols.new) }
 {
     let inner = left.get();
     let rest = Branch::Cond(right, first, second, joined);
@@ -126,7 +126,7 @@ fn by_one(
     second: &Boxed<Value>,
     joined: u32,
 ) -> Result<Evaluated, Memory>
-    ensures { IfOk result (IsEvaluated symbols.old view.now (cond_value (or_obs (observation_tree left.now) (observation_tree right.now)) (value_tree first.now) (value_tree second.now)) symbols.new) }
+    ensures { IfOk result (IsEvaluated symbols.old view.now (cond_by (one_of left.now right.now) first.now second.now) symbols.new) }
 {
     let inner = left.get();
     let rest = Branch::Cond(right, first, second, joined);
@@ -142,7 +142,7 @@ fn by_truth(
     one: Branch<'_>,
     other: Branch<'_>,
 ) -> Result<Evaluated, Memory>
-    ensures { IfOk result (IsEvaluated symbols.old view.now (cond_value (observation_tree condition.now) (branch_tree one.entry) (branch_tree other.entry)) symbols.new) }
+    ensures { IfOk result (IsEvaluated symbols.old view.now (branches_by condition.now one.entry other.entry) symbols.new) }
 {
     let truths = truth_in(view, symbols, condition)?;
     let Truths {

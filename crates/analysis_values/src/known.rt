@@ -1,6 +1,5 @@
 //! What is known at a place of a contract.
-ghost use Rattle.std.specs.Prelude.{◌≡◌, [], ◌∷◌, ◌++◌, true, is_some, IfOk, OnOk};
-ghost use Rattle.std.specs.FinMap.{entries};
+ghost use Rattle.std.specs.Prelude.{◌≡◌, ◌++◌, true, is_some, IfOk, OnOk};
 ghost use Rattle.std.specs.FinMap.Entries.{find};
 ghost use Rattle.names.specs.Orders.{choice_id_cmp, bytes_cmp};
 ghost use Rattle.semantics.specs.Reduction.{account_of};
@@ -8,8 +7,8 @@ ghost use Rattle.linear.specs.Linear.{number_at};
 ghost use Rattle.linear.specs.Bounded.{IsShown, IsFromAll, IsUpToAll, IsRefuted};
 ghost use Rattle.symbols.specs.Held.{GivesAny, Learns, Assumes};
 ghost use Rattle.symbols.specs.Joined.{Joins};
-ghost use Rattle.analysis_values.specs.Known.{held, with_amount};
-ghost use Rattle.analysis_values.specs.Entries.{in_numbers, keys_of};
+ghost use Rattle.analysis_values.specs.Known.{held, with_account, with_paid, with_choice, with_bound};
+ghost use Rattle.analysis_values.specs.Entries.{known_of_state, keys_of};
 ghost use Rattle.analysis_values.specs.Answered.{StaysWhereSaid, AddsTime};
 
 use crate::lookup::{AccountOf, found, has, in_expressions, or_zero, put_first, put_keys};
@@ -67,10 +66,7 @@ impl Known {
         start: Linear,
         end: Linear,
     ) -> Result<Known, Memory>
-        ensures { IfOk result (λ k. k ≡ record {
-          symbols = symbols;
-          view = record { accounts = in_numbers (entries state.now.accounts); choices = in_numbers (entries state.now.choices); bound = in_numbers (entries state.now.bound_values); paid = []; start = start; end = end; times = [] };
-        }) }
+        ensures { IfOk result (λ k. k ≡ known_of_state state.now symbols start end) }
     {
         let accounts = in_expressions(alloc, state.accounts())?;
         let choices = in_expressions(alloc, state.choices())?;
@@ -179,14 +175,14 @@ impl Known {
         token: &Token,
         amount: Linear,
     ) -> Result<(), Memory>
-        ensures { OnOk result (self.new ≡ record { symbols = self.old.symbols; view = with_amount self.old.view owner.now token.now amount }) }
+        ensures { OnOk result (self.new ≡ with_account self.old owner.now token.now amount) }
     {
         put_first(&mut self.view.accounts, &AccountOf { owner, token }, amount)
     }
 
     /// Sets what a party was paid of a token.
     pub fn set_paid(&mut self, party: &Party, token: &Token, amount: Linear) -> Result<(), Memory>
-        ensures { OnOk result (self.new ≡ record { symbols = self.old.symbols; view = record (self.old.view) { paid = (account_of party.now token.now, amount) ∷ self.old.view.paid } }) }
+        ensures { OnOk result (self.new ≡ with_paid self.old party.now token.now amount) }
     {
         put_first(
             &mut self.view.paid,
@@ -200,14 +196,14 @@ impl Known {
 
     /// Sets the number of a choice.
     pub fn set_choice(&mut self, id: &ChoiceId, number: Linear) -> Result<(), Memory>
-        ensures { OnOk result (self.new ≡ record { symbols = self.old.symbols; view = record (self.old.view) { choices = (id.now, number) ∷ self.old.view.choices } }) }
+        ensures { OnOk result (self.new ≡ with_choice self.old id.now number) }
     {
         put_first(&mut self.view.choices, id, number)
     }
 
     /// Binds a value to a name.
     pub fn set_bound(&mut self, name: &Text, value: Linear) -> Result<(), Memory>
-        ensures { OnOk result (self.new ≡ record { symbols = self.old.symbols; view = record (self.old.view) { bound = (name.now, value) ∷ self.old.view.bound } }) }
+        ensures { OnOk result (self.new ≡ with_bound self.old name.now value) }
     {
         put_first(&mut self.view.bound, name, value)
     }

@@ -2,7 +2,7 @@
 ghost use Rattle.std.specs.Prelude.{◌≡◌, IfOk, Some, true, cond};
 ghost use Rattle.contract.specs.Tree.{value_tree, observation_tree, not_obs, chose_something, true_obs, false_obs};
 ghost use Rattle.analysis_values.specs.Steps.{IsObserved, ObservesIn, test_of};
-ghost use Rattle.analysis_values.specs.Junctions.{junction_of};
+ghost use Rattle.analysis_values.specs.Junctions.{joined_by};
 
 use crate::comparisons::{Comparison, compared};
 use crate::junctions::{Junction, decided, side};
@@ -90,7 +90,7 @@ fn of_junction(
     left: &Boxed<Observation>,
     right: &Boxed<Observation>,
 ) -> Result<Truths, Memory>
-    ensures { IfOk result (IsObserved symbols.old view.now (junction_of junction (observation_tree left.now) (observation_tree right.now)) symbols.new) }
+    ensures { IfOk result (IsObserved symbols.old view.now (joined_by junction left.now right.now) symbols.new) }
 {
     let outer = left.get();
     let truths = truth_in(view, symbols, outer)?;

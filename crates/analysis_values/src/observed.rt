@@ -1,10 +1,9 @@
 //! The truth of observations.
 ghost use Rattle.std.specs.Prelude.{◌≡◌, Some, IfOk};
 ghost use Rattle.contract.specs.Tree.{observation_tree};
-ghost use Rattle.analysis_spec.specs.declared.kind.AlarmKind.TheVariants.{Leaves128};
 ghost use Rattle.analysis_walk.specs.Conclusions.{ObservesSo};
 ghost use Rattle.analysis_values.specs.Known.{IsDescribed, known_with};
-ghost use Rattle.analysis_values.specs.Answered.{unless, Decides, Unites};
+ghost use Rattle.analysis_values.specs.Answered.{branches_of, Decides, Unites};
 
 use crate::known::Known;
 use crate::observations::truth_in;
@@ -26,7 +25,7 @@ pub struct Observed {
 /// What is known where an observation is true and where it is false, of the same view.
 pub fn observe(known: &Known, observation: &Observation) -> Result<Observed, Memory>
     ensures branches { IfOk result (λ b. Decides known.now (observation_tree observation.now) b.if_true b.if_false) }
-    ensures conclusion { IfOk result (λ b. ObservesSo IsDescribed known.now (observation_tree observation.now) (record { kinds = unless b.fits Leaves128; if_true = b.if_true; if_false = b.if_false })) }
+    ensures conclusion { IfOk result (λ b. ObservesSo IsDescribed known.now (observation_tree observation.now) (branches_of b)) }
 {
     let seen = known.view();
     let mut symbols = known.symbols().try_clone()?;

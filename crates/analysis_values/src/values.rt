@@ -1,7 +1,7 @@
 //! The numbers of values, over what is known of symbols, in a view.
 ghost use Rattle.std.specs.Prelude.{◌≡◌, ◌&&◌, IfOk};
 ghost use Rattle.contract.specs.Tree.{value_tree, available_money, constant, neg_value, choice_value, time_interval_start, time_interval_end, use_value};
-ghost use Rattle.analysis_values.specs.Steps.{IsEvaluated, tree_of, EvaluatesBoth, BothFitWhereSaid};
+ghost use Rattle.analysis_values.specs.Steps.{IsEvaluated, tree_of, EvaluatesOperands, BothFitWhereSaid};
 
 use crate::conditionals::one_of_two;
 use crate::operations::{Arithmetic, operated, turned};
@@ -156,7 +156,7 @@ pub(crate) fn both_values(
     left: &Boxed<Value>,
     right: &Boxed<Value>,
 ) -> Result<Operands, Memory>
-    ensures number { IfOk result (λ p. EvaluatesBoth view.now symbols.old (value_tree left.now) (value_tree right.now) symbols.new p.left p.right) }
+    ensures number { IfOk result (EvaluatesOperands view.now symbols.old (value_tree left.now) (value_tree right.now) symbols.new) }
     ensures fits { IfOk result (λ p. BothFitWhereSaid view.now symbols.old (value_tree left.now) (value_tree right.now) p.fits) }
 {
     let one = left.get();

@@ -1,8 +1,9 @@
 -- What a walk finds on its way: it holds of whichever alarms and ranges are at least those that are found.
-use Rattle.std.specs.Prelude.{◌≡◌, ◌≢◌, take, get_or, ℕ, suc, ℤ, List, [], ◌∷◌, Option, IfSome}
+use Rattle.std.specs.Prelude.{◌≡◌, ◌≢◌, take, get_or, ℕ, suc, ℤ, List, [], ◌∷◌, ◌++◌, length, map, Option, IfSome}
 use Rattle.names.specs.declared.account.Account.{Account}
 use Rattle.contract.specs.declared.tree.Case.{Case}
-use Rattle.contract.specs.Tree.{ActionTree, ContractTree, CaseTrees, case_then, action_tree, contract_tree}
+use Rattle.contract.specs.declared.tree.Contract.{Contract}
+use Rattle.contract.specs.Tree.{ActionTree, ContractTree, when, CaseTrees, case_then, action_tree, case_tree, case_trees, contract_tree}
 use Rattle.semantics.specs.Reduction.{account_of}
 use Rattle.analysis_spec.specs.declared.kind.AlarmKind.{AlarmKind}
 use Rattle.analysis_spec.specs.declared.alarm.Alarm.{Alarm}
@@ -65,3 +66,19 @@ module _ {K : Type 0} (Describes : Description K) (here : List PathStep) where
   -- .. unless it is the one that comes last
   abbrev pub CoversUnless : K → List Case → ℕ → ℕ → Shown
   CoversUnless k cases last n alarms range = n ≢ last → CoversAt k cases n alarms range
+
+module _ {K : Type 0} (Describes : Description K) (here : List PathStep) where
+  -- a contract one step on, where something is known
+  abbrev pub CoversNext : PathStep → Option K → Contract → Shown
+  CoversNext step o c = CoversIf Describes (here ++ step ∷ []) o (contract_tree c)
+
+  -- a When, and its cases where something is known
+  abbrev pub CoversWhen : K → List Case → ℤ → Contract → Shown
+  CoversWhen k cases timeout then = Covers Describes here k (when (case_trees (map case_tree cases)) timeout (contract_tree then))
+
+  abbrev pub CoversEachIf : Option K → List Case → Shown
+  CoversEachIf o cases = CoversCasesIf Describes here o (case_trees (map case_tree cases))
+
+  -- a case behind these
+  abbrev pub CoversBehind : K → List Case → Case → Shown
+  CoversBehind k earlier case = CoversCase Describes here k (actions_before earlier) (length earlier) case

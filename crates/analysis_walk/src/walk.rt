@@ -1,9 +1,8 @@
 //! The walk over a contract.
-ghost use Rattle.std.specs.Prelude.{◌≡◌, ◌<◌, ◌++◌, [], ◌∷◌, length, map, OnOk};
-ghost use Rattle.contract.specs.Tree.{contract_tree, case_tree, case_trees, when};
+ghost use Rattle.std.specs.Prelude.{◌≡◌, ◌<◌, length, OnOk};
+ghost use Rattle.contract.specs.Tree.{contract_tree};
 ghost use Rattle.analysis_spec.specs.declared.path.PathStep.TheVariants.{Then, Else};
-ghost use Rattle.analysis_walk.specs.Knowledge.{actions_before};
-ghost use Rattle.analysis_walk.specs.Found.{Finds, Covers, CoversIf, CoversCasesIf, CoversCase, CoversUnless};
+ghost use Rattle.analysis_walk.specs.Found.{Finds, Covers, CoversNext, CoversWhen, CoversEachIf, CoversBehind, CoversUnless};
 
 use crate::action::take_action;
 use crate::conclusion::{Branches, Conclusion};
@@ -96,7 +95,7 @@ fn go_on<K: Knowledge>(
     found: &mut Found,
 ) -> Result<(), Memory>
     ensures place { OnOk result (place.new.items ≡ place.old.items) }
-    ensures found { OnOk result (Finds (CoversIf K.describes (place.old.items ++ step ∷ []) known (contract_tree contract.now)) found.old found.new) }
+    ensures found { OnOk result (Finds (CoversNext K.describes place.old.items step known contract.now) found.old found.new) }
 {
     let Some(there) = known else {
         return Ok(());
@@ -119,8 +118,8 @@ fn walk_both<K: Knowledge>(
     found: &mut Found,
 ) -> Result<(), Memory>
     ensures place { OnOk result (place.new.items ≡ place.old.items) }
-    ensures then { OnOk result (Finds (CoversIf K.describes (place.old.items ++ Then ∷ []) if_true (contract_tree then.now)) found.old found.new) }
-    ensures otherwise { OnOk result (Finds (CoversIf K.describes (place.old.items ++ Else ∷ []) if_false (contract_tree otherwise.now)) found.old found.new) }
+    ensures then { OnOk result (Finds (CoversNext K.describes place.old.items Then if_true then.now) found.old found.new) }
+    ensures otherwise { OnOk result (Finds (CoversNext K.describes place.old.items Else if_false otherwise.now) found.old found.new) }
 {
     if weight(then) <= weight(otherwise) {
         go_on::<K>(alloc, if_true, then, place, PathStep::Then, found)?;
@@ -146,7 +145,7 @@ fn walk_when<K: Knowledge>(
     found: &mut Found,
 ) -> Result<(), Memory>
     ensures place { OnOk result (place.new.items ≡ place.old.items) }
-    ensures found { OnOk result (Finds (Covers K.describes place.old.items known (when (case_trees (map case_tree cases.now)) timeout (contract_tree then.now))) found.old found.new) }
+    ensures found { OnOk result (Finds (CoversWhen K.describes place.old.items known cases.now timeout then.now) found.old found.new) }
 {
     let known = K::later(known)?;
     let (last, size) = largest(cases);
@@ -196,7 +195,7 @@ fn walk_cases<K: Knowledge>(
     found: &mut Found,
 ) -> Result<(), Memory>
     ensures place { OnOk result (place.new.items ≡ place.old.items) }
-    ensures found { OnOk result (Finds (CoversCasesIf K.describes place.old.items known (case_trees (map case_tree cases.now))) found.old found.new) }
+    ensures found { OnOk result (Finds (CoversEachIf K.describes place.old.items known cases.now) found.old found.new) }
 {
     let Some(each) = known else {
         return Ok(());
@@ -245,7 +244,7 @@ fn walk_case<K: Knowledge>(
     found: &mut Found,
 ) -> Result<(), Memory>
     ensures place { OnOk result (place.new.items ≡ place.old.items) }
-    ensures found { OnOk result (Finds (CoversCase K.describes place.old.items known (actions_before earlier.now) (length earlier.now) case.now) found.old found.new) }
+    ensures found { OnOk result (Finds (CoversBehind K.describes place.old.items known earlier.now case.now) found.old found.new) }
 {
     let index = earlier.len();
     let Conclusion { kinds, known } = take_action::<K>(alloc, known, earlier, &case.action)?;

@@ -1,10 +1,12 @@
 -- Amounts of several tokens, as finite maps: a token that isn't there has 0.
-use Rattle.std.specs.Prelude.{ℤ, pos, ◌+ℤ◌, ◌-ℤ◌, ◌-◌, ◌^◌, int_lt, Bool, false, ◌||◌, cond, if◌then◌else◌, List, [], ◌∷◌, Option, Some, None, is_none}
-use Rattle.std.specs.Option.{unwrap_or}
+use Rattle.std.specs.Prelude.{ℤ, pos, ◌+ℤ◌, ◌-ℤ◌, ◌-◌, ◌^◌, int_lt, Bool, false, ◌||◌, cond, if◌then◌else◌, List, [], ◌∷◌, ◌≡◌, ◌⊎◌, Option, Some, None, is_none, Result, Ok, Err}
+use Rattle.std.specs.Option.{unwrap_or, MatchOption}
 use Rattle.std.specs.Ordering.{int_eq}
 use Rattle.std.specs.FinMap as map
 use Rattle.std.specs.FinMap.{FinMap}
 pub use Rattle.collections.specs.Positive.{AllPositive}
+use Rattle.bundle.specs.declared.fault.BundleFault.{BundleFault}
+use Rattle.bundle.specs.declared.fault.BundleFault.TheVariants as faults
 use Rattle.names.specs.declared.token.Token.{Token}
 use Rattle.names.specs.Orders.{token_cmp}
 
@@ -41,6 +43,10 @@ first_short m (e ∷ es) = if int_lt (amount_of m e.0) e.1 then Some e.0 else fi
 -- the least token of which the first has less than the second
 abbrev pub lacking : Amounts → Amounts → Option Token
 lacking a b = first_short a (map.entries b)
+
+-- Ok where no token lacks; else a fault names it, or memory for its name is refused
+abbrev pub TellsShort : Option Token → Result (Unit {0}) BundleFault → Type 0
+TellsShort lacks result = MatchOption lacks (result ≡ Ok tt) (λ token. (result ≡ Err (faults.Short token)) ⊎ (result ≡ Err faults.Memory))
 
 abbrev pub covers : Amounts → Amounts → Bool
 covers a b = is_none (lacking a b)

@@ -1,17 +1,27 @@
 -- No reader needs this file: it serves the proofs of this crate and those above it.
 -- Entries in the order of their tokens, and a walk along them.
-use Rattle.std.specs.Prelude.{◌≡◌, ◌≢◌, ℤ, pos, ◌≤ℤ◌, Bool, false, not, List, [], ◌∷◌}
+use Rattle.std.specs.Prelude.{◌≡◌, ◌≢◌, ℕ, ℤ, pos, ◌+ℤ◌, ◌≤ℤ◌, Bool, false, not, List, [], ◌∷◌, Result, MatchResult}
 use Rattle.std.specs.Option.{unwrap_or}
 use Rattle.std.specs.Ordering.{int_eq, is_eq}
 use Rattle.std.specs.declared.cmp.Ordering.TheVariants.{Less, Greater}
 use Rattle.std.specs.List.{filter}
+use Rattle.std.specs.FinMap.{put}
 use Rattle.std.specs.FinMap.Entries.{find}
+use Rattle.collections.proofs.Places.{IsAt, IsGap}
 use Rattle.names.specs.declared.token.Token.{Token}
 use Rattle.names.specs.Orders.{token_cmp}
 
 -- how much these entries have of a token
 abbrev pub amount_in : List (Token × ℤ) → Token → ℤ
 amount_in es t = unwrap_or (find token_cmp t es) (pos 0)
+
+-- these entries with so much more of a token
+abbrev pub gained : Token × ℤ → List (Token × ℤ) → List (Token × ℤ)
+gained e es = put token_cmp e.0 (amount_in es e.0 +ℤ e.1) es
+
+-- where a token is among these entries, or where it would go
+abbrev pub IsPlaceOf : Token → List (Token × ℤ) → Result ℕ ℕ → Type 0
+IsPlaceOf t es result = MatchResult result (IsAt token_cmp t es) (IsGap token_cmp t es)
 
 -- each entry is of a token before this one
 abbrev pub AllBefore : Token → List (Token × ℤ) → Type 0

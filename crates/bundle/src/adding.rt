@@ -4,7 +4,7 @@ ghost use Rattle.std.proofs.Math.Dec.{T};
 ghost use Rattle.std.specs.FinMap.{is_sorted, put, from_sorted};
 ghost use Rattle.names.specs.Orders.{token_cmp};
 ghost use Rattle.bundle.specs.Bundles.{is_large, any_large, too_large, each, plus, AllPositive};
-ghost use Rattle.bundle.specs.WalksSupport.{amount_in, AllBefore, NoneAfter, StartsFrom};
+ghost use Rattle.bundle.specs.WalksSupport.{amount_in, gained, AllBefore, NoneAfter, StartsFrom};
 
 use crate::bundle::Bundle;
 use crate::walk::{Entry, amount_at, copy_all, is_at, put_copy, skip_before};
@@ -83,7 +83,7 @@ fn gain(sum: &mut Vec<Entry>, held: &[Entry], from: usize, entry: &Entry) -> Res
     ensures within { IfOk result (λ at. at ≤ length held.now) }
     ensures sum_none_after { OnOk result (NoneAfter entry.now.0 sum.new.items) }
     ensures none_after { IfOk result (λ at. NoneAfter entry.now.0 (take at held.now)) }
-    ensures put { IfOk result (λ at. sum.new.items ++ drop at held.now ≡ put token_cmp entry.now.0 (amount_in (sum.old.items ++ drop from held.now) entry.now.0 +ℤ entry.now.1) (sum.old.items ++ drop from held.now)) }
+    ensures put { IfOk result (λ at. sum.new.items ++ drop at held.now ≡ gained entry.now (sum.old.items ++ drop from held.now)) }
 {
     let at = pass(sum, held, from, &entry.0)?;
     if is_at(held, at, &entry.0) {

@@ -1,14 +1,12 @@
 //! Bundles.
-ghost use Rattle.std.specs.Prelude.{◌≡◌, ◌↔◌, ◌⊎◌, IfOk, pos, ◌<ℤ◌, ◌≤ℤ◌, ◌-ℤ◌, IsTrue, [], true, false, OnOk, OnErr, Ok, Err, MatchResult};
+ghost use Rattle.std.specs.Prelude.{◌≡◌, ◌↔◌, IfOk, pos, ◌<ℤ◌, ◌≤ℤ◌, ◌-ℤ◌, IsTrue, [], true, false, OnOk, OnErr, Ok, Err};
 ghost use Rattle.std.proofs.Math.Dec.{T};
-ghost use Rattle.std.specs.Option.{MatchOption};
 ghost use Rattle.std.specs.Result.{IsOkUnless};
 ghost use Rattle.std.specs.FinMap as map;
 ghost use Rattle.std.specs.FinMap.{is_sorted};
 ghost use Rattle.names.specs.Orders.{token_cmp};
-ghost use Rattle.collections.proofs.Places.{IsAt, IsGap};
-ghost use Rattle.bundle.specs.Bundles.{amount_of, with_amount, plus, minus, lacking, covers, too_large, AllPositive};
-ghost use Rattle.bundle.specs.WalksSupport.{amount_in};
+ghost use Rattle.bundle.specs.Bundles.{amount_of, with_amount, plus, minus, lacking, TellsShort, covers, too_large, AllPositive};
+ghost use Rattle.bundle.specs.WalksSupport.{amount_in, IsPlaceOf};
 
 use crate::adding::{is_too_large, sum_of};
 use crate::fault::BundleFault;
@@ -143,7 +141,7 @@ impl Bundle {
     /// which there is less exactly where there is one, or with `Memory` where memory to name it is
     /// refused. A refusal changes nothing, and no memory is taken where nothing is short.
     pub fn subtract(&mut self, other: &Bundle) -> Result<(), BundleFault>
-        ensures short { MatchOption (lacking self.old other.now) (result ≡ Ok tt) (λ token. (result ≡ Err (BundleFault.Short token)) ⊎ (result ≡ Err BundleFault.Memory)) }
+        ensures short { TellsShort (lacking self.old other.now) result }
         ensures ok { OnOk result (self.new ≡ minus self.old other.now) }
         ensures err { OnErr result (self.new ≡ self.old) }
     {
@@ -164,7 +162,7 @@ fn are_none(entries: &[Entry]) -> bool
 // Where the token with this currency symbol and name is, or where it would go.
 fn place_of(entries: &[Entry], symbol: &Bytes, name: &Text) -> Result<usize, usize>
     requires { T (is_sorted token_cmp entries.now) }
-    ensures { MatchResult result (IsAt token_cmp (record { symbol = symbol.now; name = name.now }) entries.now) (IsGap token_cmp (record { symbol = symbol.now; name = name.now }) entries.now) }
+    ensures { IsPlaceOf (record { symbol = symbol.now; name = name.now }) entries.now result }
 {
     entries.binary_search_by(|entry| compare_with(&entry.0, symbol, name))
 }

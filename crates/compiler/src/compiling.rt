@@ -1,10 +1,9 @@
 //! Compiling.
-ghost use Rattle.std.specs.Prelude.{◌≡◌, IfOk, MatchOption, Err};
-ghost use Rattle.std.specs.Result.{IsOkUnless};
+ghost use Rattle.std.specs.Prelude.{◌≡◌, IfOk};
 ghost use Rattle.contract.specs.Tree.{contract_tree};
 ghost use Rattle.table.specs.Flat.{Has, a_cont, cont_tree};
 ghost use Rattle.lowering.specs.Code.{code};
-ghost use Rattle.compiler.specs.Limits.{compile_fault};
+ghost use Rattle.compiler.specs.Limits.{compile_fault, IsRefusedBy};
 
 use crate::fault::CompileFault;
 use crate::limits::limit_fault;
@@ -19,7 +18,7 @@ use table::{Cont, Table};
 /// a growth that was refused gives `Memory`. Equal contracts give equal tables.
 #[tactic(auto, unfolding(crate::specs::Limits::compile_fault))]
 pub fn compile(alloc: Global, contract: &Contract) -> Result<(Table, Cont), CompileFault>
-    ensures fault { MatchOption (compile_fault (contract_tree contract.now)) (IsOkUnless result CompileFault.Memory) (λ fault. result ≡ Err fault) }
+    ensures fault { IsRefusedBy (compile_fault (contract_tree contract.now)) result }
     ensures code { IfOk result (λ made. made ≡ code (contract_tree contract.now)) }
     ensures stands { IfOk result (λ made. Has made.0 (a_cont made.1.0)) }
     ensures tree { IfOk result (λ made. cont_tree made.0 made.1.0 ≡ contract_tree contract.now) }

@@ -5,7 +5,6 @@ use Rattle.names.specs.declared.party.Party.{Party}
 use Rattle.names.specs.declared.payee.Payee.{Payee}
 use Rattle.names.specs.declared.token.Token.{Token}
 use Rattle.names.specs.declared.choice_id.ChoiceId.{ChoiceId}
-use Rattle.names.specs.declared.bound.Bound.{Bound}
 use Rattle.contract.specs.declared.value.Value.{Value}
 use Rattle.contract.specs.declared.value.Value as values
 use Rattle.contract.specs.declared.value.Observation.{Observation}
@@ -15,19 +14,15 @@ use Rattle.contract.specs.declared.tree.Case.{Case}
 use Rattle.contract.specs.declared.tree.Contract.{Contract}
 use Rattle.contract.specs.declared.tree.Contract as contracts
 use Rattle.contract.specs.Tree.{value_tree, observation_tree, action_tree, case_trees, case_tree, contract_tree}
-use Rattle.contract.proofs.TreeLaws.{value_tree-AvailableMoney, value_tree-Constant, value_tree-NegValue, value_tree-AddValue, value_tree-SubValue, value_tree-MulValue, value_tree-DivValue, value_tree-ChoiceValue, value_tree-TimeIntervalStart, value_tree-TimeIntervalEnd, value_tree-UseValue, value_tree-Cond}
+use Rattle.contract.proofs.TreeLaws.{value_tree-Constant, value_tree-NegValue, value_tree-AddValue, value_tree-SubValue, value_tree-MulValue, value_tree-DivValue, value_tree-ChoiceValue, value_tree-TimeIntervalStart, value_tree-TimeIntervalEnd, value_tree-UseValue}
 use Rattle.contract.proofs.TreeLaws.{observation_tree-AndObs, observation_tree-OrObs, observation_tree-NotObs, observation_tree-ChoseSomething, observation_tree-ValueGE, observation_tree-ValueGT, observation_tree-ValueLT, observation_tree-ValueLE, observation_tree-ValueEQ, observation_tree-TrueObs, observation_tree-FalseObs}
 use Rattle.contract.proofs.TreeLaws.{contract_tree-Close, contract_tree-Pay, contract_tree-If, contract_tree-When, contract_tree-Let, contract_tree-Assert, case_tree-parts}
-use Rattle.contract_bytes.specs.Numbers.{length_bytes, number_bytes, time_bytes, text_bytes, list_bytes}
-use Rattle.contract_bytes.specs.Names.{party_bytes, token_bytes, choice_id_bytes, payee_bytes, bound_bytes}
+use Rattle.contract_bytes.specs.Numbers.{length_bytes, number_bytes, time_bytes, text_bytes}
+use Rattle.contract_bytes.specs.Names.{party_bytes, token_bytes, choice_id_bytes, payee_bytes}
 use Rattle.contract_bytes.specs.Values.{value_bytes, observation_bytes}
 use Rattle.contract_bytes.specs.Trees.{action_bytes, contract_bytes, cases_bytes, case_count}
 
 -- ---- values and observations
-
-pub value_bytes-AvailableMoney : (p : Party) (t : Token) → value_bytes (value_tree (values.AvailableMoney p t)) ≡ 0x00 ∷ party_bytes p ++ token_bytes t
-unfolding value_bytes
-value_bytes-AvailableMoney p t = ap value_bytes (value_tree-AvailableMoney p t)
 
 pub value_bytes-Constant : (n : ℤ) → value_bytes (value_tree (values.Constant n)) ≡ 0x01 ∷ number_bytes n
 unfolding value_bytes
@@ -68,10 +63,6 @@ value_bytes-TimeIntervalEnd = ap value_bytes value_tree-TimeIntervalEnd
 pub value_bytes-UseValue : (name : List ℕ) → value_bytes (value_tree (values.UseValue name)) ≡ 0x0a ∷ text_bytes name
 unfolding value_bytes
 value_bytes-UseValue name = ap value_bytes (value_tree-UseValue name)
-
-pub value_bytes-Cond : (o : Observation) (v w : Value) → value_bytes (value_tree (values.Cond o v w)) ≡ 0x0b ∷ observation_bytes (observation_tree o) ++ value_bytes (value_tree v) ++ value_bytes (value_tree w)
-unfolding value_bytes
-value_bytes-Cond o v w = ap value_bytes (value_tree-Cond o v w)
 
 pub observation_bytes-AndObs : (o p : Observation) → observation_bytes (observation_tree (observations.AndObs o p)) ≡ 0x00 ∷ observation_bytes (observation_tree o) ++ observation_bytes (observation_tree p)
 unfolding observation_bytes
@@ -118,14 +109,6 @@ unfolding observation_bytes
 observation_bytes-FalseObs = ap observation_bytes observation_tree-FalseObs
 
 -- ---- actions
-
-pub action_bytes-Deposit : (a p : Party) (t : Token) (v : Value) → action_bytes (action_tree (actions.Deposit a p t v)) ≡ 0x00 ∷ party_bytes a ++ party_bytes p ++ token_bytes t ++ value_bytes (value_tree v)
-unfolding action_bytes
-action_bytes-Deposit a p t v = refl
-
-pub action_bytes-Choice : (id : ChoiceId) (bounds : List Bound) → action_bytes (action_tree (actions.Choice id bounds)) ≡ 0x01 ∷ choice_id_bytes id ++ list_bytes bound_bytes bounds
-unfolding action_bytes
-action_bytes-Choice id bounds = refl
 
 pub action_bytes-Notify : (o : Observation) → action_bytes (action_tree (actions.Notify o)) ≡ 0x02 ∷ observation_bytes (observation_tree o)
 unfolding action_bytes

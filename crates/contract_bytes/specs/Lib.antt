@@ -1,5 +1,4 @@
 pub mod Writing
-pub mod WritingSupport
 pub mod Numbers
 pub mod Names
 pub mod Values
@@ -8,3 +7,4 @@ pub mod Inputs
 pub mod States
 pub mod Unambiguous
 pub mod Worked
+pub mod WritingSupport

@@ -1,10 +1,8 @@
 //! Inputs.
-ghost use Rattle.std.specs.Prelude.{◌≡◌, ◌∷◌, ◌++◌, OnOk, OnErr};
-ghost use Rattle.contract_bytes.specs.Numbers.{number_bytes, NumberFits};
-ghost use Rattle.contract_bytes.specs.Names.{party_bytes, token_bytes, choice_id_bytes, PartyFits, TokenFits, ChoiceIdFits};
+ghost use Rattle.std.specs.Prelude.{◌≡◌, ◌++◌, OnOk, OnErr};
 ghost use Rattle.contract_bytes.specs.Inputs.{input_bytes, InputFits};
 ghost use Rattle.contract_bytes.specs.Writing.{AppendsFront};
-ghost use Rattle.contract_bytes.specs.WritingSupport.{Spells};
+ghost use Rattle.contract_bytes.specs.WritingSupport.{SpellsInput};
 
 use crate::names_of::{put_choice_id, put_party, put_token};
 use crate::number::{put_byte, put_number};
@@ -19,7 +17,7 @@ fn put_deposit(
     token: &Token,
     amount: i128,
 ) -> Result<(), Memory>
-    ensures { Spells result (0x00 ∷ party_bytes account.now ++ party_bytes party.now ++ token_bytes token.now ++ number_bytes amount) (PartyFits account.now × PartyFits party.now × TokenFits token.now × NumberFits amount) out.old.items out.new.items }
+    ensures { SpellsInput result (Input.Deposit account.now party.now token.now amount) out.old out.new }
 {
     put_byte(out, 0x00)?;
     put_party(out, account)?;
@@ -29,7 +27,7 @@ fn put_deposit(
 }
 
 fn put_choice(out: &mut Vec<u8>, id: &ChoiceId, number: i128) -> Result<(), Memory>
-    ensures { Spells result (0x01 ∷ choice_id_bytes id.now ++ number_bytes number) (ChoiceIdFits id.now × NumberFits number) out.old.items out.new.items }
+    ensures { SpellsInput result (Input.Choice id.now number) out.old out.new }
 {
     put_byte(out, 0x01)?;
     put_choice_id(out, id)?;

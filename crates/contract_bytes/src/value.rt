@@ -1,10 +1,10 @@
 //! Values and observations.
-ghost use Rattle.std.specs.Prelude.{◌∷◌, ◌++◌};
-ghost use Rattle.contract.specs.Tree.{value_tree, observation_tree};
+ghost use Rattle.std.specs.Prelude.{◌∷◌};
+ghost use Rattle.contract.specs.Tree.{value_tree, available_money, cond_value, observation_tree};
 ghost use Rattle.contract_bytes.specs.Numbers.{number_bytes, text_bytes, NumberFits, TextFits};
-ghost use Rattle.contract_bytes.specs.Names.{party_bytes, token_bytes, choice_id_bytes, PartyFits, TokenFits, ChoiceIdFits};
-ghost use Rattle.contract_bytes.specs.Values.{value_bytes, observation_bytes, ValueFits, ObservationFits};
-ghost use Rattle.contract_bytes.specs.WritingSupport.{Spells};
+ghost use Rattle.contract_bytes.specs.Names.{choice_id_bytes, ChoiceIdFits};
+ghost use Rattle.contract_bytes.specs.Values.{value_bytes, ValueFits};
+ghost use Rattle.contract_bytes.specs.WritingSupport.{Spells, SpellsValue, SpellsObservation, SpellsTest, SpellsTwoValues, SpellsTwoObservations};
 
 use crate::names_of::{put_choice_id, put_party, put_token};
 use crate::number::{put_byte, put_number, put_text};
@@ -15,7 +15,7 @@ use names::{ChoiceId, Party, Token};
 // ---- the forms without operands
 
 fn put_available(out: &mut Vec<u8>, party: &Party, token: &Token) -> Result<(), Memory>
-    ensures { Spells result (0x00 ∷ party_bytes party.now ++ token_bytes token.now) (PartyFits party.now × TokenFits token.now) out.old.items out.new.items }
+    ensures { SpellsValue result (available_money party.now token.now) out.old out.new }
 {
     put_byte(out, 0x00)?;
     put_party(out, party)?;
@@ -48,14 +48,14 @@ fn put_use(out: &mut Vec<u8>, name: &Text) -> Result<(), Memory>
 
 #[cycle(put_value)]
 fn put_operand(out: &mut Vec<u8>, value: &Boxed<Value>) -> Result<(), Memory>
-    ensures { Spells result (value_bytes (value_tree value.now)) (ValueFits (value_tree value.now)) out.old.items out.new.items }
+    ensures { SpellsValue result (value_tree value.now) out.old out.new }
 {
     put_value(out, value.get())
 }
 
 #[cycle(put_value)]
 fn put_condition(out: &mut Vec<u8>, observation: &Boxed<Observation>) -> Result<(), Memory>
-    ensures { Spells result (observation_bytes (observation_tree observation.now)) (ObservationFits (observation_tree observation.now)) out.old.items out.new.items }
+    ensures { SpellsObservation result (observation_tree observation.now) out.old out.new }
 {
     put_observation(out, observation.get())
 }
@@ -76,7 +76,7 @@ fn put_operands(
     a: &Boxed<Value>,
     b: &Boxed<Value>,
 ) -> Result<(), Memory>
-    ensures { Spells result (tag ∷ value_bytes (value_tree a.now) ++ value_bytes (value_tree b.now)) (ValueFits (value_tree a.now) × ValueFits (value_tree b.now)) out.old.items out.new.items }
+    ensures { SpellsTwoValues result tag (value_tree a.now) (value_tree b.now) out.old out.new }
 {
     put_byte(out, tag)?;
     put_operand(out, a)?;
@@ -90,7 +90,7 @@ fn put_cond(
     a: &Boxed<Value>,
     b: &Boxed<Value>,
 ) -> Result<(), Memory>
-    ensures { Spells result (0x0b ∷ observation_bytes (observation_tree observation.now) ++ value_bytes (value_tree a.now) ++ value_bytes (value_tree b.now)) (ObservationFits (observation_tree observation.now) × ValueFits (value_tree a.now) × ValueFits (value_tree b.now)) out.old.items out.new.items }
+    ensures { SpellsValue result (cond_value (observation_tree observation.now) (value_tree a.now) (value_tree b.now)) out.old out.new }
 {
     put_byte(out, 0x0b)?;
     put_condition(out, observation)?;
@@ -100,7 +100,7 @@ fn put_cond(
 
 #[cycle(put_value)]
 fn put_not(out: &mut Vec<u8>, a: &Boxed<Observation>) -> Result<(), Memory>
-    ensures { Spells result (0x02 ∷ observation_bytes (observation_tree a.now)) (ObservationFits (observation_tree a.now)) out.old.items out.new.items }
+    ensures { SpellsTest result 0x02 (observation_tree a.now) out.old out.new }
 {
     put_byte(out, 0x02)?;
     put_condition(out, a)
@@ -114,7 +114,7 @@ fn put_conditions(
     a: &Boxed<Observation>,
     b: &Boxed<Observation>,
 ) -> Result<(), Memory>
-    ensures { Spells result (tag ∷ observation_bytes (observation_tree a.now) ++ observation_bytes (observation_tree b.now)) (ObservationFits (observation_tree a.now) × ObservationFits (observation_tree b.now)) out.old.items out.new.items }
+    ensures { SpellsTwoObservations result tag (observation_tree a.now) (observation_tree b.now) out.old out.new }
 {
     put_byte(out, tag)?;
     put_condition(out, a)?;
@@ -125,7 +125,7 @@ fn put_conditions(
 
 #[cycle(put_value)]
 pub(crate) fn put_value(out: &mut Vec<u8>, value: &Value) -> Result<(), Memory>
-    ensures { Spells result (value_bytes (value_tree value.now)) (ValueFits (value_tree value.now)) out.old.items out.new.items }
+    ensures { SpellsValue result (value_tree value.now) out.old out.new }
 {
     match value {
         Value::AvailableMoney(party, token) => put_available(out, party, token),
@@ -145,7 +145,7 @@ pub(crate) fn put_value(out: &mut Vec<u8>, value: &Value) -> Result<(), Memory>
 
 #[cycle(put_value)]
 pub(crate) fn put_observation(out: &mut Vec<u8>, observation: &Observation) -> Result<(), Memory>
-    ensures { Spells result (observation_bytes (observation_tree observation.now)) (ObservationFits (observation_tree observation.now)) out.old.items out.new.items }
+    ensures { SpellsObservation result (observation_tree observation.now) out.old out.new }
 {
     match observation {
         Observation::AndObs(a, b) => put_conditions(out, 0x00, a, b),

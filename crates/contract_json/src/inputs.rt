@@ -1,6 +1,6 @@
 //! Inputs and transactions, written to a text.
 //! Where a call fails, what was written before it stays, and behind it stand some tokens or none.
-ghost use Rattle.std.specs.Prelude.{◌≡◌, true, map, codes, OnOk, OnErr};
+ghost use Rattle.std.specs.Prelude.{◌≡◌, true, map, OnOk, OnErr};
 ghost use Rattle.std.specs.List.{list_all};
 ghost use Rattle.hex.specs.Hex.{IsBytes};
 ghost use Rattle.serde_json.specs.Data.{array};
@@ -10,6 +10,7 @@ ghost use Rattle.json_write_contracts.specs.Tokens.{Keeps, Puts, PutsFitting};
 ghost use Rattle.contract_json.specs.InputSymbols.{InputSymbols};
 ghost use Rattle.json_write_contracts.specs.WrittenNames as written_names;
 ghost use Rattle.json_write_contracts.specs.WrittenNames.{number_fits, time_fits};
+ghost use Rattle.contract_json.specs.Puts.{PutsInput};
 ghost use Rattle.contract_json.specs.WrittenInput.{input_json, input_fits, interval_json, transaction_json, transaction_fits};
 
 use collections::{Items, Memory};
@@ -36,8 +37,7 @@ fn put_deposit(
     token: &Token,
     amount: &i128,
 ) -> Result<(), WriteFault>
-    ensures put { PutsFitting result out.old out.new (number_fits amount.now) (written_names.four (codes "input_from_party") (written_names.party_json party.now)
-        (codes "into_account") (written_names.party_json account.now) (codes "of_token") (written_names.token_json token.now) (codes "that_deposits") (written_names.number_json amount.now)) }
+    ensures put { PutsInput result out.old out.new (Input.Deposit account.now party.now token.now amount.now) }
     ensures err { OnErr result (Keeps out.old out.new) }
     ensures symbol { OnOk result (IsBytes token.now.symbol) }
 {
@@ -55,8 +55,7 @@ fn put_deposit(
 }
 
 fn put_choice(out: &mut Writer, id: &ChoiceId, number: &i128) -> Result<(), WriteFault>
-    ensures put { PutsFitting result out.old out.new (number_fits number.now) (written_names.two (codes "for_choice_id") (written_names.choice_id_json id.now)
-        (codes "input_that_chooses_num") (written_names.number_json number.now)) }
+    ensures put { PutsInput result out.old out.new (Input.Choice id.now number.now) }
     ensures err { OnErr result (Keeps out.old out.new) }
 {
     out.begin_object()?;
@@ -69,7 +68,7 @@ fn put_choice(out: &mut Writer, id: &ChoiceId, number: &i128) -> Result<(), Writ
 }
 
 pub(crate) fn put_input(alloc: Global, out: &mut Writer, input: &Input) -> Result<(), WriteFault>
-    ensures put { PutsFitting result out.old out.new (input_fits input.now) (input_json input.now) }
+    ensures put { PutsInput result out.old out.new input.now }
     ensures err { OnErr result (Keeps out.old out.new) }
     ensures symbols { OnOk result (InputSymbols input.now) }
 {

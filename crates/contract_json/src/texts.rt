@@ -9,11 +9,11 @@ ghost use Rattle.json_read_names.specs.ReadsText.{of_text};
 ghost use Rattle.json_read_contracts.specs.ReadsContract as contract_reads;
 ghost use Rattle.json_read_inputs.specs.ReadsInput as input_reads;
 ghost use Rattle.json_read_inputs.specs.ReadsState as state_reads;
-ghost use Rattle.json_write_contracts.specs.WrittenContract as written_contracts;
 ghost use Rattle.json_write_contracts.specs.WrittenContract.{contract_fits};
 ghost use Rattle.json_write_contracts.specs.Written.{in_range};
 ghost use Rattle.json_write_outcomes.specs.WrittenOutcome.{outcome_json};
 ghost use Rattle.contract_json.specs.ReadsOutcome.{state_of_outcome};
+ghost use Rattle.contract_json.specs.WrittenText.{contract_text, IsReadBack};
 
 use crate::put_json::text_of;
 use crate::read_back::state_is_read_back;
@@ -75,10 +75,8 @@ pub fn read_state_with_texts(alloc: Global, text: &[u8]) -> Result<State, JsonFa
 
 /// The text of a contract: compact, with each object's keys in the order of their bytes.
 pub fn write_contract(alloc: Global, contract: &Contract) -> Result<Vec<u8>, WriteFault>
-    ensures written { AsideBy WriteFault.Memory (λ text. text.items) result
-        (in_range (contract_fits (contract_tree contract.now)) (compact_text (written_contracts.contract_json (contract_tree contract.now)))) }
-    ensures reads_back { IfOk result (λ text. length text.items ≤ 1048576 → depth (written_contracts.contract_json (contract_tree contract.now)) ≤ max_depth
-        → of_text contract_reads.contract text.items ≡ Ok contract.now) }
+    ensures written { AsideBy WriteFault.Memory (λ text. text.items) result (contract_text (contract_tree contract.now)) }
+    ensures reads_back { IfOk result (λ text. IsReadBack contract.now text.items) }
 {
     let text = text_of(alloc, contract)?;
     Ok(text)

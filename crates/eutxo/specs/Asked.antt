@@ -22,6 +22,9 @@ pub record Stepping : Type 0 where
   pub tx : Tx
   pub spent : List (Spend × Output)
 
+abbrev pub question : List ℕ → Datum → List Input → ℕ → Tx → List (Spend × Output) → Stepping
+question script datum inputs from tx spent = record { script = script; datum = datum; inputs = inputs; from = from; tx = tx; spent = spent }
+
 -- the fault of the transaction with which a script that takes the inputs refuses a step: those of rules 13 to 15
 abbrev pub refusal_of : StepFault → TxFault
 refusal_of (steps.NotAuthorised party) = NotAuthorised party

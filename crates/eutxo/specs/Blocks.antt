@@ -11,7 +11,7 @@ use Rattle.eutxo_types.specs.Numbers.{number}
 use Rattle.eutxo_types.specs.Parts.{same_ref, is_contract}
 use Rattle.eutxo.specs.declared.validator.StepAnswer.{StepAnswer}
 use Rattle.eutxo.specs.declared.validator.StepAnswer.TheVariants.{Refused, Takes}
-use Rattle.eutxo.specs.Asked.{Stepping, Judges, refusal_of}
+use Rattle.eutxo.specs.Asked.{Stepping, question, Judges, refusal_of}
 use Rattle.eutxo.specs.Faults.{or_else, first_index}
 use Rattle.eutxo.specs.Rules.{Step, steps_of, wrong_start}
 
@@ -35,7 +35,11 @@ answer_by j None s = Takes None false 0
 answer_by j (Some v) s = j.step v s
 
 abbrev pub step_asked : Tx → List (Spend × Output) → ℕ → Step → Stepping
-step_asked tx spent i s = record { script = s.script; datum = s.datum; inputs = s.inputs; from = i; tx = tx; spent = spent }
+step_asked tx spent i s = question s.script s.datum s.inputs i tx spent
+
+-- what the script of a step answers, whose block stands from a place
+abbrev pub answer_to : {V : Type 0} → Judges V → (List ℕ → Option V) → Tx → List (Spend × Output) → ℕ → Step → StepAnswer
+answer_to j named tx spent i s = answer_by j (named s.script) (step_asked tx spent i s)
 
 abbrev pub and_blocks : ℕ → OutputRef → StepAnswer → (ℕ → List Block) → List Block
 and_blocks i r answer later = record { from = i; reference = r; answer = answer } ∷ later (i + size answer)
@@ -43,12 +47,16 @@ and_blocks i r answer later = record { from = i; reference = r; answer = answer 
 -- the blocks of these steps, from place i on
 abbrev pub blocks : {V : Type 0} → Judges V → (List ℕ → Option V) → Tx → List (Spend × Output) → List Step → ℕ → List Block
 blocks j named tx spent [] i = []
-blocks j named tx spent (s ∷ ss) i = and_blocks i s.reference (answer_by j (named s.script) (step_asked tx spent i s)) (blocks j named tx spent ss)
+blocks j named tx spent (s ∷ ss) i = and_blocks i s.reference (answer_to j named tx spent i s) (blocks j named tx spent ss)
 
--- those of a transaction, from place 0 on: of all contracts that it spends, where nothing is missing of what it spends
+-- those of a transaction, from place 0 on: of all contracts that it spends
+abbrev pub blocks_of : {V : Type 0} → Judges V → (List ℕ → Option V) → Tx → List (Spend × Output) → List Block
+blocks_of j named tx spent = blocks j named tx spent (steps_of spent tx.datums) 0
+
+-- .. where nothing is missing of what it spends
 abbrev pub blocks_on : {V : Type 0} → Judges V → (List ℕ → Option V) → Tx → Option (List (Spend × Output)) → List Block
 blocks_on j named tx None = []
-blocks_on j named tx (Some spent) = blocks j named tx spent (steps_of spent tx.datums) 0
+blocks_on j named tx (Some spent) = blocks_of j named tx spent
 
 -- the place of the output in which its contract goes on: the first of the block. A contract that is over has none, whatever stands there
 abbrev pub continues : ℕ → StepAnswer → Option ℕ
@@ -87,6 +95,9 @@ lowest (f ∷ fs) = lower f (lowest fs)
 abbrev pub faults_in : List Block → List TxFault
 faults_in bs = filter_map (λ b. fault_in b.answer) bs
 
+abbrev pub lowest_fault : List Block → Option TxFault
+lowest_fault bs = lowest (faults_in bs)
+
 -- ---- 16: the output at this place has a contract lock, and no contract goes on in it
 
 abbrev pub is_place : ℕ → Option ℕ → Bool
@@ -102,7 +113,7 @@ stray_contract bs os = option_map StrayContract (first_index (λ i o. is_contrac
 -- ---- 12 to 16 where contracts are spent, else 17
 
 abbrev pub block_fault : List Block → List Output → Option TxFault
-block_fault bs os = or_else (lowest (faults_in bs)) (stray_contract bs os)
+block_fault bs os = or_else (lowest_fault bs) (stray_contract bs os)
 
 abbrev pub step_fault : {V : Type 0} → Judges V → (List ℕ → Option V) → Tx → List (Spend × Output) → List Step → Option TxFault
 step_fault j named tx spent [] = wrong_start j named tx

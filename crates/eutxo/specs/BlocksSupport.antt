@@ -10,7 +10,7 @@ use Rattle.eutxo_types.specs.Parts.{inputs_of, is_contract, ContractLock, contra
 use Rattle.eutxo.specs.declared.block_rules.Walked.{Walked}
 use Rattle.eutxo.specs.declared.validator.StepAnswer.{StepAnswer}
 use Rattle.eutxo.specs.Asked.{Judges}
-use Rattle.eutxo.specs.Blocks.{Block, blocks, size, answer_by, step_asked, continues, fault_in, lower, is_place}
+use Rattle.eutxo.specs.Blocks.{Block, blocks, size, answer_to, continues, fault_in, lower, is_place}
 use Rattle.eutxo.specs.Faults.{first_index}
 use Rattle.eutxo.specs.Rules.{Step, steps_of}
 
@@ -41,7 +41,11 @@ step_here tx w x = step_with (contract_in x.1.lock) x.0 (slice_get tx.datums (le
 
 abbrev pub and_step : {V : Type 0} → Judges V → (List ℕ → Option V) → Tx → List (Spend × Output) → Walked → Option Step → Walked
 and_step j named tx spent w None = w
-and_step j named tx spent w (Some s) = with_block w (answer_by j (named s.script) (step_asked tx spent w.from s))
+and_step j named tx spent w (Some s) = with_block w (answer_to j named tx spent w.from s)
+
+-- .. over what is spent here
+abbrev pub walked_over : {V : Type 0} → Judges V → (List ℕ → Option V) → Tx → List (Spend × Output) → Walked → Spend × Output → Walked
+walked_over j named tx spent w x = and_step j named tx spent w (step_here tx w x)
 
 -- the blocks that are left, of what is spent from a place on
 abbrev pub blocks_left : {V : Type 0} → Judges V → (List ℕ → Option V) → Tx → List (Spend × Output) → Walked → ℕ → List Block

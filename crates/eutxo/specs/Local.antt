@@ -72,6 +72,10 @@ rules_12_to_19 j named tx spent =
 abbrev pub rules_8_to_19 : {V : Type 0} → Judges V → (List ℕ → Option V) → Tx → List (Spend × Output) → Judged
 rules_8_to_19 j named tx spent = judged_as (spent_fault j named tx spent) (places_in (blocks_on j named tx (Some spent)))
 
+-- .. where nothing is missing in a resolution
+abbrev pub rules_8_to_19_found : {V : Type 0} → Judges V → Tx → Resolved V → Judged
+rules_8_to_19_found j tx found = judged_as (whole_fault j (script_at found.scripts) tx (whole tx found)) (places_of j tx found)
+
 -- THE LOCAL JUDGEMENT: the local verdict's fault, and where there is none, the places in which contracts go on
 abbrev pub judged : {V : Type 0} → Judges V → Tx → Resolved V → Judged
 judged j tx found = judged_as (local j tx found) (places_of j tx found)

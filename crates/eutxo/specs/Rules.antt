@@ -140,9 +140,12 @@ abbrev pub starts_wrong : {V : Type 0} → Judges V → (List ℕ → Option V) 
 starts_wrong j named held None = false
 starts_wrong j named held (Some c) = starts_wrong_at j (named c.script) c.datum held
 
+abbrev pub wrong_start_index : {V : Type 0} → Judges V → (List ℕ → Option V) → Tx → Option ℕ
+wrong_start_index j named tx = first_index (λ i o. starts_wrong j named o.amount (contract_at tx i)) 0 tx.outputs
+
 -- 17: the output at this place has a contract lock, and its script takes it for no start
 abbrev pub wrong_start : {V : Type 0} → Judges V → (List ℕ → Option V) → Tx → Option TxFault
-wrong_start j named tx = option_map WrongStart (first_index (λ i o. starts_wrong j named o.amount (contract_at tx i)) 0 tx.outputs)
+wrong_start j named tx = option_map WrongStart (wrong_start_index j named tx)
 
 -- ---- of the sums
 

@@ -2,8 +2,8 @@
 ghost use Rattle.std.specs.Prelude.{◌≡◌, ◌+◌, ◌<◌, ◌≤◌, length, Some, if◌then◌else◌, IfSome, IfOk, OnOk, option_map};
 ghost use Rattle.std.specs.List.{list_any};
 ghost use Rattle.eutxo_types.specs.declared.fault.TxFault.TheVariants.{StrayContract};
-ghost use Rattle.eutxo.specs.Blocks.{size, answer_by, step_asked, blocks, continues, places_in, fault_in, lowest, faults_in, is_place};
-ghost use Rattle.eutxo.specs.BlocksSupport.{lower_of, stray_index, with_block, step_here, and_step};
+ghost use Rattle.eutxo.specs.Blocks.{size, answer_to, blocks_of, continues, places_in, fault_in, lowest_fault, is_place};
+ghost use Rattle.eutxo.specs.BlocksSupport.{lower_of, stray_index, with_block, step_here, walked_over};
 ghost use Rattle.eutxo.specs.Faults.{or_else};
 ghost use Rattle.eutxo.specs.Found.{script_at};
 ghost use Rattle.eutxo.specs.Local.{judged_as};
@@ -41,7 +41,7 @@ fn answer_by<V: Validator>(
     tx: &Tx,
     spent: &[Spent<'_>],
 ) -> Result<StepAnswer, Memory>
-    ensures { IfOk result (λ answer. answer ≡ answer_by V.judges (script_at scripts.now step.now.script) (step_asked tx.now spent.now from step.now)) }
+    ensures { IfOk result (λ answer. answer ≡ answer_to V.judges (script_at scripts.now) tx.now spent.now from step.now) }
 {
     match scripts.get(step.script) {
         Some(object) => object.step(alloc, step.script, step.datum, step.inputs, from, tx, spent),
@@ -150,7 +150,7 @@ fn walk_over<V: Validator>(
     spent: &[Spent<'_>],
 ) -> Result<(), Memory>
     requires { IfSome (step_here tx.now walked.old x.now) (λ step. length walked.old.places < 8) }
-    ensures { OnOk result (walked.new ≡ and_step V.judges (script_at scripts.now) tx.now spent.now walked.old (step_here tx.now walked.old x.now)) }
+    ensures { OnOk result (walked.new ≡ walked_over V.judges (script_at scripts.now) tx.now spent.now walked.old x.now) }
 {
     match step_at(x, tx.datums.as_slice(), walked.places.len()) {
         Some(step) => {
@@ -171,8 +171,8 @@ pub fn walk<V: Validator>(
     spent: &[Spent<'_>],
 ) -> Result<Walked, Memory>
     requires { length (steps_of spent.now tx.now.datums) ≤ 8 }
-    ensures lowest { IfOk result (λ walked. walked.lowest ≡ lowest (faults_in (blocks V.judges (script_at scripts.now) tx.now spent.now (steps_of spent.now tx.now.datums) 0))) }
-    ensures places { IfOk result (λ walked. walked.places ≡ places_in (blocks V.judges (script_at scripts.now) tx.now spent.now (steps_of spent.now tx.now.datums) 0)) }
+    ensures lowest { IfOk result (λ walked. walked.lowest ≡ lowest_fault (blocks_of V.judges (script_at scripts.now) tx.now spent.now)) }
+    ensures places { IfOk result (λ walked. walked.places ≡ places_in (blocks_of V.judges (script_at scripts.now) tx.now spent.now)) }
 {
     let mut walked = Walked {
         from: 0,

@@ -2,7 +2,7 @@
 ghost use Rattle.std.specs.Prelude.{◌≡◌, ◌∷◌, [], None, Some, IfOk};
 ghost use Rattle.eutxo.specs.Faults.{first_of};
 ghost use Rattle.eutxo.specs.Found.{script_at, whole};
-ghost use Rattle.eutxo.specs.Local.{rules_12_to_19, rules_8_to_19, whole_fault, places_of, judged_as, judged};
+ghost use Rattle.eutxo.specs.Local.{rules_12_to_19, rules_8_to_19, rules_8_to_19_found, judged_as, judged};
 ghost use Rattle.eutxo.specs.Rules.{too_many_contracts, not_preserved, wrong_datum};
 
 use crate::datum_rule::wrong_datum;
@@ -106,7 +106,7 @@ pub fn judge_spent<V: Validator>(
     tx: &Tx,
     found: &Resolved<V>,
 ) -> Result<Judged, Memory>
-    ensures { IfOk result (λ answer. answer ≡ judged_as (whole_fault V.judges (script_at found.now.scripts) tx.now (whole tx.now found.now)) (places_of V.judges tx.now found.now)) }
+    ensures { IfOk result (λ answer. answer ≡ rules_8_to_19_found V.judges tx.now found.now) }
 {
     // touch: one contract is judged as if there were no blocks
     one_contract_is_judged_alone::<V>();

@@ -1,10 +1,9 @@
 //! The rule of starts, and the choice between it and the rules of steps.
 ghost use Rattle.std.specs.Prelude.{◌≡◌, ◌<◌, length, take, IfOk, None, option_map, slice_get};
-ghost use Rattle.eutxo.specs.Faults.{first_index};
 ghost use Rattle.eutxo.specs.Found.{script_at};
 ghost use Rattle.eutxo_types.specs.Parts.{contract_in, contract_count, made_datums, contract_at};
 ghost use Rattle.eutxo.specs.Local.{rules_12_to_17};
-ghost use Rattle.eutxo.specs.Rules.{too_many_contracts, starts_wrong, wrong_start};
+ghost use Rattle.eutxo.specs.Rules.{too_many_contracts, starts_wrong, wrong_start_index, wrong_start};
 
 use crate::block_rules::{block_fault, walk};
 use crate::judged::{Judged, judged_as};
@@ -51,7 +50,7 @@ fn wrong_start_index<V: Validator>(
     scripts: &Scripts<V>,
     tx: &Tx,
 ) -> Result<Option<usize>, Memory>
-    ensures { IfOk result (λ place. place ≡ first_index (λ i o. starts_wrong V.judges (script_at scripts.now) o.amount (contract_at tx.now i)) 0 tx.now.outputs) }
+    ensures { IfOk result (λ place. place ≡ wrong_start_index V.judges (script_at scripts.now) tx.now) }
 {
     let datums = tx.made_datums();
     let mut count = 0;

@@ -2,7 +2,7 @@
 ghost use Rattle.std.specs.Prelude.{◌≡◌, true, IfOk};
 ghost use Rattle.bundle.specs.Bundles.{Amounts};
 ghost use Rattle.machine.specs.declared.datum.Datum.{Datum};
-ghost use Rattle.eutxo.specs.Asked.{Stepping, Judges};
+ghost use Rattle.eutxo.specs.Asked.{Stepping, question, Judges};
 
 use crate::spent::Spent;
 use crate::step_fault::StepFault;
@@ -49,7 +49,7 @@ pub trait Validator: Eq {
         tx: &Tx,
         spent: &[Spent<'_>],
     ) -> Result<StepAnswer, Memory>
-        ensures { IfOk result (λ answer. answer ≡ judges.step self.now (record { script = script.now; datum = datum.now; inputs = inputs.now; from = from; tx = tx.now; spent = spent.now })) };
+        ensures { IfOk result (λ answer. answer ≡ judges.step self.now (question script.now datum.now inputs.now from tx.now spent.now)) };
 
     /// Whether an output for which this datum is brought, with this amount, starts a contract, rule 17. Answers
     /// `Memory` only where a growth was refused.

@@ -1,1 +1,2 @@
 pub mod ReadsContract
+pub mod ReadsSupport

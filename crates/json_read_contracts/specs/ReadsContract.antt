@@ -8,7 +8,7 @@ use Rattle.contract.specs.declared.tree.Contract.{Contract}
 use Rattle.contract.specs.declared.tree.Contract as contracts
 use Rattle.json_read_names.specs.Forms.{contract_form, case_form}
 use Rattle.collections.specs.Answers.{◌>>=◌}
-use Rattle.json_read_names.specs.Parts.{Reading, ByKey, reading_at, both_readings, nowhere, text, time}
+use Rattle.json_read_names.specs.Parts.{Reading, ByKey, reading_at, both_readings, nowhere, text, time, list}
 use Rattle.json_read_names.specs.ReadsNames.{party, token, payee}
 use Rattle.json_read_values.specs.ReadsValue.{value, observation}
 use Rattle.json_read_values.specs.ReadsAction.{action}
@@ -84,3 +84,7 @@ unfoldable mutual
   pub cases_in : List ℕ → Members → Reading (List Case)
   cases_in key no_members = Err NoForm
   cases_in key (member k d ms) = match_ordering (slice_cmp nat_cmp key k) (cases_in key ms) (cases d) (cases_in key ms)
+
+-- by its form
+abbrev pub contract_as : ContractForm → Data → Reading Contract
+contract_as form d = contract_by form d (reading_at contract d) (reading_at (list case) d)

@@ -1,11 +1,12 @@
 //! Cases and contracts as JSON values.
 ghost use Rattle.std.specs.Prelude.{codes};
 ghost use Rattle.collections.specs.Answers.{Aside};
-ghost use Rattle.json_read_names.specs.Parts.{both_readings, list, nowhere, reading_at, time};
-ghost use Rattle.json_read_names.specs.ReadsNames.{party, payee, token};
+ghost use Rattle.json_read_names.specs.Parts.{list, nowhere, reading_at};
+ghost use Rattle.json_read_names.specs.ReadsNames.{token};
 ghost use Rattle.json_read_names.specs.declared.forms.ContractForm.TheVariants.{Pay, When};
-ghost use Rattle.json_read_values.specs.ReadsValue.{value};
 ghost use Rattle.json_read_contracts.specs.ReadsContract as reads;
+ghost use Rattle.json_read_contracts.specs.ReadsContract.{contract_by, contract_as};
+ghost use Rattle.json_read_contracts.specs.ReadsSupport.{amount_and_token, account_and_payee, what_is_paid, timeout_and_then, contracts_at};
 
 use contract::{Boxed, Case, Contract, Items, Party, Payee, Token, Value};
 use json_read_names::{
@@ -51,7 +52,7 @@ pub fn contract_from_json<J: JsonValue>(alloc: Global, json: &J) -> Result<Contr
 #[cycle(contract_from_json)]
 #[tactic(auto, using(crate::proofs::ContractSteps::pay_steps))]
 fn pay_from_json<J: JsonValue>(alloc: Global, json: &J) -> Result<Contract, JsonFault>
-    ensures { Aside JsonFault.Memory result (reads.contract_by Pay (J.json json.now) (reading_at reads.contract (J.json json.now)) nowhere) }
+    ensures { Aside JsonFault.Memory result (contract_by Pay (J.json json.now) (reading_at reads.contract (J.json json.now)) nowhere) }
 {
     let paid = what_is_paid(alloc, json)?;
     let (paid, then) = beside(paid, contract_at(alloc, json, "then"))?;
@@ -64,8 +65,7 @@ fn what_is_paid<J: JsonValue>(
     alloc: Global,
     json: &J,
 ) -> Result<((Value, Token), (Party, Payee)), JsonFault>
-    ensures { Aside JsonFault.Memory result (both_readings (both_readings (reading_at value (J.json json.now) (codes "pay")) (reading_at token (J.json json.now) (codes "token")))
-        (both_readings (reading_at party (J.json json.now) (codes "from_account")) (reading_at payee (J.json json.now) (codes "to")))) }
+    ensures { Aside JsonFault.Memory result (what_is_paid (J.json json.now)) }
 {
     let amount = amount_and_token(alloc, json)?;
     beside(amount, account_and_payee(alloc, json))
@@ -73,7 +73,7 @@ fn what_is_paid<J: JsonValue>(
 
 // What a Pay takes.
 fn amount_and_token<J: JsonValue>(alloc: Global, json: &J) -> Result<(Value, Token), JsonFault>
-    ensures { Aside JsonFault.Memory result (both_readings (reading_at value (J.json json.now) (codes "pay")) (reading_at token (J.json json.now) (codes "token"))) }
+    ensures { Aside JsonFault.Memory result (amount_and_token (J.json json.now)) }
 {
     let amount = value_from_json(alloc, member(json, "pay")?)?;
     beside(amount, token_at(alloc, json, "token"))
@@ -87,7 +87,7 @@ fn token_at<J: JsonValue>(alloc: Global, json: &J, key: &str) -> Result<Token, J
 
 // Where a Pay takes it from, and whom it gives it to.
 fn account_and_payee<J: JsonValue>(alloc: Global, json: &J) -> Result<(Party, Payee), JsonFault>
-    ensures { Aside JsonFault.Memory result (both_readings (reading_at party (J.json json.now) (codes "from_account")) (reading_at payee (J.json json.now) (codes "to"))) }
+    ensures { Aside JsonFault.Memory result (account_and_payee (J.json json.now)) }
 {
     let account = party_from_json(alloc, member(json, "from_account")?)?;
     let payee = payee_from_json(alloc, member(json, "to")?)?;
@@ -97,7 +97,7 @@ fn account_and_payee<J: JsonValue>(alloc: Global, json: &J) -> Result<(Party, Pa
 #[cycle(contract_from_json)]
 #[tactic(auto, using(crate::proofs::ContractSteps::when_steps))]
 fn when_from_json<J: JsonValue>(alloc: Global, json: &J) -> Result<Contract, JsonFault>
-    ensures { Aside JsonFault.Memory result (reads.contract_by When (J.json json.now) (reading_at reads.contract (J.json json.now)) (reading_at (list reads.case) (J.json json.now))) }
+    ensures { Aside JsonFault.Memory result (contract_as When (J.json json.now)) }
 {
     let cases = cases_from_json(alloc, member(json, "when")?)?;
     let (cases, rest) = beside(cases, timeout_and_then(alloc, json))?;
@@ -111,7 +111,7 @@ fn timeout_and_then<J: JsonValue>(
     alloc: Global,
     json: &J,
 ) -> Result<(i64, Boxed<Contract>), JsonFault>
-    ensures { Aside JsonFault.Memory result (both_readings (reading_at time (J.json json.now) (codes "timeout")) (reading_at reads.contract (J.json json.now) (codes "timeout_continuation"))) }
+    ensures { Aside JsonFault.Memory result (timeout_and_then (J.json json.now)) }
 {
     let timeout = read_time(member(json, "timeout")?)?;
     let then = contract_at(alloc, json, "timeout_continuation")?;
@@ -126,7 +126,7 @@ fn contracts_at<J: JsonValue>(
     a: &str,
     b: &str,
 ) -> Result<(Boxed<Contract>, Boxed<Contract>), JsonFault>
-    ensures { Aside JsonFault.Memory result (both_readings (reading_at reads.contract (J.json json.now) a.now) (reading_at reads.contract (J.json json.now) b.now)) }
+    ensures { Aside JsonFault.Memory result (contracts_at (J.json json.now) a.now b.now) }
 {
     let first = contract_at(alloc, json, a)?;
     beside(first, contract_at(alloc, json, b))

@@ -5,7 +5,7 @@ ghost use Rattle.collections.specs.Answers.{AsideBy};
 ghost use Rattle.collections.specs.Positive.{AllPositive};
 ghost use Rattle.names.specs.Orders.{account_cmp, token_cmp};
 ghost use Rattle.json_read_inputs.specs.ReadsState as reads;
-ghost use Rattle.json_read_inputs.specs.Rows.{number_by};
+ghost use Rattle.json_read_inputs.specs.Rows.{accounts_by};
 
 use crate::numbers::Numbers;
 use crate::rows::entries_from_json;
@@ -20,7 +20,7 @@ pub(crate) fn accounts_by<J: JsonValue>(
     json: &J,
     numbers: Numbers,
 ) -> Result<Entries<Account, i128>, JsonFault>
-    ensures reading { AsideBy JsonFault.Memory from_sorted result (reads.rows account_cmp (reads.account_row_by (number_by numbers)) (J.json json.now)) }
+    ensures reading { AsideBy JsonFault.Memory from_sorted result (accounts_by numbers (J.json json.now)) }
     ensures positive { IfOk result AllPositive }
 {
     let accounts = entries_from_json::<J, Account>(alloc, json, numbers)?;

@@ -1,15 +1,14 @@
 //! Maps as lists of rows, each a list of a key and a number.
-ghost use Rattle.std.specs.Prelude.{◌≡◌, ℤ, [], map, IfOk, IfErr};
+ghost use Rattle.std.specs.Prelude.{◌≡◌, ℤ, map, IfOk, IfErr};
 ghost use Rattle.std.proofs.Math.Dec.{T};
 ghost use Rattle.std.specs.FinMap.{IsAntisymmetric, from_sorted, is_sorted};
 ghost use Rattle.collections.specs.Answers.{Aside, AsideBy};
 ghost use Rattle.names.proofs.Exact.{bytes_exact, token_exact, account_exact, choice_id_exact};
 ghost use Rattle.serde_json.specs.Data.{Data};
-ghost use Rattle.serde_json.specs.View.{items_of};
 ghost use Rattle.json_read_names.specs.Parts.{Reading};
 ghost use Rattle.json_read_names.specs.declared.fault.JsonFault.TheVariants as faults;
 ghost use Rattle.json_read_inputs.specs.ReadsState as reads;
-ghost use Rattle.json_read_inputs.specs.Rows.{number_by, until_fault};
+ghost use Rattle.json_read_inputs.specs.Rows.{number_by, rows_until_fault};
 
 use crate::numbers::{Numbers, read_number};
 use contract::{Account, ChoiceId, Entries, Text, Token};
@@ -130,7 +129,7 @@ fn rows_until_fault<J: JsonValue, K: RowKey + Drop>(
     items: &[J],
     numbers: Numbers,
 ) -> Result<(Vec<(K, i128)>, Option<JsonFault>), JsonFault>
-    ensures ok { IfOk result (λ read. (read.0.items, read.1) ≡ until_fault (K.reading (number_by numbers)) [] (items_of (map J.json items.now))) }
+    ensures ok { IfOk result (λ read. (read.0.items, read.1) ≡ rows_until_fault (K.reading (number_by numbers)) (map J.json items.now)) }
     ensures err { IfErr result (λ fault. fault ≡ faults.Memory) }
 {
     let mut rows = Vec::with_capacity(alloc, items.len())?;

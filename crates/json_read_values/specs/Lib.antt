@@ -1,2 +1,3 @@
 pub mod ReadsValue
 pub mod ReadsAction
+pub mod ReadsSupport

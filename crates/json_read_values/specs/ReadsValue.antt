@@ -74,3 +74,10 @@ unfoldable mutual
   pub observation_in : List ℕ → Members → Reading Observation
   observation_in key no_members = Err NoForm
   observation_in key (member k d ms) = match_ordering (slice_cmp nat_cmp key k) (observation_in key ms) (observation d) (observation_in key ms)
+
+-- by their forms
+abbrev pub value_as : ValueForm → Data → Reading Value
+value_as form d = value_by form d (reading_at value d) (reading_at observation d)
+
+abbrev pub observation_as : ObservationForm → Data → Reading Observation
+observation_as form d = observation_by form d (reading_at value d) (reading_at observation d)

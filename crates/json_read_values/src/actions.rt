@@ -1,11 +1,10 @@
 //! Actions as JSON values.
-ghost use Rattle.std.specs.Prelude.{codes};
 ghost use Rattle.collections.specs.Answers.{Aside};
-ghost use Rattle.json_read_names.specs.Parts.{both_readings, list, reading_at};
-ghost use Rattle.json_read_names.specs.ReadsNames.{bound, party, token};
+ghost use Rattle.json_read_names.specs.Parts.{list};
+ghost use Rattle.json_read_names.specs.ReadsNames.{bound};
 ghost use Rattle.json_read_names.specs.declared.forms.ActionForm.TheVariants.{Deposit};
 ghost use Rattle.json_read_values.specs.ReadsAction as reads;
-ghost use Rattle.json_read_values.specs.ReadsValue.{value};
+ghost use Rattle.json_read_values.specs.ReadsSupport.{party_and_value, token_and_account};
 
 use crate::values::{observation_from_json, value_from_json};
 use contract::{Action, Bound, Items, Party, Token, Value};
@@ -49,7 +48,7 @@ fn deposit_from_json<J: JsonValue>(alloc: Global, json: &J) -> Result<Action, Js
 
 // Who deposits, and how much.
 fn party_and_value<J: JsonValue>(alloc: Global, json: &J) -> Result<(Party, Value), JsonFault>
-    ensures { Aside JsonFault.Memory result (both_readings (reading_at party (J.json json.now) (codes "party")) (reading_at value (J.json json.now) (codes "deposits"))) }
+    ensures { Aside JsonFault.Memory result (party_and_value (J.json json.now)) }
 {
     let depositor = party_from_json(alloc, member(json, "party")?)?;
     let amount = value_from_json(alloc, member(json, "deposits")?)?;
@@ -58,7 +57,7 @@ fn party_and_value<J: JsonValue>(alloc: Global, json: &J) -> Result<(Party, Valu
 
 // Of what token, and into whose account.
 fn token_and_account<J: JsonValue>(alloc: Global, json: &J) -> Result<(Token, Party), JsonFault>
-    ensures { Aside JsonFault.Memory result (both_readings (reading_at token (J.json json.now) (codes "of_token")) (reading_at party (J.json json.now) (codes "into_account"))) }
+    ensures { Aside JsonFault.Memory result (token_and_account (J.json json.now)) }
 {
     let token = token_from_json(alloc, member(json, "of_token")?)?;
     let account = party_from_json(alloc, member(json, "into_account")?)?;

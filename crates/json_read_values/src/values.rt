@@ -1,7 +1,8 @@
 //! Values and observations as JSON values.
 ghost use Rattle.collections.specs.Answers.{Aside};
-ghost use Rattle.json_read_names.specs.Parts.{both_readings, reading_at};
+ghost use Rattle.json_read_names.specs.Parts.{reading_at};
 ghost use Rattle.json_read_values.specs.ReadsValue as reads;
+ghost use Rattle.json_read_values.specs.ReadsSupport.{values_at, observations_at};
 
 use contract::{Boxed, Observation, Value};
 use json_read_names::{
@@ -139,7 +140,7 @@ fn values_at<J: JsonValue>(
     a: &str,
     b: &str,
 ) -> Result<(Boxed<Value>, Boxed<Value>), JsonFault>
-    ensures { Aside JsonFault.Memory result (both_readings (reading_at reads.value (J.json json.now) a.now) (reading_at reads.value (J.json json.now) b.now)) }
+    ensures { Aside JsonFault.Memory result (values_at (J.json json.now) a.now b.now) }
 {
     let first = value_at(alloc, json, a)?;
     beside(first, value_at(alloc, json, b))
@@ -153,7 +154,7 @@ fn observations_at<J: JsonValue>(
     a: &str,
     b: &str,
 ) -> Result<(Boxed<Observation>, Boxed<Observation>), JsonFault>
-    ensures { Aside JsonFault.Memory result (both_readings (reading_at reads.observation (J.json json.now) a.now) (reading_at reads.observation (J.json json.now) b.now)) }
+    ensures { Aside JsonFault.Memory result (observations_at (J.json json.now) a.now b.now) }
 {
     let first = observation_at(alloc, json, a)?;
     beside(first, observation_at(alloc, json, b))

@@ -1,10 +1,9 @@
 //! Reading a text, in one pass over its tokens.
 ghost use Rattle.std.specs.Prelude.{◌≡◌, ◌≢◌, ◌<◌, ◌≤◌, length, Some, None, Err, IfOk, IfErr, OnOk, IsUtf8};
-ghost use Rattle.json.specs.Json as spec;
 ghost use Rattle.json.specs.Json.{value};
-ghost use Rattle.serde_json.specs.Data.{no_members};
-ghost use Rattle.serde_json.specs.Read.{of_json, of_items, of_members, converted, read as read_text};
+ghost use Rattle.serde_json.specs.Read.{of_json, converted, read as read_text};
 ghost use Rattle.json_tree.specs.View.{view, items_view, members_view, read_within};
+ghost use Rattle.json_tree.specs.ReadSupport.{items_read, members_read};
 ghost use Rattle.json_tree.specs.declared.read.Refusal.TheVariants.{NotJson, Memory};
 
 use crate::number::number;
@@ -143,10 +142,10 @@ fn read_items<'a>(
     members: &mut Vec<(&'a str, Json<'a>)>,
     depth: usize,
 ) -> Result<Vec<Json<'a>>, Refusal>
-    ensures ok { IfOk result (λ v. converted of_items (spec.items (value depth) (length reader.old) reader.old) ≡ Some (items_view v.items, reader.new)) }
+    ensures ok { IfOk result (λ v. items_read depth reader.old ≡ Some (items_view v.items, reader.new)) }
     ensures kept { OnOk result ((items.new.items ≡ items.old.items) × (members.new.items ≡ members.old.items)) }
     ensures shorter { OnOk result (length reader.new < length reader.old) }
-    ensures err { result ≡ Err NotJson → converted of_items (spec.items (value depth) (length reader.old) reader.old) ≡ None }
+    ensures err { result ≡ Err NotJson → items_read depth reader.old ≡ None }
 {
     let start = items.len();
     'items: while !reader.take_end_array() {
@@ -163,10 +162,10 @@ fn read_members<'a>(
     members: &mut Vec<(&'a str, Json<'a>)>,
     depth: usize,
 ) -> Result<Vec<(&'a str, Json<'a>)>, Refusal>
-    ensures ok { IfOk result (λ v. converted (λ ms. of_members ms no_members) (spec.members (value depth) (length reader.old) reader.old) ≡ Some (members_view v.items, reader.new)) }
+    ensures ok { IfOk result (λ v. members_read depth reader.old ≡ Some (members_view v.items, reader.new)) }
     ensures kept { OnOk result ((items.new.items ≡ items.old.items) × (members.new.items ≡ members.old.items)) }
     ensures shorter { OnOk result (length reader.new < length reader.old) }
-    ensures err { result ≡ Err NotJson → converted (λ ms. of_members ms no_members) (spec.members (value depth) (length reader.old) reader.old) ≡ None }
+    ensures err { result ≡ Err NotJson → members_read depth reader.old ≡ None }
 {
     let start = members.len();
     'members: while let Some(key) = reader.next_key()? {

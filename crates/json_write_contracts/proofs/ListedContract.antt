@@ -31,6 +31,13 @@ map-map : {A B C : Type 0} (f : B → C) (g : A → B) (xs : List A) → map f (
 map-map f g [] = refl
 map-map f g (x ∷ xs) = ap (λ ys. f (g x) ∷ ys) (map-map f g xs)
 
+-- the cases of a When, as a list
+pub cases_json-listed : (ks : List Case) → cases_json (case_trees (map case_tree ks)) ≡ items_of (map (λ k. case_json (case_tree k)) ks)
+cases_json-listed ks = cases-json (map case_tree ks) ∙ ap items_of (map-map case_json case_tree ks)
+
+pub cases_fit-listed : (ks : List Case) → cases_fit (case_trees (map case_tree ks)) ≡ list_all (λ k. case_fits (case_tree k)) ks
+cases_fit-listed ks = cases-fit (map case_tree ks) ∙ list_all-map case_fits case_tree ks
+
 -- the JSON value of each form, and whether its numbers fit
 pub contract_json-Close : contract_json (contract_tree made.Close) ≡ string (codes "close")
 contract_json-Close = ap contract_json contract_tree-Close
@@ -51,13 +58,11 @@ pub contract_fits-If : (o : Observation) (c : Contract) (d : Contract) → contr
 contract_fits-If o c d = ap contract_fits (contract_tree-If o c d)
 
 pub contract_json-When : (ks : List Case) (t : ℤ) (c : Contract) → contract_json (contract_tree (made.When ks t c))
-    ≡ three (codes "timeout") (number_json t) (codes "timeout_continuation") (contract_json (contract_tree c)) (codes "when") (array (items_of (map (λ k. case_json (case_tree k)) ks)))
-contract_json-When ks t c =
-    ap contract_json (contract_tree-When ks t c)
-    ∙ ap (λ ds. three (codes "timeout") (number_json t) (codes "timeout_continuation") (contract_json (contract_tree c)) (codes "when") (array ds)) (cases-json (map case_tree ks) ∙ ap items_of (map-map case_json case_tree ks))
+    ≡ three (codes "timeout") (number_json t) (codes "timeout_continuation") (contract_json (contract_tree c)) (codes "when") (array (cases_json (case_trees (map case_tree ks))))
+contract_json-When ks t c = ap contract_json (contract_tree-When ks t c)
 
-pub contract_fits-When : (ks : List Case) (t : ℤ) (c : Contract) → contract_fits (contract_tree (made.When ks t c)) ≡ (list_all (λ k. case_fits (case_tree k)) ks && time_fits t && contract_fits (contract_tree c))
-contract_fits-When ks t c = ap contract_fits (contract_tree-When ks t c) ∙ ap (λ b. b && time_fits t && contract_fits (contract_tree c)) (cases-fit (map case_tree ks) ∙ list_all-map case_fits case_tree ks)
+pub contract_fits-When : (ks : List Case) (t : ℤ) (c : Contract) → contract_fits (contract_tree (made.When ks t c)) ≡ (cases_fit (case_trees (map case_tree ks)) && time_fits t && contract_fits (contract_tree c))
+contract_fits-When ks t c = ap contract_fits (contract_tree-When ks t c)
 
 pub contract_json-Let : (x : List ℕ) (v : Value) (c : Contract) → contract_json (contract_tree (made.Let x v c)) ≡ three (codes "be") (value_json (value_tree v)) (codes "let") (string x) (codes "then") (contract_json (contract_tree c))
 contract_json-Let x v c = ap contract_json (contract_tree-Let x v c)

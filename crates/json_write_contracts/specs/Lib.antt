@@ -5,3 +5,5 @@ pub mod Written
 pub mod Symbols
 pub mod Tokens
 pub mod Members
+pub mod Puts
+pub mod PutsSupport

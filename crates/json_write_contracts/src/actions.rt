@@ -1,20 +1,17 @@
 //! Bounds and actions.
 //! Where a call fails, what was written before it stays, and behind it stand some tokens or none.
-ghost use Rattle.std.specs.Prelude.{◌≡◌, ◌&&◌, map, codes, OnOk, OnErr};
+ghost use Rattle.std.specs.Prelude.{map, OnOk, OnErr};
 ghost use Rattle.std.specs.List.{list_all};
 ghost use Rattle.serde_json.specs.Data.{array};
 ghost use Rattle.serde_json.specs.View.{items_of};
 ghost use Rattle.hex.specs.Hex.{IsBytes};
-ghost use Rattle.contract.specs.Tree.{action_tree, value_tree, observation_tree};
+ghost use Rattle.contract.specs.Tree.{value_tree, observation_tree, action_tree, deposit, choice, notify};
 ghost use Rattle.json_write_contracts.specs.Symbols.{ValueSymbols, ObservationSymbols, ActionSymbols};
 ghost use Rattle.json_write_contracts.specs.Members.{member_tokens, AddsFitting};
-ghost use Rattle.json_write_contracts.specs.Tokens.{Keeps, Puts, PutsFitting};
-ghost use Rattle.json_write_contracts.specs.WrittenNames as written_names;
-ghost use Rattle.json_write_contracts.specs.WrittenNames.{number_fits};
-ghost use Rattle.json_write_contracts.specs.WrittenValues as written_values;
-ghost use Rattle.json_write_contracts.specs.WrittenContract as written_contracts;
-ghost use Rattle.json_write_contracts.specs.WrittenValues.{value_fits, observation_fits};
-ghost use Rattle.json_write_contracts.specs.WrittenContract.{bound_fits, action_fits};
+ghost use Rattle.json_write_contracts.specs.Tokens.{Keeps, PutsFitting};
+ghost use Rattle.json_write_contracts.specs.Puts.{PutsAction};
+ghost use Rattle.json_write_contracts.specs.WrittenNames.{number_fits, number_json};
+ghost use Rattle.json_write_contracts.specs.WrittenContract.{bound_fits, bound_json};
 
 use crate::fault::WriteFault;
 use crate::members::{end_object, end_with_one, end_with_three};
@@ -29,7 +26,7 @@ use std::alloc::Global;
 
 // A member that is a number.
 fn number_member(out: &mut Writer, key: &str, n: &i128) -> Result<(), WriteFault>
-    ensures put { AddsFitting result out.old out.new (number_fits n.now) (member_tokens key.now (written_names.number_json n.now)) }
+    ensures put { AddsFitting result out.old out.new (number_fits n.now) (member_tokens key.now (number_json n.now)) }
     ensures err { OnErr result (Keeps out.old out.new) }
 {
     out.key(key)?;
@@ -38,7 +35,7 @@ fn number_member(out: &mut Writer, key: &str, n: &i128) -> Result<(), WriteFault
 
 /// Writes a bound. An end that doesn't lie from -2^63 to 2^64 - 1 is out of range.
 pub fn put_bound(out: &mut Writer, bound: &Bound) -> Result<(), WriteFault>
-    ensures put { PutsFitting result out.old out.new (bound_fits bound.now) (written_contracts.bound_json bound.now) }
+    ensures put { PutsFitting result out.old out.new (bound_fits bound.now) (bound_json bound.now) }
     ensures err { OnErr result (Keeps out.old out.new) }
 {
     out.begin_object()?;
@@ -48,7 +45,7 @@ pub fn put_bound(out: &mut Writer, bound: &Bound) -> Result<(), WriteFault>
 }
 
 fn put_bounds(out: &mut Writer, bounds: &Items<Bound>) -> Result<(), WriteFault>
-    ensures put { PutsFitting result out.old out.new (list_all bound_fits bounds.now) (array (items_of (map written_contracts.bound_json bounds.now))) }
+    ensures put { PutsFitting result out.old out.new (list_all bound_fits bounds.now) (array (items_of (map bound_json bounds.now))) }
     ensures err { OnErr result (Keeps out.old out.new) }
 {
     out.begin_array()?;
@@ -67,8 +64,7 @@ fn put_deposit(
     token: &Token,
     value: &Value,
 ) -> Result<(), WriteFault>
-    ensures put { PutsFitting result out.old out.new (value_fits (value_tree value.now)) (written_names.four (codes "deposits") (written_values.value_json (value_tree value.now))
-        (codes "into_account") (written_names.party_json account.now) (codes "of_token") (written_names.token_json token.now) (codes "party") (written_names.party_json party.now)) }
+    ensures put { PutsAction result out.old out.new (deposit account.now party.now token.now (value_tree value.now)) }
     ensures err { OnErr result (Keeps out.old out.new) }
     ensures value_symbols { OnOk result (ValueSymbols (value_tree value.now)) }
     ensures symbol { OnOk result (IsBytes token.now.symbol) }
@@ -96,8 +92,7 @@ fn put_choice(
     id: &ChoiceId,
     bounds: &Items<Bound>,
 ) -> Result<(), WriteFault>
-    ensures put { PutsFitting result out.old out.new (list_all bound_fits bounds.now) (written_names.two (codes "choose_between") (array (items_of (map written_contracts.bound_json bounds.now)))
-        (codes "for_choice") (written_names.choice_id_json id.now)) }
+    ensures put { PutsAction result out.old out.new (choice id.now bounds.now) }
     ensures err { OnErr result (Keeps out.old out.new) }
 {
     out.begin_object()?;
@@ -107,7 +102,7 @@ fn put_choice(
 }
 
 fn put_notify(alloc: Global, out: &mut Writer, observation: &Observation) -> Result<(), WriteFault>
-    ensures put { PutsFitting result out.old out.new (observation_fits (observation_tree observation.now)) (written_names.one (codes "notify_if") (written_values.observation_json (observation_tree observation.now))) }
+    ensures put { PutsAction result out.old out.new (notify (observation_tree observation.now)) }
     ensures err { OnErr result (Keeps out.old out.new) }
     ensures symbols { OnOk result (ObservationSymbols (observation_tree observation.now)) }
 {
@@ -119,7 +114,7 @@ fn put_notify(alloc: Global, out: &mut Writer, observation: &Observation) -> Res
 
 /// Writes an action. A number in it that doesn't lie from -2^63 to 2^64 - 1 is out of range.
 pub fn put_action(alloc: Global, out: &mut Writer, action: &Action) -> Result<(), WriteFault>
-    ensures put { PutsFitting result out.old out.new (action_fits (action_tree action.now)) (written_contracts.action_json (action_tree action.now)) }
+    ensures put { PutsAction result out.old out.new (action_tree action.now) }
     ensures err { OnErr result (Keeps out.old out.new) }
     ensures symbols { OnOk result (ActionSymbols (action_tree action.now)) }
 {

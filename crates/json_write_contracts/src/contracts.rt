@@ -1,20 +1,13 @@
 //! Cases and contracts.
 //! Where a call fails, what was written before it stays, and behind it stand some tokens or none.
-ghost use Rattle.std.specs.Prelude.{◌≡◌, true, ◌&&◌, codes, map, OnOk, OnErr};
-ghost use Rattle.std.specs.List.{list_all};
+ghost use Rattle.std.specs.Prelude.{map, OnOk, OnErr};
 ghost use Rattle.hex.specs.Hex.{IsBytes};
-ghost use Rattle.serde_json.specs.Data.{array, string};
-ghost use Rattle.serde_json.specs.View.{items_of};
-ghost use Rattle.contract.specs.Tree.{value_tree, observation_tree, contract_tree, case_tree};
+ghost use Rattle.contract.specs.Tree.{value_tree, observation_tree, case_tree, case_trees};
+ghost use Rattle.contract.specs.Tree.{contract_tree, pay, when, let_be, assert};
 ghost use Rattle.json_write_contracts.specs.Symbols.{ValueSymbols, ObservationSymbols, ContractSymbols, CaseSymbols, ListSymbols};
-ghost use Rattle.json_write_contracts.specs.Members.{member_tokens, AddsFitting};
-ghost use Rattle.json_write_contracts.specs.Tokens.{Keeps, PutsFitting};
-ghost use Rattle.json_write_contracts.specs.WrittenNames as written_names;
-ghost use Rattle.json_write_contracts.specs.WrittenValues as written_values;
-ghost use Rattle.json_write_contracts.specs.WrittenContract as written_contracts;
-ghost use Rattle.json_write_contracts.specs.WrittenNames.{time_fits};
-ghost use Rattle.json_write_contracts.specs.WrittenValues.{value_fits, observation_fits};
-ghost use Rattle.json_write_contracts.specs.WrittenContract.{contract_fits, case_fits};
+ghost use Rattle.json_write_contracts.specs.Tokens.{Keeps};
+ghost use Rattle.json_write_contracts.specs.Puts.{PutsContract, PutsCase};
+ghost use Rattle.json_write_contracts.specs.PutsSupport.{PutsCases, AddsContract, if_tree};
 
 use crate::actions::put_action;
 use crate::fault::WriteFault;
@@ -32,7 +25,7 @@ use std::alloc::Global;
 /// from -2^63 to 2^64 - 1 is out of range.
 #[cycle(put_contract)]
 pub fn put_contract(alloc: Global, out: &mut Writer, contract: &Contract) -> Result<(), WriteFault>
-    ensures put { PutsFitting result out.old out.new (contract_fits (contract_tree contract.now)) (written_contracts.contract_json (contract_tree contract.now)) }
+    ensures put { PutsContract result out.old out.new (contract_tree contract.now) }
     ensures err { OnErr result (Keeps out.old out.new) }
     ensures symbols { OnOk result (ContractSymbols (contract_tree contract.now)) }
 {
@@ -55,22 +48,20 @@ fn put_pay(
     from: &Party,
     to: &Payee,
     token: &Token,
-    pay: &Value,
+    value: &Value,
     then: &Boxed<Contract>,
 ) -> Result<(), WriteFault>
-    ensures put { PutsFitting result out.old out.new (value_fits (value_tree pay.now) && contract_fits (contract_tree then.now))
-        (written_names.five (codes "from_account") (written_names.party_json from.now) (codes "pay") (written_values.value_json (value_tree pay.now)) (codes "then") (written_contracts.contract_json (contract_tree then.now))
-        (codes "to") (written_names.payee_json to.now) (codes "token") (written_names.token_json token.now)) }
+    ensures put { PutsContract result out.old out.new (pay from.now to.now token.now (value_tree value.now) (contract_tree then.now)) }
     ensures err { OnErr result (Keeps out.old out.new) }
     ensures token_symbol { OnOk result (IsBytes token.now.symbol) }
-    ensures value_symbols { OnOk result (ValueSymbols (value_tree pay.now)) }
+    ensures value_symbols { OnOk result (ValueSymbols (value_tree value.now)) }
     ensures then_symbols { OnOk result (ContractSymbols (contract_tree then.now)) }
 {
     // touch: the symbol is bytes
     symbol_is_bytes(token);
     begin_with(alloc, out, "from_account", from)?;
     out.key("pay")?;
-    put_value(alloc, out, pay)?;
+    put_value(alloc, out, value)?;
     contract_member(alloc, out, "then", then)?;
     Ok(end_with_two(alloc, out, "to", to, "token", token)?)
 }
@@ -83,8 +74,7 @@ fn put_if(
     then: &Boxed<Contract>,
     otherwise: &Boxed<Contract>,
 ) -> Result<(), WriteFault>
-    ensures put { PutsFitting result out.old out.new (observation_fits (observation_tree condition.now) && contract_fits (contract_tree then.now) && contract_fits (contract_tree otherwise.now))
-        (written_names.three (codes "else") (written_contracts.contract_json (contract_tree otherwise.now)) (codes "if") (written_values.observation_json (observation_tree condition.now)) (codes "then") (written_contracts.contract_json (contract_tree then.now))) }
+    ensures put { PutsContract result out.old out.new (if_tree condition.now then.now otherwise.now) }
     ensures err { OnErr result (Keeps out.old out.new) }
     ensures condition_symbols { OnOk result (ObservationSymbols (observation_tree condition.now)) }
     ensures then_symbols { OnOk result (ContractSymbols (contract_tree then.now)) }
@@ -106,9 +96,7 @@ fn put_when(
     timeout: &i64,
     then: &Boxed<Contract>,
 ) -> Result<(), WriteFault>
-    ensures put { PutsFitting result out.old out.new (list_all (λ k. case_fits (case_tree k)) cases.now && time_fits timeout.now && contract_fits (contract_tree then.now))
-        (written_names.three (codes "timeout") (written_names.number_json timeout.now) (codes "timeout_continuation") (written_contracts.contract_json (contract_tree then.now))
-        (codes "when") (array (items_of (map (λ k. written_contracts.case_json (case_tree k)) cases.now)))) }
+    ensures put { PutsContract result out.old out.new (when (case_trees (map case_tree cases.now)) timeout.now (contract_tree then.now)) }
     ensures err { OnErr result (Keeps out.old out.new) }
     ensures case_symbols { OnOk result (ListSymbols (map (λ k. case_tree k) cases.now)) }
     ensures then_symbols { OnOk result (ContractSymbols (contract_tree then.now)) }
@@ -130,8 +118,7 @@ fn put_let(
     value: &Value,
     then: &Boxed<Contract>,
 ) -> Result<(), WriteFault>
-    ensures put { PutsFitting result out.old out.new (value_fits (value_tree value.now) && contract_fits (contract_tree then.now))
-        (written_names.three (codes "be") (written_values.value_json (value_tree value.now)) (codes "let") (string name.now) (codes "then") (written_contracts.contract_json (contract_tree then.now))) }
+    ensures put { PutsContract result out.old out.new (let_be name.now (value_tree value.now) (contract_tree then.now)) }
     ensures err { OnErr result (Keeps out.old out.new) }
     ensures value_symbols { OnOk result (ValueSymbols (value_tree value.now)) }
     ensures then_symbols { OnOk result (ContractSymbols (contract_tree then.now)) }
@@ -151,8 +138,7 @@ fn put_assert(
     condition: &Observation,
     then: &Boxed<Contract>,
 ) -> Result<(), WriteFault>
-    ensures put { PutsFitting result out.old out.new (observation_fits (observation_tree condition.now) && contract_fits (contract_tree then.now))
-        (written_names.two (codes "assert") (written_values.observation_json (observation_tree condition.now)) (codes "then") (written_contracts.contract_json (contract_tree then.now))) }
+    ensures put { PutsContract result out.old out.new (assert (observation_tree condition.now) (contract_tree then.now)) }
     ensures err { OnErr result (Keeps out.old out.new) }
     ensures condition_symbols { OnOk result (ObservationSymbols (observation_tree condition.now)) }
     ensures then_symbols { OnOk result (ContractSymbols (contract_tree then.now)) }
@@ -167,7 +153,7 @@ fn put_assert(
 /// Writes a case: its action, and the contract that is gone on with.
 #[cycle(put_contract)]
 pub fn put_case(alloc: Global, out: &mut Writer, case: &Case) -> Result<(), WriteFault>
-    ensures put { PutsFitting result out.old out.new (case_fits (case_tree case.now)) (written_contracts.case_json (case_tree case.now)) }
+    ensures put { PutsCase result out.old out.new (case_tree case.now) }
     ensures err { OnErr result (Keeps out.old out.new) }
     ensures symbols { OnOk result (CaseSymbols (case_tree case.now)) }
 {
@@ -181,7 +167,7 @@ pub fn put_case(alloc: Global, out: &mut Writer, case: &Case) -> Result<(), Writ
 
 #[cycle(put_contract)]
 fn put_cases(alloc: Global, out: &mut Writer, cases: &Items<Case>) -> Result<(), WriteFault>
-    ensures put { PutsFitting result out.old out.new (list_all (λ k. case_fits (case_tree k)) cases.now) (array (items_of (map (λ k. written_contracts.case_json (case_tree k)) cases.now))) }
+    ensures put { PutsCases result out.old out.new (case_trees (map case_tree cases.now)) }
     ensures err { OnErr result (Keeps out.old out.new) }
     ensures symbols { OnOk result (ListSymbols (map (λ k. case_tree k) cases.now)) }
 {
@@ -201,7 +187,7 @@ fn contract_member(
     key: &str,
     contract: &Boxed<Contract>,
 ) -> Result<(), WriteFault>
-    ensures put { AddsFitting result out.old out.new (contract_fits (contract_tree contract.now)) (member_tokens key.now (written_contracts.contract_json (contract_tree contract.now))) }
+    ensures put { AddsContract result out.old out.new key.now (contract_tree contract.now) }
     ensures err { OnErr result (Keeps out.old out.new) }
     ensures symbols { OnOk result (ContractSymbols (contract_tree contract.now)) }
 {

@@ -3,7 +3,7 @@
 ghost use Rattle.std.specs.Prelude.{◌≡◌, true, [], ◌∷◌, OnOk, OnErr};
 ghost use Rattle.json.specs.Token as json_token;
 ghost use Rattle.serde_json.specs.Data.{no_members, member};
-ghost use Rattle.json_write_contracts.specs.Members.{member_tokens, Ends, AddsFitting};
+ghost use Rattle.json_write_contracts.specs.Members.{member_tokens, Ends, EndsWithThree, AddsFitting};
 ghost use Rattle.json_write_contracts.specs.Tokens.{Adds, Keeps, Puts, PutsFitting};
 ghost use Rattle.json_write_contracts.specs.WrittenNames as written_names;
 
@@ -63,7 +63,7 @@ pub fn end_with_three<A: Term, B: Term, C: Term>(
     m: &str,
     c: &C,
 ) -> Result<(), Memory>
-    ensures put { OnOk result (Ends out.old out.new (member k.now (A.json a.now) (member l.now (B.json b.now) (member m.now (C.json c.now) no_members)))) }
+    ensures put { OnOk result (EndsWithThree out.old out.new k.now (A.json a.now) l.now (B.json b.now) m.now (C.json c.now)) }
     ensures err { OnErr result (Keeps out.old out.new) }
 {
     put_member(alloc, out, k, a)?;

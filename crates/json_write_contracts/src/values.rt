@@ -1,15 +1,13 @@
 //! Values and observations.
 //! Where a call fails, what was written before it stays, and behind it stand some tokens or none.
-ghost use Rattle.std.specs.Prelude.{◌≡◌, true, ◌&&◌, codes, OnOk, OnErr};
+ghost use Rattle.std.specs.Prelude.{true, OnOk, OnErr};
 ghost use Rattle.serde_json.specs.Data.{string, boolean};
 ghost use Rattle.hex.specs.Hex.{IsBytes};
-ghost use Rattle.contract.specs.Tree.{value_tree, observation_tree};
+ghost use Rattle.contract.specs.Tree.{value_tree, available_money, observation_tree};
 ghost use Rattle.json_write_contracts.specs.Symbols.{ValueSymbols, ObservationSymbols};
-ghost use Rattle.json_write_contracts.specs.Members.{member_tokens, AddsFitting};
 ghost use Rattle.json_write_contracts.specs.Tokens.{Keeps, Puts, PutsFitting};
-ghost use Rattle.json_write_contracts.specs.WrittenNames as written_names;
-ghost use Rattle.json_write_contracts.specs.WrittenValues as written_values;
-ghost use Rattle.json_write_contracts.specs.WrittenValues.{value_fits, observation_fits};
+ghost use Rattle.json_write_contracts.specs.Puts.{PutsValue, PutsObservation};
+ghost use Rattle.json_write_contracts.specs.PutsSupport.{AddsValue, AddsObservation, PutsOneValue, PutsOneObservation, PutsTwoValues, PutsTwoObservations, cond_tree};
 
 use crate::fault::WriteFault;
 use crate::members::{end_object, end_with_two, put_one, put_term};
@@ -27,7 +25,7 @@ fn put_available(
     party: &Party,
     token: &Token,
 ) -> Result<(), WriteFault>
-    ensures put { PutsFitting result out.old out.new true (written_names.two (codes "amount_of_token") (written_names.token_json token.now) (codes "in_account") (written_names.party_json party.now)) }
+    ensures put { PutsValue result out.old out.new (available_money party.now token.now) }
     ensures err { OnErr result (Keeps out.old out.new) }
     ensures symbol { OnOk result (IsBytes token.now.symbol) }
 {
@@ -56,7 +54,7 @@ pub fn word(out: &mut Writer, word: &str) -> Result<(), Memory>
 /// doesn't lie from -2^63 to 2^64 - 1 is out of range.
 #[cycle(put_value)]
 pub fn put_value(alloc: Global, out: &mut Writer, value: &Value) -> Result<(), WriteFault>
-    ensures put { PutsFitting result out.old out.new (value_fits (value_tree value.now)) (written_values.value_json (value_tree value.now)) }
+    ensures put { PutsValue result out.old out.new (value_tree value.now) }
     ensures err { OnErr result (Keeps out.old out.new) }
     ensures symbols { OnOk result (ValueSymbols (value_tree value.now)) }
 {
@@ -86,7 +84,7 @@ pub fn put_observation(
     out: &mut Writer,
     observation: &Observation,
 ) -> Result<(), WriteFault>
-    ensures put { PutsFitting result out.old out.new (observation_fits (observation_tree observation.now)) (written_values.observation_json (observation_tree observation.now)) }
+    ensures put { PutsObservation result out.old out.new (observation_tree observation.now) }
     ensures err { OnErr result (Keeps out.old out.new) }
     ensures symbols { OnOk result (ObservationSymbols (observation_tree observation.now)) }
 {
@@ -113,7 +111,7 @@ fn value_member(
     key: &str,
     value: &Boxed<Value>,
 ) -> Result<(), WriteFault>
-    ensures put { AddsFitting result out.old out.new (value_fits (value_tree value.now)) (member_tokens key.now (written_values.value_json (value_tree value.now))) }
+    ensures put { AddsValue result out.old out.new key.now (value_tree value.now) }
     ensures err { OnErr result (Keeps out.old out.new) }
     ensures symbols { OnOk result (ValueSymbols (value_tree value.now)) }
 {
@@ -129,7 +127,7 @@ fn observation_member(
     key: &str,
     observation: &Boxed<Observation>,
 ) -> Result<(), WriteFault>
-    ensures put { AddsFitting result out.old out.new (observation_fits (observation_tree observation.now)) (member_tokens key.now (written_values.observation_json (observation_tree observation.now))) }
+    ensures put { AddsObservation result out.old out.new key.now (observation_tree observation.now) }
     ensures err { OnErr result (Keeps out.old out.new) }
     ensures symbols { OnOk result (ObservationSymbols (observation_tree observation.now)) }
 {
@@ -144,7 +142,7 @@ fn one_value(
     key: &str,
     value: &Boxed<Value>,
 ) -> Result<(), WriteFault>
-    ensures put { PutsFitting result out.old out.new (value_fits (value_tree value.now)) (written_names.one key.now (written_values.value_json (value_tree value.now))) }
+    ensures put { PutsOneValue result out.old out.new key.now (value_tree value.now) }
     ensures err { OnErr result (Keeps out.old out.new) }
     ensures symbols { OnOk result (ValueSymbols (value_tree value.now)) }
 {
@@ -160,7 +158,7 @@ fn one_observation(
     key: &str,
     observation: &Boxed<Observation>,
 ) -> Result<(), WriteFault>
-    ensures put { PutsFitting result out.old out.new (observation_fits (observation_tree observation.now)) (written_names.one key.now (written_values.observation_json (observation_tree observation.now))) }
+    ensures put { PutsOneObservation result out.old out.new key.now (observation_tree observation.now) }
     ensures err { OnErr result (Keeps out.old out.new) }
     ensures symbols { OnOk result (ObservationSymbols (observation_tree observation.now)) }
 {
@@ -178,8 +176,7 @@ fn two_values(
     b: &str,
     w: &Boxed<Value>,
 ) -> Result<(), WriteFault>
-    ensures put { PutsFitting result out.old out.new (value_fits (value_tree v.now) && value_fits (value_tree w.now))
-        (written_names.two a.now (written_values.value_json (value_tree v.now)) b.now (written_values.value_json (value_tree w.now))) }
+    ensures put { PutsTwoValues result out.old out.new a.now (value_tree v.now) b.now (value_tree w.now) }
     ensures err { OnErr result (Keeps out.old out.new) }
     ensures first_symbols { OnOk result (ValueSymbols (value_tree v.now)) }
     ensures second_symbols { OnOk result (ValueSymbols (value_tree w.now)) }
@@ -199,8 +196,7 @@ fn two_observations(
     b: &str,
     p: &Boxed<Observation>,
 ) -> Result<(), WriteFault>
-    ensures put { PutsFitting result out.old out.new (observation_fits (observation_tree o.now) && observation_fits (observation_tree p.now))
-        (written_names.two a.now (written_values.observation_json (observation_tree o.now)) b.now (written_values.observation_json (observation_tree p.now))) }
+    ensures put { PutsTwoObservations result out.old out.new a.now (observation_tree o.now) b.now (observation_tree p.now) }
     ensures err { OnErr result (Keeps out.old out.new) }
     ensures first_symbols { OnOk result (ObservationSymbols (observation_tree o.now)) }
     ensures second_symbols { OnOk result (ObservationSymbols (observation_tree p.now)) }
@@ -219,8 +215,7 @@ fn put_cond(
     then: &Boxed<Value>,
     otherwise: &Boxed<Value>,
 ) -> Result<(), WriteFault>
-    ensures put { PutsFitting result out.old out.new (observation_fits (observation_tree condition.now) && value_fits (value_tree then.now) && value_fits (value_tree otherwise.now))
-        (written_names.three (codes "else") (written_values.value_json (value_tree otherwise.now)) (codes "if") (written_values.observation_json (observation_tree condition.now)) (codes "then") (written_values.value_json (value_tree then.now))) }
+    ensures put { PutsValue result out.old out.new (cond_tree condition.now then.now otherwise.now) }
     ensures err { OnErr result (Keeps out.old out.new) }
     ensures condition_symbols { OnOk result (ObservationSymbols (observation_tree condition.now)) }
     ensures then_symbols { OnOk result (ValueSymbols (value_tree then.now)) }

@@ -3,7 +3,7 @@
 use Rattle.std.specs.Prelude.{ℕ, ℤ, List, map, Bool, ◌&&◌, codes}
 use Rattle.std.specs.List.{list_all}
 use Rattle.std.specs.FinMap.{entries}
-use Rattle.serde_json.specs.Data.{Data, string, array}
+use Rattle.serde_json.specs.Data.{Data, string, array, Members, no_members, member}
 use Rattle.serde_json.specs.View.{items_of}
 use Rattle.names.specs.declared.account.Account.{Account}
 use Rattle.names.specs.declared.choice_id.ChoiceId.{ChoiceId}
@@ -26,11 +26,17 @@ choice_row_json e = pair_json (choice_id_json e.0) (wide_json e.1)
 abbrev pub bound_row_json : List ℕ × ℤ → Data
 bound_row_json e = pair_json (string e.0) (wide_json e.1)
 
+abbrev pub accounts_json : StateMaps → Data
+accounts_json s = array (items_of (map account_row_json (entries s.accounts)))
+
+abbrev pub bound_values_json : StateMaps → Data
+bound_values_json s = array (items_of (map bound_row_json (entries s.bound_values)))
+
+abbrev pub choices_json : StateMaps → Data
+choices_json s = array (items_of (map choice_row_json (entries s.choices)))
+
 abbrev pub state_json : StateMaps → Data
-state_json s = four (codes "accounts") (array (items_of (map account_row_json (entries s.accounts))))
-    (codes "boundValues") (array (items_of (map bound_row_json (entries s.bound_values))))
-    (codes "choices") (array (items_of (map choice_row_json (entries s.choices))))
-    (codes "minTime") (number_json s.min_time)
+state_json s = four (codes "accounts") (accounts_json s) (codes "boundValues") (bound_values_json s) (codes "choices") (choices_json s) (codes "minTime") (number_json s.min_time)
 
 -- whether JSON has each number of a state's maps
 abbrev pub state_fits : StateMaps → Bool
@@ -52,7 +58,16 @@ warning_json (warnings.PartialPay a p t paid expected) = six (codes "account") (
 warning_json (warnings.Shadowing x old new) = four (codes "name") (string x) (codes "new") (wide_json new) (codes "old") (wide_json old) (codes "warning") (string (codes "Shadowing"))
 warning_json warnings.AssertionFailed = one (codes "warning") (string (codes "AssertionFailed"))
 
+abbrev pub payments_json : List Payment → Data
+payments_json payments = array (items_of (map payment_json payments))
+
+abbrev pub warnings_json : List Warning → Data
+warnings_json warnings = array (items_of (map warning_json warnings))
+
 -- the contract that remains, the payments and the warnings in order, and the state
 abbrev pub outcome_json : List Warning → List Payment → StateMaps → ContractTree → Data
-outcome_json warnings payments state remaining = four (codes "contract") (contract_json remaining) (codes "payments") (array (items_of (map payment_json payments)))
-    (codes "state") (state_json state) (codes "warnings") (array (items_of (map warning_json warnings)))
+outcome_json warnings payments state remaining = four (codes "contract") (contract_json remaining) (codes "payments") (payments_json payments) (codes "state") (state_json state) (codes "warnings") (warnings_json warnings)
+
+-- its members behind the contract
+abbrev pub behind_contract : List Payment → StateMaps → List Warning → Members
+behind_contract payments state warnings = member (codes "payments") (payments_json payments) (member (codes "state") (state_json state) (member (codes "warnings") (warnings_json warnings) no_members))

@@ -1,14 +1,12 @@
 //! Outcomes.
 //! Where a call fails, what was written before it stays, and behind it stand some tokens or none.
-ghost use Rattle.std.specs.Prelude.{◌≡◌, true, map, codes, OnOk, OnErr};
-ghost use Rattle.serde_json.specs.Data.{array, no_members, member};
-ghost use Rattle.serde_json.specs.View.{items_of};
+ghost use Rattle.std.specs.Prelude.{◌≡◌, true, codes, OnOk, OnErr};
 ghost use Rattle.contract.specs.Tree.{contract_tree};
 ghost use Rattle.json_write_contracts.specs.Members.{member_tokens, Ends};
 ghost use Rattle.json_write_contracts.specs.Tokens.{Adds, Keeps, PutsFitting};
 ghost use Rattle.json_write_contracts.specs.WrittenNames.{time_fits};
 ghost use Rattle.json_write_contracts.specs.WrittenContract.{contract_fits};
-ghost use Rattle.json_write_outcomes.specs.WrittenOutcome.{payment_json, warning_json, state_json, outcome_json};
+ghost use Rattle.json_write_outcomes.specs.WrittenOutcome.{payments_json, warnings_json, behind_contract, outcome_json};
 
 use crate::lists::list_member;
 use crate::state_forms::put_state;
@@ -20,14 +18,14 @@ use states::State;
 use std::alloc::Global;
 
 fn payments_member(alloc: Global, out: &mut Writer, payments: &Items<Payment>) -> Result<(), Memory>
-    ensures put { OnOk result (Adds out.old out.new (member_tokens (codes "payments") (array (items_of (map payment_json payments.now))))) }
+    ensures put { OnOk result (Adds out.old out.new (member_tokens (codes "payments") (payments_json payments.now))) }
     ensures err { OnErr result (Keeps out.old out.new) }
 {
     list_member(alloc, out, "payments", payments.as_slice())
 }
 
 fn warnings_member(alloc: Global, out: &mut Writer, warnings: &Items<Warning>) -> Result<(), Memory>
-    ensures put { OnOk result (Adds out.old out.new (member_tokens (codes "warnings") (array (items_of (map warning_json warnings.now))))) }
+    ensures put { OnOk result (Adds out.old out.new (member_tokens (codes "warnings") (warnings_json warnings.now))) }
     ensures err { OnErr result (Keeps out.old out.new) }
 {
     list_member(alloc, out, "warnings", warnings.as_slice())
@@ -41,8 +39,7 @@ fn end_outcome(
     state: &State,
     warnings: &Items<Warning>,
 ) -> Result<(), Memory>
-    ensures put { OnOk result (Ends out.old out.new (member (codes "payments") (array (items_of (map payment_json payments.now))) (member (codes "state") (state_json state.now)
-        (member (codes "warnings") (array (items_of (map warning_json warnings.now))) no_members)))) }
+    ensures put { OnOk result (Ends out.old out.new (behind_contract payments.now state.now warnings.now)) }
     ensures err { OnErr result (Keeps out.old out.new) }
     ensures time { OnOk result (time_fits state.now.min_time ≡ true) }
 {

@@ -1,14 +1,12 @@
 //! States.
 //! Where a call fails, what was written before it stays, and behind it stand some tokens or none.
-ghost use Rattle.std.specs.Prelude.{◌≡◌, true, map, codes, OnOk, OnErr};
+ghost use Rattle.std.specs.Prelude.{◌≡◌, true, codes, OnOk, OnErr};
 ghost use Rattle.std.specs.FinMap.{entries};
-ghost use Rattle.serde_json.specs.Data.{array};
-ghost use Rattle.serde_json.specs.View.{items_of};
 ghost use Rattle.json_write_contracts.specs.Members.{member_tokens};
 ghost use Rattle.json_write_contracts.specs.Tokens.{Adds, Keeps, Puts};
 ghost use Rattle.json_write_contracts.specs.WrittenNames.{number_json, time_fits};
 ghost use Rattle.json_write_outcomes.specs.Each.{Each, HasBytes};
-ghost use Rattle.json_write_outcomes.specs.WrittenOutcome.{account_row_json, choice_row_json, bound_row_json, state_json};
+ghost use Rattle.json_write_outcomes.specs.WrittenOutcome.{accounts_json, bound_values_json, choices_json, state_json};
 
 use crate::lists::list_member;
 use collections::Memory;
@@ -18,7 +16,7 @@ use states::State;
 use std::alloc::Global;
 
 fn accounts_member(alloc: Global, out: &mut Writer, state: &State) -> Result<(), Memory>
-    ensures put { OnOk result (Adds out.old out.new (member_tokens (codes "accounts") (array (items_of (map account_row_json (entries state.now.accounts)))))) }
+    ensures put { OnOk result (Adds out.old out.new (member_tokens (codes "accounts") (accounts_json state.now))) }
     ensures err { OnErr result (Keeps out.old out.new) }
     ensures symbols { OnOk result (Each HasBytes (entries state.now.accounts)) }
 {
@@ -26,14 +24,14 @@ fn accounts_member(alloc: Global, out: &mut Writer, state: &State) -> Result<(),
 }
 
 fn bound_values_member(alloc: Global, out: &mut Writer, state: &State) -> Result<(), Memory>
-    ensures put { OnOk result (Adds out.old out.new (member_tokens (codes "boundValues") (array (items_of (map bound_row_json (entries state.now.bound_values)))))) }
+    ensures put { OnOk result (Adds out.old out.new (member_tokens (codes "boundValues") (bound_values_json state.now))) }
     ensures err { OnErr result (Keeps out.old out.new) }
 {
     list_member(alloc, out, "boundValues", state.bound_values())
 }
 
 fn choices_member(alloc: Global, out: &mut Writer, state: &State) -> Result<(), Memory>
-    ensures put { OnOk result (Adds out.old out.new (member_tokens (codes "choices") (array (items_of (map choice_row_json (entries state.now.choices)))))) }
+    ensures put { OnOk result (Adds out.old out.new (member_tokens (codes "choices") (choices_json state.now))) }
     ensures err { OnErr result (Keeps out.old out.new) }
 {
     list_member(alloc, out, "choices", state.choices())

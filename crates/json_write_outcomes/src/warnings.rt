@@ -1,10 +1,9 @@
 //! Warnings.
 //! Where a call fails, what was written before it stays, and behind it stand some tokens or none.
-ghost use Rattle.std.specs.Prelude.{⊤, ◌≡◌, codes, OnOk, OnErr};
-ghost use Rattle.serde_json.specs.Data.{string};
-ghost use Rattle.json_write_contracts.specs.Tokens.{Keeps, Puts};
-ghost use Rattle.json_write_contracts.specs.WrittenNames as written_names;
+ghost use Rattle.std.specs.Prelude.{⊤, OnOk, OnErr};
+ghost use Rattle.json_write_contracts.specs.Tokens.{Keeps};
 ghost use Rattle.json_write_outcomes.specs.WrittenOutcome.{warning_json};
+ghost use Rattle.json_write_outcomes.specs.Puts.{PutsWarning};
 
 use crate::lists::PutItem;
 use collections::{Memory, Text};
@@ -22,8 +21,7 @@ fn put_deposit_warning(
     token: &Token,
     amount: &i128,
 ) -> Result<(), Memory>
-    ensures put { OnOk result (Puts out.old out.new (written_names.five (codes "account") (written_names.party_json account.now) (codes "amount") (written_names.wide_json amount.now)
-        (codes "party") (written_names.party_json party.now) (codes "token") (written_names.token_json token.now) (codes "warning") (string (codes "NonPositiveDeposit")))) }
+    ensures put { OnOk result (PutsWarning out.old out.new (Warning.NonPositiveDeposit account.now party.now token.now amount.now)) }
     ensures err { OnErr result (Keeps out.old out.new) }
 {
     out.begin_object()?;
@@ -49,8 +47,7 @@ fn put_pay_warning(
     token: &Token,
     amount: &i128,
 ) -> Result<(), Memory>
-    ensures put { OnOk result (Puts out.old out.new (written_names.five (codes "account") (written_names.party_json account.now) (codes "amount") (written_names.wide_json amount.now)
-        (codes "payee") (written_names.payee_json payee.now) (codes "token") (written_names.token_json token.now) (codes "warning") (string (codes "NonPositivePay")))) }
+    ensures put { OnOk result (PutsWarning out.old out.new (Warning.NonPositivePay account.now payee.now token.now amount.now)) }
     ensures err { OnErr result (Keeps out.old out.new) }
 {
     out.begin_object()?;
@@ -77,9 +74,7 @@ fn put_partial_warning(
     paid: &i128,
     expected: &i128,
 ) -> Result<(), Memory>
-    ensures put { OnOk result (Puts out.old out.new (written_names.six (codes "account") (written_names.party_json account.now) (codes "expected") (written_names.wide_json expected.now)
-        (codes "paid") (written_names.wide_json paid.now) (codes "payee") (written_names.payee_json payee.now) (codes "token") (written_names.token_json token.now)
-        (codes "warning") (string (codes "PartialPay")))) }
+    ensures put { OnOk result (PutsWarning out.old out.new (Warning.PartialPay account.now payee.now token.now paid.now expected.now)) }
     ensures err { OnErr result (Keeps out.old out.new) }
 {
     out.begin_object()?;
@@ -105,8 +100,7 @@ fn put_shadowing(
     old: &i128,
     new: &i128,
 ) -> Result<(), Memory>
-    ensures put { OnOk result (Puts out.old out.new (written_names.four (codes "name") (string name.now) (codes "new") (written_names.wide_json new.now) (codes "old") (written_names.wide_json old.now)
-        (codes "warning") (string (codes "Shadowing")))) }
+    ensures put { OnOk result (PutsWarning out.old out.new (Warning.Shadowing name.now old.now new.now)) }
     ensures err { OnErr result (Keeps out.old out.new) }
 {
     out.begin_object()?;
@@ -115,7 +109,7 @@ fn put_shadowing(
 }
 
 fn put_failed_assertion(alloc: Global, out: &mut Writer) -> Result<(), Memory>
-    ensures put { OnOk result (Puts out.old out.new (written_names.one (codes "warning") (string (codes "AssertionFailed")))) }
+    ensures put { OnOk result (PutsWarning out.old out.new Warning.AssertionFailed) }
     ensures err { OnErr result (Keeps out.old out.new) }
 {
     out.begin_object()?;
@@ -125,7 +119,7 @@ fn put_failed_assertion(alloc: Global, out: &mut Writer) -> Result<(), Memory>
 /// Writes a warning (Marlowe specification version 3, "Compute transaction"): an object with its name under the
 /// key `warning`, beside what it says. A number that JSON doesn't have is a text of its decimal digits.
 pub fn put_warning(alloc: Global, out: &mut Writer, warning: &Warning) -> Result<(), Memory>
-    ensures put { OnOk result (Puts out.old out.new (warning_json warning.now)) }
+    ensures put { OnOk result (PutsWarning out.old out.new warning.now) }
     ensures err { OnErr result (Keeps out.old out.new) }
 {
     match warning {

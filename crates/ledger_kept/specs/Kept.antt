@@ -1,5 +1,5 @@
 -- What a ledger keeps beside its entries, so that no call goes over them again, and what that has to do with them.
-use Rattle.std.specs.Prelude.{◌≡◌, ℕ, ℤ, List, map, All, slice_get, Option, Some, None, nat_eq}
+use Rattle.std.specs.Prelude.{◌≡◌, ℕ, ℤ, List, length, map, All, slice_get, Option, Some, None, nat_eq}
 use Rattle.std.specs.Map.{lookup}
 use Rattle.std.specs.Option.{unwrap_or}
 use Rattle.eutxo_types.specs.declared.tx.Tx.{Tx}
@@ -10,6 +10,7 @@ use Rattle.ledger.specs.declared.call.Call.{Call}
 use Rattle.ledger.specs.declared.call.Call.TheVariants as on
 use Rattle.ledger.specs.declared.call.Entry.{Entry}
 use Rattle.ledger_spec.specs.Replay.{Pending, World, Course, count_of, after_call, world, past_of, published_at}
+use Rattle.ledger_spec.specs.Legal.{with_entry}
 use Rattle.ledger_spec.specs.Calls.{reply_to, published_with}
 use Rattle.chain_index.specs.Contents.{Contents, contents_of}
 use Rattle.ledger_kept.specs.declared.tally.Waiting.{Waiting}
@@ -72,3 +73,7 @@ pub record IsIndexOf (present : Contents) (w : World) : Type 0 where
 -- what stands after a call
 abbrev pub world_with : World → Call → World
 world_with w call = record w { published = published_with w.published call; replay = after_call w.replay call (reply_to w call) }
+
+-- a tally of a history becomes that of the history with one entry more, at this place
+abbrev pub TalliesEntry : ℕ → Entry → Tally → Tally → Type 0
+TalliesEntry place entry old new = (c : Course) → length c.entries ≡ place → IsTally old c → IsTally new (with_entry c entry)

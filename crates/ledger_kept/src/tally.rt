@@ -2,8 +2,7 @@
 ghost use Rattle.std.specs.Prelude.{◌≡◌, ◌+◌, ◌<◌, ◌^◌, ℕ, [], OnOk, OnErr, IsSome, length, nat_eq};
 ghost use Rattle.std.specs.Map.{lookup};
 ghost use Rattle.ledger_spec.specs.Replay.{Course};
-ghost use Rattle.ledger_spec.specs.Legal.{with_entry};
-ghost use Rattle.ledger_kept.specs.Kept.{IsTally, counted};
+ghost use Rattle.ledger_kept.specs.Kept.{IsTally, TalliesEntry, counted};
 ghost use Rattle.ledger_kept.specs.TallySupport.{tally_after, IsCounted};
 
 use crate::counts::{SeatCounts, add_one, count_at, make_room};
@@ -160,7 +159,7 @@ impl Tally {
     pub fn keep(&mut self, place: usize, entry: &Entry) -> Result<(), Memory>
         requires room { place + 1 < 2 ^ 64 }
         requires so { (c : Course) × (length c.entries ≡ place) × IsTally self.old c }
-        ensures ok { OnOk result ((c : Course) → length c.entries ≡ place → IsTally self.old c → IsTally self.new (with_entry c entry.now)) }
+        ensures ok { OnOk result (TalliesEntry place entry.now self.old self.new) }
         ensures err { OnErr result ((c : Course) → IsTally self.old c → IsTally self.new c) }
     {
         make_room(&mut self.counts, entry.seat)?;

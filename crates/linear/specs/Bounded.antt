@@ -27,6 +27,9 @@ IsRoundedUp n m z = (x : ℤ) → n ≤ℤ (m *ℤ x) → z ≤ℤ x
 abbrev pub IsFromBy : List Range → Linear → (Valuation → ℤ) → Option ℤ → Type 0
 IsFromBy es l f o = (r : Valuation) → AreInRange r es → pos 0 ≤ℤ number_at r l → IsFrom o (f r)
 
+abbrev pub IsUpToBy : List Range → Linear → (Valuation → ℤ) → Option ℤ → Type 0
+IsUpToBy es l f o = (r : Valuation) → AreInRange r es → pos 0 ≤ℤ number_at r l → IsUpTo o (f r)
+
 -- a number is never below a bound, nor above one, as far as ranges and facts allow
 abbrev pub IsFromAll : List Range → List Linear → (Valuation → ℤ) → Option ℤ → Type 0
 IsFromAll es fs f o = (r : Valuation) → AreInRange r es → AreNatural r fs → IsFrom o (f r)

@@ -1,5 +1,5 @@
 -- What stands for a number, whatever its symbols stand for.
-use Rattle.std.specs.Prelude.{◌≡◌, ℕ, ◌≤◌, ℤ, ◌+ℤ◌, ◌*ℤ◌, length}
+use Rattle.std.specs.Prelude.{◌≡◌, ℕ, ◌≤◌, ℤ, ◌+ℤ◌, ◌*ℤ◌, length, Option, IfSome}
 use Rattle.linear.specs.Linear.{Linear, Valuation, number_at, IsBelow}
 
 -- an expression has this number in all numbers for symbols, and few symbols, which are below each number that is a bound
@@ -11,6 +11,10 @@ pub record StandsFor (value : Valuation → ℤ) (IsBound : ℕ → Type 0) (e :
 -- of two expressions
 abbrev pub AreBelow : Linear → Linear → ℕ → Type 0
 AreBelow l m n = IsBelow n l × IsBelow n m
+
+-- an expression, if there is one, stands for a number that is made of those of two expressions
+abbrev pub IsMadeOf : Linear → Linear → (Valuation → ℤ) → Option Linear → Type 0
+IsMadeOf l m value o = IfSome o (StandsFor value (AreBelow l m))
 
 -- p times the number of l and q times that of m
 abbrev pub combined_at : ℤ → Linear → ℤ → Linear → Valuation → ℤ

@@ -51,3 +51,10 @@ pub record AreNarrowed (bs cs : List Bounds) (l : Linear) : Type 0 where
 pub record AreWithin (bs cs : List Bounds) (x : ℕ) (low high : Option ℤ) : Type 0 where
   pub same : length cs ≡ length bs
   pub ranges : (r : Valuation) → AreInRange r (numbered 0 bs) → IsFrom low (r x) → IsUpTo high (r x) → AreInRange r (numbered 0 cs)
+
+-- .. of ranges in parts, and likewise the hull
+abbrev pub PartsWithin : List (List Bounds) → List Bounds → List (List Bounds) → List Bounds → ℕ → Bounds → Type 0
+PartsWithin old old_newest new newest x b = AreWithin (before old old_newest) (before new newest) x b.least b.greatest
+
+abbrev pub PartsOfHull : List Bounds → List Bounds → List (List Bounds) → List Bounds → List (List Bounds) → List Bounds → Type 0
+PartsOfHull bs cs old old_newest new newest = IsHull bs cs (before old old_newest) (before new newest)

@@ -27,6 +27,10 @@ pub record IsPut (old new : List (ℕ × ℤ)) (symbol : ℕ) (coefficient : ℤ
   pub below : (n : ℕ) → symbol < n → TermsBelow n old → TermsBelow n new
   pub sum : (r : Valuation) → sum_at r new ≡ sum_at r old +ℤ (coefficient *ℤ r symbol)
 
+-- nothing is left of either
+abbrev pub NothingLeft : List (ℕ × ℤ) → ℕ → List (ℕ × ℤ) → ℕ → Type 0
+NothingLeft ts i us j = (length ts ≤ i) × (length us ≤ j)
+
 -- all that is left of both is below what bounds them
 abbrev pub IsNext : List (ℕ × ℤ) → ℕ → List (ℕ × ℤ) → ℕ → ℕ → Type 0
 IsNext ts i us j symbol = (n : ℕ) → TermsBelow n (drop i ts) → TermsBelow n (drop j us) → symbol < n

@@ -1,9 +1,9 @@
 //! What ranges and several facts show of an expression: one symbol after another is taken out of it, without memory.
-ghost use Rattle.std.specs.Prelude.{◌≡◌, ◌≤◌, ◌<◌, pos, ◌<ℤ◌, ◌≤ℤ◌, ◌+ℤ◌, ◌*ℤ◌, length, drop};
+ghost use Rattle.std.specs.Prelude.{◌≡◌, ◌≤◌, ◌<◌, pos, ◌<ℤ◌, ◌+ℤ◌, ◌*ℤ◌, length};
 ghost use Rattle.std.specs.Option.{IfSome};
-ghost use Rattle.linear.specs.Linear.{Valuation, sum_at, number_at, AreInRange};
+ghost use Rattle.linear.specs.Linear.{sum_at, number_at};
 ghost use Rattle.linear.specs.Bounded.{numbered, IsLeast, IsFromAll};
-ghost use Rattle.linear.specs.ChainSupport.{IsPutIn, IsFilled, IsTakenOut, RoundsUp};
+ghost use Rattle.linear.specs.ChainSupport.{IsPutIn, IsFilled, IsTakenOut, AddsLeastOfFirst, RoundsUp};
 
 use crate::bounds::{
     Bounds, MOST_FACTS, MOST_TAKEN, above_zero, coefficient_of, counted_with, greater,
@@ -192,7 +192,7 @@ fn take_out(
 // The number with the least that the first of the terms can be.
 fn lowered(bounds: &Ranges, constant: i128, terms: &[Term]) -> Option<i128>
     requires { 0 < length terms.now }
-    ensures { IfSome result (λ n. (r : Valuation) → AreInRange r (numbered 0 bounds.now) → (n +ℤ sum_at r (drop 1 terms.now)) ≤ℤ (constant +ℤ sum_at r terms.now)) }
+    ensures { IfSome result (AddsLeastOfFirst bounds.now constant terms.now) }
 {
     let coefficient = number_of(&terms[0]);
     let bound = least_term(bounds, terms[0].0, coefficient)?;

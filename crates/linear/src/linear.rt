@@ -2,7 +2,7 @@
 ghost use Rattle.std.specs.Prelude.{◌≡◌, ℕ, pos, neg_ℤ, ◌+ℤ◌, ◌-ℤ◌, ◌*ℤ◌, IfOk, true, [], ◌∷◌};
 ghost use Rattle.std.specs.Option.{IfSome};
 ghost use Rattle.linear.specs.Linear.{number_at, number, symbol, IsBelow};
-ghost use Rattle.linear.specs.Combined.{StandsFor, AreBelow, combined_at};
+ghost use Rattle.linear.specs.Combined.{StandsFor, IsMadeOf, combined_at};
 
 use crate::checked::{product, sum};
 use crate::terms::{Term, Terms, combined};
@@ -100,7 +100,7 @@ impl Linear {
         other: &Linear,
         other_factor: i128,
     ) -> Result<Option<Linear>, Memory>
-        ensures { IfOk result (λ o. IfSome o (StandsFor (combined_at factor self.now other_factor other.now) (AreBelow self.now other.now))) }
+        ensures { IfOk result (IsMadeOf self.now other.now (combined_at factor self.now other_factor other.now)) }
     {
         let Some(base) = both_times(factor, self.constant(), other_factor, other.constant()) else {
             return Ok(None);
@@ -126,7 +126,7 @@ impl Linear {
     /// The sum of this expression and another; none where a coefficient leaves 128 bits, or where there are more than
     /// `MOST_SYMBOLS` symbols.
     pub fn plus(&self, other: &Linear) -> Result<Option<Linear>, Memory>
-        ensures { IfOk result (λ o. IfSome o (StandsFor (λ r. number_at r self.now +ℤ number_at r other.now) (AreBelow self.now other.now))) }
+        ensures { IfOk result (IsMadeOf self.now other.now (λ r. number_at r self.now +ℤ number_at r other.now)) }
     {
         self.combine(1, other, 1)
     }
@@ -134,7 +134,7 @@ impl Linear {
     /// This expression less another; none where a coefficient leaves 128 bits, or where there are more than
     /// `MOST_SYMBOLS` symbols.
     pub fn minus(&self, other: &Linear) -> Result<Option<Linear>, Memory>
-        ensures { IfOk result (λ o. IfSome o (StandsFor (λ r. number_at r self.now -ℤ number_at r other.now) (AreBelow self.now other.now))) }
+        ensures { IfOk result (IsMadeOf self.now other.now (λ r. number_at r self.now -ℤ number_at r other.now)) }
     {
         self.combine(1, other, -1)
     }

@@ -1,7 +1,7 @@
 //! Ranges that a fact makes narrower.
-ghost use Rattle.std.specs.Prelude.{ℕ, ℤ, pos, ◌≤ℤ◌, IfOk, OnOk};
-ghost use Rattle.linear.specs.Linear.{Valuation, number_at, IsFrom, IsUpTo, AreInRange};
-ghost use Rattle.linear.specs.Bounded.{numbered};
+ghost use Rattle.std.specs.Prelude.{IfOk, OnOk};
+ghost use Rattle.linear.specs.Linear.{number_at};
+ghost use Rattle.linear.specs.Bounded.{numbered, IsFromBy, IsUpToBy};
 ghost use Rattle.linear.specs.Ranged.{AreNarrowed, AreWithin, IsRangeBy};
 
 use crate::bounds::{Bounds, above_zero, greater, greatest_of, least_of, least_without, lesser};
@@ -38,7 +38,7 @@ fn lower_by(
     wanted: &Linear,
     coefficient: i128,
 ) -> Option<i128>
-    ensures { (r : Valuation) → AreInRange r (numbered 0 bounds.now) → pos 0 ≤ℤ number_at r expression.now → IsFrom result (number_at r wanted.now) }
+    ensures { IsFromBy (numbered 0 bounds.now) expression.now (λ r. number_at r wanted.now) result }
 {
     let m = above_zero(coefficient)?;
     least_without(bounds, 1, wanted, m, -1, expression)
@@ -51,7 +51,7 @@ fn upper_by(
     wanted: &Linear,
     coefficient: i128,
 ) -> Option<i128>
-    ensures { (r : Valuation) → AreInRange r (numbered 0 bounds.now) → pos 0 ≤ℤ number_at r expression.now → IsUpTo result (number_at r wanted.now) }
+    ensures { IsUpToBy (numbered 0 bounds.now) expression.now (λ r. number_at r wanted.now) result }
 {
     let m = above_zero(coefficient)?;
     let bound = least_without(bounds, -1, wanted, m, -1, expression)?;

@@ -1,6 +1,6 @@
 //! The ranges of symbols, in parts that copies share.
 ghost use Rattle.std.specs.Prelude.{◌≡◌, ◌+◌, ◌*◌, ◌++◌, ◌∷◌, [], length, IfOk, OnOk, OnErr};
-ghost use Rattle.linear.specs.Ranged.{before, AreFull, IsRangeAt, IsRangeOf, ArePut, HoldInBoth, IsHull, AreWithin};
+ghost use Rattle.linear.specs.Ranged.{before, AreFull, IsRangeAt, IsRangeOf, ArePut, HoldInBoth, IsHull, AreWithin, PartsWithin, PartsOfHull};
 
 use crate::bounds::{Bounds, UNBOUNDED, greatest_of_both, least_of_both};
 use collections::{Memory, TryClone};
@@ -287,7 +287,7 @@ fn put_in(
     requires { AreFull parts.old.items }
     ensures full { AreFull parts.new.items }
     ensures same { length (before parts.new.items newest.new.items) ≡ length (before parts.old.items newest.old.items) }
-    ensures within { OnOk result (AreWithin (before parts.old.items newest.old.items) (before parts.new.items newest.new.items) (64 * place + at) range.least range.greatest) }
+    ensures within { OnOk result (PartsWithin parts.old.items newest.old.items parts.new.items newest.new.items (64 * place + at) range) }
 {
     if place < parts.len() {
         let alloc = *newest.allocator();
@@ -332,7 +332,7 @@ fn put_hull_in(
     requires { AreFull parts.old.items }
     ensures full { AreFull parts.new.items }
     ensures same { length (before parts.new.items newest.new.items) ≡ length (before parts.old.items newest.old.items) }
-    ensures either { OnOk result (IsHull left.now right.now (before parts.old.items newest.old.items) (before parts.new.items newest.new.items)) }
+    ensures either { OnOk result (PartsOfHull left.now right.now parts.old.items newest.old.items parts.new.items newest.new.items) }
 {
     let alloc = *newest.allocator();
     if place < parts.len() {

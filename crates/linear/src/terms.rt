@@ -2,7 +2,7 @@
 ghost use Rattle.std.specs.Prelude.{◌≡◌, ℕ, ◌≤◌, ◌+ℤ◌, ◌*ℤ◌, [], length, drop, IfOk, true};
 ghost use Rattle.std.specs.Option.{IfSome, MatchOption};
 ghost use Rattle.linear.specs.Linear.{TermsBelow};
-ghost use Rattle.linear.specs.WalkSupport.{IsTaken, IsStep, IsPut, IsNext, AreCombined};
+ghost use Rattle.linear.specs.WalkSupport.{IsTaken, IsStep, IsPut, NothingLeft, IsNext, AreCombined};
 
 use crate::checked::{product, sum};
 use collections::{Memory, TryClone};
@@ -126,7 +126,7 @@ pub(crate) fn next_symbol(
     right: &[Term],
     right_at: usize,
 ) -> Option<usize>
-    ensures { MatchOption result ((length left.now ≤ left_at) × (length right.now ≤ right_at)) (IsNext left.now left_at right.now right_at) }
+    ensures { MatchOption result (NothingLeft left.now left_at right.now right_at) (IsNext left.now left_at right.now right_at) }
 {
     if left_at < left.len() {
         if right_at < right.len() && left[left_at].0 < right[right_at].0 {

@@ -1,6 +1,6 @@
 -- How many nodes a tree has: its continuations, and apart from them its values, observations and cases. The bounds of a
 -- choice are no nodes, and a part that stands twice counts twice.
-use Rattle.std.specs.Prelude.{ℕ, ◌+◌}
+use Rattle.std.specs.Prelude.{◌≡◌, ℕ, ◌+◌, ◌<◌, Option, MatchOption}
 use Rattle.contract.specs.Tree.{ValueTree, available_money, constant, neg_value, add_value, sub_value, mul_value, div_value, choice_value, time_interval_start, time_interval_end, use_value, cond_value}
 use Rattle.contract.specs.Tree.{ObservationTree, and_obs, or_obs, not_obs, chose_something, value_ge, value_gt, value_lt, value_le, value_eq, true_obs, false_obs}
 use Rattle.contract.specs.Tree.{ActionTree, deposit, choice, notify, ContractTree, close, pay, if_obs, when, let_be, assert, CaseTrees, no_cases, case_then}
@@ -67,3 +67,7 @@ unfoldable mutual
   pub others_of : CaseTrees → ℕ
   others_of no_cases = 0
   others_of (case_then a c ks) = 1 + action_size a + others c + others_of ks
+
+-- what so many nodes leave of a room, or nothing where it doesn't suffice
+abbrev pub Leaves : ℕ → ℕ → Option ℕ → Type 0
+Leaves room nodes result = MatchOption result (room < nodes) (λ left. left + nodes ≡ room)

@@ -5,8 +5,8 @@ ghost use Rattle.table.specs.Heights.{case_over, contract_height};
 ghost use Rattle.table.specs.Flat.{trees, IsFlat};
 ghost use Rattle.table_builder.specs.Putting.{put_case, others_in};
 ghost use Rattle.lowering.specs.Sizes.{action_size, conts, conts_of, others, others_of};
-ghost use Rattle.lowering.specs.Code.{case_node, code, code_action, code_case, code_contract, code_cases};
-ghost use Rattle.lowering.specs.Building.{cases_height, ActionStands};
+ghost use Rattle.lowering.specs.Code.{case_node, code, code_action, code_contract, code_cases};
+ghost use Rattle.lowering.specs.Building.{cases_height, others_of_case, code_of_case, ActionStands, HasRoom};
 
 use crate::values::{add_observation, add_value};
 use collections::{Items, Memory, Text, TryClone};
@@ -21,7 +21,7 @@ use table_builder::Builder;
 fn add_action(builder: &mut Builder, action: &Action) -> Result<u32, Memory>
     requires flat { IsFlat builder.old }
     requires low { case_over (action_tree action.now) 0 ≤ 999 }
-    requires room { others_in builder.old + action_size (action_tree action.now) ≤ 1000000 }
+    requires room { HasRoom builder.old (action_size (action_tree action.now)) }
     ensures code { IfOk result (λ _. builder.new ≡ (code_action (action_tree action.now) builder.old).0) }
     ensures number { IfOk result (λ n. n ≡ (code_action (action_tree action.now) builder.old).1) }
 {
@@ -122,7 +122,7 @@ pub fn lower(alloc: Global, contract: &Contract) -> Result<(Table, Cont), Memory
 fn add_contract(builder: &mut Builder, alloc: Global, contract: &Contract) -> Result<Cont, Memory>
     requires flat { IsFlat builder.old }
     requires low { contract_height (contract_tree contract.now) ≤ 999 }
-    requires room { others_in builder.old + others (contract_tree contract.now) ≤ 1000000 }
+    requires room { HasRoom builder.old (others (contract_tree contract.now)) }
     requires conts { length builder.old.conts + conts (contract_tree contract.now) ≤ 65535 }
     ensures code { IfOk result (λ _. builder.new ≡ (code_contract (contract_tree contract.now) builder.old).0) }
     ensures number { IfOk result (λ k. k ≡ (code_contract (contract_tree contract.now) builder.old).1) }
@@ -163,10 +163,10 @@ fn add_contract(builder: &mut Builder, alloc: Global, contract: &Contract) -> Re
 fn add_case(builder: &mut Builder, alloc: Global, case: &Case) -> Result<u32, Memory>
     requires flat { IsFlat builder.old }
     requires low { case_over (action_tree case.now.action) (contract_height (contract_tree case.now.then)) ≤ 999 }
-    requires room { others_in builder.old + (1 + action_size (action_tree case.now.action) + others (contract_tree case.now.then)) ≤ 1000000 }
+    requires room { HasRoom builder.old (others_of_case case.now) }
     requires conts { length builder.old.conts + conts (contract_tree case.now.then) ≤ 65535 }
-    ensures code { IfOk result (λ _. builder.new ≡ (code_case (action_tree case.now.action) (code_contract (contract_tree case.now.then)) builder.old).0) }
-    ensures number { IfOk result (λ k. k ≡ (code_case (action_tree case.now.action) (code_contract (contract_tree case.now.then)) builder.old).1) }
+    ensures code { IfOk result (λ _. builder.new ≡ (code_of_case case.now builder.old).0) }
+    ensures number { IfOk result (λ k. k ≡ (code_of_case case.now builder.old).1) }
 {
     let number = add_action(builder, &case.action)?;
     let then = add_contract(builder, alloc, &case.then)?;
@@ -182,7 +182,7 @@ fn add_cases(
 ) -> Result<Items<u32>, Memory>
     requires flat { IsFlat builder.old }
     requires low { cases_height (case_trees (map case_tree cases.now)) ≤ 998 }
-    requires room { others_in builder.old + others_of (case_trees (map case_tree cases.now)) ≤ 1000000 }
+    requires room { HasRoom builder.old (others_of (case_trees (map case_tree cases.now))) }
     requires conts { length builder.old.conts + conts_of (case_trees (map case_tree cases.now)) ≤ 65535 }
     ensures code { IfOk result (λ _. builder.new ≡ (code_cases (case_trees (map case_tree cases.now)) builder.old).0) }
     ensures number { IfOk result (λ ns. ns ≡ (code_cases (case_trees (map case_tree cases.now)) builder.old).1) }

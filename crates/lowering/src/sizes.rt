@@ -1,9 +1,9 @@
 //! How high a contract is, and how many nodes it has, counted up to a limit. No memory is taken.
-ghost use Rattle.std.specs.Prelude.{◌≡◌, ◌+◌, ◌<◌, ◌≤◌, ◌↔◌, IsTrue, MatchOption, map};
+ghost use Rattle.std.specs.Prelude.{◌≤◌, ◌↔◌, IsTrue, map};
 ghost use Rattle.contract.specs.Tree.{value_tree, observation_tree, action_tree, case_tree, case_trees, contract_tree};
 ghost use Rattle.table.specs.Heights.{value_height, observation_height, case_over, contract_height};
-ghost use Rattle.lowering.specs.Sizes.{value_size, observation_size, action_size, conts, conts_of, others, others_of};
-ghost use Rattle.lowering.specs.Building.{cases_height};
+ghost use Rattle.lowering.specs.Sizes.{value_size, observation_size, action_size, conts, conts_of, others, others_of, Leaves};
+ghost use Rattle.lowering.specs.Building.{cases_height, others_of_case};
 
 use collections::Items;
 use contract::{Action, Case, Contract, Observation, Value};
@@ -126,7 +126,7 @@ fn are_low_cases(cases: &Items<Case>, room: u16) -> bool
 #[cycle(values_left)]
 #[tactic(auto, using(crate::proofs::Forms::value_forms))]
 fn values_left(value: &Value, room: u32) -> Option<u32>
-    ensures { MatchOption result (room < value_size (value_tree value.now)) (λ left. left + value_size (value_tree value.now) ≡ room) }
+    ensures { Leaves room (value_size (value_tree value.now)) result }
 {
     let room = room.checked_sub(1)?;
     match value {
@@ -151,7 +151,7 @@ fn values_left(value: &Value, room: u32) -> Option<u32>
 #[cycle(values_left)]
 #[tactic(auto, using(crate::proofs::Forms::observation_forms))]
 fn observations_left(observation: &Observation, room: u32) -> Option<u32>
-    ensures { MatchOption result (room < observation_size (observation_tree observation.now)) (λ left. left + observation_size (observation_tree observation.now) ≡ room) }
+    ensures { Leaves room (observation_size (observation_tree observation.now)) result }
 {
     let room = room.checked_sub(1)?;
     match observation {
@@ -170,7 +170,7 @@ fn observations_left(observation: &Observation, room: u32) -> Option<u32>
 
 #[tactic(auto, unfolding(crate::specs::Sizes::action_size))]
 fn actions_left(action: &Action, room: u32) -> Option<u32>
-    ensures { MatchOption result (room < action_size (action_tree action.now)) (λ left. left + action_size (action_tree action.now) ≡ room) }
+    ensures { Leaves room (action_size (action_tree action.now)) result }
 {
     match action {
         Action::Deposit(_, _, _, value) => values_left(value, room),
@@ -183,7 +183,7 @@ fn actions_left(action: &Action, room: u32) -> Option<u32>
 #[cycle(conts_left)]
 #[tactic(auto, using(crate::proofs::Trees::contract_forms))]
 pub fn conts_left(contract: &Contract, room: u32) -> Option<u32>
-    ensures { MatchOption result (room < conts (contract_tree contract.now)) (λ left. left + conts (contract_tree contract.now) ≡ room) }
+    ensures { Leaves room (conts (contract_tree contract.now)) result }
 {
     let room = room.checked_sub(1)?;
     match contract {
@@ -201,7 +201,7 @@ pub fn conts_left(contract: &Contract, room: u32) -> Option<u32>
 #[cycle(conts_left)]
 #[tactic(auto, using(crate::proofs::Cases::rests))]
 fn conts_left_by(cases: &Items<Case>, room: u32) -> Option<u32>
-    ensures { MatchOption result (room < conts_of (case_trees (map case_tree cases.now))) (λ left. left + conts_of (case_trees (map case_tree cases.now)) ≡ room) }
+    ensures { Leaves room (conts_of (case_trees (map case_tree cases.now))) result }
 {
     let mut left = room;
     for case in cases.as_slice() {
@@ -214,7 +214,7 @@ fn conts_left_by(cases: &Items<Case>, room: u32) -> Option<u32>
 #[cycle(others_left)]
 #[tactic(auto, using(crate::proofs::Trees::contract_forms))]
 pub fn others_left(contract: &Contract, room: u32) -> Option<u32>
-    ensures { MatchOption result (room < others (contract_tree contract.now)) (λ left. left + others (contract_tree contract.now) ≡ room) }
+    ensures { Leaves room (others (contract_tree contract.now)) result }
 {
     match contract {
         Contract::Close => Some(room),
@@ -234,7 +234,7 @@ pub fn others_left(contract: &Contract, room: u32) -> Option<u32>
 
 #[cycle(others_left)]
 fn others_left_of(case: &Case, room: u32) -> Option<u32>
-    ensures { MatchOption result (room < 1 + action_size (action_tree case.now.action) + others (contract_tree case.now.then)) (λ left. left + (1 + action_size (action_tree case.now.action) + others (contract_tree case.now.then)) ≡ room) }
+    ensures { Leaves room (others_of_case case.now) result }
 {
     let room = room.checked_sub(1)?;
     others_left(&case.then, actions_left(&case.action, room)?)
@@ -243,7 +243,7 @@ fn others_left_of(case: &Case, room: u32) -> Option<u32>
 #[cycle(others_left)]
 #[tactic(auto, using(crate::proofs::Cases::rests))]
 fn others_left_by(cases: &Items<Case>, room: u32) -> Option<u32>
-    ensures { MatchOption result (room < others_of (case_trees (map case_tree cases.now))) (λ left. left + others_of (case_trees (map case_tree cases.now)) ≡ room) }
+    ensures { Leaves room (others_of (case_trees (map case_tree cases.now))) result }
 {
     let mut left = room;
     for case in cases.as_slice() {

@@ -3,9 +3,9 @@ ghost use Rattle.std.specs.Prelude.{◌≡◌, ◌+◌, ◌≤◌, IfOk};
 ghost use Rattle.contract.specs.Tree.{value_tree, observation_tree};
 ghost use Rattle.table.specs.Heights.{value_height, observation_height};
 ghost use Rattle.table.specs.Flat.{IsFlat};
-ghost use Rattle.table_builder.specs.Putting.{others_in};
 ghost use Rattle.lowering.specs.Sizes.{value_size, observation_size};
 ghost use Rattle.lowering.specs.Code.{code_value, code_observation};
+ghost use Rattle.lowering.specs.Building.{HasRoom, code_values, code_observations};
 
 use collections::{Boxed, Memory, TryClone};
 use contract::{Observation, Value};
@@ -18,7 +18,7 @@ use table_builder::Builder;
 pub(crate) fn add_value(builder: &mut Builder, value: &Value) -> Result<u32, Memory>
     requires flat { IsFlat builder.old }
     requires low { value_height (value_tree value.now) ≤ 999 }
-    requires room { others_in builder.old + value_size (value_tree value.now) ≤ 1000000 }
+    requires room { HasRoom builder.old (value_size (value_tree value.now)) }
     ensures code { IfOk result (λ _. builder.new ≡ (code_value (value_tree value.now) builder.old).0) }
     ensures number { IfOk result (λ k. k ≡ (code_value (value_tree value.now) builder.old).1) }
 {
@@ -71,10 +71,10 @@ fn add_values(
     requires flat { IsFlat builder.old }
     requires low_left { value_height (value_tree a.now) ≤ 999 }
     requires low_right { value_height (value_tree b.now) ≤ 999 }
-    requires room { others_in builder.old + (value_size (value_tree a.now) + value_size (value_tree b.now)) ≤ 1000000 }
-    ensures code { IfOk result (λ _. builder.new ≡ (code_value (value_tree b.now) (code_value (value_tree a.now) builder.old).0).0) }
+    requires room { HasRoom builder.old (value_size (value_tree a.now) + value_size (value_tree b.now)) }
+    ensures code { IfOk result (λ _. builder.new ≡ (code_values (value_tree a.now) (value_tree b.now) builder.old).0) }
     ensures left { IfOk result (λ ns. ns.0 ≡ (code_value (value_tree a.now) builder.old).1) }
-    ensures right { IfOk result (λ ns. ns.1 ≡ (code_value (value_tree b.now) (code_value (value_tree a.now) builder.old).0).1) }
+    ensures right { IfOk result (λ ns. ns.1 ≡ (code_values (value_tree a.now) (value_tree b.now) builder.old).1) }
 {
     let left = add_value(builder, a.get())?;
     let right = add_value(builder, b.get())?;
@@ -90,7 +90,7 @@ pub(crate) fn add_observation(
 ) -> Result<u32, Memory>
     requires flat { IsFlat builder.old }
     requires low { observation_height (observation_tree observation.now) ≤ 999 }
-    requires room { others_in builder.old + observation_size (observation_tree observation.now) ≤ 1000000 }
+    requires room { HasRoom builder.old (observation_size (observation_tree observation.now)) }
     ensures code { IfOk result (λ _. builder.new ≡ (code_observation (observation_tree observation.now) builder.old).0) }
     ensures number { IfOk result (λ k. k ≡ (code_observation (observation_tree observation.now) builder.old).1) }
 {
@@ -146,10 +146,10 @@ fn add_observations(
     requires flat { IsFlat builder.old }
     requires low_left { observation_height (observation_tree a.now) ≤ 999 }
     requires low_right { observation_height (observation_tree b.now) ≤ 999 }
-    requires room { others_in builder.old + (observation_size (observation_tree a.now) + observation_size (observation_tree b.now)) ≤ 1000000 }
-    ensures code { IfOk result (λ _. builder.new ≡ (code_observation (observation_tree b.now) (code_observation (observation_tree a.now) builder.old).0).0) }
+    requires room { HasRoom builder.old (observation_size (observation_tree a.now) + observation_size (observation_tree b.now)) }
+    ensures code { IfOk result (λ _. builder.new ≡ (code_observations (observation_tree a.now) (observation_tree b.now) builder.old).0) }
     ensures left { IfOk result (λ ns. ns.0 ≡ (code_observation (observation_tree a.now) builder.old).1) }
-    ensures right { IfOk result (λ ns. ns.1 ≡ (code_observation (observation_tree b.now) (code_observation (observation_tree a.now) builder.old).0).1) }
+    ensures right { IfOk result (λ ns. ns.1 ≡ (code_observations (observation_tree a.now) (observation_tree b.now) builder.old).1) }
 {
     let left = add_observation(builder, a.get())?;
     let right = add_observation(builder, b.get())?;

@@ -1,14 +1,14 @@
 //! One transaction from where a contract of a table stands.
 ghost use Rattle.std.specs.Prelude.{◌≡◌, [], ◌∷◌, IfOk, Some};
 ghost use Rattle.std.specs.Option.{IfSome};
-ghost use Rattle.evaluation.specs.Path.{in_case, waits_for};
+ghost use Rattle.evaluation.specs.Path.{in_case};
 ghost use Rattle.table.specs.Flat.{Has, a_cont, cont_tree};
 ghost use Rattle.table.specs.Along.{cont_along};
 ghost use Rattle.table.specs.Leaves.{fitting};
 ghost use Rattle.collections.specs.Answers.{AsideBy};
 ghost use Rattle.semantics.specs.Walk.{standing, answer_of};
 ghost use Rattle.semantics.specs.Computed.{computed, first_match, first_match_index, tried_to_match};
-ghost use Rattle.machine.specs.Matched.{contract_found};
+ghost use Rattle.machine.specs.Matched.{contract_found, cases_at};
 
 use crate::datum::Datum;
 use contract::{Input, Interval, Outcome, SemFault};
@@ -52,10 +52,10 @@ pub fn matching_case(
 ) -> Result<Option<Cont>, Leaves128>
     requires { Has table.now (a_cont datum.now.cont.0) }
     ensures case { contract_found table.now result
-        ≡ fitting (tried_to_match interval datum.now.state input.now (waits_for (cont_tree table.now datum.now.cont.0)))
-        (first_match interval datum.now.state input.now (waits_for (cont_tree table.now datum.now.cont.0))) }
+        ≡ fitting (tried_to_match interval datum.now.state input.now (cases_at table.now datum.now))
+        (first_match interval datum.now.state input.now (cases_at table.now datum.now)) }
     ensures place { IfOk result (λ found. IfSome found (λ there. cont_along table.now datum.now.cont
-        (in_case (first_match_index interval datum.now.state input.now (waits_for (cont_tree table.now datum.now.cont.0))) ∷ []) ≡ Some there)) }
+        (in_case (first_match_index interval datum.now.state input.now (cases_at table.now datum.now)) ∷ []) ≡ Some there)) }
 {
     match semantics::matching_case(table, input, datum.cont, &datum.state, interval) {
         Ok(found) => Ok(found),

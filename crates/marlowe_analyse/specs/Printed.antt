@@ -1,7 +1,6 @@
 -- What is printed of a contract's text and a state's.
-use Rattle.std.specs.Prelude.{◌≡◌, ◌↔◌, ℕ, Bool, true, false, List, [], ◌∷◌, ◌++◌, map, Option, Result, Ok}
+use Rattle.std.specs.Prelude.{◌≡◌, ◌↔◌, ℕ, Bool, true, false, List, [], map, Option, Result, Ok}
 use Rattle.collections.specs.Answers.{◌>>=◌}
-use Rattle.serde_json.specs.Written.{compact_text}
 use Rattle.contract.specs.Tree.{ContractTree, contract_tree}
 use Rattle.states.specs.States.{StateMaps}
 use Rattle.json_read_names.specs.ReadsText.{of_text}
@@ -14,13 +13,13 @@ use Rattle.marlowe_analyse.specs.declared.analysed.Reader.TheVariants.{People, T
 use Rattle.marlowe_analyse.specs.Told.{Alarms, IsSo, NeverAlarms, start_of}
 use Rattle.marlowe_analyse.specs.ToldLines.{Line, line_at}
 use Rattle.marlowe_analyse.specs.Lines.{lines_of}
-use Rattle.marlowe_analyse.specs.Tools.{told_json}
+use Rattle.marlowe_analyse.specs.Tools.{told_line}
 
 abbrev pub printed : Reader → List Line → List PaidRange → List ℕ
 printed People lines ranges = lines_of true lines ranges
-printed Tools lines ranges = compact_text (told_json true lines ranges) ++ 10 ∷ []
+printed Tools lines ranges = told_line true lines ranges
 printed PeopleWithoutRuns lines ranges = lines_of false lines ranges
-printed ToolsWithoutRuns lines ranges = compact_text (told_json false lines ranges) ++ 10 ∷ []
+printed ToolsWithoutRuns lines ranges = told_line false lines ranges
 
 -- the contract is read first, and then the state, whose numbers may be texts where that is said
 abbrev pub what_is_read : Bool → List ℕ → Option (List ℕ) → Result (StateMaps × ContractTree) RunFault

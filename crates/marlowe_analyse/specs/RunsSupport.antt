@@ -7,6 +7,7 @@ use Rattle.analysis_spec.specs.declared.alarm.Alarm.{Alarm}
 use Rattle.json_read_names.specs.declared.fault.JsonFault.{JsonFault}
 use Rattle.marlowe_refusals.specs.declared.fault.RunFault.{RunFault}
 use Rattle.marlowe_refusals.specs.Faults.{read_as, state_fault}
+use Rattle.marlowe_analyse.specs.declared.analysed.Analysed.{Analysed}
 use Rattle.marlowe_analyse.specs.declared.analysed.Reader.{Reader}
 use Rattle.marlowe_analyse.specs.declared.order.Standing.{Standing}
 use Rattle.marlowe_analyse.specs.declared.told.ToldAlarm.{ToldAlarm}
@@ -41,6 +42,9 @@ TellsAll s c alarms told = (all : Alarms) × AreTold s c told all × ((a : Alarm
 
 abbrev pub TellsFrom : Reader → ContractTree → Result StateMaps JsonFault → Bool → List ℕ → Type 0
 TellsFrom reader c start clear out = (s : StateMaps) → start ≡ Ok s → TellsOfTree reader s c clear out
+
+abbrev pub AnalysedFrom : Reader → ContractTree → Result StateMaps JsonFault → Analysed → Type 0
+AnalysedFrom reader c start told = TellsFrom reader c start told.is_clear told.text.items
 
 -- or why there is no state
 abbrev pub is_started : Result StateMaps JsonFault → Result (Unit {0}) RunFault

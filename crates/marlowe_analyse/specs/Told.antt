@@ -1,5 +1,6 @@
 -- What is told of a contract and the state in which it starts, and when that is so.
-use Rattle.std.specs.Prelude.{ℕ, pos, Bool, true, false, List, map, Option, Some, None, IfSome, Result, Ok}
+use Rattle.std.specs.Prelude.{ℕ, pos, Bool, true, false, List, map, Option, Some, None, IfSome, option_map, Result, Ok}
+use Rattle.std.specs.Borrow.{Bor}
 use Rattle.std.specs.FinMap.{empty}
 use Rattle.std.specs.List.{AllByRecursion}
 use Rattle.contract.specs.Tree.{ContractTree}
@@ -46,6 +47,10 @@ NeverAlarms s c = ((kind : AlarmKind) → NeverWarns kind s c) × StaysWithin128
 -- without entries, at time 0
 abbrev pub at_first : StateMaps
 at_first = record { accounts = empty; choices = empty; bound_values = empty; min_time = pos 0 }
+
+-- the text of a state, if one is given
+abbrev pub text_given : Option (Bor (List ℕ)) → Option (List ℕ)
+text_given state = option_map (λ text. text.now) state
 
 -- the state of a text, whose numbers may be texts where that is said, or where there is none that one
 abbrev pub start_of : Bool → Option (List ℕ) → Result StateMaps JsonFault

@@ -1,7 +1,8 @@
 -- The JSON for tools.
-use Rattle.std.specs.Prelude.{ℤ, Bool, true, false, List, map, Option, Some, None, codes}
+use Rattle.std.specs.Prelude.{ℕ, ℤ, Bool, true, false, List, [], ◌∷◌, ◌++◌, map, Option, Some, None, codes}
 use Rattle.serde_json.specs.Data.{Data, string, array, null}
 use Rattle.serde_json.specs.View.{items_of}
+use Rattle.serde_json.specs.Written.{compact_text}
 use Rattle.contract.specs.declared.transaction.Transaction.{Transaction}
 use Rattle.json_write_contracts.specs.WrittenNames.{two, three, four, wide_json, party_json, token_json}
 use Rattle.contract_json.specs.WrittenInput.{transaction_json}
@@ -27,3 +28,7 @@ range_json r = four (codes "least") (bound_json r.least) (codes "most") (bound_j
 
 abbrev pub told_json : Bool → List Line → List PaidRange → Data
 told_json runs lines ranges = two (codes "alarms") (array (items_of (map (alarm_json runs) lines))) (codes "ranges") (array (items_of (map range_json ranges)))
+
+-- .. as a line
+abbrev pub told_line : Bool → List Line → List PaidRange → List ℕ
+told_line runs lines ranges = compact_text (told_json runs lines ranges) ++ 10 ∷ []

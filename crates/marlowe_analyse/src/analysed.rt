@@ -1,12 +1,12 @@
 //! The analysis of a contract, from text to text.
-ghost use Rattle.std.specs.Prelude.{◌≡◌, ◌++◌, true, map, Some, All, IfOk, OnOk, option_map};
+ghost use Rattle.std.specs.Prelude.{◌≡◌, ◌++◌, true, map, Some, All, IfOk, OnOk};
 ghost use Rattle.collections.specs.Answers.{Aside, AsideBy};
 ghost use Rattle.contract.specs.Tree.{contract_tree};
-ghost use Rattle.marlowe_analyse.specs.Told.{start_of};
+ghost use Rattle.marlowe_analyse.specs.Told.{text_given, start_of};
 ghost use Rattle.marlowe_analyse.specs.ToldLines.{line_of, LineFits};
 ghost use Rattle.marlowe_analyse.specs.Lines.{lines_of};
 ghost use Rattle.marlowe_analyse.specs.Printed.{printed, IsClear, TellsOfTree, TellsSo, is_read};
-ghost use Rattle.marlowe_analyse.specs.RunsSupport.{TellsFrom, is_started};
+ghost use Rattle.marlowe_analyse.specs.RunsSupport.{AnalysedFrom, is_started};
 
 use crate::dropped::beside_dropped;
 use crate::lines::{put_alarms, put_ranges};
@@ -52,9 +52,9 @@ pub fn analyse_text(
     texts: bool,
     reader: Reader,
 ) -> Result<Analysed, RunFault>
-    ensures told { IfOk result (λ told. TellsSo reader texts contract.now (option_map (λ text. text.now) state.entry) told.is_clear told.text.items) }
-    ensures clear { IfOk result (λ told. told.is_clear ≡ true → IsClear texts contract.now (option_map (λ text. text.now) state.entry)) }
-    ensures read { AsideBy RunFault.Memory (λ _. tt) result (is_read texts contract.now (option_map (λ text. text.now) state.entry)) }
+    ensures told { IfOk result (λ told. TellsSo reader texts contract.now (text_given state.entry) told.is_clear told.text.items) }
+    ensures clear { IfOk result (λ told. told.is_clear ≡ true → IsClear texts contract.now (text_given state.entry)) }
+    ensures read { AsideBy RunFault.Memory (λ _. tt) result (is_read texts contract.now (text_given state.entry)) }
 {
     let length = contract.len().saturating_add(length_of(state));
     match read_contract(alloc, contract) {
@@ -75,8 +75,8 @@ fn analysed_from(
     length: usize,
     reader: Reader,
 ) -> Result<Analysed, RunFault>
-    ensures told { IfOk result (λ told. TellsFrom reader (contract_tree contract.now) (start_of texts (option_map (λ text. text.now) state.entry)) told.is_clear told.text.items) }
-    ensures read { AsideBy RunFault.Memory (λ _. tt) result (is_started (start_of texts (option_map (λ text. text.now) state.entry))) }
+    ensures told { IfOk result (AnalysedFrom reader (contract_tree contract.now) (start_of texts (text_given state.entry))) }
+    ensures read { AsideBy RunFault.Memory (λ _. tt) result (is_started (start_of texts (text_given state.entry))) }
 {
     match start(alloc, state, texts) {
         Ok(first) => {
@@ -124,7 +124,7 @@ fn length_of(state: Option<&[u8]>) -> usize {
 
 // The state of a text, or where there is none the one without entries, at time 0.
 fn start(alloc: Global, state: Option<&[u8]>, texts: bool) -> Result<State, JsonFault>
-    ensures { Aside JsonFault.Memory result (start_of texts (option_map (λ text. text.now) state.entry)) }
+    ensures { Aside JsonFault.Memory result (start_of texts (text_given state.entry)) }
 {
     match state {
         Some(text) => given_state(alloc, text, texts),

@@ -1,12 +1,11 @@
 //! JSON for tools.
-ghost use Rattle.std.specs.Prelude.{◌≡◌, [], ◌∷◌, ◌++◌, true, false, map, All, IfOk, IfSome, OnOk, Some, None};
+ghost use Rattle.std.specs.Prelude.{◌≡◌, true, false, map, All, IfOk, IfSome, OnOk, Some, None};
 ghost use Rattle.serde_json.specs.Data.{array};
 ghost use Rattle.serde_json.specs.View.{items_of};
-ghost use Rattle.serde_json.specs.Written.{compact_text};
 ghost use Rattle.json_write_contracts.specs.Tokens.{Puts};
 ghost use Rattle.contract_json.specs.WrittenInput.{transaction_json, transaction_fits};
 ghost use Rattle.marlowe_analyse.specs.ToldLines.{line_of, LineFits, RunFits};
-ghost use Rattle.marlowe_analyse.specs.Tools.{run_json, alarm_json, bound_json, range_json, told_json};
+ghost use Rattle.marlowe_analyse.specs.Tools.{run_json, alarm_json, bound_json, range_json, told_json, told_line};
 
 use crate::told::{Told, ToldAlarm};
 use analysis_spec::PaidRange;
@@ -21,7 +20,7 @@ use std::alloc::{AllocError, Global};
 /// All that is told, as one JSON text, with runs or without, and a line feed.
 pub(crate) fn put_told(alloc: Global, told: &Told, runs: bool) -> Result<Vec<u8>, Memory>
     requires { All LineFits told.now.alarms.items }
-    ensures { IfOk result (λ text. text.items ≡ compact_text (told_json runs (map line_of told.now.alarms.items) told.now.ranges) ++ 10 ∷ []) }
+    ensures { IfOk result (λ text. text.items ≡ told_line runs (map line_of told.now.alarms.items) told.now.ranges) }
 {
     let mut out = Writer::new(Vec::new(alloc));
     put_all(alloc, &mut out, &told.alarms, told.ranges.as_slice(), runs)?;

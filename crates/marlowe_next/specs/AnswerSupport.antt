@@ -1,5 +1,5 @@
 -- What each step of the code answers. It serves proofs alone.
-use Rattle.std.specs.Prelude.{◌≡◌, ◌≢◌, ◌↔◌, ℕ, Bool, true, List, [], ◌∷◌, ◌++◌, slice_get, Option, Some, None, Result, Ok, Err, IsOk, IsTrue, MatchResult}
+use Rattle.std.specs.Prelude.{◌≡◌, ◌≢◌, ◌↔◌, ℕ, Bool, true, List, [], ◌∷◌, ◌++◌, slice_get, map, Option, Some, None, Result, Ok, Err, IsOk, IsTrue, MatchResult}
 use Rattle.std.specs.declared.vec.Vec.{Vec}
 use Rattle.std.specs.declared.alloc.Global.{Global}
 use Rattle.contract.specs.declared.tree.Contract.{Contract}
@@ -29,7 +29,8 @@ use Rattle.next_lines.specs.declared.told.CaseTold.{CaseTold}
 use Rattle.next_lines.specs.Applicable.{Applicable}
 use Rattle.marlowe_next.specs.Applicable.{refusal, applicable, applicable_from}
 use Rattle.marlowe_next.specs.Question.{Reached, answered}
-use Rattle.marlowe_next.specs.Answer.{told_of, printed, IsAnswer}
+use Rattle.places.specs.declared.key.Key.{Key}
+use Rattle.marlowe_next.specs.Answer.{warning_told, told_of, printed, IsAnswer}
 use Rattle.next_lines.specs.Seen.{seen_case, seen_cases}
 
 -- what is told of a case, if something is
@@ -76,6 +77,14 @@ pub record HasSettled (i : Interval) (a : Standing) (left : Settled) : Type 0 wh
 abbrev pub TellsSettled : Interval → Reached → Standing → Bool → List ℕ → Type 0
 TellsSettled i r b json text = (offers : List Offer) × AreOffers (trimmed i r.there.state) b.state (waits_for b.contract) offers × (text ≡ printed json (told_of i r b offers))
 
+-- the cases offer these where a contract has settled
+abbrev pub AreOffersThere : Interval → Left → Settled → List Offer → Type 0
+AreOffersThere i from left offers = AreOffers (trimmed i from.state) left.outcome.state (waits_for (contract_tree left.outcome.place.now)) offers
+
 -- a warning of a part that stands at the end of a path
 abbrev pub under : List PathStep → Warned → Warned
 under path w = record { place = path ++ w.place; warning = w.warning }
+
+-- what is told of warnings of such a part
+abbrev pub warnings_under : ContractTree → List PathStep → List Warned → List (List Key × List ℕ)
+warnings_under whole path warned = map (λ w. warning_told whole (under path w)) warned

@@ -1,6 +1,9 @@
 -- What is asked: of a contract and a state, after transactions, over an interval.
-use Rattle.std.specs.Prelude.{ℕ, ◌+◌, ℤ, List, [], Option, Result, Ok}
+use Rattle.std.specs.Prelude.{ℕ, ◌+◌, ℤ, List, [], map, Option, option_map, Result, Ok}
+use Rattle.std.specs.Borrow.{Bor}
 use Rattle.std.specs.Option.{unwrap_or}
+use Rattle.std.specs.declared.vec.Vec.{Vec}
+use Rattle.std.specs.declared.alloc.Global.{Global}
 use Rattle.collections.specs.Answers.{◌>>=◌}
 use Rattle.contract.specs.declared.interval.Interval.{Interval}
 use Rattle.contract.specs.declared.transaction.Transaction.{Transaction}
@@ -30,6 +33,13 @@ pub record Reached : Type 0 where
   pub path : List PathStep
   pub there : Standing
 
+-- the text of a state, if one is given, and texts of transactions
+abbrev pub text_given : Option (Bor (List ℕ)) → Option (List ℕ)
+text_given state = option_map (λ text. text.now) state
+
+abbrev pub texts_given : List (Vec ℕ Global) → List (List ℕ)
+texts_given after = map (λ text. text.items) after
+
 -- where transactions lead from a contract and a state, or the first that is refused, by its number from 1
 abbrev pub reached_by : ContractTree → StateMaps → List Transaction → Result Reached TraceFault
 reached_by c s ts = told_as (λ (r : Refused). refused_fault (r.index + 1) r.fault) (left_by 0 (standing s c) ts) >>= λ a. Ok (record { whole = c; path = leads_after [] (standing s c) ts; there = a })
@@ -43,6 +53,10 @@ reached_from q c start after = read_as (λ f. trace.Run (state_fault f)) (start_
 
 abbrev pub reached : Asked → List ℕ → Option (List ℕ) → List (List ℕ) → Result Reached TraceFault
 reached q text start after = read_as (λ f. trace.Run (contract_fault f)) (of_text contract text) >>= λ given. reached_from q (contract_tree given) start after
+
+-- .. from texts as they are given
+abbrev pub reached_given : Asked → List ℕ → Option (Bor (List ℕ)) → List (Vec ℕ Global) → Result Reached TraceFault
+reached_given q text state after = reached q text (text_given state) (texts_given after)
 
 -- ---- over which interval
 

@@ -1,9 +1,9 @@
 //! What can be done next, from text to text.
-ghost use Rattle.std.specs.Prelude.{◌≡◌, ◌≢◌, ◌+◌, ◌<◌, map, IfOk, option_map, Ok};
+ghost use Rattle.std.specs.Prelude.{◌≡◌, ◌≢◌, ◌+◌, ◌<◌, IfOk, Ok};
 ghost use Rattle.collections.specs.Answers.{AsideBy};
 ghost use Rattle.contract.specs.Tree.{contract_tree};
 ghost use Rattle.marlowe_refusals.specs.TraceFaults.{refused_fault};
-ghost use Rattle.marlowe_next.specs.Question.{reached, reached_from, reached_with, reached_by, answered};
+ghost use Rattle.marlowe_next.specs.Question.{text_given, texts_given, reached_given, reached_from, reached_with, reached_by, answered};
 ghost use Rattle.marlowe_next.specs.Answer.{IsAnswer};
 ghost use Rattle.marlowe_next.specs.AnswerSupport.{Answers, reached_at};
 
@@ -30,9 +30,9 @@ pub fn next(
     after: &[Vec<u8>],
     asked: Asked,
 ) -> Result<Vec<u8>, TraceFault>
-    ensures text { IfOk result (λ text. IsAnswer asked (reached asked contract.now (option_map (λ text. text.now) state.entry) (map (λ text. text.items) after.now)) text.items) }
+    ensures text { IfOk result (λ text. IsAnswer asked (reached_given asked contract.now state.entry after.now) text.items) }
     ensures answer { AsideBy (TraceFault.Run RunFault.Memory) (λ _. tt) result
-        (answered asked (reached asked contract.now (option_map (λ text. text.now) state.entry) (map (λ text. text.items) after.now))) }
+        (answered asked (reached_given asked contract.now state.entry after.now)) }
 {
     from_contract(alloc, contract, state, after, asked)
 }
@@ -45,7 +45,7 @@ fn from_contract(
     after: &[Vec<u8>],
     asked: Asked,
 ) -> Result<Vec<u8>, TraceFault>
-    ensures { Answers asked (reached asked contract.now (option_map (λ text. text.now) state.entry) (map (λ text. text.items) after.now)) result }
+    ensures { Answers asked (reached_given asked contract.now state.entry after.now) result }
 {
     match read_contract(alloc, contract) {
         Ok(whole) => {
@@ -64,7 +64,7 @@ fn from_state(
     after: &[Vec<u8>],
     asked: Asked,
 ) -> Result<Vec<u8>, TraceFault>
-    ensures { Answers asked (reached_from asked (contract_tree whole.now) (option_map (λ text. text.now) state.entry) (map (λ text. text.items) after.now)) result }
+    ensures { Answers asked (reached_from asked (contract_tree whole.now) (text_given state.entry) (texts_given after.now)) result }
 {
     match read_start(alloc, state, asked.texts) {
         Ok(start) => {
@@ -83,7 +83,7 @@ fn from_texts(
     after: &[Vec<u8>],
     asked: Asked,
 ) -> Result<Vec<u8>, TraceFault>
-    ensures { Answers asked (reached_with (contract_tree whole.now) start.now (map (λ text. text.items) after.now)) result }
+    ensures { Answers asked (reached_with (contract_tree whole.now) start.now (texts_given after.now)) result }
 {
     match read_transactions(alloc, after) {
         Ok(transactions) => {

@@ -1,13 +1,10 @@
 //! What is told of a contract where transactions have led, once it has settled.
 ghost use Rattle.std.specs.Prelude.{◌≡◌, ◌++◌, map, IfOk, OnOk, IfSome};
 ghost use Rattle.contract.specs.Tree.{contract_tree};
-ghost use Rattle.evaluation.specs.Path.{waits_for};
 ghost use Rattle.semantics.specs.Walk.{standing};
-ghost use Rattle.semantics.specs.Transaction.{trimmed};
-ghost use Rattle.next_inputs.specs.Offers.{AreOffers};
 ghost use Rattle.marlowe_next.specs.Answer.{printed, told_of, warning_told};
 ghost use Rattle.next_lines.specs.Seen.{IsMoment, seen, seen_warning};
-ghost use Rattle.marlowe_next.specs.AnswerSupport.{reached_at, HasSettled, TellsSettled, under};
+ghost use Rattle.marlowe_next.specs.AnswerSupport.{reached_at, HasSettled, TellsSettled, AreOffersThere, under, warnings_under};
 
 use crate::asked::fixed;
 use crate::cases::told_cases;
@@ -61,7 +58,7 @@ fn offered_text(
     json: bool,
 ) -> Result<Vec<u8>, Memory>
     requires settled { HasSettled interval (standing left.now.state (contract_tree left.now.contract.now)) settled.now }
-    requires offers { AreOffers (trimmed interval left.now.state) settled.now.outcome.state (waits_for (contract_tree settled.now.outcome.place.now)) offers.now }
+    requires offers { AreOffersThere interval left.now settled.now offers.now }
     ensures { IfOk result (λ text. text.items ≡ printed json (told_of interval (reached_at whole.now left.now)
         (standing settled.now.outcome.state (contract_tree settled.now.outcome.place.now)) offers.now)) }
 {
@@ -104,7 +101,7 @@ fn told_warnings(
     path: &[PathStep],
     warned: &[Warned],
 ) -> Result<Vec<ToldWarning>, Memory>
-    ensures { IfOk result (λ told. map seen_warning told.items ≡ map (λ w. warning_told (contract_tree whole.now) (under path.now w)) warned.now) }
+    ensures { IfOk result (λ told. map seen_warning told.items ≡ warnings_under (contract_tree whole.now) path.now warned.now) }
 {
     let mut told = Vec::new(alloc);
     for warning in warned {

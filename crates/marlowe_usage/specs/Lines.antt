@@ -102,3 +102,7 @@ IsCommand app command = (app_of command ≡ app) × ((out-Command command).has_g
 -- .. a draft, unless memory was refused
 abbrev pub IsDraft : App → Draft → Type 0
 IsDraft app draft = IfOk draft.command (IsCommand app)
+
+-- a draft with one argument more
+abbrev pub AddsArgument : Draft → Arg → Draft → Type 0
+AddsArgument old argument new = (app : App) (rule : Rule) → IsDraft app old → IsArgument rule argument → IsDraft (with_rule app rule) new

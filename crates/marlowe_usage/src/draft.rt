@@ -1,7 +1,7 @@
 //! Commands that are being made.
 ghost use Rattle.std.specs.Prelude.{◌≡◌, IfOk};
 ghost use Rattle.clap.specs.Words.{App, Rule, new_app, with_rule, with_subcommand};
-ghost use Rattle.marlowe_usage.specs.Lines.{IsArgument, IsCommand, IsDraft};
+ghost use Rattle.marlowe_usage.specs.Lines.{IsArgument, IsCommand, IsDraft, AddsArgument};
 
 use clap::{Arg, Command};
 use std::alloc::{AllocError, Global};
@@ -36,7 +36,7 @@ impl<'a> Draft<'a> {
 
     /// One more argument.
     pub fn with(self, argument: Arg<'a>) -> Draft<'a>
-        ensures { (app : App) (rule : Rule) → IsDraft app self.entry → IsArgument rule argument.entry → IsDraft (with_rule app rule) result }
+        ensures { AddsArgument self.entry argument.entry result }
     {
         let Draft { command } = self;
         Draft {

@@ -9,11 +9,12 @@ use Rattle.contract.specs.declared.input.Input.{Input}
 use Rattle.contract.specs.declared.input.Input.TheVariants as inputs
 use Rattle.contract.specs.declared.interval.Interval.{Interval}
 use Rattle.states.specs.States.{StateMaps}
-use Rattle.contract.specs.Tree.{ActionTree, deposit, choice, notify, ContractTree}
+use Rattle.contract.specs.Tree.{ValueTree, ObservationTree, ActionTree, deposit, choice, notify, ContractTree}
 use Rattle.evaluation.specs.Numbers.{fits, all_fit}
 use Rattle.evaluation.specs.Evaluation.{eval, visited, holds, looked}
 use Rattle.evaluation.specs.declared.form.Wait.{Wait}
 use Rattle.evaluation.specs.declared.form.Wait.TheVariants as waits
+use Rattle.evaluation.specs.Parts.{wait_tree}
 use Rattle.semantics.specs.Applying.{matches, tried}
 use Rattle.next_inputs.specs.declared.lane.Lane.{Lane}
 use Rattle.next_inputs.specs.declared.lane.Lane.TheVariants as lanes
@@ -53,10 +54,16 @@ deposit_range fit n = if fit then record { from = n; to = n } else all_numbers
 abbrev pub notify_ranges : Bool → Bool → List Bound
 notify_ranges fit is_true = if fit then (if is_true then all_numbers ∷ [] else []) else all_numbers ∷ []
 
+abbrev pub range_of_deposit : Interval → StateMaps → ValueTree → Bound
+range_of_deposit i s v = deposit_range (all_fit (visited i s v)) (eval i s v)
+
+abbrev pub ranges_of_notify : Interval → StateMaps → ObservationTree → List Bound
+ranges_of_notify i s o = notify_ranges (all_fit (looked i s o)) (holds i s o)
+
 abbrev pub ranges : Interval → StateMaps → ActionTree → List Bound
-ranges i s (deposit a p t v) = deposit_range (all_fit (visited i s v)) (eval i s v) ∷ []
+ranges i s (deposit a p t v) = range_of_deposit i s v ∷ []
 ranges i s (choice id bounds) = bounds
-ranges i s (notify o) = notify_ranges (all_fit (looked i s o)) (holds i s o)
+ranges i s (notify o) = ranges_of_notify i s o
 
 abbrev pub claim_of : Lane → ℕ → Bound → Claim Lane
 claim_of lane n b = record { lane = lane; from = b.from; to = b.to; by = n }
@@ -69,6 +76,10 @@ abbrev pub lane_of : {V O : Type 0} → Wait V O → Lane
 lane_of (waits.Deposit a p t v) = lanes.Deposit a p t
 lane_of (waits.Choice id bounds) = lanes.Choice id
 lane_of (waits.Notify o) = lanes.Notify
+
+-- the claims of a wait by a case, whose value or observation has a tree
+abbrev pub claims_of_wait : {V O : Type 0} → (V → ValueTree) → (O → ObservationTree) → Interval → StateMaps → ℕ → Wait V O → List (Claim Lane)
+claims_of_wait value_of observation_of i s n w = claims_for (lane_of w) n (ranges i s (wait_tree value_of observation_of w))
 
 -- a test of lanes
 abbrev pub is_way : Way → Lane → Bool

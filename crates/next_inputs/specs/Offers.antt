@@ -7,13 +7,16 @@ use Rattle.names.specs.declared.bound.Bound.{Bound}
 use Rattle.contract.specs.declared.input.Input.{Input}
 use Rattle.contract.specs.declared.input.Input.TheVariants as inputs
 use Rattle.contract.specs.declared.interval.Interval.{Interval}
+use Rattle.contract.specs.declared.outcome.Outcome.{Outcome}
 use Rattle.states.specs.States.{StateMaps}
 use Rattle.contract.specs.Tree.{ActionTree, deposit, choice, notify, ContractTree}
 use Rattle.evaluation.specs.Numbers.{fits}
+use Rattle.evaluation.specs.Path.{waits_for}
 use Rattle.semantics.specs.Applying.{agrees, in_bound}
 use Rattle.next_inputs.specs.declared.offer.Offer.{Offer}
 use Rattle.next_inputs.specs.declared.offer.Offer.TheVariants.{Nothing, Deposit, Choice, Notify, Leaves128}
 use Rattle.next_inputs.specs.Taking.{taken_case, leaving_case, number_of}
+use Rattle.next_inputs.specs.Opening.{next_case}
 
 -- an offer of an action has the input: a deposit of that amount, a choice of a number in the bounds, or a notify
 abbrev pub has : ActionTree → Offer → Input → Bool
@@ -46,3 +49,11 @@ pub record AreOffers (i : Interval) (s : StateMaps) (ks : List (ActionTree × Co
   pub exact : (x : Input) (n : ℕ) → (offered ks fs n x ≡ true) ↔ (taken_case i s x ks ≡ Some n)
   pub leaving : (n : ℕ) → (slice_get fs n ≡ Some Leaves128) ↔ ((x : Input) × (fits (number_of x) ≡ true) × (leaving_case i s x ks ≡ Some n))
   pub laid_out : AllByRecursion IsLaidOut fs
+
+-- .. the cases of the contract that an outcome leaves, whose place has a tree
+abbrev pub AreOffersAt : {P : Type 0} → (P → ContractTree) → Interval → Outcome P → List Offer → Type 0
+AreOffersAt tree i o fs = AreOffers i o.state (waits_for (tree o.place)) fs
+
+-- a case of what is left offers an input just where that input, alone in a transaction over the interval, takes the case
+abbrev pub OffersWhatIsTaken : {P : Type 0} → (P → ContractTree) → Interval → StateMaps → P → Outcome P → List Offer → Type 0
+OffersWhatIsTaken tree i s from o fs = (x : Input) (n : ℕ) → (offered (waits_for (tree o.place)) fs n x ≡ true) ↔ (next_case i s (tree from) x ≡ Some n)

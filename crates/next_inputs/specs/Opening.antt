@@ -1,21 +1,34 @@
 -- Where a contract stands when the inputs of a transaction come (Marlowe specification version 3, "Compute transaction"), and
 -- which case one input takes there.
-use Rattle.std.specs.Prelude.{ℕ, ℤ, pos, ◌-ℤ◌, int_lt, if◌then◌else◌, Option, Some, None, Result, Ok, Err}
+use Rattle.std.specs.Prelude.{ℕ, ℤ, pos, ◌-ℤ◌, int_lt, if◌then◌else◌, List, [], Option, Some, None, Result, Ok, Err, IsOk}
 use Rattle.contract.specs.declared.fault.SemFault.{SemFault}
 use Rattle.contract.specs.declared.fault.SemFault.TheVariants.{InvalidInterval, IntervalInPast}
 use Rattle.contract.specs.declared.interval.Interval.{Interval}
+use Rattle.contract.specs.declared.outcome.Outcome.{Outcome}
 use Rattle.states.specs.States.{StateMaps}
 use Rattle.contract.specs.Tree.{ContractTree, when}
 use Rattle.contract.specs.declared.input.Input.{Input}
 use Rattle.evaluation.specs.Path.{waits_for}
-use Rattle.semantics.specs.Walk.{Standing, Walk, ended, answer_of}
+use Rattle.semantics.specs.Walk.{Turn, Standing, standing, Walk, ended, answer_of}
 use Rattle.semantics.specs.Transaction.{trimmed, begun}
-use Rattle.semantics.specs.Computed.{settled}
+use Rattle.semantics.specs.Computed.{settled, computed}
 use Rattle.next_inputs.specs.Taking.{taken_case}
 
 -- the interval is fixed and the contract settles
 abbrev pub opening : Interval → StateMaps → ContractTree → Walk
 opening i s c = if int_lt i.to i.from then ended (Err InvalidInterval) else (if int_lt i.to s.min_time then ended (Err IntervalInPast) else settled (trimmed i s) (begun i s) c)
+
+-- the turns of the opening lead from a place to that of an outcome
+abbrev pub OpeningLeads : {P : Type 0} → (P → List Turn → P → Type 0) → (P → ContractTree) → Interval → StateMaps → P → Outcome P → Type 0
+OpeningLeads leads tree i s from o = leads from (opening i s (tree from)).turns o.place
+
+-- how an outcome stands whose place has a tree
+abbrev pub standing_at : {P : Type 0} → (P → ContractTree) → Outcome P → Standing
+standing_at tree o = standing o.state (tree o.place)
+
+-- a transaction without inputs is accepted
+abbrev pub AcceptsNoInputs : Interval → StateMaps → ContractTree → Type 0
+AcceptsNoInputs i s c = IsOk (answer_of (computed i s c []))
 
 -- the case that an input takes where a contract stands; none where there is a fault
 abbrev pub case_from : Interval → Input → Result Standing SemFault → Option ℕ

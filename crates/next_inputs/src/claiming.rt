@@ -1,10 +1,8 @@
 //! Which numbers the cases claim.
 ghost use Rattle.std.specs.Prelude.{◌≡◌, [], ◌∷◌, ◌++◌, IfOk, OnOk, if◌then◌else◌};
-ghost use Rattle.evaluation.specs.Evaluation.{eval, visited, holds, looked};
-ghost use Rattle.evaluation.specs.Numbers.{all_fit};
-ghost use Rattle.evaluation.specs.Parts.{StandsWait, wait_tree};
+ghost use Rattle.evaluation.specs.Parts.{StandsWait};
 ghost use Rattle.evaluation.specs.Path.{waits_for};
-ghost use Rattle.next_inputs.specs.Claiming.{ranges, deposit_range, notify_ranges, all_numbers, claims_for, lane_of, AreClaims};
+ghost use Rattle.next_inputs.specs.Claiming.{range_of_deposit, ranges_of_notify, all_numbers, claims_for, claims_of_wait, AreClaims};
 
 use crate::lane::Lane;
 use claims::Claim;
@@ -44,7 +42,7 @@ fn claim<'a, S: Parts>(
 ) -> Result<(), Memory>
     requires { StandsWait (S.has_value parts.now) (S.has_observation parts.now) action }
     ensures { OnOk result (claims.new.items ≡ claims.old.items
-        ++ claims_for (lane_of action.entry) index (ranges interval state.now (wait_tree (S.value_tree parts.now) (S.observation_tree parts.now) action.entry))) }
+        ++ claims_of_wait (S.value_tree parts.now) (S.observation_tree parts.now) interval state.now index action.entry) }
 {
     match action {
         Wait::Deposit(account, party, token, value) => {
@@ -106,7 +104,7 @@ fn put_claims<'a>(
 // The amount of a deposit, or all where a number of its value leaves 128 bits.
 fn deposit_range<S: Parts>(parts: &S, value: S::Value, state: &State, interval: Interval) -> Bound
     requires { S.has_value parts.now value }
-    ensures { result ≡ deposit_range (all_fit (visited interval state.now (S.value_tree parts.now value))) (eval interval state.now (S.value_tree parts.now value)) }
+    ensures { result ≡ range_of_deposit interval state.now (S.value_tree parts.now value) }
 {
     match parts.value(value, state, interval) {
         Ok(amount) => Bound {
@@ -125,7 +123,7 @@ fn stops<S: Parts>(
     interval: Interval,
 ) -> bool
     requires { S.has_observation parts.now observation }
-    ensures { notify_ranges (all_fit (looked interval state.now (S.observation_tree parts.now observation))) (holds interval state.now (S.observation_tree parts.now observation))
+    ensures { ranges_of_notify interval state.now (S.observation_tree parts.now observation)
         ≡ (if result then all_numbers ∷ [] else []) }
 {
     match parts.holds(observation, state, interval) {

@@ -1,13 +1,10 @@
 //! What can be done with a transaction over an interval.
-ghost use Rattle.std.specs.Prelude.{◌≡◌, ◌↔◌, ℕ, true, [], Some, IfOk, IsOk, IsTrue};
+ghost use Rattle.std.specs.Prelude.{◌≡◌, ◌↔◌, IfOk, IsTrue};
 ghost use Rattle.collections.specs.Answers.{AsideBy};
-ghost use Rattle.contract.specs.declared.input.Input.{Input};
-ghost use Rattle.evaluation.specs.Path.{waits_for};
-ghost use Rattle.semantics.specs.Walk.{standing, answer_of};
+ghost use Rattle.semantics.specs.Walk.{answer_of};
 ghost use Rattle.semantics.specs.Transaction.{trimmed};
-ghost use Rattle.semantics.specs.Computed.{computed};
-ghost use Rattle.next_inputs.specs.Opening.{opening, next_case};
-ghost use Rattle.next_inputs.specs.Offers.{offered, AreOffers};
+ghost use Rattle.next_inputs.specs.Opening.{opening, standing_at, OpeningLeads, AcceptsNoInputs};
+ghost use Rattle.next_inputs.specs.Offers.{AreOffersAt, OffersWhatIsTaken};
 
 use crate::cases::offers;
 use crate::offer::Offer;
@@ -38,15 +35,14 @@ pub fn next_inputs<S: Parts>(
     interval: Interval,
 ) -> Result<NextInputs<S::Place>, SemFault>
     requires { S.contains parts.now place }
-    ensures answer { AsideBy SemFault.Memory (λ next. standing next.opening.outcome.state (S.tree parts.now next.opening.outcome.place)) result
+    ensures answer { AsideBy SemFault.Memory (λ o. standing_at (S.tree parts.now) o.opening.outcome) result
         (answer_of (opening interval state.now (S.tree parts.now place))) }
-    ensures warnings { IfOk result (λ next. next.opening.outcome.warnings ≡ (opening interval state.now (S.tree parts.now place)).warnings) }
-    ensures payments { IfOk result (λ next. next.opening.outcome.payments ≡ (opening interval state.now (S.tree parts.now place)).payments) }
-    ensures place { IfOk result (λ next. S.leads parts.now place (opening interval state.now (S.tree parts.now place)).turns next.opening.outcome.place) }
-    ensures can_reduce { IfOk result (λ next. IsTrue next.opening.can_reduce ↔ IsOk (answer_of (computed interval state.now (S.tree parts.now place) []))) }
-    ensures offers { IfOk result (λ next. AreOffers (trimmed interval state.now) next.opening.outcome.state (waits_for (S.tree parts.now next.opening.outcome.place)) next.offers) }
-    ensures exact { IfOk result (λ next. (x : Input) (n : ℕ)
-        → (offered (waits_for (S.tree parts.now next.opening.outcome.place)) next.offers n x ≡ true) ↔ (next_case interval state.now (S.tree parts.now place) x ≡ Some n)) }
+    ensures warnings { IfOk result (λ o. o.opening.outcome.warnings ≡ (opening interval state.now (S.tree parts.now place)).warnings) }
+    ensures payments { IfOk result (λ o. o.opening.outcome.payments ≡ (opening interval state.now (S.tree parts.now place)).payments) }
+    ensures place { IfOk result (λ o. OpeningLeads (S.leads parts.now) (S.tree parts.now) interval state.now place o.opening.outcome) }
+    ensures can_reduce { IfOk result (λ o. IsTrue o.opening.can_reduce ↔ AcceptsNoInputs interval state.now (S.tree parts.now place)) }
+    ensures offers { IfOk result (λ o. AreOffersAt (S.tree parts.now) (trimmed interval state.now) o.opening.outcome o.offers) }
+    ensures exact { IfOk result (λ o. OffersWhatIsTaken (S.tree parts.now) interval state.now place o.opening.outcome o.offers) }
 {
     let opened = opening(alloc, parts, place, state, interval)?;
     let fixed = fixed(interval, state);

@@ -1,10 +1,10 @@
 //! Where a contract stands when the inputs of a transaction come.
-ghost use Rattle.std.specs.Prelude.{◌≡◌, ◌≢◌, ◌↔◌, [], false, IfOk, IfErr, IsOk, IsTrue};
+ghost use Rattle.std.specs.Prelude.{◌≡◌, ◌≢◌, ◌↔◌, IfOk, IfErr, IsTrue};
 ghost use Rattle.collections.specs.Answers.{AsideBy};
-ghost use Rattle.semantics.specs.Walk.{standing, answer_of};
-ghost use Rattle.semantics.specs.Computed.{computed};
+ghost use Rattle.semantics.specs.Walk.{answer_of};
 ghost use Rattle.semantics.specs.Transaction.{begun};
-ghost use Rattle.next_inputs.specs.Opening.{opening};
+ghost use Rattle.next_inputs.specs.Opening.{opening, standing_at, OpeningLeads, AcceptsNoInputs};
+ghost use Rattle.next_inputs.specs.OpeningSupport.{untouched};
 
 use collections::Items;
 use contract::{Interval, Outcome, SemFault, State, TryClone};
@@ -33,12 +33,12 @@ pub fn opening<S: Parts>(
     interval: Interval,
 ) -> Result<Opened<S::Place>, SemFault>
     requires { S.contains parts.now place }
-    ensures answer { AsideBy SemFault.Memory (λ o. standing o.outcome.state (S.tree parts.now o.outcome.place)) result
+    ensures answer { AsideBy SemFault.Memory (λ o. standing_at (S.tree parts.now) o.outcome) result
         (answer_of (opening interval state.now (S.tree parts.now place))) }
     ensures warnings { IfOk result (λ o. o.outcome.warnings ≡ (opening interval state.now (S.tree parts.now place)).warnings) }
     ensures payments { IfOk result (λ o. o.outcome.payments ≡ (opening interval state.now (S.tree parts.now place)).payments) }
-    ensures place { IfOk result (λ o. S.leads parts.now place (opening interval state.now (S.tree parts.now place)).turns o.outcome.place) }
-    ensures can_reduce { IfOk result (λ o. IsTrue o.can_reduce ↔ IsOk (answer_of (computed interval state.now (S.tree parts.now place) []))) }
+    ensures place { IfOk result (λ o. OpeningLeads (S.leads parts.now) (S.tree parts.now) interval state.now place o.outcome) }
+    ensures can_reduce { IfOk result (λ o. IsTrue o.can_reduce ↔ AcceptsNoInputs interval state.now (S.tree parts.now place)) }
 {
     match parts.compute(alloc, &place, state, interval, &[]) {
         Ok(outcome) => Ok(Opened {
@@ -61,7 +61,7 @@ fn untouched<P: Copy>(
     fault: SemFault,
 ) -> Result<Opened<P>, SemFault>
     ensures useless { IfOk result (λ o. fault ≡ SemFault.Useless) }
-    ensures done { IfOk result (λ o. o ≡ record { outcome = record { warnings = []; payments = []; state = begun interval state.now; place = place }; can_reduce = false }) }
+    ensures done { IfOk result (λ o. o ≡ untouched (begun interval state.now) place) }
     ensures refused { IfErr result (λ f. f ≢ SemFault.Memory → (f ≡ fault) × (fault ≢ SemFault.Useless)) }
 {
     match fault {

@@ -17,6 +17,10 @@ script_id c currency = sha256 (contract_bytes c ++ text_bytes currency)
 abbrev pub published_of : ContractTree → List ℕ → Published
 published_of c currency = record { id = script_id c currency; table = (code c).0; root = (code c).1; currency = currency }
 
+-- it is a table, and its root stands for the contract
+abbrev pub IsTableOf : ContractTree → Published → Type 0
+IsTableOf c p = IsTable (terms_of p) × ((terms_of p).tree p.root ≡ c)
+
 -- what is published is a table, and its root stands for the contract
 pub record IsPublished (c : ContractTree) (currency : List ℕ) : Type 0 where
   pub table : IsTable (terms_of (published_of c currency))

@@ -1,10 +1,8 @@
 //! Publishing.
-ghost use Rattle.std.specs.Prelude.{◌≡◌, IfOk, MatchOption, Err};
-ghost use Rattle.std.specs.Result.{IsOkUnless};
+ghost use Rattle.std.specs.Prelude.{◌≡◌, IfOk};
 ghost use Rattle.contract.specs.Tree.{contract_tree};
-ghost use Rattle.compiler.specs.Limits.{compile_fault};
-ghost use Rattle.roles.specs.Publications.{script_id, published_of};
-ghost use Rattle.roles.specs.Terms.{IsTable, terms_of};
+ghost use Rattle.compiler.specs.Limits.{compile_fault, IsRefusedBy};
+ghost use Rattle.roles.specs.Publications.{script_id, published_of, IsTableOf};
 
 use crate::laws::published_are_tables;
 use crate::published::Published;
@@ -37,9 +35,9 @@ pub fn publish(
     contract: &Contract,
     currency: Bytes,
 ) -> Result<Published, CompileFault>
-    ensures fault { MatchOption (compile_fault (contract_tree contract.now)) (IsOkUnless result CompileFault.Memory) (λ fault. result ≡ Err fault) }
+    ensures fault { IsRefusedBy (compile_fault (contract_tree contract.now)) result }
     ensures published { IfOk result (λ published. published ≡ published_of (contract_tree contract.now) currency) }
-    ensures table { IfOk result (λ published. IsTable (terms_of published) × ((terms_of published).tree published.root ≡ contract_tree contract.now)) }
+    ensures table { IfOk result (IsTableOf (contract_tree contract.now)) }
 {
     // touch: what is published is a table
     published_are_tables();

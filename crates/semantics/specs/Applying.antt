@@ -1,5 +1,5 @@
 -- One input (Marlowe specification version 3, "Apply input" and "Apply cases").
-use Rattle.std.specs.Prelude.{◌≡◌, ℕ, suc, ◌<◌, ℤ, pos, ◌+ℤ◌, int_le, int_lt, Bool, true, false, ◌&&◌, List, [], ◌∷◌, ◌++◌, take, slice_get, if◌then◌else◌, ◌⊎◌, Some, Ok, Err}
+use Rattle.std.specs.Prelude.{◌≡◌, ℕ, suc, ◌<◌, ℤ, pos, ◌+ℤ◌, int_le, int_lt, Bool, true, false, ◌&&◌, List, [], ◌∷◌, ◌++◌, take, slice_get, if◌then◌else◌, ◌⊎◌, Some, Result, Ok, Err}
 use Rattle.std.specs.List.{list_any}
 use Rattle.std.specs.Ordering.{int_eq}
 use Rattle.std.specs.FinMap.{insert}
@@ -7,6 +7,7 @@ use Rattle.names.specs.Equal.{same_party, same_token, same_choice_id}
 use Rattle.names.specs.declared.party.Party.{Party}
 use Rattle.names.specs.declared.token.Token.{Token}
 use Rattle.names.specs.declared.bound.Bound.{Bound}
+use Rattle.contract.specs.declared.fault.SemFault.{SemFault}
 use Rattle.contract.specs.declared.fault.SemFault.TheVariants.{NoMatch}
 use Rattle.contract.specs.declared.input.Input.{Input}
 use Rattle.contract.specs.declared.input.Input.TheVariants.{Deposit, Choice, Notify}
@@ -15,6 +16,7 @@ use Rattle.contract.specs.declared.warning.Warning.{Warning}
 use Rattle.contract.specs.declared.warning.Warning.TheVariants.{NonPositiveDeposit}
 use Rattle.states.specs.States.{StateMaps, with_money}
 use Rattle.contract.specs.Tree.{ActionTree, deposit, choice, notify, ContractTree}
+use Rattle.evaluation.specs.Numbers.{within}
 use Rattle.evaluation.specs.Evaluation.{eval, visited, holds, looked}
 use Rattle.semantics.specs.Reduction.{account_of, balance}
 use Rattle.semantics.specs.Walk.{in_case, Standing, standing, Walk}
@@ -41,6 +43,10 @@ abbrev pub tried : Interval → StateMaps → Input → ActionTree → List ℤ
 tried i s (Deposit a p t n) (deposit b q u v) = if agrees a p t b q u then visited i s v else []
 tried i s Notify (notify o) = looked i s o
 tried i s _ _ = []
+
+-- whether it matches, where all of these fit
+abbrev pub matches_within : Interval → StateMaps → Input → ActionTree → Result Bool SemFault
+matches_within i s x k = within (tried i s x k) (matches i s x k)
 
 -- the numbers that are visited when all of these cases are tried
 abbrev pub all_tried : Interval → StateMaps → Input → List (ActionTree × ContractTree) → List ℤ

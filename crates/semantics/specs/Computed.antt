@@ -1,19 +1,20 @@
 -- The one walk that the relations of a transaction allow, as a function of contract, state, interval and inputs.
-use Rattle.std.specs.Prelude.{ℕ, suc, ℤ, pos, int_lt, int_le, List, [], ◌∷◌, ◌++◌, map, if◌then◌else◌, Option, Some, None, Ok, Err}
-use Rattle.std.specs.Int.{int_min}
+use Rattle.std.specs.Prelude.{ℕ, suc, ℤ, pos, int_lt, int_le, List, [], ◌∷◌, ◌++◌, map, if◌then◌else◌, Option, Some, None, Result, Ok, Err}
 use Rattle.std.specs.FinMap.{entries, empty}
 use Rattle.names.specs.declared.party.Party.{Party}
 use Rattle.names.specs.declared.payee.Payee.{Payee}
 use Rattle.names.specs.declared.token.Token.{Token}
+use Rattle.contract.specs.declared.fault.SemFault.{SemFault}
 use Rattle.contract.specs.declared.fault.SemFault.TheVariants.{InvalidInterval, IntervalInPast, Ambiguous}
 use Rattle.contract.specs.declared.input.Input.{Input}
 use Rattle.contract.specs.declared.interval.Interval.{Interval}
 use Rattle.states.specs.States.{StateMaps}
 use Rattle.contract.specs.Tree.{ActionTree, ContractTree, close, pay, if_obs, when, let_be, assert}
+use Rattle.evaluation.specs.Numbers.{within}
 use Rattle.evaluation.specs.Evaluation.{eval, visited, holds, looked}
 use Rattle.semantics.specs.Walk.{refund, Standing, standing, Walk, ended, then_walk}
 use Rattle.evaluation.specs.Path.{waits_for}
-use Rattle.semantics.specs.Reduction.{Reduction, refund_of, balance, paying, not_paying, choosing, timing_out, binding, asserting}
+use Rattle.semantics.specs.Reduction.{Reduction, refund_of, paying_lesser, not_paying, choosing, timing_out, binding, asserting}
 use Rattle.semantics.specs.Settling.{reduction_then}
 use Rattle.semantics.specs.Applying.{matches, tried, taking, unmatched}
 use Rattle.semantics.specs.Transaction.{trimmed, finished}
@@ -24,7 +25,7 @@ refunds s = record { numbers = []; warnings = []; payments = map refund_of (entr
 
 -- what a Pay does, where an amount is due
 abbrev pub pay_step : StateMaps → Party → Payee → Token → ℤ → List ℤ → ContractTree → Reduction
-pay_step s p y t due ns c = if int_lt (pos 0) due then paying s p y t due (int_min (balance s p t) due) ns c else not_paying s p y t due ns c
+pay_step s p y t due ns c = if int_lt (pos 0) due then paying_lesser s p y t due ns c else not_paying s p y t due ns c
 
 -- how a contract settles. A When waits, goes on with its timeout continuation, or its interval is ambiguous
 abbrev pub settled : Interval → StateMaps → ContractTree → Walk
@@ -49,6 +50,10 @@ first_match_index i s x (k ∷ ks) = if matches i s x k.0 then 0 else suc (first
 abbrev pub tried_to_match : Interval → StateMaps → Input → List (ActionTree × ContractTree) → List ℤ
 tried_to_match i s x [] = []
 tried_to_match i s x (k ∷ ks) = tried i s x k.0 ++ (if matches i s x k.0 then [] else tried_to_match i s x ks)
+
+-- where it goes on, where all of these fit
+abbrev pub match_within : Interval → StateMaps → Input → List (ActionTree × ContractTree) → Result (Option ContractTree) SemFault
+match_within i s x ks = within (tried_to_match i s x ks) (first_match i s x ks)
 
 abbrev pub take_match : StateMaps → Input → List ℤ → ℕ → Option ContractTree → Walk
 take_match s x ns n None = unmatched ns

@@ -73,6 +73,10 @@ abbrev pub Moves : {P : Type 0} → (P → Type 0) → (P → Turn → P → Typ
 Moves Contains E p step None = Leads E p (turns_of step) p
 Moves Contains E p step (Some q) = Contains q × E p (turn_of step) q
 
+-- .. the step of the contract at a place
+abbrev pub MovesFrom : {P : Type 0} → (P → Type 0) → (P → Turn → P → Type 0) → (P → ContractTree) → Interval → StateMaps → P → Option P → Type 0
+MovesFrom Contains E tree i s p o = Moves Contains E p (step i s (tree p)) o
+
 abbrev pub is_none_left : {A : Type 0} → List A → Bool
 is_none_left [] = true
 is_none_left (x ∷ xs) = false

@@ -74,6 +74,9 @@ abbrev pub paying : StateMaps → Party → Payee → Token → ℤ → ℤ → 
 paying s p y t due paid ns c =
     record { numbers = ns ++ account_sums (debited s p t paid) y t paid; warnings = partial_pay p y t paid due; payments = record { from = p; to = y; token = t; amount = paid } ∷ []; turn = next; state = credited (debited s p t paid) y t paid; contract = c }
 
+abbrev pub paying_lesser : StateMaps → Party → Payee → Token → ℤ → List ℤ → ContractTree → Reduction
+paying_lesser s p y t due ns c = paying s p y t due (int_min (balance s p t) due) ns c
+
 -- 0 or less is due: nothing is paid
 abbrev pub not_paying : StateMaps → Party → Payee → Token → ℤ → List ℤ → ContractTree → Reduction
 not_paying s p y t due ns c = going ns (NonPositivePay p y t due ∷ []) next s c
@@ -109,7 +112,7 @@ abbrev pub Reduces : Interval → StateMaps → ContractTree → Reduction → T
 Reduces i s close r = (e : Account × ℤ) × (first_account s ≡ Some e) × (r ≡ refunded s e)
 Reduces i s (pay p y t v c) r =
     ((eval i s v ≤ℤ pos 0) × (r ≡ not_paying s p y t (eval i s v) (visited i s v) c))
-    ⊎ ((pos 0 <ℤ eval i s v) × (r ≡ paying s p y t (eval i s v) (int_min (balance s p t) (eval i s v)) (visited i s v) c))
+    ⊎ ((pos 0 <ℤ eval i s v) × (r ≡ paying_lesser s p y t (eval i s v) (visited i s v) c))
 Reduces i s (if_obs o c d) r = r ≡ choosing s (holds i s o) (looked i s o) c d
 Reduces i s (when ks timeout c) r = (timeout ≤ℤ i.from) × (r ≡ timing_out s c)
 Reduces i s (let_be x v c) r = r ≡ binding s x (eval i s v) (visited i s v) c

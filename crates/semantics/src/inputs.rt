@@ -7,8 +7,8 @@ ghost use Rattle.evaluation.specs.Numbers.{within};
 ghost use Rattle.collections.specs.Answers.{Aside};
 ghost use Rattle.semantics.specs.Walk.{standing};
 ghost use Rattle.evaluation.specs.Path.{waits_for};
-ghost use Rattle.semantics.specs.Applying.{agrees, in_bound, matches, tried, taken, taken_numbers, taken_warnings};
-ghost use Rattle.semantics.specs.Computed.{first_match, first_match_index, tried_to_match, applied};
+ghost use Rattle.semantics.specs.Applying.{agrees, in_bound, matches_within, taken, taken_numbers, taken_warnings};
+ghost use Rattle.semantics.specs.Computed.{first_match_index, match_within, applied};
 ghost use Rattle.evaluation.specs.Parts.{IsEntered, StandsWait, wait_tree};
 ghost use Rattle.semantics.specs.Answer.{Continues, tree_of_next};
 
@@ -54,7 +54,7 @@ pub fn matching_case<S: Parts>(
 ) -> Result<Option<S::Place>, SemFault>
     requires { S.contains parts.now place }
     ensures reply { tree_of_next (S.tree parts.now) result
-        ≡ within (tried_to_match interval state.now input.now (waits_for (S.tree parts.now place))) (first_match interval state.now input.now (waits_for (S.tree parts.now place))) }
+        ≡ match_within interval state.now input.now (waits_for (S.tree parts.now place)) }
     ensures place { IfOk result (λ found. IfSome found (IsEntered (S.contains parts.now) (S.enters parts.now) place
         (first_match_index interval state.now input.now (waits_for (S.tree parts.now place))))) }
 {
@@ -78,7 +78,7 @@ pub fn matches<S: Parts>(
 ) -> Result<bool, SemFault>
     requires { StandsWait (S.has_value parts.now) (S.has_observation parts.now) action }
     ensures { result
-        ≡ within (tried interval state.now input.now (wait_tree (S.value_tree parts.now) (S.observation_tree parts.now) action.entry)) (matches interval state.now input.now (wait_tree (S.value_tree parts.now) (S.observation_tree parts.now) action.entry)) }
+        ≡ matches_within interval state.now input.now (wait_tree (S.value_tree parts.now) (S.observation_tree parts.now) action.entry) }
 {
     match (input, action) {
         (Input::Deposit(account, party, token, amount), Wait::Deposit(a, p, t, expected)) => {

@@ -1,5 +1,5 @@
 -- A state of a contract (Marlowe specification version 3, "State and environment"), as finite maps.
-use Rattle.std.specs.Prelude.{ℤ, pos, cond}
+use Rattle.std.specs.Prelude.{ℕ, ℤ, pos, cond, List}
 use Rattle.std.specs.Option.{unwrap_or}
 use Rattle.std.specs.Ordering.{int_eq}
 use Rattle.std.specs.FinMap as map
@@ -8,6 +8,7 @@ pub use Rattle.collections.specs.Positive.{AllPositive}
 use Rattle.collections.specs.Total.{total}
 use Rattle.names.specs.declared.token.Token.{Token}
 use Rattle.names.specs.declared.account.Account.{Account}
+use Rattle.names.specs.declared.choice_id.ChoiceId.{ChoiceId}
 use Rattle.names.specs.Equal.{same_token}
 use Rattle.names.specs.Orders.{bytes_cmp, account_cmp, choice_id_cmp}
 
@@ -17,6 +18,10 @@ pub record StateMaps : Type 0 where
   pub choices : FinMap choice_id_cmp ℤ
   pub bound_values : FinMap bytes_cmp ℤ
   pub min_time : ℤ
+
+-- the state with these entries, in the order of their keys
+abbrev pub of_entries : List (Account × ℤ) → List (ChoiceId × ℤ) → List (List ℕ × ℤ) → ℤ → StateMaps
+of_entries accounts choices bound_values min_time = record { accounts = map.from_sorted accounts; choices = map.from_sorted choices; bound_values = map.from_sorted bound_values; min_time = min_time }
 
 -- what an account has: 0 where it has no entry
 abbrev pub money_of : StateMaps → Account → ℤ

@@ -2,7 +2,7 @@
 ghost use Rattle.std.specs.Prelude.{◌≡◌, ℤ, pos, ◌≤ℤ◌, IsSome, IsOk, OnOk, OnErr, slice_get};
 ghost use Rattle.std.specs.Option.{option_copied};
 ghost use Rattle.std.specs.FinMap as map;
-ghost use Rattle.states.specs.States.{money_of, with_money, AllPositive};
+ghost use Rattle.states.specs.States.{of_entries, money_of, with_money, AllPositive};
 
 use collections::{Entries, Memory, Probe, Text, TryClone};
 use names::{Account, ChoiceId, Party, Token};
@@ -94,7 +94,7 @@ impl State {
         min_time: i64,
     ) -> State
         requires { AllPositive accounts }
-        ensures { result ≡ record { accounts = map.from_sorted accounts; choices = map.from_sorted choices; bound_values = map.from_sorted bound_values; min_time = min_time } }
+        ensures { result ≡ of_entries accounts choices bound_values min_time }
     {
         State {
             accounts,

@@ -1,6 +1,7 @@
 -- What is kept of a symbol's number in each of two cases, and a symbol that has a number in both.
-use Rattle.std.specs.Prelude.{◌≡◌, ℕ, ◌<◌, ◌≤◌, ℤ, pos, neg_ℤ, ◌⊎◌, List, [], ◌∷◌}
-use Rattle.linear.specs.Linear.{Linear, Valuation, number_at, IsBelow, AreNatural, Agree}
+use Rattle.std.specs.Prelude.{◌≡◌, ℕ, ◌<◌, ◌≤◌, ℤ, pos, neg_ℤ, ◌⊎◌, List, [], ◌∷◌, ◌++◌}
+use Rattle.linear.specs.Linear.{Linear, Valuation, number_at, symbol, IsBelow, AreNatural, Agree}
+use Rattle.symbols.specs.declared.branched.Branched.{Branched}
 use Rattle.symbols.specs.Symbols.{Symbols, Branch, AreApart, AreBranches, FactsBelow, BranchesBelow, IsValued, IsClosed, Knows}
 
 -- numbers that agree with others below a count, in which all holds that is known in a case
@@ -65,6 +66,10 @@ abbrev pub KeepsBranch : Symbols → Symbols → List Linear → List Linear →
 KeepsBranch k m fs ds s e =
     (r : Valuation) → IsClosed k → IsValued r k → FactsBelow k.next fs → FactsBelow k.next ds → s < k.next → IsBelow k.next e → (AreNatural r fs → AreApart r ds → r s ≡ number_at r e) → Knows k r m
 
+-- .. that of a branch, where its conditions hold as well
+abbrev pub KeepsTaken : Symbols → Symbols → List Linear → List Linear → Branched → ℕ → Type 0
+KeepsTaken k m fs ds b s = KeepsBranch k m (fs ++ b.facts) (ds ++ b.apart) s b.number
+
 -- .. the number that it has in the first of two cases
 abbrev pub KeepsSide : Symbols → Symbols → Symbols → Linear → Symbols → ℕ → ℕ → Type 0
 KeepsSide k m a x b count s = (r : Valuation) → IsClosed k → IsValued r k → count ≤ k.next → s < k.next → Comes a x count r (r s) ⊎ Stands b count r → Knows k r m
@@ -72,6 +77,10 @@ KeepsSide k m a x b count s = (r : Valuation) → IsClosed k → IsValued r k �
 -- .. where conditions hold that never do in the second
 abbrev pub KeepsWhere : Symbols → Symbols → Symbols → Linear → List Linear → List Linear → ℕ → ℕ → Type 0
 KeepsWhere k m a x fs ds count s = (b : Symbols) → Excludes count b fs ds → KeepsSide k m a x b count s
+
+-- .. the number of a symbol
+abbrev pub KeepsOwn : Symbols → Symbols → Symbols → ℕ → List Linear → List Linear → ℕ → ℕ → Type 0
+KeepsOwn k m a own fs ds count s = KeepsWhere k m a (symbol own) fs ds count s
 
 -- .. in each of them
 abbrev pub KeepsSides : Symbols → Symbols → Symbols → Linear → Symbols → Linear → ℕ → ℕ → Type 0

@@ -34,9 +34,17 @@ pub record IsNewest {A : Type 0} (xs ys : List A) : Type 0 where
 abbrev pub GivesAny : Symbols → Symbols → Linear → Option ℤ → Option ℤ → Type 0
 GivesAny k m e low high = (r : Valuation) (x : ℤ) → IsClosed k → IsValued r k → IsFrom low x → IsUpTo high x → Gives k r (m, e) x
 
+-- .. by ranges, whatever else is known
+abbrev pub RangesGiveAny : List Bounds → List Bounds → Option ℤ → Option ℤ → Linear → Type 0
+RangesGiveAny old new low high e = (fs ds : List Linear) (os : List Operation) (cs : List Branch) → GivesAny (symbols_of old fs ds os cs) (symbols_of new fs ds os cs) e low high
+
 -- .. more is known where an expression is at least 0
 abbrev pub Learns : Symbols → Symbols → Linear → Type 0
 Learns k m l = (r : Valuation) → IsClosed k → IsValued r k → IsBelow k.next l → pos 0 ≤ℤ number_at r l → Knows k r m
+
+-- .. by ranges and facts, whatever else is known
+abbrev pub RangesLearn : List Bounds → List Linear → List Bounds → List Linear → Linear → Type 0
+RangesLearn old old_facts new new_facts l = (ds : List Linear) (os : List Operation) (cs : List Branch) → Learns (symbols_of old old_facts ds os cs) (symbols_of new new_facts ds os cs) l
 
 -- .. and that is said to be possible
 abbrev pub Assumes : Symbols → Symbols → Linear → Bool → Type 0

@@ -1,9 +1,11 @@
 -- Products and quotients that have a symbol.
 use Rattle.std.specs.Prelude.{◌≡◌, ℕ, ◌<◌, ℤ, ◌*ℤ◌, Bool, List, Option}
 use Rattle.evaluation.specs.Evaluation.{quotient}
+use Rattle.linear.specs.declared.bounds.Bounds.{Bounds}
 use Rattle.symbols.specs.declared.named.Named.{Named}
 use Rattle.linear.specs.Linear.{Linear, Valuation, number_at, IsBelow, IsFrom, IsUpTo}
-use Rattle.symbols.specs.Symbols.{Symbols, Operation, result, AreResults, OperationsBelow, IsValued, IsClosed, Gives}
+use Rattle.symbols.specs.Symbols.{Symbols, Operation, Branch, result, AreResults, OperationsBelow, IsValued, IsClosed, Gives}
+use Rattle.symbols.specs.Held.{symbols_of, operations_of}
 
 -- whatever numbers symbols stand for: an expression stands for the product or quotient of two
 abbrev pub GivesResult : Bool → Symbols → Symbols → Linear → Linear → Linear → Type 0
@@ -14,6 +16,11 @@ abbrev pub GivesInRange : Bool → Option ℤ → Option ℤ → Symbols → Sym
 GivesInRange d low high k m l n e =
     (r : Valuation) → IsClosed k → IsValued r k → IsBelow k.next l → IsBelow k.next n → IsFrom low (result d (number_at r l) (number_at r n)) → IsUpTo high (result d (number_at r l) (number_at r n))
     → Gives k r (m, e) (result d (number_at r l) (number_at r n))
+
+-- .. by ranges and operations, whatever facts and branches there are
+abbrev pub NamesInRange : Bool → Bounds → List Bounds → List Named → List Bounds → List Named → Linear → Linear → Linear → Type 0
+NamesInRange d b old old_operations new new_operations l n e =
+    (fs ds : List Linear) (cs : List Branch) → GivesInRange d b.least b.greatest (symbols_of old fs ds (operations_of old_operations) cs) (symbols_of new fs ds (operations_of new_operations) cs) l n e
 
 -- .. or for a multiple of one
 abbrev pub GivesMultiple : ℤ → Symbols → Symbols → Linear → Linear → Type 0

@@ -4,7 +4,7 @@ ghost use Rattle.std.specs.Option.{IfSome};
 ghost use Rattle.linear.specs.Linear.{symbol as symbol_alone};
 ghost use Rattle.symbols.specs.Symbols.{FactsBelow};
 ghost use Rattle.symbols.specs.Held.{branch_of, branches_of};
-ghost use Rattle.symbols.specs.Branches.{ShowsAll, RulesOutAll, IsTaken, HasNumber, IsOfEither, IsZeroIn, Excludes, IsOlder, KeepsBranch, KeepsWhere, KeepsSide, KeepsSides};
+ghost use Rattle.symbols.specs.Branches.{ShowsAll, RulesOutAll, IsTaken, HasNumber, IsOfEither, IsZeroIn, Excludes, IsOlder, KeepsBranch, KeepsTaken, KeepsWhere, KeepsOwn, KeepsSide, KeepsSides};
 
 use crate::apart::{cancels, is_apart};
 use crate::branched::{Branched, SharedBranch};
@@ -459,7 +459,7 @@ fn keep_taken(
     branch: &Branched,
     symbol: usize,
 ) -> Result<(), Memory>
-    ensures { OnOk result (KeepsBranch symbols.old symbols.new (condition.now.facts ++ branch.now.facts) (condition.now.apart ++ branch.now.apart) symbol branch.now.number) }
+    ensures { OnOk result (KeepsTaken symbols.old symbols.new condition.now.facts condition.now.apart branch.now symbol) }
 {
     let mut facts = condition.facts.try_clone()?;
     append(&mut facts, branch.facts.as_slice())?;
@@ -483,7 +483,7 @@ fn keep_if_own(
 ) -> Result<(), Memory>
     requires at { at < length branches.now }
     requires own { branches_of branches.now ≡ here.now.branches }
-    ensures { OnOk result (KeepsWhere symbols.old symbols.new here.now (symbol_alone own) condition.now.facts condition.now.apart count symbol) }
+    ensures { OnOk result (KeepsOwn symbols.old symbols.new here.now own condition.now.facts condition.now.apart count symbol) }
 {
     let _here = here;
     let branch = branches[at].get();
@@ -503,7 +503,7 @@ fn keep_inner(
     count: usize,
     symbol: usize,
 ) -> Result<(), Memory>
-    ensures { OnOk result (KeepsWhere symbols.old symbols.new here.now (symbol_alone own) condition.now.facts condition.now.apart count symbol) }
+    ensures { OnOk result (KeepsOwn symbols.old symbols.new here.now own condition.now.facts condition.now.apart count symbol) }
 {
     let branches = here.held_branches();
     for at in first_looked(branches.len())..branches.len() {

@@ -1,10 +1,8 @@
 //! Products and quotients that have a symbol.
-ghost use Rattle.std.specs.Prelude.{◌≡◌, ℕ, ◌<◌, pos, neg_ℤ, ◌≤ℤ◌, ◌<ℤ◌, true, IfOk, List, length, Some, None};
+ghost use Rattle.std.specs.Prelude.{◌≡◌, ℕ, ◌<◌, pos, neg_ℤ, ◌≤ℤ◌, ◌<ℤ◌, true, IfOk, length, Some, None};
 ghost use Rattle.std.specs.Option.{IfSome};
-ghost use Rattle.linear.specs.Linear.{Linear as Expression};
-ghost use Rattle.symbols.specs.Symbols.{Branch};
-ghost use Rattle.symbols.specs.Held.{symbols_of, operations_of};
-ghost use Rattle.symbols.specs.Results.{IsOf, IsSymbolOf, IsNamed, GivesInRange};
+ghost use Rattle.symbols.specs.Held.{operations_of};
+ghost use Rattle.symbols.specs.Results.{IsOf, IsSymbolOf, IsNamed, NamesInRange};
 ghost use Rattle.linear.specs.ResultRanges.{AreCorners, IsProductRange, IsTurned, IsByGreatest, IsLeastQuotient, IsGreatestQuotient, IsQuotientRange};
 
 use crate::apart::cancels;
@@ -93,7 +91,7 @@ pub(crate) fn put_operation(
     second: &Linear,
     range: Bounds,
 ) -> Result<Linear, Memory>
-    ensures { IfOk result (λ e. (fs ds : List Expression) (cs : List Branch) → GivesInRange divides range.least range.greatest (symbols_of bounds.old fs ds (operations_of operations.old) cs) (symbols_of bounds.new fs ds (operations_of operations.new) cs) first.now second.now e) }
+    ensures { IfOk result (NamesInRange divides range bounds.old operations.old bounds.new operations.new first.now second.now) }
 {
     let symbol = bounds.len();
     let e = Linear::symbol(first.memory(), symbol)?;

@@ -1,14 +1,13 @@
 //! What is known of symbols.
-ghost use Rattle.std.specs.Prelude.{◌≡◌, pos, neg_ℤ, ◌≤ℤ◌, IfOk, OnOk, true, false, None, List, [], length};
-ghost use Rattle.linear.specs.Linear.{Linear as Expression, number_at, symbol};
+ghost use Rattle.std.specs.Prelude.{◌≡◌, pos, neg_ℤ, ◌≤ℤ◌, IfOk, OnOk, true, false, None, [], length};
+ghost use Rattle.linear.specs.Linear.{number_at, symbol};
 ghost use Rattle.linear.specs.Bounded.{numbered, IsShown, IsFromAll, IsUpToAll, IsRefuted};
-ghost use Rattle.symbols.specs.Symbols.{Operation, Branch};
 ghost use Rattle.symbols.specs.Joined.{Joins};
 ghost use Rattle.symbols.specs.Quotients.{GivesQuotient};
 ghost use Rattle.symbols.specs.Results.{IsNamed, GivesResult, GivesInRange, GivesMultiple};
 ghost use Rattle.std.specs.Option.{IfSome};
 ghost use Rattle.symbols.specs.Branches.{KeepsBranch};
-ghost use Rattle.symbols.specs.Held.{symbols_of, branches_of, GivesAny, Learns, Assumes, Distinguishes, IsSharpened, KnowsWithin};
+ghost use Rattle.symbols.specs.Held.{symbols_of, branches_of, GivesAny, RangesGiveAny, Learns, RangesLearn, Assumes, Distinguishes, IsSharpened, KnowsWithin};
 
 use crate::apart::sharpened;
 use crate::branched::{Branched, SharedBranch};
@@ -527,7 +526,7 @@ fn put_symbol(
     least: Option<i128>,
     greatest: Option<i128>,
 ) -> Result<Linear, Memory>
-    ensures any { IfOk result (λ e. (fs ds : List Expression) (os : List Operation) (cs : List Branch) → GivesAny (symbols_of bounds.old fs ds os cs) (symbols_of bounds.new fs ds os cs) e least greatest) }
+    ensures any { IfOk result (RangesGiveAny bounds.old bounds.new least greatest) }
     ensures name { IfOk result (λ e. e ≡ symbol (length bounds.old)) }
 {
     let symbol = Linear::symbol(bounds.memory(), bounds.len())?;
@@ -537,7 +536,7 @@ fn put_symbol(
 
 // One fact more, which makes ranges narrower.
 fn put_fact(bounds: &mut Ranges, facts: &mut Items<Linear>, fact: Linear) -> Result<(), Memory>
-    ensures { OnOk result ((ds : List Expression) (os : List Operation) (cs : List Branch) → Learns (symbols_of bounds.old facts.old ds os cs) (symbols_of bounds.new facts.new ds os cs) fact) }
+    ensures { OnOk result (RangesLearn bounds.old facts.old bounds.new facts.new fact) }
 {
     narrow(bounds, &fact)?;
     make_room(fact.memory(), facts, MOST_FACTS)?;

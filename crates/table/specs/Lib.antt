@@ -6,3 +6,4 @@ pub mod Along
 pub mod AlongLaws
 pub mod Leaves
 pub mod Hashing
+pub mod DecompileSupport

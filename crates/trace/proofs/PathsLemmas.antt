@@ -55,7 +55,7 @@ along_more c (p ∷ ps) qs = by (part_behind c p) (λ d. along_more d ps qs)
     by None h = refl
     by (Some d) h = h d
 
-turns_lead : (root c : ContractTree) (here : List PathStep) (ts : List Turn) (d : ContractTree) → part_along root here ≡ Some c → along c ts ≡ Some d → part_along root (led here ts) ≡ Some d
+pub turns_lead : (root c : ContractTree) (here : List PathStep) (ts : List Turn) (d : ContractTree) → part_along root here ≡ Some c → along c ts ≡ Some d → part_along root (led here ts) ≡ Some d
 turns_lead root c here [] d h k = h ∙ k
 turns_lead root c here (t ∷ ts) d h k = by (part c t) refl k (λ e g f. turns_lead root e (here ++ step_of t) ts d g f)
   where

@@ -15,4 +15,6 @@ pub use laws::{paths_lead, traces_join, warned_are_the_warnings, worked_traces};
 pub use refused::Refused;
 pub use sequence::{Left, after};
 pub use settling::{Settled, settle};
+pub use stepping::{Stepped, Stepping};
+pub use steps::{is_quiet, push_step};
 pub use warned::Warned;

@@ -14,10 +14,12 @@ use semantics::Plain;
 /// A contract, and the step by which it was entered last, if it was.
 #[derive(Clone, Copy)]
 #[derive_where(PartialEq, Eq)]
-pub(crate) struct Stepped<'c> {
-    pub(crate) contract: &'c Contract,
+pub struct Stepped<'c> {
+    /// The contract.
+    pub contract: &'c Contract,
+    /// The step that led to it.
     #[derive_where(skip)]
-    pub(crate) step: Option<PathStep>,
+    pub step: Option<PathStep>,
 }
 
 // What a step leads to.
@@ -32,13 +34,13 @@ fn behind<'c>(step: PathStep, contract: &'c Contract) -> Stepped<'c>
 
 /// Contracts as trees, as `Plain` has them, but that each place has the step that led to it.
 #[derive(Clone, Copy)]
-pub(crate) struct Stepping<'c> {
+pub struct Stepping<'c> {
     plain: Plain<'c>,
 }
 
 impl<'c> Stepping<'c> {
     /// Takes no memory.
-    pub(crate) fn new() -> Stepping<'c> {
+    pub fn new() -> Stepping<'c> {
         Stepping {
             plain: Plain::new(),
         }

@@ -36,7 +36,7 @@ pub(crate) fn compute<'c>(
 }
 
 /// Whether nothing is left to reduce.
-pub(crate) fn is_quiet(contract: &Contract, state: &State, interval: Interval) -> bool
+pub fn is_quiet(contract: &Contract, state: &State, interval: Interval) -> bool
     ensures { result ≡ is_quiet interval state.now (contract_tree contract.now) }
 {
     match contract {
@@ -92,7 +92,7 @@ fn reduce_once<'c>(
 }
 
 /// Puts a step behind a path, if there is one.
-pub(crate) fn push_step(path: &mut Items<PathStep>, step: Option<PathStep>) -> Result<(), Memory>
+pub fn push_step(path: &mut Items<PathStep>, step: Option<PathStep>) -> Result<(), Memory>
     ensures { OnOk result (path.new ≡ path.old ++ option_to_list step) }
 {
     if let Some(step) = step {

@@ -3,6 +3,7 @@ ghost use Rattle.std.specs.Prelude.{◌≡◌, IfOk, Ok, map};
 ghost use Rattle.contract.specs.Tree as trees;
 ghost use Rattle.table.specs.Flat as flat;
 ghost use Rattle.table.specs.Flat.{Stands, AllStand, a_value, an_observation, a_case, a_cont};
+ghost use Rattle.table.specs.DecompileSupport.{AreValuesAt, AreObservationsAt};
 
 use crate::table::Table;
 use collections::{Boxed, Items, Memory, Text, TryClone};
@@ -264,7 +265,7 @@ fn two_values_at(
 ) -> Result<(Boxed<Value>, Boxed<Value>), Memory>
     requires first { Stands table.now (a_value a) }
     requires second { Stands table.now (a_value b) }
-    ensures { IfOk result (λ made. (trees.value_tree made.0 ≡ flat.value_tree table.now a) × (trees.value_tree made.1 ≡ flat.value_tree table.now b)) }
+    ensures { IfOk result (AreValuesAt table.now a b) }
 {
     let x = boxed_value_at(table, alloc, a)?;
     both(x, boxed_value_at(table, alloc, b))
@@ -323,7 +324,7 @@ fn two_observations_at(
 ) -> Result<(Boxed<Observation>, Boxed<Observation>), Memory>
     requires first { Stands table.now (an_observation a) }
     requires second { Stands table.now (an_observation b) }
-    ensures { IfOk result (λ made. (trees.observation_tree made.0 ≡ flat.observation_tree table.now a) × (trees.observation_tree made.1 ≡ flat.observation_tree table.now b)) }
+    ensures { IfOk result (AreObservationsAt table.now a b) }
 {
     let x = boxed_observation_at(table, alloc, a)?;
     both(x, boxed_observation_at(table, alloc, b))

@@ -1,9 +1,8 @@
 //! Evaluation by numbers.
 ghost use Rattle.std.specs.Prelude.{◌≡◌};
-ghost use Rattle.evaluation.specs.Numbers.{within};
-ghost use Rattle.evaluation.specs.Evaluation.{eval, holds, visited, looked};
+ghost use Rattle.evaluation.specs.Evaluation.{number_within, truth_within};
 ghost use Rattle.evaluation.specs.Checked.{both, eval128, holds128};
-ghost use Rattle.table.specs.Leaves.{fitting};
+ghost use Rattle.table.specs.Leaves.{number_fitting, truth_fitting};
 ghost use Rattle.table.specs.Flat.{value_tree, observation_tree, Stands, a_value, an_observation};
 
 use crate::leaves::Leaves128;
@@ -18,8 +17,7 @@ impl Table {
     /// is evaluated twice.
     pub fn value(&self, number: u32, state: &State, interval: Interval) -> Result<i128, Leaves128>
         requires { Stands self.now (a_value number) }
-        ensures { result
-            ≡ fitting (visited interval state.now (value_tree self.now number)) (eval interval state.now (value_tree self.now number)) }
+        ensures { result ≡ number_fitting interval state.now (value_tree self.now number) }
     {
         match self.evaluated(number, state, interval) {
             Ok(number) => Ok(number),
@@ -31,8 +29,7 @@ impl Table {
     /// a number that is visited on the way leaves 128 bits; takes no memory. It goes down the unfolded tree.
     pub fn holds(&self, number: u32, state: &State, interval: Interval) -> Result<bool, Leaves128>
         requires { Stands self.now (an_observation number) }
-        ensures { result
-            ≡ fitting (looked interval state.now (observation_tree self.now number)) (holds interval state.now (observation_tree self.now number)) }
+        ensures { result ≡ truth_fitting interval state.now (observation_tree self.now number) }
     {
         match self.judged(number, state, interval) {
             Ok(truth) => Ok(truth),
@@ -48,8 +45,7 @@ impl Table {
         interval: Interval,
     ) -> Result<i128, SemFault>
         requires { Stands self.now (a_value number) }
-        ensures { result
-            ≡ within (visited interval state.now (value_tree self.now number)) (eval interval state.now (value_tree self.now number)) }
+        ensures { result ≡ number_within interval state.now (value_tree self.now number) }
     {
         self.checked_value(number, state, interval)
     }
@@ -62,8 +58,7 @@ impl Table {
         interval: Interval,
     ) -> Result<bool, SemFault>
         requires { Stands self.now (an_observation number) }
-        ensures { result
-            ≡ within (looked interval state.now (observation_tree self.now number)) (holds interval state.now (observation_tree self.now number)) }
+        ensures { result ≡ truth_within interval state.now (observation_tree self.now number) }
     {
         self.checked_holds(number, state, interval)
     }

@@ -2,13 +2,13 @@ use Rattle.std.proofs.Common.{◌≡◌, ◌∙◌, ap, subst, ◌<◌, ◌^◌,
 use Rattle.std.proofs.lemmas.Grind.{common_steps}
 use Rattle.std.proofs.lemmas.Int.{to_z-of_z}
 use Rattle.std.specs.List.{flat_map}
-use Rattle.contract.specs.Tree.{value_tree, observation_tree, action_tree, contract_tree}
+use Rattle.contract.specs.Tree.{value_tree, observation_tree, contract_tree}
 use Rattle.contract_bytes.specs.Numbers.{length_bytes, time_bytes, text_bytes}
 use Rattle.contract_bytes.specs.Names.{party_bytes, token_bytes, payee_bytes}
 use Rattle.contract_bytes.specs.Values.{value_bytes, observation_bytes}
-use Rattle.contract_bytes.specs.Trees.{action_bytes, contract_bytes, ActionFits, ContractFits}
+use Rattle.contract_bytes.specs.Trees.{contract_bytes}
 use Rattle.contract_bytes.specs.Writing.{AppendsFront}
-use Rattle.contract_bytes.specs.WritingSupport.{Spells}
+use Rattle.contract_bytes.specs.WritingSupport.{SpellsContract, case_bytes, CaseFits}
 use Rattle.contract_bytes.proofs.Fronts.{front_as, front_first, front_then, wrote_both}
 use Rattle.contract_bytes.proofs.Spellings.{no_front, refused, a_byte, behind, fitting, form}
 use Rattle.contract_bytes.proofs.Forms.{contract_bytes-Close, contract_bytes-Pay, contract_bytes-If, contract_bytes-When, contract_bytes-Let, contract_bytes-Assert}
@@ -22,15 +22,15 @@ pub put_cases-loop-case-preserved : goal.put_cases-loop-case-preserved
 put_cases-loop-case-preserved t c =
     let cases = c.as_slice-case-items.result.now in
     let i = c.loop-case.case-index in (
-      one_more_stands (λ k. action_bytes (action_tree k.action) ++ contract_bytes (contract_tree k.then)) cases i c.case-item.result c.loop-case-test.true c.case-item.is c.args.out.now.items c.loop-case.out.items c.put_case.new.out.items c.loop-case.invariant.0 c.in_ok-put_case.ensures.spelling,
-      one_more_fits (λ k. ActionFits (action_tree k.action) × ContractFits (contract_tree k.then)) cases i c.case-item.result c.loop-case-test.true c.case-item.is c.loop-case.invariant.1 c.in_ok-put_case.ensures.fits,
+      one_more_stands case_bytes cases i c.case-item.result c.loop-case-test.true c.case-item.is c.args.out.now.items c.loop-case.out.items c.put_case.new.out.items c.loop-case.invariant.0 c.in_ok-put_case.ensures.spelling,
+      one_more_fits CaseFits cases i c.case-item.result c.loop-case-test.true c.case-item.is c.loop-case.invariant.1 c.in_ok-put_case.ensures.fits,
     )
 
 pub put_cases-returns-in_err-put_case : goal.put_cases-returns-in_err-put_case
 put_cases-returns-in_err-put_case t c =
     refused c.from_residual.result c.from_residual.ensures.0
-    (subst (λ cases. AppendsFront (flat_map (λ k. action_bytes (action_tree k.action) ++ contract_bytes (contract_tree k.then)) cases) c.args.out.now.items c.put_case.new.out.items) c.as_slice-case-items.ensures
-    (one_more_front (λ k. action_bytes (action_tree k.action) ++ contract_bytes (contract_tree k.then)) c.as_slice-case-items.result.now c.loop-case.case-index c.case-item.result c.loop-case-test.true c.case-item.is c.args.out.now.items c.loop-case.out.items c.put_case.new.out.items c.loop-case.invariant.0
+    (subst (λ cases. AppendsFront (flat_map case_bytes cases) c.args.out.now.items c.put_case.new.out.items) c.as_slice-case-items.ensures
+    (one_more_front case_bytes c.as_slice-case-items.result.now c.loop-case.case-index c.case-item.result c.loop-case-test.true c.case-item.is c.args.out.now.items c.loop-case.out.items c.put_case.new.out.items c.loop-case.invariant.0
     c.in_err-put_case.ensures.err))
 
 pub put_case-returns-in_err-put_action : goal.put_case-returns-in_err-put_action
@@ -40,7 +40,7 @@ pub put_case-returns : goal.put_case-returns
 put_case-returns t c = fitting c.put_contract.result (λ h. (c.in_ok-put_action.ensures.fits, h)) (behind _ c.put_contract.result c.in_ok-put_action.ensures.spelling c.put_contract.ensures)
 
 pub put_then-returns : goal.put_then-returns
-put_then-returns t c = subst (λ k. Spells c.put_contract.result (contract_bytes (contract_tree k)) (ContractFits (contract_tree k)) c.args.out.now.items c.put_contract.new.out.items) c.get.ensures c.put_contract.ensures
+put_then-returns t c = subst (λ k. SpellsContract c.put_contract.result (contract_tree k) c.args.out.now c.put_contract.new.out) c.get.ensures c.put_contract.ensures
 
 -- ---- contracts, by their forms
 
@@ -89,7 +89,7 @@ put_contract-returns-in_err-put_byte-in-When t c = refused c.from_residual-in_er
 pub put_contract-returns-in_err-put_length-in-When : goal.put_contract-returns-in_err-put_length-in-When
 put_contract-returns-in_err-put_length-in-When t c =
     let d = c.in-When in
-    let cases = flat_map (λ k. action_bytes (action_tree k.action) ++ contract_bytes (contract_tree k.then)) d.cases in
+    let cases = flat_map case_bytes d.cases in
     rw d.is (refused c.from_residual-in_err-put_length-in-When.result c.from_residual-in_err-put_length-in-When.ensures.0 (front_as (contract_bytes-When d.cases d.timeout d.then)
     (front_then (0x03 ∷ []) c.in_ok-put_byte-in-When.ensures.spelling (no_front (length_bytes (length d.cases) ++ cases ++ time_bytes d.timeout ++ contract_bytes (contract_tree d.then)) c.in_err-put_length-in-When.ensures.err))))
 
@@ -105,7 +105,7 @@ put_contract-returns-in_err-put_time-in-When t c =
     let d = c.in-When in
     let out = c.args.out.now.items in
     let count = length_bytes (length d.cases) in
-    let cases = flat_map (λ k. action_bytes (action_tree k.action) ++ contract_bytes (contract_tree k.then)) d.cases in
+    let cases = flat_map case_bytes d.cases in
     let counted = wrote_both out (0x03 ∷ []) count c.in_ok-put_byte-in-When.ensures.spelling (c.in_ok-put_length-in-When.ensures.spelling ∙ ap (λ n. c.put_byte-in-When.new.out.items ++ length_bytes n) c.len.ensures) in
     let spelled = wrote_both out (0x03 ∷ count) cases counted c.in_ok-put_cases-in-When.ensures.spelling in
     rw d.is (refused c.from_residual-in_err-put_time-in-When.result c.from_residual-in_err-put_time-in-When.ensures.0 (front_as (contract_bytes-When d.cases d.timeout d.then)
@@ -119,7 +119,7 @@ put_contract-returns-in_ok-put_time-in-When t c =
     let count = length_bytes (length d.cases) in
     let fits : SFits w64 d.timeout = search rules in
     let few : length d.cases < 2 ^ 64 = grind (arith, common_steps) in
-    let cases = flat_map (λ k. action_bytes (action_tree k.action) ++ contract_bytes (contract_tree k.then)) d.cases in
+    let cases = flat_map case_bytes d.cases in
     let counted = wrote_both out (0x03 ∷ []) count c.in_ok-put_byte-in-When.ensures.spelling (c.in_ok-put_length-in-When.ensures.spelling ∙ ap (λ n. c.put_byte-in-When.new.out.items ++ length_bytes n) c.len.ensures) in
     let spelled = wrote_both out (0x03 ∷ count) cases counted c.in_ok-put_cases-in-When.ensures.spelling in
     let timed = wrote_both out (0x03 ∷ count ++ cases) (time_bytes d.timeout) spelled (c.in_ok-put_time-in-When.ensures.spelling ∙ ap (λ z. c.put_cases.new.out.items ++ time_bytes z) (to_z-of_z w64 d.timeout fits)) in

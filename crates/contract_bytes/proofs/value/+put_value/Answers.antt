@@ -1,23 +1,24 @@
-use Rattle.std.proofs.Common.{[], ◌∷◌, ◌++◌, subst, rules, SFits}
+use Rattle.std.proofs.Common.{[], ◌∷◌, ◌++◌, ap, subst, rules, SFits}
 use Rattle.std.proofs.lemmas.Int.{to_z-of_z}
 use Rattle.std.specs.Int.{w128}
 use Rattle.contract.specs.Tree.{value_tree, observation_tree}
+use Rattle.contract.proofs.TreeLaws.{value_tree-AvailableMoney, value_tree-Cond}
 use Rattle.contract_bytes.specs.Numbers.{number_bytes, NumberFits}
-use Rattle.contract_bytes.specs.Values.{value_bytes, observation_bytes, ValueFits, ObservationFits}
-use Rattle.contract_bytes.specs.WritingSupport.{Spells}
+use Rattle.contract_bytes.specs.Values.{value_bytes, observation_bytes}
+use Rattle.contract_bytes.specs.WritingSupport.{Spells, SpellsValue, SpellsObservation}
 use Rattle.contract_bytes.proofs.Fronts.{front_first, front_then, wrote_both}
 use Rattle.contract_bytes.proofs.Spellings.{no_front, refused, a_byte, behind, fitting, form}
-use Rattle.contract_bytes.proofs.Forms.{value_bytes-AvailableMoney, value_bytes-Constant, value_bytes-NegValue, value_bytes-AddValue, value_bytes-SubValue, value_bytes-MulValue, value_bytes-DivValue, value_bytes-ChoiceValue, value_bytes-TimeIntervalStart, value_bytes-TimeIntervalEnd, value_bytes-UseValue, value_bytes-Cond, observation_bytes-AndObs, observation_bytes-OrObs, observation_bytes-NotObs, observation_bytes-ChoseSomething, observation_bytes-ValueGE, observation_bytes-ValueGT, observation_bytes-ValueLT, observation_bytes-ValueLE, observation_bytes-ValueEQ, observation_bytes-TrueObs, observation_bytes-FalseObs}
+use Rattle.contract_bytes.proofs.Forms.{value_bytes-Constant, value_bytes-NegValue, value_bytes-AddValue, value_bytes-SubValue, value_bytes-MulValue, value_bytes-DivValue, value_bytes-ChoiceValue, value_bytes-TimeIntervalStart, value_bytes-TimeIntervalEnd, value_bytes-UseValue, observation_bytes-AndObs, observation_bytes-OrObs, observation_bytes-NotObs, observation_bytes-ChoseSomething, observation_bytes-ValueGE, observation_bytes-ValueGT, observation_bytes-ValueLT, observation_bytes-ValueLE, observation_bytes-ValueEQ, observation_bytes-TrueObs, observation_bytes-FalseObs}
 use Rattle.contract_bytes.proofs.FitsForms.{value_fits-AvailableMoney, value_fits-Constant, value_fits-NegValue, value_fits-AddValue, value_fits-SubValue, value_fits-MulValue, value_fits-DivValue, value_fits-ChoiceValue, value_fits-TimeIntervalStart, value_fits-TimeIntervalEnd, value_fits-UseValue, value_fits-Cond, observation_fits-AndObs, observation_fits-OrObs, observation_fits-NotObs, observation_fits-ChoseSomething, observation_fits-ValueGE, observation_fits-ValueGT, observation_fits-ValueLT, observation_fits-ValueLE, observation_fits-ValueEQ, observation_fits-TrueObs, observation_fits-FalseObs}
 use Rattle.contract_bytes.proofs.value.+put_value.Goals as goal
 
 -- ---- operands
 
 pub put_operand-returns : goal.put_operand-returns
-put_operand-returns t c = subst (λ v. Spells c.put_value.result (value_bytes (value_tree v)) (ValueFits (value_tree v)) c.args.out.now.items c.put_value.new.out.items) c.get.ensures c.put_value.ensures
+put_operand-returns t c = subst (λ v. SpellsValue c.put_value.result (value_tree v) c.args.out.now c.put_value.new.out) c.get.ensures c.put_value.ensures
 
 pub put_condition-returns : goal.put_condition-returns
-put_condition-returns t c = subst (λ o. Spells c.put_observation.result (observation_bytes (observation_tree o)) (ObservationFits (observation_tree o)) c.args.out.now.items c.put_observation.new.out.items) c.get.ensures c.put_observation.ensures
+put_condition-returns t c = subst (λ o. SpellsObservation c.put_observation.result (observation_tree o) c.args.out.now c.put_observation.new.out) c.get.ensures c.put_observation.ensures
 
 pub put_neg-returns-in_err-put_byte : goal.put_neg-returns-in_err-put_byte
 put_neg-returns-in_err-put_byte t c = refused c.from_residual.result c.from_residual.ensures.0 (no_front _ c.in_err-put_byte.ensures.err)
@@ -40,12 +41,15 @@ pub put_cond-returns-in_err-put_byte : goal.put_cond-returns-in_err-put_byte
 put_cond-returns-in_err-put_byte t c = refused c.from_residual.result c.from_residual.ensures.0 (no_front _ c.in_err-put_byte.ensures.err)
 
 pub put_cond-returns-in_err-put_condition : goal.put_cond-returns-in_err-put_condition
+unfolding value_bytes
 put_cond-returns-in_err-put_condition t c = refused c.from_residual-in_err-put_condition.result c.from_residual-in_err-put_condition.ensures.0 (front_first (value_bytes (value_tree c.args.b.now)) (front_first (value_bytes (value_tree c.args.a.now)) (front_then (0x0b ∷ []) c.in_ok-put_byte.ensures.spelling c.in_err-put_condition.ensures.err)))
 
 pub put_cond-returns-in_err-put_operand : goal.put_cond-returns-in_err-put_operand
+unfolding value_bytes
 put_cond-returns-in_err-put_operand t c = refused c.from_residual-in_err-put_operand.result c.from_residual-in_err-put_operand.ensures.0 (front_first (value_bytes (value_tree c.args.b.now)) (front_then (0x0b ∷ observation_bytes (observation_tree c.args.observation.now)) (wrote_both _ (0x0b ∷ []) (observation_bytes (observation_tree c.args.observation.now)) c.in_ok-put_byte.ensures.spelling c.in_ok-put_condition.ensures.spelling) c.in_err-put_operand.ensures.err))
 
 pub put_cond-returns : goal.put_cond-returns
+unfolding value_bytes
 put_cond-returns t c =
     let test = observation_bytes (observation_tree c.args.observation.now) in
     let first = value_bytes (value_tree c.args.a.now) in
@@ -73,7 +77,7 @@ put_conditions-returns t c =
 -- ---- all forms
 
 pub put_value-returns-in-AvailableMoney : goal.put_value-returns-in-AvailableMoney
-put_value-returns-in-AvailableMoney t c = rw c.in-AvailableMoney.is (form c.put_available.result (value_bytes-AvailableMoney _ _) (λ h. value_fits-AvailableMoney _ _ h.0 h.1) c.put_available.ensures)
+put_value-returns-in-AvailableMoney t c = rw c.in-AvailableMoney.is (form c.put_available.result (ap value_bytes (value_tree-AvailableMoney _ _)) (λ h. value_fits-AvailableMoney _ _ h.0 h.1) c.put_available.ensures)
 
 pub put_value-returns-in-Constant : goal.put_value-returns-in-Constant
 put_value-returns-in-Constant t c =
@@ -110,7 +114,7 @@ pub put_value-returns-in-UseValue : goal.put_value-returns-in-UseValue
 put_value-returns-in-UseValue t c = rw c.in-UseValue.is (form c.put_use.result (value_bytes-UseValue _) (value_fits-UseValue _) c.put_use.ensures)
 
 pub put_value-returns-in-Cond : goal.put_value-returns-in-Cond
-put_value-returns-in-Cond t c = rw c.in-Cond.is (form c.put_cond.result (value_bytes-Cond _ _ _) (λ h. value_fits-Cond _ _ _ h.0 h.1 h.2) c.put_cond.ensures)
+put_value-returns-in-Cond t c = rw c.in-Cond.is (form c.put_cond.result (ap value_bytes (value_tree-Cond _ _ _)) (λ h. value_fits-Cond _ _ _ h.0 h.1 h.2) c.put_cond.ensures)
 
 pub put_observation-returns-in-AndObs : goal.put_observation-returns-in-AndObs
 put_observation-returns-in-AndObs t c = rw c.in-AndObs.is (form c.put_conditions.result (observation_bytes-AndObs _ _) (λ h. observation_fits-AndObs _ _ h.0 h.1) c.put_conditions.ensures)

@@ -1,19 +1,24 @@
-use Rattle.std.proofs.Common.{◌≡◌, true, ◌&&◌, sym, subst, OnOk, rules}
-use Rattle.contract.specs.Tree.{contract_tree, case_tree}
+use Rattle.std.proofs.Common.{◌≡◌, true, ◌&&◌, map, sym, subst, ◌∙◌, OnOk, rules, arith}
+use Rattle.std.proofs.lemmas.Grind.{common_steps}
+use Rattle.std.specs.List.{list_all}
+use Rattle.serde_json.specs.Data.{array}
+use Rattle.serde_json.specs.View.{items_of}
+use Rattle.contract.specs.Tree.{contract_tree, case_tree, case_trees}
 use Rattle.contract.proofs.TreeLaws.{case_tree-parts}
 use Rattle.json_write_contracts.specs.Symbols.{ContractSymbols}
-use Rattle.json_write_contracts.specs.Members.{member_tokens, AddsFitting}
-use Rattle.json_write_contracts.specs.Tokens.{PutsFitting}
+use Rattle.json_write_contracts.specs.Tokens.{Adds, PutsFitting, data_tokens}
+use Rattle.json_write_contracts.specs.Puts.{PutsCase}
+use Rattle.json_write_contracts.specs.PutsSupport.{AddsContract}
 use Rattle.json_write_contracts.specs.WrittenNames.{time_fits}
-use Rattle.json_write_contracts.specs.WrittenContract.{contract_json, contract_fits, case_json, case_fits}
-use Rattle.json_write_contracts.proofs.ListedContract.{contract_fits-Close, contract_json-Close, contract_fits-Pay, contract_json-Pay, contract_fits-If, contract_json-If, contract_fits-When, contract_json-When, contract_fits-Let, contract_json-Let, contract_fits-Assert, contract_json-Assert}
+use Rattle.json_write_contracts.specs.WrittenContract.{case_json, cases_fit, case_fits}
+use Rattle.json_write_contracts.proofs.ListedContract.{cases_json-listed, cases_fit-listed, contract_fits-Close, contract_json-Close, contract_fits-Pay, contract_json-Pay, contract_fits-If, contract_json-If, contract_fits-When, contract_json-When, contract_fits-Let, contract_json-Let, contract_fits-Assert, contract_json-Assert}
 use Rattle.json_write_contracts.proofs.ListedLaws.{listed, closed, all-more, all-over}
 use Rattle.json_write_contracts.proofs.SymbolsOf.{contract-symbols-Close, contract-symbols-Pay, contract-symbols-If, contract-symbols-When, contract-symbols-Let, contract-symbols-Assert, case-symbols, symbols-more, symbols-over}
 use Rattle.json_write_contracts.proofs.AddsLaws.{then, wrote, refused, stopped, left, after, flagged, held, failed, both, all_three}
 use Rattle.json_write_contracts.proofs.contracts.+put_contract.Goals as goal
 
 pub contract_member-returns-clause-put : goal.contract_member-returns-clause-put
-contract_member-returns-clause-put t c = subst (λ v. AddsFitting c.put_contract.result c.args.out.now c.put_contract.new.out (contract_fits (contract_tree v)) (member_tokens c.args.key.now (contract_json (contract_tree v)))) c.get.ensures (after _ _ _ c.put_contract.result (wrote c.in_ok-key.ensures) c.put_contract.ensures.put)
+contract_member-returns-clause-put t c = subst (λ v. AddsContract c.put_contract.result c.args.out.now c.put_contract.new.out c.args.key.now (contract_tree v)) c.get.ensures (after _ _ _ c.put_contract.result (wrote c.in_ok-key.ensures) c.put_contract.ensures.put)
 
 pub contract_member-returns-clause-err : goal.contract_member-returns-clause-err
 contract_member-returns-clause-err t c = left _ c.put_contract.result (wrote c.in_ok-key.ensures) c.put_contract.ensures.err
@@ -159,7 +164,7 @@ pub put_assert-returns-clause-then_symbols : goal.put_assert-returns-clause-then
 put_assert-returns-clause-then_symbols t c = held c.end_object.result c.in_ok-contract_member.ensures.symbols
 
 pub put_case-returns-clause-put : goal.put_case-returns-clause-put
-put_case-returns-clause-put t c = subst (λ k. PutsFitting c.end_object.result c.args.out.now c.end_object.new.out (case_fits k) (case_json k)) (sym (case_tree-parts c.args.case.now)) (flagged _ _ _ c.end_object.result (λ j. c.in_ok-put_action.ensures.put.0 j && c.in_ok-put_contract.ensures.put.0 j) (after _ _ _ c.end_object.result (wrote c.in_ok-begin_object.ensures) (after _ _ _ c.end_object.result (wrote c.in_ok-key.ensures) (after _ _ _ c.end_object.result c.in_ok-put_action.ensures.put.1 (after _ _ _ c.end_object.result (wrote c.in_ok-key-2.ensures) (after _ _ _ c.end_object.result c.in_ok-put_contract.ensures.put.1 c.end_object.ensures.put))))))
+put_case-returns-clause-put t c = subst (λ k. PutsCase c.end_object.result c.args.out.now c.end_object.new.out k) (sym (case_tree-parts c.args.case.now)) (flagged _ _ _ c.end_object.result (λ j. c.in_ok-put_action.ensures.put.0 j && c.in_ok-put_contract.ensures.put.0 j) (after _ _ _ c.end_object.result (wrote c.in_ok-begin_object.ensures) (after _ _ _ c.end_object.result (wrote c.in_ok-key.ensures) (after _ _ _ c.end_object.result c.in_ok-put_action.ensures.put.1 (after _ _ _ c.end_object.result (wrote c.in_ok-key-2.ensures) (after _ _ _ c.end_object.result c.in_ok-put_contract.ensures.put.1 c.end_object.ensures.put))))))
 
 pub put_case-returns-clause-err : goal.put_case-returns-clause-err
 put_case-returns-clause-err t c = left _ c.end_object.result (wrote c.in_ok-begin_object.ensures) (left _ c.end_object.result (wrote c.in_ok-key.ensures) (left _ c.end_object.result c.in_ok-put_action.ensures.put.1 (left _ c.end_object.result (wrote c.in_ok-key-2.ensures) (left _ c.end_object.result c.in_ok-put_contract.ensures.put.1 c.end_object.ensures.err))))
@@ -232,10 +237,21 @@ pub put_cases-returns-clause-put : goal.put_cases-returns-clause-put
 put_cases-returns-clause-put t c =
     let items = c.as_slice-case-items.result.now in
     let i = c.loop-case.case-index in (
-      all-over (λ k. case_fits (case_tree k)) c.args.cases.now items i c.as_slice-case-items.ensures c.loop-case-test.false c.loop-case.invariant.0,
-      closed (λ k. case_json (case_tree k)) c.args.cases.now items i c.args.out.now c.begin_array.new.self c.loop-case.out c.end_array.new.self c.as_slice-case-items.ensures c.loop-case-test.false
-          (wrote c.in_ok-begin_array.ensures) c.loop-case.invariant.1 (wrote c.in_ok-end_array.ensures),
+      cases_fit-listed c.args.cases.now ∙ all-over (λ k. case_fits (case_tree k)) c.args.cases.now items i c.as_slice-case-items.ensures c.loop-case-test.false c.loop-case.invariant.0,
+      subst (λ ds. Adds c.args.out.now c.end_array.new.self (data_tokens (array ds))) (sym (cases_json-listed c.args.cases.now))
+          (closed (λ k. case_json (case_tree k)) c.args.cases.now items i c.args.out.now c.begin_array.new.self c.loop-case.out c.end_array.new.self c.as_slice-case-items.ensures c.loop-case-test.false
+          (wrote c.in_ok-begin_array.ensures) c.loop-case.invariant.1 (wrote c.in_ok-end_array.ensures)),
     )
+
+pub put_cases-returns-in_err-put_case-clause-put : goal.put_cases-returns-in_err-put_case-clause-put
+put_cases-returns-in_err-put_case-clause-put t c =
+    let r = c.from_residual-in_err-put_case.result in
+    let old = c.args.out.now in
+    let new = c.put_case.new.out in
+    let ks = c.args.cases.now in
+    let as_list : PutsFitting r old new (list_all (λ k. case_fits (case_tree k)) ks) (array (items_of (map (λ k. case_json (case_tree k)) ks))) = first_of (search rules, grind (arith, common_steps)) in
+    subst (λ ds. PutsFitting r old new (cases_fit (case_trees (map case_tree ks))) (array ds)) (sym (cases_json-listed ks))
+    (subst (λ b. PutsFitting r old new b (array (items_of (map (λ k. case_json (case_tree k)) ks)))) (sym (cases_fit-listed ks)) as_list)
 
 pub put_cases-returns-clause-symbols : goal.put_cases-returns-clause-symbols
 put_cases-returns-clause-symbols t c =

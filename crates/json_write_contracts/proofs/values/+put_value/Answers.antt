@@ -1,17 +1,16 @@
 use Rattle.std.proofs.Common.{◌&&◌, subst, OnOk, rules}
 use Rattle.contract.specs.Tree.{value_tree, observation_tree}
 use Rattle.json_write_contracts.specs.Symbols.{ValueSymbols, ObservationSymbols}
-use Rattle.json_write_contracts.specs.Members.{member_tokens, AddsFitting}
 use Rattle.json_write_contracts.specs.Tokens.{PutsFitting}
+use Rattle.json_write_contracts.specs.PutsSupport.{AddsValue, AddsObservation}
 use Rattle.json_write_contracts.specs.WrittenNames.{number_fits, number_json}
-use Rattle.json_write_contracts.specs.WrittenValues.{value_json, observation_json, value_fits, observation_fits}
 use Rattle.json_write_contracts.proofs.ListedValues.{value_fits-AvailableMoney, value_json-AvailableMoney, value_fits-Constant, value_json-Constant, value_fits-NegValue, value_json-NegValue, value_fits-AddValue, value_json-AddValue, value_fits-SubValue, value_json-SubValue, value_fits-MulValue, value_json-MulValue, value_fits-DivValue, value_json-DivValue, value_fits-ChoiceValue, value_json-ChoiceValue, value_fits-TimeIntervalStart, value_json-TimeIntervalStart, value_fits-TimeIntervalEnd, value_json-TimeIntervalEnd, value_fits-UseValue, value_json-UseValue, value_fits-Cond, value_json-Cond, observation_fits-AndObs, observation_json-AndObs, observation_fits-OrObs, observation_json-OrObs, observation_fits-NotObs, observation_json-NotObs, observation_fits-ChoseSomething, observation_json-ChoseSomething, observation_fits-ValueGE, observation_json-ValueGE, observation_fits-ValueGT, observation_json-ValueGT, observation_fits-ValueLT, observation_json-ValueLT, observation_fits-ValueLE, observation_json-ValueLE, observation_fits-ValueEQ, observation_json-ValueEQ, observation_fits-TrueObs, observation_json-TrueObs, observation_fits-FalseObs, observation_json-FalseObs}
 use Rattle.json_write_contracts.proofs.SymbolsOf.{value-symbols-AvailableMoney, value-symbols-Constant, value-symbols-NegValue, value-symbols-AddValue, value-symbols-SubValue, value-symbols-MulValue, value-symbols-DivValue, value-symbols-ChoiceValue, value-symbols-TimeIntervalStart, value-symbols-TimeIntervalEnd, value-symbols-UseValue, value-symbols-Cond, observation-symbols-AndObs, observation-symbols-OrObs, observation-symbols-NotObs, observation-symbols-ChoseSomething, observation-symbols-ValueGE, observation-symbols-ValueGT, observation-symbols-ValueLT, observation-symbols-ValueLE, observation-symbols-ValueEQ, observation-symbols-TrueObs, observation-symbols-FalseObs}
 use Rattle.json_write_contracts.proofs.AddsLaws.{then, wrote, refused, stopped, left, after, flagged, held, failed, mapped, both, all_three}
 use Rattle.json_write_contracts.proofs.values.+put_value.Goals as goal
 
 pub value_member-returns-clause-put : goal.value_member-returns-clause-put
-value_member-returns-clause-put t c = subst (λ v. AddsFitting c.put_value.result c.args.out.now c.put_value.new.out (value_fits (value_tree v)) (member_tokens c.args.key.now (value_json (value_tree v)))) c.get.ensures (after _ _ _ c.put_value.result (wrote c.in_ok-key.ensures) c.put_value.ensures.put)
+value_member-returns-clause-put t c = subst (λ v. AddsValue c.put_value.result c.args.out.now c.put_value.new.out c.args.key.now (value_tree v)) c.get.ensures (after _ _ _ c.put_value.result (wrote c.in_ok-key.ensures) c.put_value.ensures.put)
 
 pub value_member-returns-clause-err : goal.value_member-returns-clause-err
 value_member-returns-clause-err t c = left _ c.put_value.result (wrote c.in_ok-key.ensures) c.put_value.ensures.err
@@ -23,7 +22,7 @@ pub value_member-returns-clause-symbols : goal.value_member-returns-clause-symbo
 value_member-returns-clause-symbols t c = subst (λ v. OnOk c.put_value.result (ValueSymbols (value_tree v))) c.get.ensures c.put_value.ensures.symbols
 
 pub observation_member-returns-clause-put : goal.observation_member-returns-clause-put
-observation_member-returns-clause-put t c = subst (λ v. AddsFitting c.put_observation.result c.args.out.now c.put_observation.new.out (observation_fits (observation_tree v)) (member_tokens c.args.key.now (observation_json (observation_tree v)))) c.get.ensures (after _ _ _ c.put_observation.result (wrote c.in_ok-key.ensures) c.put_observation.ensures.put)
+observation_member-returns-clause-put t c = subst (λ v. AddsObservation c.put_observation.result c.args.out.now c.put_observation.new.out c.args.key.now (observation_tree v)) c.get.ensures (after _ _ _ c.put_observation.result (wrote c.in_ok-key.ensures) c.put_observation.ensures.put)
 
 pub observation_member-returns-clause-err : goal.observation_member-returns-clause-err
 observation_member-returns-clause-err t c = left _ c.put_observation.result (wrote c.in_ok-key.ensures) c.put_observation.ensures.err

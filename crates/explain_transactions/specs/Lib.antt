@@ -1,0 +1,5 @@
+pub mod Moves
+pub mod Explained
+pub mod Laws
+pub mod Rows
+pub mod Support
