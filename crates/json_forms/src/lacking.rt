@@ -122,7 +122,8 @@ pub fn nearest_key<'k>(form: Form, key: Key, keys: &[&'k str]) -> Option<&'k str
 }
 
 fn first_one_apart<'k>(form: Form, word: &str, keys: &[&'k str]) -> Option<&'k str>
-    ensures { option_map (λ found. found.now) result ≡ find (λ key. is_free form key && one_apart word.now key) (map (λ key. key.now) keys.now) }
+    ensures { option_map (λ found. found.now) result
+        ≡ find (λ key. is_free form key && one_apart word.now key) (map (λ key. key.now) keys.now) }
 {
     for key in keys {
         let fits = is_free_and_one_apart(form, word, key);
@@ -134,7 +135,8 @@ fn first_one_apart<'k>(form: Form, word: &str, keys: &[&'k str]) -> Option<&'k s
 }
 
 fn first_near<'k>(form: Form, word: &str, keys: &[&'k str]) -> Option<&'k str>
-    ensures { option_map (λ found. found.now) result ≡ find (λ key. is_free form key && is_near word.now key) (map (λ key. key.now) keys.now) }
+    ensures { option_map (λ found. found.now) result
+        ≡ find (λ key. is_free form key && is_near word.now key) (map (λ key. key.now) keys.now) }
 {
     for key in keys {
         let fits = is_free_and_near(form, word, key);

@@ -124,7 +124,8 @@ fn stop_or_memory<'j, J: JsonValue>(
     json: &'j J,
     fault: JsonFault,
 ) -> Result<Option<(Stop, &'j J)>, Memory>
-    ensures { IfOk result (λ found. (fault ≢ JsonFault.Memory) × (option_map (place_back J.json) found ≡ Some (at_itself sort (J.json json.now) fault))) }
+    ensures { IfOk result (λ found. (fault ≢ JsonFault.Memory) ×
+        (option_map (place_back J.json) found ≡ Some (at_itself sort (J.json json.now) fault))) }
 {
     match fault {
         JsonFault::Memory => Err(AllocError),

@@ -90,7 +90,8 @@ fn action_tells(
     index: usize,
     kind: AlarmKind,
 ) -> Result<bool, Memory>
-    ensures { IfOk result (λ yes. yes ≡ true → ComesAhead kind (PathStep.Action index ∷ []) interval state.old (contract_tree contract.now) inputs.now) }
+    ensures { IfOk result (λ yes. yes ≡ true →
+        ComesAhead kind (PathStep.Action index ∷ []) interval state.old (contract_tree contract.now) inputs.now) }
 {
     match inputs {
         [] => Ok(false),
@@ -109,7 +110,8 @@ fn pass<'a>(
     inputs: &'a [Input],
     step: PathStep,
 ) -> Result<Option<(&'a Contract, &'a [Input])>, Memory>
-    ensures { IfOk result (λ next. IfSome next (λ n. ComesBehind step interval state.old (contract_tree contract.now) inputs.now state.new (contract_tree n.0.now) n.1.now)) }
+    ensures { IfOk result (λ next. IfSome next (λ n.
+        ComesBehind step interval state.old (contract_tree contract.now) inputs.now state.new (contract_tree n.0.now) n.1.now)) }
 {
     match step {
         PathStep::Case(index) => pass_case(alloc, contract, state, interval, inputs, index),
@@ -130,7 +132,8 @@ fn pass_case<'a>(
     inputs: &'a [Input],
     index: usize,
 ) -> Result<Option<(&'a Contract, &'a [Input])>, Memory>
-    ensures { IfOk result (λ next. IfSome next (λ n. ComesBehind (PathStep.Case index) interval state.old (contract_tree contract.now) inputs.now state.new (contract_tree n.0.now) n.1.now)) }
+    ensures { IfOk result (λ next. IfSome next (λ n.
+        ComesBehind (PathStep.Case index) interval state.old (contract_tree contract.now) inputs.now state.new (contract_tree n.0.now) n.1.now)) }
 {
     match inputs {
         [] => Ok(None),
@@ -152,7 +155,8 @@ fn reduce_by<'c>(
     interval: Interval,
     step: PathStep,
 ) -> Result<Option<&'c Contract>, Memory>
-    ensures { IfOk result (λ next. IfSome next (λ d. GoesBy step interval state.old (contract_tree contract.now) state.new (contract_tree d.now))) }
+    ensures { IfOk result (λ next. IfSome next (λ d.
+        GoesBy step interval state.old (contract_tree contract.now) state.new (contract_tree d.now))) }
 {
     let leads = leads_by(contract, state, interval, step);
     if !leads {

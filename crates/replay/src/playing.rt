@@ -145,8 +145,10 @@ fn played<'c>(
     state: &State,
     transaction: &Transaction,
 ) -> Result<Outcome<&'c Contract>, SemFault>
-    ensures answer { AsideBy SemFault.Memory (λ outcome. standing outcome.state (contract_tree outcome.place.now)) result (answer_of (walk_from (standing state.now (contract_tree contract.now)) transaction.now)) }
-    ensures warnings { IfOk result (λ outcome. outcome.warnings ≡ (walk_from (standing state.now (contract_tree contract.now)) transaction.now).warnings) }
+    ensures answer { AsideBy SemFault.Memory (λ outcome. standing outcome.state (contract_tree outcome.place.now)) result
+        (answer_of (walk_from (standing state.now (contract_tree contract.now)) transaction.now)) }
+    ensures warnings { IfOk result (λ outcome.
+        outcome.warnings ≡ (walk_from (standing state.now (contract_tree contract.now)) transaction.now).warnings) }
 {
     Plain::new().compute(
         alloc,

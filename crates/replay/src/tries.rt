@@ -54,7 +54,8 @@ pub(crate) fn takes<'c>(
     input: &Input,
     index: usize,
 ) -> Result<Option<&'c Contract>, Memory>
-    ensures { IfOk result (λ then. IfSome then (λ d. TakenBy index interval state.old (contract_tree contract.now) input.now state.new (contract_tree d.now))) }
+    ensures { IfOk result (λ then. IfSome then (λ d.
+        TakenBy index interval state.old (contract_tree contract.now) input.now state.new (contract_tree d.now))) }
 {
     let Some(then) = taken_by(contract, state, interval, input, index) else {
         return Ok(None);
