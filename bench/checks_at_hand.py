@@ -51,7 +51,7 @@ def main():
         before, whole = least(pool(checks)), least(pool(checks) + [f"round 0 {PAYMENTS}"])
         print(f"a round of {PAYMENTS} payments of {INPUTS} inputs with {what} at hand: {1000 * (whole - before):.1f} ms", flush=True)
     costs = []
-    for check, what in (([], "judged anew"), (["check"], "with an equal check at hand")):
+    for check, what in (([], "judged anew"), (["keep"], "with an equal check at hand")):
         resolved, rechecked = (least(step() + check + [word] * TIMES) for word in ("resolve", "recheck"))
         costs.append((rechecked - resolved) / TIMES)
         print(f"a step on a contract of {2 * CASES} parts {what}: {1e6 * costs[-1]:.1f} us", flush=True)
