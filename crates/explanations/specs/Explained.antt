@@ -9,13 +9,16 @@ use Rattle.json_read_names.specs.Parts.{Reading}
 use Rattle.json_read_names.specs.ReadsText.{json_of}
 use Rattle.json_read_names.specs.declared.fault.JsonFault.{JsonFault}
 use Rattle.json_read_names.specs.declared.fault.JsonFault.TheVariants as faults
+use Rattle.text_spots.specs.declared.spots.Spot.{Spot}
 use Rattle.text_spots.specs.Spots.{spot_at}
 use Rattle.part_tokens.specs.PartTokens.{first_token, token_at}
 use Rattle.json_forms.specs.declared.sort.Sort.{Sort}
+use Rattle.json_forms.specs.declared.sort.Sort.TheVariants as sorts
+use Rattle.json_stops.specs.declared.stop.Step.{Step}
 use Rattle.json_stops.specs.Stops.{Place, StopsAt, fault_as}
 use Rattle.explanations.specs.declared.broken.NoJson.{NoJson}
 use Rattle.explanations.specs.Told.{Told}
-use Rattle.explanations.specs.Lines.{lines_of}
+use Rattle.explanations.specs.Lines.{beside, lines_of}
 use Rattle.explanations.specs.TextLines.{IsReason, no_json_lines, too_long_line}
 use Rattle.explanations.specs.Indexes.{indexes_of, keys_in}
 
@@ -33,9 +36,15 @@ token_behind text indexes = token_or_bad (token_at 127 indexes (tokens text))
 abbrev pub StandsAt : List ℕ → ℕ → Token → Type 0
 StandsAt text n token = (n ≡ length text) ⊎ (first_token (tokens (drop n text)) ≡ Some token)
 
+-- where the first entry begins that has the key of one that is given again, at the end of a path
+abbrev pub IsFirst : List ℕ → Json → List Step → Sort → Option Spot → Type 0
+IsFirst text tree path (sorts.Repeated index) first =
+    (n : ℕ) × (first ≡ Some (spot_at text n)) × StandsAt text n (token_behind text (indexes_of (beside path index) tree))
+IsFirst text tree path sort first = first ≡ None
+
 -- what is told of a place, in a text that is read as a tree: n is the offset at which it begins, and `part` the tree that stands there
-abbrev pub told_at : List ℕ → Json → Place → ℕ → Json → Told
-told_at text tree at n part =
+abbrev pub told_at : List ℕ → Json → Place → ℕ → Json → Option Spot → Told
+told_at text tree at n part first =
     record {
       path = at.path;
       spot = spot_at text n;
@@ -43,6 +52,7 @@ told_at text tree at n part =
       fault = at.fault;
       token = token_behind text (indexes_of at.path tree);
       keys = keys_in part;
+      first = first;
     }
 
 -- the lines of a place at which reading stops
@@ -51,11 +61,13 @@ pub record IsTold (file text : List ℕ) (sort : Sort) (d : Data) (lines : List 
   pub tree : Json
   pub part : Json
   pub offset : ℕ
+  pub first : Option Spot
   pub stops : StopsAt sort d at
   pub of_tree : view tree ≡ d
   pub of_part : view part ≡ at.json
   pub stands : StandsAt text offset (token_behind text (indexes_of at.path tree))
-  pub lines_are : lines ≡ lines_of file (told_at text tree at offset part)
+  pub is_first : IsFirst text tree at.path at.sort first
+  pub lines_are : lines ≡ lines_of file (told_at text tree at offset part first)
 
 -- nothing is told where it is read
 abbrev pub IsToldBy : List ℕ → List ℕ → Sort → Data → List ℕ → Option JsonFault → Type 0

@@ -1,5 +1,5 @@
 -- The lines for people.
-use Rattle.std.specs.Prelude.{ℕ, nat_lt, nat_le, ◌&&◌, ◌||◌, Bool, true, false, not, List, [], ◌∷◌, ◌++◌, length, take, flat_map, find, if◌then◌else◌, Option, Some, None, codes, decimal, chars, encode_utf8, encode_utf8_all}
+use Rattle.std.specs.Prelude.{ℕ, nat_lt, nat_le, ◌&&◌, ◌||◌, Bool, true, false, not, List, [], ◌∷◌, ◌++◌, ◌-◌, length, take, flat_map, find, if◌then◌else◌, Option, Some, None, codes, decimal, chars, encode_utf8, encode_utf8_all}
 use Rattle.std.specs.List.{list_all}
 use Rattle.serde_json.specs.Data.{string}
 use Rattle.serde_json.specs.Written.{compact_text}
@@ -8,6 +8,7 @@ use Rattle.json_read_names.specs.declared.fault.JsonFault.{JsonFault}
 use Rattle.json_read_names.specs.declared.fault.JsonFault.TheVariants as faults
 use Rattle.text_spots.specs.declared.spots.Spot.{Spot}
 use Rattle.text_spots.specs.Shown.{is_among, shown, path_shown}
+use Rattle.json_forms.specs.declared.sort.Numbers.TheVariants as numbers
 use Rattle.json_forms.specs.declared.sort.Sort.{Sort}
 use Rattle.json_forms.specs.declared.sort.Sort.TheVariants as sorts
 use Rattle.json_forms.specs.declared.form.Form.{Form}
@@ -87,10 +88,25 @@ keys_or_token token keys = stands_text token
 abbrev pub form_wanted_text : Told → List ℕ
 form_wanted_text t = (codes "no form of " ++ (sort_text t.sort ++ codes "; ")) ++ keys_or_token t.token t.keys
 
+-- the path to another item of the same list
+abbrev pub beside : List Step → ℕ → List Step
+beside path n = take (length path - 1) path ++ steps.Item n ∷ []
+
+abbrev pub first_spot_text : Option Spot → List ℕ
+first_spot_text None = []
+first_spot_text (Some spot) = decimal spot.line ++ (codes ":" ++ (decimal spot.column ++ codes ", "))
+
+abbrev pub repeated_text : Told → ℕ → List ℕ
+repeated_text t n = codes "no second entry for one key; the first stands at " ++ (first_spot_text t.first ++ path_shown (path_text (beside t.path n)))
+
 -- a sort that has no forms of objects is a list, a text or a number
 abbrev pub no_form_text : List Form → Told → List ℕ
 no_form_text [] t = codes "no " ++ (bare_sort_text t.sort ++ (codes "; " ++ stands_text t.token))
 no_form_text (form ∷ forms) t = form_wanted_text t
+
+abbrev pub bad_state_text : Sort → Told → List ℕ
+bad_state_text (sorts.Repeated n) t = repeated_text t n
+bad_state_text sort t = no_form_text [] t
 
 abbrev pub fault_text : JsonFault → Told → List ℕ
 fault_text faults.NoForm t = no_form_text (forms_of t.sort) t
@@ -98,6 +114,7 @@ fault_text faults.NotWhole t = codes "no whole number; " ++ stands_text t.token
 fault_text faults.OutOfRange t = codes "no time; " ++ stands_text t.token
 fault_text faults.BadHex t = codes "no hexadecimal digits; " ++ stands_text t.token
 fault_text faults.Merkleized t = codes "no contract follows, but its hash"
+fault_text faults.BadState t = bad_state_text t.sort t
 fault_text other t = []
 
 -- ---- what to do
@@ -118,6 +135,7 @@ abbrev pub is_of_numbers : Sort → Bool
 is_of_numbers sorts.Value = true
 is_of_numbers sorts.Whole = true
 is_of_numbers sorts.Time = true
+is_of_numbers (sorts.Amount numbers.Whole) = true
 is_of_numbers sort = false
 
 abbrev pub is_of_contracts : Sort → Bool
@@ -162,12 +180,18 @@ abbrev pub hex_hint : Token → List ℕ
 hex_hint (Token.string s) = letter_text s (find (λ c. not (is_hex c)) (chars s))
 hex_hint token = []
 
+-- an account that holds nothing, or a key that stands twice
+abbrev pub bad_state_hint : Sort → List ℕ
+bad_state_hint (sorts.Repeated first) = sort_hint (sorts.Repeated first)
+bad_state_hint sort = codes "an account holds a number above 0: leave out one that holds nothing"
+
 abbrev pub hint_text : JsonFault → Told → List ℕ
 hint_text faults.NoForm t = no_form_hint t
 hint_text faults.NotWhole t = sort_hint sorts.Whole
 hint_text faults.OutOfRange t = sort_hint sorts.Time
 hint_text faults.BadHex t = hex_hint t.token
 hint_text faults.Merkleized t = codes "put what follows in its place, as \"then\""
+hint_text faults.BadState t = bad_state_hint t.sort
 hint_text other t = []
 
 -- ---- what may have been meant

@@ -19,8 +19,8 @@ pub enum NoJson {
     Syntax,
 }
 
-// How deep lists and objects may nest.
-const MAX_DEPTH: usize = 127;
+/// How deep lists and objects may nest in a text that is read.
+pub const MAX_DEPTH: usize = 127;
 
 // A number of so many bytes without an exponent is one that floats reach.
 const SURELY_SMALL: usize = 300;

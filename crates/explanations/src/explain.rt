@@ -4,29 +4,28 @@ ghost use Rattle.std.specs.Str.{IsUtf8};
 ghost use Rattle.json.specs.Reads.{token_of};
 ghost use Rattle.json_tree.specs.View.{view};
 ghost use Rattle.json_stops.specs.Stops.{StopsAt, fault_as};
-ghost use Rattle.explanations.specs.Explained.{Explains, FaultIsTold, IsTold, IsToldBy};
+ghost use Rattle.explanations.specs.Explained.{Explains, FaultIsTold, IsFirst, IsTold, IsToldBy};
 ghost use Rattle.explanations.specs.ExplainedSupport.{Begins, place_of};
 
+use crate::broken::MAX_DEPTH;
 use crate::indexes::{indexes_of, keys_in};
 use crate::lines::told_lines;
 use crate::part::Told;
+use crate::pieces::beside;
 use crate::standing::sure_offset;
 use crate::text_lines::{no_json_lines, too_long_line};
 use collections::Memory;
 use json::{Scratch, Token};
 use json_forms::Sort;
 use json_read_names::{JsonFault, json_of};
-use json_stops::{Stop, first_stop};
+use json_stops::{Step, Stop, first_stop};
 use json_tree::Json;
 use part_tokens::beginning_of;
 use std::alloc::{AllocError, Global};
 use text_spots::{Spot, spot_at};
 
-// How deep texts may nest.
-const MAX_DEPTH: usize = 127;
-
-/// The lines that explain why the text of a file isn't read as one of a sort: a contract, a transaction. `file` is the name that
-/// they tell. Where the text is read there is none. `Memory` where memory was refused.
+/// The lines that explain why the text of a file isn't read as one of a sort: a contract, a transaction, a state. `file` is the name
+/// that they tell. Where the text is read there is none. `Memory` where memory was refused.
 ///
 /// Of a text that is JSON they tell the first part at which reading stops; of one that isn't, where it breaks the form of JSON; of one
 /// of more than 1,048,576 bytes, how long it is.
@@ -93,6 +92,7 @@ fn told_stop(
     let keys = keys_in(alloc, part)?;
     let mut scratch = Scratch::new(alloc);
     let found = begins(alloc, text, &mut scratch, &indexes)?;
+    let first = first_spot(alloc, text, json, &stop.path, stop.sort)?;
     let told = Told {
         path: &stop.path,
         spot: found.0,
@@ -100,8 +100,44 @@ fn told_stop(
         fault: stop.fault,
         token: found.1,
         keys: &keys,
+        first,
     };
     told_lines(alloc, file, &told)
+}
+
+// Where the first entry with its key begins, of one that is given again at the end of a path.
+fn first_spot(
+    alloc: Global,
+    text: &[u8],
+    json: &Json<'_>,
+    path: &[Step],
+    sort: Sort,
+) -> Result<Option<Spot>, Memory>
+    requires { IsUtf8 text.now }
+    ensures { IfOk result (λ first. IsFirst text.now json.now path.now sort first) }
+{
+    match sort {
+        Sort::Repeated(index) => spot_beside(alloc, text, json, path, index),
+        _ => Ok(None),
+    }
+}
+
+#[tactic(auto, using(crate::proofs::ExplainLemmas::first_told))]
+fn spot_beside(
+    alloc: Global,
+    text: &[u8],
+    json: &Json<'_>,
+    path: &[Step],
+    index: usize,
+) -> Result<Option<Spot>, Memory>
+    requires { IsUtf8 text.now }
+    ensures { IfOk result (λ first. IsFirst text.now json.now path.now (Sort.Repeated index) first) }
+{
+    let other = beside(alloc, path, index)?;
+    let indexes = indexes_of(alloc, json, other.as_slice())?;
+    let mut scratch = Scratch::new(alloc);
+    let found = begins(alloc, text, &mut scratch, indexes.as_slice())?;
+    Ok(Some(found.0))
 }
 
 // Where the part behind these indexes begins, and its first token.

@@ -5,7 +5,7 @@ ghost use Rattle.json.specs.Reads.{token_of};
 ghost use Rattle.text_spots.specs.Shown.{is_among};
 ghost use Rattle.json_forms.specs.Forms.{Field};
 ghost use Rattle.json_forms.specs.Lacking.{is_there};
-ghost use Rattle.explanations.specs.Lines.{are_digits, hex_hint, is_digit, hint_text, is_digits, is_hex, is_of_contracts, is_of_numbers, lacking_text, letter_text, no_form_hint, sought, sought_text, text_shown, wants_text};
+ghost use Rattle.explanations.specs.Lines.{are_digits, bad_state_hint, hex_hint, is_digit, hint_text, is_digits, is_hex, is_of_contracts, is_of_numbers, lacking_text, letter_text, no_form_hint, sought, sought_text, text_shown, wants_text};
 ghost use Rattle.explanations.specs.Told.{seen};
 
 use crate::part::Told;
@@ -13,7 +13,7 @@ use crate::pieces::text_shown;
 use crate::words::{form_text, sort_hint};
 use collections::Memory;
 use json::Token;
-use json_forms::{Form, Key, Sort, key_word, lacking_key, meant_form};
+use json_forms::{Form, Key, Numbers, Sort, key_word, lacking_key, meant_form};
 use json_read_names::JsonFault;
 use std::alloc::Global;
 
@@ -30,9 +30,8 @@ pub(crate) fn hint_text(alloc: Global, told: &Told<'_>) -> Result<String, Memory
         JsonFault::OutOfRange => word(alloc, sort_hint(Sort::Time)),
         JsonFault::BadHex => hex_hint(alloc, told.token),
         JsonFault::Merkleized => word(alloc, "put what follows in its place, as \"then\""),
-        JsonFault::NotJson | JsonFault::TooLong | JsonFault::BadState | JsonFault::Memory => {
-            Ok(String::new(alloc))
-        }
+        JsonFault::BadState => word(alloc, bad_state_hint(told.sort)),
+        JsonFault::NotJson | JsonFault::TooLong | JsonFault::Memory => Ok(String::new(alloc)),
     }
 }
 
@@ -40,6 +39,15 @@ fn word(alloc: Global, word: &str) -> Result<String, Memory>
     ensures { IfOk result (λ text. string_bytes text ≡ word.now) }
 {
     Ok(String::from_str(alloc, word)?)
+}
+
+fn bad_state_hint(sort: Sort) -> &'static str
+    ensures { result.now ≡ bad_state_hint sort }
+{
+    match sort {
+        Sort::Repeated(first) => sort_hint(Sort::Repeated(first)),
+        _ => "an account holds a number above 0: leave out one that holds nothing",
+    }
 }
 
 fn no_form_hint(alloc: Global, told: &Told<'_>) -> Result<String, Memory>
@@ -134,7 +142,7 @@ fn is_of_numbers(sort: Sort) -> bool
     ensures { result ≡ is_of_numbers sort }
 {
     match sort {
-        Sort::Value | Sort::Whole | Sort::Time => true,
+        Sort::Value | Sort::Whole | Sort::Time | Sort::Amount(Numbers::Whole) => true,
         _ => false,
     }
 }

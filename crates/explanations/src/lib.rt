@@ -1,4 +1,4 @@
-//! What is told of a contract or a transaction that can't be read: where reading stops, what was wanted there and what stands
+//! What is told of a contract, a transaction or a state that can't be read: where reading stops, what was wanted there and what stands
 //! there, in lines for people.
 #![tactic(auto)]
 
@@ -14,7 +14,7 @@ mod standing;
 mod text_lines;
 mod words;
 
-pub use broken::NoJson;
+pub use broken::{MAX_DEPTH, NoJson};
 pub use explain::explained;
 pub use laws::worked_lines;
 pub use lines::told_lines;

@@ -2,12 +2,12 @@
 ghost use Rattle.std.specs.Prelude.{◌≡◌, ◌++◌, [], Some, IfOk, OnOk, codes, decimal, map, string_bytes};
 ghost use Rattle.json.specs.Reads.{token_of};
 ghost use Rattle.text_spots.specs.Shown.{path_shown};
-ghost use Rattle.explanations.specs.Lines.{at_text, fault_text, form_wanted_text, hint_line, hint_text, keys_or_token, lines_of, near_line, near_sought, no_form_text, path_text, sought, spot_text, stands_text, where_text};
+ghost use Rattle.explanations.specs.Lines.{at_text, bad_state_text, beside, fault_text, first_spot_text, form_wanted_text, hint_line, hint_text, keys_or_token, lines_of, near_line, near_sought, no_form_text, path_text, repeated_text, sought, spot_text, stands_text, where_text};
 ghost use Rattle.explanations.specs.Told.{seen};
 
 use crate::hints::{hint_text, sought};
 use crate::part::Told;
-use crate::pieces::{path_text, put_bytes, put_keys, text_shown, token_text};
+use crate::pieces::{beside, path_text, put_bytes, put_keys, text_shown, token_text};
 use crate::words::{bare_sort_text, sort_text};
 use collections::Memory;
 use json::Token;
@@ -98,8 +98,72 @@ fn put_fault(alloc: Global, out: &mut Vec<u8>, told: &Told<'_>) -> Result<(), Me
         JsonFault::OutOfRange => put_standing(alloc, out, "no time; ", told.token),
         JsonFault::BadHex => put_standing(alloc, out, "no hexadecimal digits; ", told.token),
         JsonFault::Merkleized => put_bytes(out, b"no contract follows, but its hash"),
-        JsonFault::NotJson | JsonFault::TooLong | JsonFault::BadState | JsonFault::Memory => Ok(()),
+        JsonFault::BadState => put_bad_state(alloc, out, told),
+        JsonFault::NotJson | JsonFault::TooLong | JsonFault::Memory => Ok(()),
     }
+}
+
+fn put_bad_state(alloc: Global, out: &mut Vec<u8>, told: &Told<'_>) -> Result<(), Memory>
+    ensures { OnOk result (out.new.items ≡ out.old.items ++ bad_state_text told.now.sort (seen told.now)) }
+{
+    match told.sort {
+        Sort::Repeated(index) => put_repeated(alloc, out, told, index),
+        _ => put_no_sort(alloc, out, told),
+    }
+}
+
+fn put_repeated(
+    alloc: Global,
+    out: &mut Vec<u8>,
+    told: &Told<'_>,
+    index: usize,
+) -> Result<(), Memory>
+    ensures { OnOk result (out.new.items ≡ out.old.items ++ repeated_text (seen told.now) index) }
+{
+    put_bytes(out, b"no second entry for one key; the first stands at ")?;
+    put_first(alloc, out, told.first, told.path, index)
+}
+
+fn put_first(
+    alloc: Global,
+    out: &mut Vec<u8>,
+    first: Option<Spot>,
+    path: &[Step],
+    index: usize,
+) -> Result<(), Memory>
+    ensures { OnOk result (out.new.items ≡ out.old.items ++ (first_spot_text first ++ path_shown (path_text (beside path.now index)))) }
+{
+    put_first_spot(alloc, out, first)?;
+    put_beside(alloc, out, path, index)
+}
+
+fn put_first_spot(alloc: Global, out: &mut Vec<u8>, first: Option<Spot>) -> Result<(), Memory>
+    ensures { OnOk result (out.new.items ≡ out.old.items ++ first_spot_text first) }
+{
+    match first {
+        Some(spot) => put_spot_alone(alloc, out, spot),
+        None => Ok(()),
+    }
+}
+
+fn put_spot_alone(alloc: Global, out: &mut Vec<u8>, spot: Spot) -> Result<(), Memory>
+    ensures { OnOk result (out.new.items ≡ out.old.items ++ first_spot_text (Some spot)) }
+{
+    let text = spot_alone(alloc, spot.line, spot.column)?;
+    put_bytes(out, text.as_bytes())
+}
+
+fn spot_alone(alloc: Global, line: usize, column: usize) -> Result<String, Memory>
+    ensures { IfOk result (λ text. string_bytes text ≡ decimal line ++ (codes ":" ++ (decimal column ++ codes ", "))) }
+{
+    format!(in alloc; "{line}:{column}, ")
+}
+
+fn put_beside(alloc: Global, out: &mut Vec<u8>, path: &[Step], index: usize) -> Result<(), Memory>
+    ensures { OnOk result (out.new.items ≡ out.old.items ++ path_shown (path_text (beside path.now index))) }
+{
+    let other = beside(alloc, path, index)?;
+    put_cut(alloc, out, other.as_slice())
 }
 
 fn put_no_form(

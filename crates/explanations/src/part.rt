@@ -20,4 +20,6 @@ pub struct Told<'a> {
     pub token: Token<'a>,
     /// Its keys, where it is an object.
     pub keys: &'a [&'a str],
+    /// Where the first begins, of an entry that is given again.
+    pub first: Option<Spot>,
 }

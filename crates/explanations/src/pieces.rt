@@ -1,6 +1,7 @@
 //! Pieces of lines.
-ghost use Rattle.std.specs.Prelude.{◌≡◌, ◌∷◌, ◌++◌, IfOk, OnOk, codes, flat_map, map, string_bytes, take};
+ghost use Rattle.std.specs.Prelude.{◌≡◌, ◌∷◌, ◌++◌, ◌-◌, length, IfOk, OnOk, codes, flat_map, map, string_bytes, take};
 ghost use Rattle.json.specs.Reads.{token_of};
+ghost use Rattle.explanations.specs.Lines as spec;
 ghost use Rattle.explanations.specs.Lines.{keys_text, more_keys_text, next_key_text, others_text, path_text, step_text, text_shown, token_text};
 
 use collections::Memory;
@@ -115,6 +116,35 @@ pub(crate) fn path_text(alloc: Global, path: &[Step]) -> Result<Vec<u8>, Memory>
     let mut out = Vec::new(alloc);
     put_steps(alloc, &mut out, path)?;
     Ok(out)
+}
+
+/// The path to another item of the list to whose item a path leads.
+pub(crate) fn beside(alloc: Global, path: &[Step], index: usize) -> Result<Vec<Step>, Memory>
+    ensures { IfOk result (λ beside. beside.items ≡ spec.beside path.now index) }
+{
+    let mut out = copied(alloc, all_but_last(path))?;
+    out.push(Step::Item(index))?;
+    Ok(out)
+}
+
+fn copied(alloc: Global, path: &[Step]) -> Result<Vec<Step>, Memory>
+    ensures { IfOk result (λ copy. copy.items ≡ path.now) }
+{
+    let mut out = Vec::new(alloc);
+    for step in path {
+        out.push(*step)?;
+    }
+    Ok(out)
+}
+
+fn all_but_last(path: &[Step]) -> &[Step]
+    ensures { result.now ≡ take (length path.now - 1) path.now }
+{
+    if path.len() > 0 {
+        &path[..path.len() - 1]
+    } else {
+        path
+    }
 }
 
 fn put_steps(alloc: Global, out: &mut Vec<u8>, path: &[Step]) -> Result<(), Memory>

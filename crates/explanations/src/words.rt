@@ -29,6 +29,17 @@ pub(crate) fn sort_text(sort: Sort) -> &'static str
         Sort::Interval => "an interval",
         Sort::Inputs => "a list of inputs",
         Sort::Input => "an input",
+        Sort::State(_) => "a state",
+        Sort::Accounts(_) => "a list of accounts",
+        Sort::AccountEntry(_) => "an entry of accounts",
+        Sort::Account => "an account",
+        Sort::Choices(_) => "a list of choices",
+        Sort::ChoiceEntry(_) => "an entry of choices",
+        Sort::BoundValues(_) => "a list of bound values",
+        Sort::BoundEntry(_) => "an entry of bound values",
+        Sort::NumberOrText => "a number",
+        Sort::Amount(_) => "a number above 0",
+        Sort::Repeated(_) => "a second entry for one key",
     }
 }
 
@@ -57,6 +68,17 @@ pub(crate) fn bare_sort_text(sort: Sort) -> &'static str
         Sort::Interval => "interval",
         Sort::Inputs => "list of inputs",
         Sort::Input => "input",
+        Sort::State(_) => "state",
+        Sort::Accounts(_) => "list of accounts",
+        Sort::AccountEntry(_) => "entry of accounts",
+        Sort::Account => "account",
+        Sort::Choices(_) => "list of choices",
+        Sort::ChoiceEntry(_) => "entry of choices",
+        Sort::BoundValues(_) => "list of bound values",
+        Sort::BoundEntry(_) => "entry of bound values",
+        Sort::NumberOrText => "number",
+        Sort::Amount(_) => "number above 0",
+        Sort::Repeated(_) => "second entry for one key",
     }
 }
 
@@ -97,6 +119,21 @@ pub(crate) fn sort_hint(sort: Sort) -> &'static str
         Sort::Input => {
             "an input is \"input_notify\", or has \"input_from_party\" or \"for_choice_id\""
         }
+        Sort::State(_) => "a state has \"accounts\", \"choices\", \"boundValues\" and \"minTime\"",
+        Sort::Accounts(_) => "accounts stand in a list, also none or one",
+        Sort::AccountEntry(_) =>
+            "an entry of accounts is a list of two: an account and what it holds",
+        Sort::Account => "an account is a list of two: a party and a token",
+        Sort::Choices(_) => "choices stand in a list, also none or one",
+        Sort::ChoiceEntry(_) =>
+            "an entry of choices is a list of two: a choice id and the number that was chosen",
+        Sort::BoundValues(_) => "bound values stand in a list, also none or one",
+        Sort::BoundEntry(_) =>
+            "an entry of bound values is a list of two: a name and the value that is bound to it",
+        Sort::NumberOrText =>
+            "a number is a whole number, or a text of its decimal digits, from -2^127 to 2^127 - 1",
+        Sort::Amount(_) => "an account holds a number above 0",
+        Sort::Repeated(_) => "each key stands once: add up what belongs together, or leave one out",
     }
 }
 
@@ -143,5 +180,6 @@ pub(crate) fn form_text(form: Form) -> &'static str
         Form::Interval => "an interval",
         Form::DepositInput => "a deposit",
         Form::ChoiceInput => "a choice",
+        Form::State(_) => "a state",
     }
 }

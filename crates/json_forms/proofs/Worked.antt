@@ -10,7 +10,7 @@ letters_are_counted = (refl, refl, refl, refl, refl, refl, refl, refl, refl, ref
 
 pub misspelled_keys_are_found : MisspelledKeysAreFound
 unfolding one_apart two_apart nearest met
-misspelled_keys_are_found = ((refl, refl, refl), (refl, refl, refl), (refl, refl, refl), (refl, refl, refl), (refl, refl, refl))
+misspelled_keys_are_found = ((refl, refl, refl), (refl, refl, refl), (refl, refl, refl), (refl, refl, refl), (refl, refl, refl), (refl, refl, refl))
 
 pub no_form_is_meant : NoFormIsMeant
 unfolding one_apart two_apart nearest met

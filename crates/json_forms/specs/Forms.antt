@@ -66,6 +66,10 @@ key_word keys.InputFromParty = codes "input_from_party"
 key_word keys.ThatDeposits = codes "that_deposits"
 key_word keys.ForChoiceId = codes "for_choice_id"
 key_word keys.InputThatChoosesNum = codes "input_that_chooses_num"
+key_word keys.Accounts = codes "accounts"
+key_word keys.Choices = codes "choices"
+key_word keys.BoundValues = codes "boundValues"
+key_word keys.MinTime = codes "minTime"
 
 -- a key, and what its value is read as
 abbrev pub Field : Type 0
@@ -73,25 +77,20 @@ Field = Key × Sort
 
 abbrev pub forms_of : Sort → List Form
 forms_of sorts.Contract = forms.Pay ∷ forms.If ∷ forms.When ∷ forms.Let ∷ forms.Assert ∷ []
-forms_of sorts.Cases = []
 forms_of sorts.Case = forms.Case ∷ []
 forms_of sorts.Action = forms.Deposit ∷ forms.Choice ∷ forms.Notify ∷ []
 forms_of sorts.Value = forms.AvailableMoney ∷ forms.NegValue ∷ forms.AddValue ∷ forms.SubValue ∷ forms.MulValue ∷ forms.DivValue ∷ forms.ChoiceValue ∷ forms.UseValue ∷ forms.Cond ∷ []
 forms_of sorts.Observation = forms.AndObs ∷ forms.OrObs ∷ forms.NotObs ∷ forms.ChoseSomething ∷ forms.ValueGE ∷ forms.ValueGT ∷ forms.ValueLT ∷ forms.ValueLE ∷ forms.ValueEQ ∷ []
-forms_of sorts.Bounds = []
 forms_of sorts.Bound = forms.Bound ∷ []
 forms_of sorts.ChoiceId = forms.ChoiceId ∷ []
 forms_of sorts.Token = forms.Token ∷ []
 forms_of sorts.Party = forms.Address ∷ forms.Role ∷ []
 forms_of sorts.Payee = forms.ToAccount ∷ forms.ToParty ∷ []
-forms_of sorts.Text = []
-forms_of sorts.Hex = []
-forms_of sorts.Whole = []
-forms_of sorts.Time = []
 forms_of sorts.Transaction = forms.Transaction ∷ []
 forms_of sorts.Interval = forms.Interval ∷ []
-forms_of sorts.Inputs = []
 forms_of sorts.Input = forms.DepositInput ∷ forms.ChoiceInput ∷ []
+forms_of (sorts.State numbers) = forms.State numbers ∷ []
+forms_of other = []
 
 abbrev pub fields_of : Form → List Field
 fields_of forms.Pay = (keys.Pay, sorts.Value) ∷ (keys.Token, sorts.Token) ∷ (keys.FromAccount, sorts.Party) ∷ (keys.To, sorts.Payee) ∷ (keys.Then, sorts.Contract) ∷ []
@@ -132,6 +131,7 @@ fields_of forms.Transaction = (keys.TxInterval, sorts.Interval) ∷ (keys.TxInpu
 fields_of forms.Interval = (keys.From, sorts.Time) ∷ (keys.To, sorts.Time) ∷ []
 fields_of forms.DepositInput = (keys.InputFromParty, sorts.Party) ∷ (keys.ThatDeposits, sorts.Whole) ∷ (keys.OfToken, sorts.Token) ∷ (keys.IntoAccount, sorts.Party) ∷ []
 fields_of forms.ChoiceInput = (keys.ForChoiceId, sorts.ChoiceId) ∷ (keys.InputThatChoosesNum, sorts.Whole) ∷ []
+fields_of (forms.State numbers) = (keys.Accounts, sorts.Accounts numbers) ∷ (keys.Choices, sorts.Choices numbers) ∷ (keys.BoundValues, sorts.BoundValues numbers) ∷ (keys.MinTime, sorts.Time) ∷ []
 
 -- the words of a form's keys
 abbrev pub words_of : Form → List (List ℕ)

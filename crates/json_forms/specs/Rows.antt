@@ -4,6 +4,7 @@ use Rattle.json_forms.specs.declared.key.Key.{Key}
 use Rattle.json_forms.specs.declared.key.Key.TheVariants as keys
 use Rattle.json_forms.specs.declared.sort.Sort.{Sort}
 use Rattle.json_forms.specs.declared.sort.Sort.TheVariants as sorts
+use Rattle.json_forms.specs.declared.sort.Numbers.TheVariants as numbers
 use Rattle.json_forms.specs.declared.form.Form.{Form}
 use Rattle.json_forms.specs.declared.form.Form.TheVariants as forms
 use Rattle.json_forms.specs.Forms.{key_word}
@@ -37,6 +38,8 @@ MisspelledKeysAreFound =
     × Lacks (codes "asert" ∷ codes "then" ∷ []) sorts.Contract forms.Assert keys.Assert sorts.Observation (Some (codes "asert"))
     × Lacks (codes "value" ∷ codes "ge" ∷ []) sorts.Observation forms.ValueGT keys.Gt sorts.Value (Some (codes "ge"))
     × Lacks (codes "role_tokn" ∷ []) sorts.Party forms.Role keys.RoleToken sorts.Text (Some (codes "role_tokn"))
+    × Lacks (codes "accounts" ∷ codes "choices" ∷ codes "bound_values" ∷ codes "minTime" ∷ []) (sorts.State numbers.Whole) (forms.State numbers.Whole) keys.BoundValues (sorts.BoundValues numbers.Whole)
+    (Some (codes "bound_values"))
 
 -- no form is meant where none of its keys is there or near
 abbrev pub NoFormIsMeant : Type 0

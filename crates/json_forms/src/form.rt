@@ -3,7 +3,7 @@ ghost use Rattle.std.specs.Prelude.{◌≡◌};
 ghost use Rattle.json_forms.specs.Forms.{fields_of, forms_of};
 
 use crate::key::Key;
-use crate::sort::Sort;
+use crate::sort::{Numbers, Sort};
 
 /// A form of a sort that is an object: it has some keys, in order. A sort may also have words and numbers, which are none.
 #[derive(Clone, Copy, Debug)]
@@ -84,6 +84,8 @@ pub enum Form {
     DepositInput,
     /// A choice as an input.
     ChoiceInput,
+    /// A state.
+    State(Numbers),
 }
 
 /// The forms of a sort that are objects, in the order in which they are sought.
@@ -124,13 +126,25 @@ pub fn forms_of(sort: Sort) -> &'static [Form]
         Sort::Transaction => &[Form::Transaction],
         Sort::Interval => &[Form::Interval],
         Sort::Input => &[Form::DepositInput, Form::ChoiceInput],
+        Sort::State(Numbers::Whole) => &[Form::State(Numbers::Whole)],
+        Sort::State(Numbers::OrTexts) => &[Form::State(Numbers::OrTexts)],
         Sort::Cases
         | Sort::Bounds
         | Sort::Text
         | Sort::Hex
         | Sort::Whole
         | Sort::Time
-        | Sort::Inputs => &[],
+        | Sort::Inputs
+        | Sort::Accounts(_)
+        | Sort::AccountEntry(_)
+        | Sort::Account
+        | Sort::Choices(_)
+        | Sort::ChoiceEntry(_)
+        | Sort::BoundValues(_)
+        | Sort::BoundEntry(_)
+        | Sort::NumberOrText
+        | Sort::Amount(_)
+        | Sort::Repeated(_) => &[],
     }
 }
 
@@ -235,6 +249,18 @@ pub fn fields_of(form: Form) -> &'static [(Key, Sort)]
         Form::ChoiceInput => &[
             (Key::ForChoiceId, Sort::ChoiceId),
             (Key::InputThatChoosesNum, Sort::Whole),
+        ],
+        Form::State(Numbers::Whole) => &[
+            (Key::Accounts, Sort::Accounts(Numbers::Whole)),
+            (Key::Choices, Sort::Choices(Numbers::Whole)),
+            (Key::BoundValues, Sort::BoundValues(Numbers::Whole)),
+            (Key::MinTime, Sort::Time),
+        ],
+        Form::State(Numbers::OrTexts) => &[
+            (Key::Accounts, Sort::Accounts(Numbers::OrTexts)),
+            (Key::Choices, Sort::Choices(Numbers::OrTexts)),
+            (Key::BoundValues, Sort::BoundValues(Numbers::OrTexts)),
+            (Key::MinTime, Sort::Time),
         ],
     }
 }

@@ -2,7 +2,7 @@
 ghost use Rattle.std.specs.Prelude.{◌≡◌};
 ghost use Rattle.json_forms.specs.Forms.{key_word};
 
-/// A key of a form of a contract or of a transaction.
+/// A key of a form of a contract, a transaction or a state.
 #[derive(Clone, Copy, Debug)]
 pub enum Key {
     /// `pay`
@@ -121,6 +121,14 @@ pub enum Key {
     ForChoiceId,
     /// `input_that_chooses_num`
     InputThatChoosesNum,
+    /// `accounts`
+    Accounts,
+    /// `choices`
+    Choices,
+    /// `boundValues`
+    BoundValues,
+    /// `minTime`
+    MinTime,
 }
 
 /// The word of a key, as it stands in a text.
@@ -186,5 +194,9 @@ pub fn key_word(key: Key) -> &'static str
         Key::ThatDeposits => "that_deposits",
         Key::ForChoiceId => "for_choice_id",
         Key::InputThatChoosesNum => "input_that_chooses_num",
+        Key::Accounts => "accounts",
+        Key::Choices => "choices",
+        Key::BoundValues => "boundValues",
+        Key::MinTime => "minTime",
     }
 }

@@ -1,4 +1,4 @@
-//! The forms of a contract's and a transaction's parts as tables: of each sort its forms, and of each form its keys, with what the
+//! The forms of the parts of contracts, transactions and states as tables: of each sort its forms, and of each form its keys, with what the
 //! value behind each is read as. Also which form an object was meant to have, which of its keys lacks, and how that may have been
 //! spelled.
 #![tactic(auto)]
@@ -14,4 +14,4 @@ pub use form::{Form, fields_of, forms_of};
 pub use key::{Key, key_word};
 pub use lacking::{lacking_key, meant_form, nearest_key};
 pub use laws::worked_forms;
-pub use sort::Sort;
+pub use sort::{Numbers, Sort};

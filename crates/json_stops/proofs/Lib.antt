@@ -1,4 +1,6 @@
-pub mod ChainLemmas
-pub mod FormLemmas
-pub mod FaultLemmas
+mod ChainLemmas
+mod RepeatLemmas
+mod FormLemmas
+mod FaultLemmas
 pub mod StopLemmas
+mod Worked

@@ -1,7 +1,8 @@
 -- The form that a JSON value has as one of a sort: its keys, with what the values behind them are read as; or the fault of the form
 -- itself.
-use Rattle.std.specs.Prelude.{Bool, List, [], Option, Some, None, Ok, Err, codes, if◌then◌else◌}
+use Rattle.std.specs.Prelude.{ℤ, pos, int_lt, Bool, ◌&&◌, List, [], Ok, Err, codes, if◌then◌else◌}
 use Rattle.serde_json.specs.Data.{Data}
+use Rattle.collections.specs.Answers.{◌>>=◌}
 use Rattle.json_read_names.specs.Forms.{has, has_two, contract_form, case_form, action_form, value_form, observation_form, input_form}
 use Rattle.json_read_names.specs.Parts.{Reading, of_one, text, bytes, whole_number, time}
 use Rattle.json_read_names.specs.declared.fault.JsonFault.TheVariants as faults
@@ -17,18 +18,49 @@ use Rattle.json_read_names.specs.declared.forms.ObservationForm.{ObservationForm
 use Rattle.json_read_names.specs.declared.forms.ObservationForm.TheVariants as observations
 use Rattle.json_read_names.specs.declared.forms.InputForm.{InputForm}
 use Rattle.json_read_names.specs.declared.forms.InputForm.TheVariants as inputs
+use Rattle.json_read_inputs.specs.ReadsNumber.{number_or_text}
+use Rattle.json_forms.specs.declared.sort.Numbers.{Numbers}
+use Rattle.json_forms.specs.declared.sort.Numbers.TheVariants as numbers
 use Rattle.json_forms.specs.declared.sort.Sort.{Sort}
 use Rattle.json_forms.specs.declared.sort.Sort.TheVariants as sorts
 use Rattle.json_forms.specs.declared.form.Form.{Form}
 use Rattle.json_forms.specs.declared.form.Form.TheVariants as forms
 use Rattle.json_forms.specs.Forms.{Field, fields_of}
+use Rattle.json_stops.specs.declared.fields.Shape.{Shape}
+use Rattle.json_stops.specs.declared.fields.Shape.TheVariants.{Itself, ListOf, PairOf}
 
--- the sort of a list's items, if it is one of lists
-abbrev pub item_sort : Sort → Option Sort
-item_sort sorts.Cases = Some sorts.Case
-item_sort sorts.Bounds = Some sorts.Bound
-item_sort sorts.Inputs = Some sorts.Input
-item_sort other = None
+-- ---- numbers of a state
+
+abbrev pub number_sort : Numbers → Sort
+number_sort numbers.Whole = sorts.Whole
+number_sort numbers.OrTexts = sorts.NumberOrText
+
+abbrev pub number : Numbers → Data → Reading ℤ
+number numbers.Whole = whole_number
+number numbers.OrTexts = number_or_text
+
+abbrev above_0 : ℤ → Reading ℤ
+above_0 n = if int_lt (pos 0) n then Ok n else Err faults.BadState
+
+-- what an account holds
+abbrev pub amount : Numbers → Data → Reading ℤ
+amount numbers d = number numbers d >>= above_0
+
+-- ---- lists, pairs and forms
+
+-- a sort of lists has a sort of items, and one of pairs two
+abbrev pub shape_of : Sort → Shape
+shape_of sorts.Cases = ListOf sorts.Case
+shape_of sorts.Bounds = ListOf sorts.Bound
+shape_of sorts.Inputs = ListOf sorts.Input
+shape_of (sorts.Accounts numbers) = ListOf (sorts.AccountEntry numbers)
+shape_of (sorts.AccountEntry numbers) = PairOf sorts.Account (sorts.Amount numbers)
+shape_of sorts.Account = PairOf sorts.Party sorts.Token
+shape_of (sorts.Choices numbers) = ListOf (sorts.ChoiceEntry numbers)
+shape_of (sorts.ChoiceEntry numbers) = PairOf sorts.ChoiceId (number_sort numbers)
+shape_of (sorts.BoundValues numbers) = ListOf (sorts.BoundEntry numbers)
+shape_of (sorts.BoundEntry numbers) = PairOf sorts.Text (number_sort numbers)
+shape_of other = Itself
 
 -- a text or a number has no keys
 abbrev pub no_keys : {X : Type 0} → Reading X → Reading (List Field)
@@ -116,4 +148,8 @@ fields_read sorts.Time d = no_keys (time d)
 fields_read sorts.Transaction d = only_form (has_two (codes "tx_interval") (codes "tx_inputs") d) forms.Transaction
 fields_read sorts.Interval d = only_form (has_two (codes "from") (codes "to") d) forms.Interval
 fields_read sorts.Input d = input_fields (input_form d)
+fields_read (sorts.State numbers) d = only_form (has_two (codes "accounts") (codes "choices") d && has_two (codes "boundValues") (codes "minTime") d) (forms.State numbers)
+fields_read sorts.NumberOrText d = no_keys (number_or_text d)
+fields_read (sorts.Amount numbers) d = no_keys (amount numbers d)
+fields_read (sorts.Repeated first) d = Err faults.BadState
 fields_read other d = Ok []

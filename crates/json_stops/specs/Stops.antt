@@ -1,15 +1,19 @@
 -- Where the reading of a JSON value stops, and why.
-use Rattle.std.specs.Prelude.{◌≡◌, ℕ, ◌+◌, List, [], ◌∷◌, Option, Some, None, Ok, Err, is_some}
+use Rattle.std.specs.Prelude.{◌≡◌, ℕ, ◌+◌, List, [], ◌∷◌, Option, Some, None, Ok, Err, is_some, if◌then◌else◌}
 use Rattle.std.specs.List.{find}
 use Rattle.serde_json.specs.Data.{Data, Items, no_items, item}
 use Rattle.serde_json.specs.Find.{get, as_array}
-use Rattle.json_read_names.specs.Parts.{Reading, text, bytes, whole_number, time, list}
+use Rattle.names.specs.Orders.{bytes_cmp, account_cmp, choice_id_cmp}
+use Rattle.json_read_names.specs.Parts.{Reading, text, bytes, whole_number, time, list, pair}
 use Rattle.json_read_names.specs.ReadsNames.{party, token, choice_id, payee, bound}
 use Rattle.json_read_names.specs.declared.fault.JsonFault.{JsonFault}
+use Rattle.json_read_names.specs.declared.fault.JsonFault.TheVariants.{BadState}
 use Rattle.json_read_values.specs.ReadsValue.{value, observation}
 use Rattle.json_read_values.specs.ReadsAction.{action}
 use Rattle.json_read_contracts.specs.ReadsContract.{contract, case}
 use Rattle.json_read_inputs.specs.ReadsInput.{transaction, interval, input}
+use Rattle.json_read_inputs.specs.ReadsNumber.{number_or_text}
+use Rattle.json_read_inputs.specs.ReadsState.{account, account_row_by, choice_row_by, bound_row_by, rows, state_by}
 use Rattle.json_forms.specs.declared.sort.Sort.{Sort}
 use Rattle.json_forms.specs.declared.sort.Sort.TheVariants as sorts
 use Rattle.json_forms.specs.Forms.{Field, key_word}
@@ -17,7 +21,10 @@ use Rattle.std.specs.Borrow.{Bor}
 use Rattle.json_stops.specs.declared.stop.Step.{Step}
 use Rattle.json_stops.specs.declared.stop.Stop.{Stop}
 use Rattle.json_stops.specs.declared.stop.Step.TheVariants as steps
-use Rattle.json_stops.specs.FormsRead.{item_sort, fields_read}
+use Rattle.json_stops.specs.declared.fields.Shape.{Shape}
+use Rattle.json_stops.specs.declared.fields.Shape.TheVariants.{Itself, ListOf, PairOf}
+use Rattle.json_stops.specs.FormsRead.{shape_of, fields_read, number, amount}
+use Rattle.json_stops.specs.Repeats.{Repeat, repeat_in, earlier}
 
 -- ---- faults
 
@@ -48,6 +55,17 @@ fault_as sorts.Transaction d = fault_of (transaction d)
 fault_as sorts.Interval d = fault_of (interval d)
 fault_as sorts.Inputs d = fault_of (list input d)
 fault_as sorts.Input d = fault_of (input d)
+fault_as (sorts.State numbers) d = fault_of (state_by (number numbers) d)
+fault_as (sorts.Accounts numbers) d = fault_of (rows account_cmp (account_row_by (number numbers)) d)
+fault_as (sorts.AccountEntry numbers) d = fault_of (account_row_by (number numbers) d)
+fault_as sorts.Account d = fault_of (account d)
+fault_as (sorts.Choices numbers) d = fault_of (rows choice_id_cmp (choice_row_by (number numbers)) d)
+fault_as (sorts.ChoiceEntry numbers) d = fault_of (choice_row_by (number numbers) d)
+fault_as (sorts.BoundValues numbers) d = fault_of (rows bytes_cmp (bound_row_by (number numbers)) d)
+fault_as (sorts.BoundEntry numbers) d = fault_of (bound_row_by (number numbers) d)
+fault_as sorts.NumberOrText d = fault_of (number_or_text d)
+fault_as (sorts.Amount numbers) d = fault_of (amount numbers d)
+fault_as (sorts.Repeated first) d = Some BadState
 
 -- ---- parts
 
@@ -66,26 +84,38 @@ abbrev pub behind : Data → List Field → List Part
 behind d [] = []
 behind d (f ∷ fs) = and_rest f (get (key_word f.0) d) (behind d fs)
 
+-- what an entry is read as: if it reads well but an earlier one has its key, as one that is given again
+abbrev pub entry_sort : Option ℕ → Sort → Data → Sort
+entry_sort None sort d = sort
+entry_sort (Some first) sort d = if is_some (fault_as sort d) then sort else sorts.Repeated first
+
 -- the items of a list, counted from a number on
-abbrev pub items_from : Sort → ℕ → Items → List Part
-items_from sort n no_items = []
-items_from sort n (item d ds) = record { step = steps.Item n; sort = sort; json = d } ∷ items_from sort (n + 1) ds
+abbrev pub items_from : Option Repeat → Sort → ℕ → Items → List Part
+items_from repeat sort n no_items = []
+items_from repeat sort n (item d ds) =
+    record { step = steps.Item n; sort = entry_sort (earlier repeat n) sort d; json = d } ∷ items_from repeat sort (n + 1) ds
 
 abbrev pub fields_parts : Data → Reading (List Field) → List Part
 fields_parts d (Ok fs) = behind d fs
 fields_parts d (Err f) = []
 
-abbrev pub items_parts : Sort → Option Items → List Part
-items_parts sort (Some ds) = items_from sort 0 ds
-items_parts sort None = []
+abbrev pub list_parts : Sort → Sort → Option Items → List Part
+list_parts sort inner (Some ds) = items_from (repeat_in sort ds) inner 0 ds
+list_parts sort inner None = []
 
-abbrev pub parts_by : Option Sort → Sort → Data → List Part
-parts_by None sort d = fields_parts d (fields_read sort d)
-parts_by (Some inner) sort d = items_parts inner (as_array d)
+abbrev pub pair_parts : Sort → Sort → Reading (Data × Data) → List Part
+pair_parts first second (Ok p) =
+    record { step = steps.Item 0; sort = first; json = p.0 } ∷ record { step = steps.Item 1; sort = second; json = p.1 } ∷ []
+pair_parts first second (Err f) = []
+
+abbrev pub parts_by : Shape → Sort → Data → List Part
+parts_by Itself sort d = fields_parts d (fields_read sort d)
+parts_by (ListOf inner) sort d = list_parts sort inner (as_array d)
+parts_by (PairOf first second) sort d = pair_parts first second (pair d)
 
 -- the parts that are read of a value of a sort, in order
 abbrev pub parts : Sort → Data → List Part
-parts sort d = parts_by (item_sort sort) sort d
+parts sort d = parts_by (shape_of sort) sort d
 
 -- ---- where reading stops
 

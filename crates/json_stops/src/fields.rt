@@ -1,10 +1,12 @@
 //! The keys that are read of a JSON value.
-ghost use Rattle.std.specs.Prelude.{◌≡◌, codes};
+ghost use Rattle.std.specs.Prelude.{◌≡◌, ◌&&◌, codes};
 ghost use Rattle.collections.specs.Answers.{AsideBy};
+ghost use Rattle.json_read_names.specs.Forms.{has_two};
 ghost use Rattle.json_read_names.specs.Parts.{text, bytes, whole_number, time};
 ghost use Rattle.json_stops.specs.FormsRead as read;
 
-use json_forms::{Form, Key, Sort, fields_of};
+use crate::numbers::read_number;
+use json_forms::{Form, Key, Numbers, Sort, fields_of};
 use json_read_names::{
     ActionForm, CaseForm, ContractForm, InputForm, JsonFault, ObservationForm, ValueForm,
     action_form, case_form, contract_form, has, has_two, input_form, observation_form, read_bytes,
@@ -13,15 +15,42 @@ use json_read_names::{
 use json_tree::JsonValue;
 use std::alloc::Global;
 
-/// The sort of a list's items, if a sort is one of lists.
-pub(crate) fn item_sort(sort: Sort) -> Option<Sort>
-    ensures { result ≡ read.item_sort sort }
+/// How the parts of a value are found.
+#[derive(Clone, Copy)]
+pub(crate) enum Shape {
+    // By the keys of its form; a text or a number has none.
+    Itself,
+    // As the items of a list, each of a sort.
+    ListOf(Sort),
+    // As the two items of a list of just two.
+    PairOf(Sort, Sort),
+}
+
+/// How the parts of a value of a sort are found.
+pub(crate) fn shape_of(sort: Sort) -> Shape
+    ensures { result ≡ read.shape_of sort }
 {
     match sort {
-        Sort::Cases => Some(Sort::Case),
-        Sort::Bounds => Some(Sort::Bound),
-        Sort::Inputs => Some(Sort::Input),
-        _ => None,
+        Sort::Cases => Shape::ListOf(Sort::Case),
+        Sort::Bounds => Shape::ListOf(Sort::Bound),
+        Sort::Inputs => Shape::ListOf(Sort::Input),
+        Sort::Accounts(numbers) => Shape::ListOf(Sort::AccountEntry(numbers)),
+        Sort::AccountEntry(numbers) => Shape::PairOf(Sort::Account, Sort::Amount(numbers)),
+        Sort::Account => Shape::PairOf(Sort::Party, Sort::Token),
+        Sort::Choices(numbers) => Shape::ListOf(Sort::ChoiceEntry(numbers)),
+        Sort::ChoiceEntry(numbers) => Shape::PairOf(Sort::ChoiceId, number_sort(numbers)),
+        Sort::BoundValues(numbers) => Shape::ListOf(Sort::BoundEntry(numbers)),
+        Sort::BoundEntry(numbers) => Shape::PairOf(Sort::Text, number_sort(numbers)),
+        _ => Shape::Itself,
+    }
+}
+
+fn number_sort(numbers: Numbers) -> Sort
+    ensures { result ≡ read.number_sort numbers }
+{
+    match numbers {
+        Numbers::Whole => Sort::Whole,
+        Numbers::OrTexts => Sort::NumberOrText,
     }
 }
 
@@ -55,8 +84,28 @@ pub(crate) fn fields_read<J: JsonValue>(
         ),
         Sort::Interval => only_form(has_two(json, "from", "to"), Form::Interval),
         Sort::Input => input_fields(input_form(json)),
-        Sort::Cases | Sort::Bounds | Sort::Inputs => Ok(&[]),
+        Sort::State(numbers) => only_form(has_state_keys(json), Form::State(numbers)),
+        Sort::NumberOrText => number_fields(alloc, json, Numbers::OrTexts),
+        Sort::Amount(numbers) => amount_fields(alloc, json, numbers),
+        Sort::Repeated(_) => Err(JsonFault::BadState),
+        Sort::Cases
+        | Sort::Bounds
+        | Sort::Inputs
+        | Sort::Accounts(_)
+        | Sort::AccountEntry(_)
+        | Sort::Account
+        | Sort::Choices(_)
+        | Sort::ChoiceEntry(_)
+        | Sort::BoundValues(_)
+        | Sort::BoundEntry(_) => Ok(&[]),
     }
+}
+
+fn has_state_keys<J: JsonValue>(json: &J) -> bool
+    ensures { result ≡ (has_two (codes "accounts") (codes "choices") (J.json json.now)
+        && has_two (codes "boundValues") (codes "minTime") (J.json json.now)) }
+{
+    has_two(json, "accounts", "choices") && has_two(json, "boundValues", "minTime")
 }
 
 fn contract_fields(form: ContractForm) -> Result<&'static [(Key, Sort)], JsonFault>
@@ -204,6 +253,38 @@ fn time_fields<J: JsonValue>(json: &J) -> Result<&'static [(Key, Sort)], JsonFau
 {
     match read_time(json) {
         Ok(_) => Ok(&[]),
+        Err(fault) => Err(fault),
+    }
+}
+
+fn number_fields<J: JsonValue>(
+    alloc: Global,
+    json: &J,
+    numbers: Numbers,
+) -> Result<&'static [(Key, Sort)], JsonFault>
+    ensures { AsideBy JsonFault.Memory (λ fields. fields.now) result (read.no_keys (read.number numbers (J.json json.now))) }
+{
+    match read_number(alloc, json, numbers) {
+        Ok(_) => Ok(&[]),
+        Err(fault) => Err(fault),
+    }
+}
+
+fn amount_fields<J: JsonValue>(
+    alloc: Global,
+    json: &J,
+    numbers: Numbers,
+) -> Result<&'static [(Key, Sort)], JsonFault>
+    ensures { AsideBy JsonFault.Memory (λ fields. fields.now) result (read.no_keys (read.amount numbers (J.json json.now))) }
+{
+    match read_number(alloc, json, numbers) {
+        Ok(number) => {
+            if number > 0 {
+                Ok(&[])
+            } else {
+                Err(JsonFault::BadState)
+            }
+        }
         Err(fault) => Err(fault),
     }
 }

@@ -1,10 +1,12 @@
 //! The way down to the first part that isn't read.
 ghost use Rattle.std.specs.Prelude.{◌≡◌, ◌≢◌, Some, None, Ok, IfOk, option_map};
+ghost use Rattle.json_stops.specs.declared.fields.Shape.TheVariants.{Itself, ListOf, PairOf};
 ghost use Rattle.json_stops.specs.FormsRead as read;
 ghost use Rattle.json_stops.specs.Stops.{IsStop, place};
 ghost use Rattle.json_stops.specs.StopsSupport.{at_itself, place_back, under};
 
-use crate::fields::{fields_read, item_sort};
+use crate::fields::{Shape, fields_read, shape_of};
+use crate::repeats::{earlier, repeat_in};
 use crate::stop::{Step, Stop};
 use collections::Memory;
 use json_forms::{Key, Sort, key_word};
@@ -47,9 +49,23 @@ fn stop_within<'j, J: JsonValue>(
 ) -> Result<Option<(Stop, &'j J)>, Memory>
     ensures { IfOk result (λ found. IsStop sort (J.json json.now) (option_map (place_back J.json) found)) }
 {
-    if let Some(inner) = item_sort(sort) {
-        return stop_in_list(alloc, sort, json, inner);
+    match shape_of(sort) {
+        Shape::Itself => stop_in_form(alloc, sort, json),
+        Shape::ListOf(inner) => stop_in_list(alloc, sort, json, inner),
+        Shape::PairOf(first, second) => stop_in_pair(alloc, sort, json, first, second),
     }
+}
+
+// Of the form.
+#[cycle(stop_within)]
+fn stop_in_form<'j, J: JsonValue>(
+    alloc: Global,
+    sort: Sort,
+    json: &'j J,
+) -> Result<Option<(Stop, &'j J)>, Memory>
+    requires { read.shape_of sort ≡ Itself }
+    ensures { IfOk result (λ found. IsStop sort (J.json json.now) (option_map (place_back J.json) found)) }
+{
     match fields_read(alloc, sort, json) {
         Ok(fields) => stop_in_fields(alloc, sort, json, fields),
         Err(fault) => stop_or_memory(alloc, sort, json, fault),
@@ -65,7 +81,7 @@ fn stop_in_fields<'j, J: JsonValue>(
     json: &'j J,
     fields: &[(Key, Sort)],
 ) -> Result<Option<(Stop, &'j J)>, Memory>
-    requires no_list { read.item_sort sort ≡ None }
+    requires no_list { read.shape_of sort ≡ Itself }
     requires fields { read.fields_read sort (J.json json.now) ≡ Ok fields.now }
     ensures { IfOk result (λ found. IsStop sort (J.json json.now) (option_map (place_back J.json) found)) }
 {
@@ -90,18 +106,51 @@ fn stop_in_list<'j, J: JsonValue>(
     json: &'j J,
     inner: Sort,
 ) -> Result<Option<(Stop, &'j J)>, Memory>
-    requires { read.item_sort sort ≡ Some inner }
+    requires { read.shape_of sort ≡ ListOf inner }
     ensures { IfOk result (λ found. IsStop sort (J.json json.now) (option_map (place_back J.json) found)) }
 {
     let Some(items) = json.items() else {
         return Ok(Some(stop_here(alloc, sort, json, JsonFault::NoForm)));
     };
+    let repeat = repeat_in(alloc, sort, items)?;
     for (index, item) in items.iter().enumerate() {
         if let Some(found) = stop_within(alloc, inner, item)? {
             return behind(found, Step::Item(index));
         }
+        if let Some(first) = earlier(repeat, index) {
+            let found = stop_here(alloc, Sort::Repeated(first), item, JsonFault::BadState);
+            return behind(found, Step::Item(index));
+        }
     }
     Ok(None)
+}
+
+// Of the two items of a list of just two.
+#[cycle(stop_within)]
+#[tactic(auto, using(json_read_names::proofs::DepthLaws::item_deeper))]
+fn stop_in_pair<'j, J: JsonValue>(
+    alloc: Global,
+    sort: Sort,
+    json: &'j J,
+    first: Sort,
+    second: Sort,
+) -> Result<Option<(Stop, &'j J)>, Memory>
+    requires { read.shape_of sort ≡ PairOf first second }
+    ensures { IfOk result (λ found. IsStop sort (J.json json.now) (option_map (place_back J.json) found)) }
+{
+    let Some(items) = json.items() else {
+        return Ok(Some(stop_here(alloc, sort, json, JsonFault::NoForm)));
+    };
+    if items.len() != 2 {
+        return Ok(Some(stop_here(alloc, sort, json, JsonFault::NoForm)));
+    }
+    if let Some(found) = stop_within(alloc, first, &items[0])? {
+        return behind(found, Step::Item(0));
+    }
+    match stop_within(alloc, second, &items[1])? {
+        Some(found) => behind(found, Step::Item(1)),
+        None => Ok(None),
+    }
 }
 
 // At a value itself.

@@ -1,5 +1,5 @@
 -- The lines behind the line of a refusal: which text they explain, or which transaction.
-use Rattle.std.specs.Prelude.{◌≡◌, ◌⊎◌, ℕ, ℤ, Bool, List, [], take, map, slice_get, option_map, Option, Some, None, Result, Ok, Err}
+use Rattle.std.specs.Prelude.{◌≡◌, ◌⊎◌, ℕ, ℤ, Bool, true, false, List, [], take, map, slice_get, option_map, Option, Some, None, Result, Ok, Err}
 use Rattle.std.specs.Borrow.{Bor}
 use Rattle.std.specs.Option.{unwrap_or}
 use Rattle.contract.specs.Tree.{ContractTree, contract_tree}
@@ -13,6 +13,8 @@ use Rattle.json_read_names.specs.ReadsText.{of_text}
 use Rattle.json_read_contracts.specs.ReadsContract.{contract}
 use Rattle.json_read_inputs.specs.ReadsInput.{transaction}
 use Rattle.json_read_transactions.specs.ReadsTransactions.{transactions_of}
+use Rattle.json_forms.specs.declared.sort.Numbers.{Numbers}
+use Rattle.json_forms.specs.declared.sort.Numbers.TheVariants as numbers
 use Rattle.json_forms.specs.declared.sort.Sort.{Sort}
 use Rattle.json_forms.specs.declared.sort.Sort.TheVariants as sorts
 use Rattle.marlowe_run.specs.Start.{start_of}
@@ -109,13 +111,19 @@ TellsNext a (One t) lines = TellsOne a t lines
 TellsNext a (Many ts) lines = TellsMany None a ts lines
 TellsNext a (Next ts over) lines = TellsMany (Some over) a ts lines
 
--- of a state nothing is told
-abbrev pub TellsState : Option Source → List ℕ → Type 0
-TellsState s lines = ⊥
+-- a number of a state may also be a text of its digits
+abbrev pub numbers_of : Bool → Numbers
+numbers_of false = numbers.Whole
+numbers_of true = numbers.OrTexts
+
+-- a state that is given isn't read
+abbrev pub TellsState : Option Source → Bool → List ℕ → Type 0
+TellsState None texts lines = ⊥
+TellsState (Some s) texts lines = TellsText s.path.now s.text.now (sorts.State (numbers_of texts)) lines
 
 abbrev pub TellsFrom : Option Source → Bool → Behind → ContractTree → List ℕ → Type 0
 TellsFrom s texts behind c lines =
-    ReadFirst (start_of texts (option_map (λ source. source.text.now) s)) (TellsState s) (λ start. TellsNext (standing start c) behind) lines
+    ReadFirst (start_of texts (option_map (λ source. source.text.now) s)) (TellsState s texts) (λ start. TellsNext (standing start c) behind) lines
 
 abbrev pub Tells : Source → Option Source → Bool → Behind → List ℕ → Type 0
 Tells c s texts behind lines =

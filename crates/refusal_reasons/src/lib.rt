@@ -10,4 +10,4 @@ mod source;
 mod texts;
 
 pub use second_look::{reasons, table_reasons};
-pub use source::{Behind, Over, Source, Sources};
+pub use source::{Behind, Over, Source, Sources, text_if};

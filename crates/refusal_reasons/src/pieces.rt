@@ -5,15 +5,13 @@ ghost use Rattle.refusal_reasons.specs.Reasons.{OrNone, TellsPiece, TellsPieceOf
 use crate::source::{Source, Sources};
 use crate::texts::text_lines;
 use collections::Memory;
+use explanations::MAX_DEPTH;
 use json::Scratch;
 use json_forms::Sort;
 use json_read_names::{JsonFault, json_of};
 use json_tree::JsonValue;
 use part_tokens::beginning_of;
 use std::alloc::{AllocError, Global};
-
-// How deep texts may nest.
-const MAX_DEPTH: usize = 127;
 
 // How transactions stand in a text, and how many.
 #[derive(Clone, Copy)]

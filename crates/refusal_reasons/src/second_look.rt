@@ -1,16 +1,16 @@
 //! The first text that isn't read, or what is refused once all are read.
-ghost use Rattle.std.specs.Prelude.{◌≡◌, [], IfOk, MatchResult, option_map};
+ghost use Rattle.std.specs.Prelude.{◌≡◌, [], IfOk, MatchResult};
 ghost use Rattle.contract.specs.Tree.{contract_tree};
 ghost use Rattle.semantics.specs.Walk.{standing};
-ghost use Rattle.refusal_reasons.specs.Reasons.{OrNone, Tells, TellsFrom, TellsNext, TellsOfTable, TellsOne, TellsState, TellsTable, TellsTransaction};
+ghost use Rattle.refusal_reasons.specs.Reasons.{OrNone, Tells, TellsFrom, TellsNext, TellsOfTable, TellsOne, TellsState, TellsTable, TellsTransaction, numbers_of};
 
 use crate::sequences::sequence_lines;
-use crate::source::{Behind, Source};
+use crate::source::{Behind, Source, text_if};
 use crate::texts::text_lines;
 use collections::Memory;
 use contract::{Contract, State, Transaction};
 use contract_json::{JsonFault, read_contract, read_transaction};
-use json_forms::Sort;
+use json_forms::{Numbers, Sort};
 use marlowe_run::{beside_dropped, read_start};
 use std::alloc::{AllocError, Global};
 
@@ -83,26 +83,27 @@ fn from_state(
             beside_dropped(start, lines)
         }
         Err(JsonFault::Memory) => Err(AllocError),
-        Err(_) => state_lines(alloc, state),
-    }
-}
-
-fn text_if<'a>(state: Option<Source<'a>>) -> Option<&'a [u8]>
-    ensures { option_map (λ text. text.now) result ≡ option_map (λ source. source.text.now) state.entry }
-{
-    match state {
-        Some(source) => Some(source.text),
-        None => None,
+        Err(_) => state_lines(alloc, state, texts),
     }
 }
 
 // Why a state isn't read.
-fn state_lines(alloc: Global, state: Option<Source<'_>>) -> Result<Vec<u8>, Memory>
-    ensures { IfOk result (λ lines. OrNone (TellsState state.entry) lines.items) }
+fn state_lines(alloc: Global, state: Option<Source<'_>>, texts: bool) -> Result<Vec<u8>, Memory>
+    ensures { IfOk result (λ lines. OrNone (TellsState state.entry texts) lines.items) }
 {
     match state {
-        Some(_) => Ok(Vec::new(alloc)),
+        Some(source) => text_lines(alloc, source, Sort::State(numbers_of(texts))),
         None => Ok(Vec::new(alloc)),
+    }
+}
+
+fn numbers_of(texts: bool) -> Numbers
+    ensures { result ≡ numbers_of texts }
+{
+    if texts {
+        Numbers::OrTexts
+    } else {
+        Numbers::Whole
     }
 }
 

@@ -1,10 +1,21 @@
 //! The texts of a command, and the paths by which they are told.
+ghost use Rattle.std.specs.Prelude.{◌≡◌, option_map};
 
 /// A text, and the path by which it is told.
 #[derive(Clone, Copy)]
 pub struct Source<'a> {
     pub path: &'a str,
     pub text: &'a [u8],
+}
+
+/// The text of a source, if there is one.
+pub fn text_if<'a>(source: Option<Source<'a>>) -> Option<&'a [u8]>
+    ensures { option_map (λ text. text.now) result ≡ option_map (λ source. source.text.now) source.entry }
+{
+    match source {
+        Some(source) => Some(source.text),
+        None => None,
+    }
 }
 
 /// Texts one behind the other, and the path by which each is told.

@@ -1,4 +1,4 @@
-use Rattle.explanations.proofs.Worked.{misspelled_keys_are_told, words_are_told, numbers_are_told, broken_texts_are_told}
+use Rattle.explanations.proofs.Worked.{misspelled_keys_are_told, words_are_told, numbers_are_told, bad_states_are_told, broken_texts_are_told}
 use Rattle.explanations.proofs.laws.worked_lines.Goals as goal
 
 pub returns-clause-misspelled : goal.returns-clause-misspelled
@@ -9,6 +9,9 @@ returns-clause-words c = words_are_told
 
 pub returns-clause-numbers : goal.returns-clause-numbers
 returns-clause-numbers c = numbers_are_told
+
+pub returns-clause-bad_states : goal.returns-clause-bad_states
+returns-clause-bad_states c = bad_states_are_told
 
 pub returns-clause-broken : goal.returns-clause-broken
 returns-clause-broken c = broken_texts_are_told

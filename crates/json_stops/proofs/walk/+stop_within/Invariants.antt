@@ -1,19 +1,24 @@
-use Rattle.std.proofs.Common.{◌≡◌, ◌+◌, ◌*◌, drop, map}
+use Rattle.std.proofs.Common.{◌≡◌, ◌+◌, ◌*◌, drop}
 use Rattle.serde_json.specs.Data.{depth}
-use Rattle.serde_json.specs.View.{items_of}
-use Rattle.json_stops.specs.Stops.{behind, items_from, first_unread}
-use Rattle.json_stops.specs.StopsSupport.{behind_fault, items_fault}
+use Rattle.json_stops.specs.Stops.{behind, first_unread}
+use Rattle.json_stops.specs.StopsSupport.{AreRead, behind_fault}
 use Rattle.json_stops.proofs.walk.+stop_within.Given as goal
 
 -- a value comes after its parts
 abbrev pub decreases-stop_within : goal.decreases-stop_within
-decreases-stop_within g l = 2 * depth (g.J.JsonValue.json l.json.now) + 1
+decreases-stop_within g l = 3 * depth (g.J.JsonValue.json l.json.now) + 2
+
+abbrev pub decreases-stop_in_form : goal.decreases-stop_in_form
+decreases-stop_in_form g l = 3 * depth (g.J.JsonValue.json l.json.now) + 1
 
 abbrev pub decreases-stop_in_fields : goal.decreases-stop_in_fields
-decreases-stop_in_fields g l = 2 * depth (g.J.JsonValue.json l.json.now)
+decreases-stop_in_fields g l = 3 * depth (g.J.JsonValue.json l.json.now)
 
 abbrev pub decreases-stop_in_list : goal.decreases-stop_in_list
-decreases-stop_in_list g l = 2 * depth (g.J.JsonValue.json l.json.now)
+decreases-stop_in_list g l = 3 * depth (g.J.JsonValue.json l.json.now)
+
+abbrev pub decreases-stop_in_pair : goal.decreases-stop_in_pair
+decreases-stop_in_pair g l = 3 * depth (g.J.JsonValue.json l.json.now)
 
 -- the values so far are read
 abbrev pub invariant-stop_in_fields-loop-field : goal.invariant-stop_in_fields-loop-field
@@ -26,9 +31,4 @@ invariant-stop_in_fields-loop-field g l =
 
 -- the items so far are read
 abbrev pub invariant-stop_in_list-loop-index : goal.invariant-stop_in_list-loop-index
-invariant-stop_in_list-loop-index g l =
-    let json = g.J.JsonValue.json in
-    record {
-      unread : first_unread (items_from l.inner 0 (items_of (map json l.items))) ≡ first_unread (items_from l.inner l.index (items_of (map json (drop l.index l.items))));
-      fault : items_fault l.inner (items_of (map json l.items)) ≡ items_fault l.inner (items_of (map json (drop l.index l.items)));
-    }
+invariant-stop_in_list-loop-index g l = AreRead g.J.JsonValue.json l.inner l.repeat l.items l.index
