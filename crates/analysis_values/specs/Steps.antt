@@ -10,7 +10,6 @@ use Rattle.evaluation.specs.Evaluation.{quotient, eval, visited, holds, looked}
 use Rattle.linear.specs.Linear.{Linear, Valuation, number_at, IsBelow}
 use Rattle.symbols.specs.Symbols.{Symbols, IsValued, IsClosed, Leads, Gives}
 use Rattle.analysis_spec.specs.declared.kind.AlarmKind.TheVariants.{Leaves128}
-use Rattle.analysis_spec.specs.Promises.{IsWritten}
 use Rattle.analysis_walk.specs.Limits.{Scope, written_runs, Allowed, GoesOn}
 use Rattle.analysis_values.specs.Known.{View, AreTimes, IsDescribed, known}
 use Rattle.analysis_values.specs.Answered.{unless, Evaluates, FitsWhereSaid}
@@ -170,14 +169,6 @@ EvaluatesEither m b c others n e said =
     → Evaluates (known k v) (cond_value o x y) (known n v) e × (LooksWhereSaid v k o others → FitsWhereSaid (known k v) (cond_value o x y) said)
 
 -- ---- times
-
--- a symbol is a time that JSON can write, where these are
-abbrev pub IsTimeIn : List ℕ → ℕ → Type 0
-IsTimeIn xs x = (r : Valuation) → AreTimes written_runs r xs → IsWritten (r x)
-
--- an expression is never above another, in runs whose times JSON can write
-abbrev pub IsLowered : List ℕ → Linear → Linear → Type 0
-IsLowered xs l low = (r : Valuation) → AreTimes written_runs r xs → number_at r low ≤ℤ number_at r l
 
 -- an expression is never below the least number of 128 bits
 abbrev pub IsFrom128 : Symbols → Linear → Type 0

@@ -112,6 +112,9 @@ learn_held bs es fs gs ds os cs l h w r c v b g =
       };
     }
 
+pub put_held : (bs : List Bounds) (fs gs ds : List Linear) (os : List Operation) (cs : List Branch) (l : Linear) → IsNewest fs gs → Learns (symbols_of bs fs ds os cs) (symbols_of bs (gs ++ l ∷ []) ds os cs) l
+put_held bs fs gs ds os cs l w = learn_held bs bs fs gs ds os cs l (record { same = refl; ranges = λ r h g. h }) w
+
 pub distinguish_held : (bs : List Bounds) (fs ds es : List Linear) (os : List Operation) (cs : List Branch) (l : Linear) → IsNewest ds es → Distinguishes (symbols_of bs fs ds os cs) (symbols_of bs fs (es ++ l ∷ []) os cs) l
 distinguish_held bs fs ds es os cs l w r c v b g = record {
   next = refl;

@@ -5,3 +5,5 @@ pub mod ResultLemmas
 pub mod BranchLemmas
 pub mod EitherLemmas
 pub mod QuotientLemmas
+pub mod WithinLemmas
+pub mod ProductLemmas

@@ -24,7 +24,7 @@ named_below [] i d n l h = absurd (omega arith)
 named_below (o ∷ ns) zero d n l h = h.0
 named_below (o ∷ ns) (suc i) d n l h = named_below ns i d n (omega arith) h.3
 
-named_value : (ns : List Named) (i : ℕ) (d : Named) (r : Valuation) → i < length ns → AreResults r (operations_of ns)
+pub named_value : (ns : List Named) (i : ℕ) (d : Named) (r : Valuation) → i < length ns → AreResults r (operations_of ns)
     → r (get_or ns i d).symbol ≡ result (get_or ns i d).divides (number_at r (get_or ns i d).left) (number_at r (get_or ns i d).right)
 named_value [] i d r l h = absurd (omega arith)
 named_value (o ∷ ns) zero d r l h = h.0

@@ -3,5 +3,7 @@ pub mod Held
 pub mod Joined
 pub mod Results
 pub mod Either
+pub mod Within
+pub mod Products
 pub mod Quotients
 pub mod Branches

@@ -1,6 +1,5 @@
 -- Products and quotients that have a symbol.
 use Rattle.std.specs.Prelude.{◌≡◌, ℕ, ◌<◌, ℤ, ◌*ℤ◌, Bool, List, Option}
-use Rattle.evaluation.specs.Evaluation.{quotient}
 use Rattle.linear.specs.declared.bounds.Bounds.{Bounds}
 use Rattle.symbols.specs.declared.named.Named.{Named}
 use Rattle.linear.specs.Linear.{Linear, Valuation, number_at, IsBelow, IsFrom, IsUpTo}

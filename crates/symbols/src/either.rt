@@ -5,12 +5,16 @@ ghost use Rattle.symbols.specs.Either.{GivesEither, IsUnder, IsOver, IsAtLeast, 
 use crate::apart::cancels;
 use crate::branched::{Branched, SharedBranch};
 use crate::branches::{keep_sides, lone_symbol, symbol_of_either};
+use crate::over::{lies_over, lowered, next_over};
 use crate::symbols::Symbols;
 use collections::{Memory, TryClone};
 use linear::{Linear, greatest_of_both, is_below, least_of_both};
 
 // The most branches of a case, the newest, whose numbers are looked at: 8.
 const MOST_RELATED: usize = 8;
+
+// The most expressions over the number of a case that are looked at: 3.
+const MOST_OVER: usize = 3;
 
 // Whether an expression is shown to be at most the one of one case and the one of the other.
 fn is_under(
@@ -238,6 +242,113 @@ fn relate_inner(
     }
 }
 
+// Learns that an expression lies under others: those under which facts of a case show that its number there lies, one after
+// another, as far below each as both cases show. So a fee that is the greater of 10 and a hundredth is known to be no more
+// than the whole.
+fn relate_over(
+    symbols: &mut Symbols,
+    one: &Symbols,
+    left: &Linear,
+    other: &Symbols,
+    right: &Linear,
+    count: usize,
+    number: &Linear,
+    here: &Symbols,
+    side: &Linear,
+) -> Result<(), Memory>
+    ensures { OnOk result (Relates symbols.old symbols.new one.now left.now other.now right.now count number.now) }
+{
+    let under = lies_over(symbols, count, side, number)?;
+    if under {
+        return Ok(());
+    }
+    let facts = here.held_facts();
+    let mut over = side.try_clone()?;
+    let mut looked = 0;
+    for newer in 0..facts.len() {
+        if looked >= MOST_OVER {
+            return Ok(());
+        }
+        let fact = &facts[facts.len() - newer - 1];
+        let step = relate_next(
+            symbols, one, left, other, right, count, number, here, side, over, fact,
+        )?;
+        let (next, more) = step;
+        over = next;
+        looked = more.saturating_add(looked);
+    }
+    Ok(())
+}
+
+// .. that it lies under the next, which a fact shows: from where to go on, and how many were looked at.
+fn relate_next(
+    symbols: &mut Symbols,
+    one: &Symbols,
+    left: &Linear,
+    other: &Symbols,
+    right: &Linear,
+    count: usize,
+    number: &Linear,
+    here: &Symbols,
+    side: &Linear,
+    over: Linear,
+    fact: &Linear,
+) -> Result<(Linear, usize), Memory>
+    ensures { OnOk result (Relates symbols.old symbols.new one.now left.now other.now right.now count number.now) }
+{
+    let next = next_over(&over, fact)?;
+    match next {
+        Some(greater) => relate_to(
+            symbols, one, left, other, right, count, number, here, side, over, greater,
+        ),
+        None => Ok((over, 0)),
+    }
+}
+
+// .. where both cases show it; the search goes on from it where its own case does.
+fn relate_to(
+    symbols: &mut Symbols,
+    one: &Symbols,
+    left: &Linear,
+    other: &Symbols,
+    right: &Linear,
+    count: usize,
+    number: &Linear,
+    here: &Symbols,
+    side: &Linear,
+    over: Linear,
+    greater: Linear,
+) -> Result<(Linear, usize), Memory>
+    ensures { OnOk result (Relates symbols.old symbols.new one.now left.now other.now right.now count number.now) }
+{
+    let is_own = is_at_least(here, &greater, side)?;
+    if !is_own {
+        return Ok((over, 1));
+    }
+    let nearest = lowered(one, left, other, right, count, &greater)?;
+    relate_under(symbols, one, left, other, right, count, number, nearest)?;
+    Ok((greater, 1))
+}
+
+// Learns that an expression is at most another, if there is one, where that lies over both.
+fn relate_under(
+    symbols: &mut Symbols,
+    one: &Symbols,
+    left: &Linear,
+    other: &Symbols,
+    right: &Linear,
+    count: usize,
+    number: &Linear,
+    side: Option<Linear>,
+) -> Result<(), Memory>
+    ensures { OnOk result (Relates symbols.old symbols.new one.now left.now other.now right.now count number.now) }
+{
+    match side {
+        Some(greater) => relate_above(symbols, one, left, other, right, count, number, &greater),
+        None => Ok(()),
+    }
+}
+
 // A new symbol for a number that is one of two.
 fn new_number(
     symbols: &mut Symbols,
@@ -256,6 +367,8 @@ fn new_number(
     relate(symbols, one, left, other, right, count, &e)?;
     relate_inner(symbols, one, left, other, right, count, &e, one, left)?;
     relate_inner(symbols, one, left, other, right, count, &e, other, right)?;
+    relate_over(symbols, one, left, other, right, count, &e, one, left)?;
+    relate_over(symbols, one, left, other, right, count, &e, other, right)?;
     keep_sides(symbols, one, left, other, right, count, facts, apart, count)?;
     Ok(e)
 }

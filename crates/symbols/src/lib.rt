@@ -18,8 +18,11 @@ mod join;
 mod named;
 mod newest;
 mod operations;
+mod over;
+mod products;
 mod quotients;
 mod symbols;
+mod within;
 
 pub use branched::Branched;
 pub use either::number_of_either;

@@ -7,6 +7,7 @@ ghost use Rattle.symbols.specs.Quotients.{GivesQuotient};
 ghost use Rattle.symbols.specs.Results.{IsNamed, GivesResult, GivesInRange, GivesMultiple};
 ghost use Rattle.std.specs.Option.{IfSome};
 ghost use Rattle.symbols.specs.Branches.{KeepsBranch};
+ghost use Rattle.symbols.specs.Within.{IsWithin};
 ghost use Rattle.symbols.specs.Held.{symbols_of, branches_of, GivesAny, RangesGiveAny, Learns, RangesLearn, Assumes, Distinguishes, IsSharpened, KnowsWithin};
 
 use crate::apart::sharpened;
@@ -15,7 +16,9 @@ use crate::join::joined_facts;
 use crate::named::Named;
 use crate::newest::{MOST_LISTED, first_since, make_room};
 use crate::operations::{found, put_operation};
+use crate::products::learn_product;
 use crate::quotients::{learn_down, learn_quotient, number_quotient};
+use crate::within::{put_range, put_results};
 use collections::{Items, Memory, TryClone};
 use linear::{
     Bounds, Linear, MOST_FACTS, Ranges, follows, follows_newest, greatest_shown, least_shown,
@@ -238,6 +241,18 @@ impl Symbols {
         self.fresh(None, None)
     }
 
+    /// What is known where some symbols lie in a range as well, also of the newest products and quotients of them.
+    pub fn within(&self, symbols: &[usize], range: Bounds) -> Result<Symbols, Memory>
+        ensures { IfOk result (IsWithin self.now symbols.now range) }
+    {
+        let mut bounds = self.bounds.try_clone()?;
+        put_range(&mut bounds, symbols, range)?;
+        put_results(&mut bounds, self.operations.as_slice())?;
+        let facts = self.facts.try_clone()?;
+        let copy = self.copy_with(bounds, facts, self.learned)?;
+        Ok(copy)
+    }
+
     /// More is known where an expression is at least 0. It is no fact of its own where it follows from others.
     #[tactic(auto, using(crate::proofs::HeldLemmas::learns_nothing))]
     pub fn learn(&mut self, expression: Linear) -> Result<(), Memory>
@@ -247,6 +262,16 @@ impl Symbols {
             return Ok(());
         }
         put_fact(&mut self.bounds, &mut self.facts, expression)?;
+        self.learned = self.learned.saturating_add(1);
+        Ok(())
+    }
+
+    // More is known where an expression is at least 0, by which no range is made narrower.
+    pub(crate) fn put(&mut self, fact: Linear) -> Result<(), Memory>
+        ensures { OnOk result (Learns self.old self.new fact) }
+    {
+        make_room(fact.memory(), &mut self.facts, MOST_FACTS)?;
+        self.facts.push(fact)?;
         self.learned = self.learned.saturating_add(1);
         Ok(())
     }
@@ -413,10 +438,24 @@ impl Symbols {
         if right {
             return self.multiple(first, second.constant());
         }
+        self.numbered_product(first, second)
+    }
+
+    // The symbol of a product, in the range that the ranges of both give, of which it is known how it lies to multiples of both.
+    fn numbered_product(&mut self, first: &Linear, second: &Linear) -> Result<Linear, Memory>
+        ensures { IfOk result (λ e. GivesResult false self.old self.new first.now second.now e) }
+    {
+        let count = self.count();
         let x = self.range_of(first);
         let y = self.range_of(second);
         let range = product_range(x, y);
-        self.operation(false, first, second, range)
+        let e = self.operation(false, first, second, range)?;
+        let now = self.count();
+        if now == count {
+            return Ok(e);
+        }
+        learn_product(self, first, second, &e, x, y)?;
+        Ok(e)
     }
 
     // The symbol of a quotient, in the range that the ranges of both give.

@@ -1,9 +1,9 @@
 use Rattle.std.proofs.Common.{rules, false, FitsSigned}
 use Rattle.std.specs.Int.{w128}
 use Rattle.std.proofs.lemmas.Int.{to_z-of_z}
-use Rattle.symbols.specs.Results.{GivesResult, GivesInRange, GivesMultiple}
+use Rattle.symbols.specs.Results.{GivesResult, GivesMultiple}
 use Rattle.std.proofs.lemmas.Result.{IfOk-weaker}
-use Rattle.symbols.proofs.ResultLemmas.{product_left, product_right, product_ranged}
+use Rattle.symbols.proofs.ResultLemmas.{product_left, product_right}
 use Rattle.symbols.proofs.symbols.Symbols.product.Goals as goal
 
 pub returns-then-left : goal.returns-then-left
@@ -27,17 +27,3 @@ returns-then-right c =
     let h = rw (to_z-of_z w128 c.constant-then-right.result f) at c.multiple-then-right.ensures in
     IfOk-weaker c.multiple-then-right.result (λ e. GivesMultiple c.constant-then-right.result k z l e) (λ e. GivesResult false k z l m e)
     (λ e s. product_right k z l m e c.constant-then-right.result c.constant-then-right.ensures (c.is_number-right.ensures c.if-right.true) s) h
-
-pub returns : goal.returns
-returns c =
-    let k = c.args.self.now in
-    let z = c.operation.new.self in
-    let l = c.args.first.now in
-    let m = c.args.second.now in
-    let x = c.range_of-x.result in
-    let y = c.range_of-y.result in
-    let g = c.product_range-range.result in
-    IfOk-weaker c.operation.result (λ e. GivesInRange false g.least g.greatest k z l m e) (λ e. GivesResult false k z l m e)
-    (λ e s. product_ranged k z l m e x.least x.greatest y.least y.greatest g.least g.greatest c.range_of-x.ensures.least c.range_of-x.ensures.greatest c.range_of-y.ensures.least
-    c.range_of-y.ensures.greatest c.product_range-range.ensures s)
-    c.operation.ensures
