@@ -62,11 +62,13 @@ impl Knowledge for Expressions {
     fn deposit(
         alloc: Global,
         known: Known,
+        earlier: &[Case],
         account: &Party,
+        payer: &Party,
         token: &Token,
         amount: &Value,
     ) -> Result<Conclusion<Known>, Memory> {
-        steps::deposit(alloc, known, account, token, amount)
+        steps::deposit(alloc, known, earlier, account, payer, token, amount)
     }
 
     fn choose(
@@ -77,6 +79,15 @@ impl Knowledge for Expressions {
         bounds: &Items<Bound>,
     ) -> Result<Conclusion<Known>, Memory> {
         steps::choose(alloc, known, earlier, id, bounds)
+    }
+
+    fn notify(
+        alloc: Global,
+        known: Known,
+        earlier: &[Case],
+        observation: &Observation,
+    ) -> Result<Conclusion<Known>, Memory> {
+        steps::notify(alloc, known, earlier, observation)
     }
 
     fn later(known: Known) -> Result<Known, Memory> {

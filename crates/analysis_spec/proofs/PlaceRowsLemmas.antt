@@ -1,5 +1,6 @@
 -- Runs that end in an alarm at a place, and not at others.
-use Rattle.std.proofs.Common.{◌≡◌, ℤ, pos, true, false, List, [], ◌∷◌, inl, inr, refl, sym, ap, ◌∙◌, subst, Some, None}
+use Rattle.std.proofs.Common.{◌≡◌, ◌≢◌, ℤ, pos, true, false, List, [], ◌∷◌, inl, inr, refl, sym, ap, ◌∙◌, subst, Some, None}
+use Rattle.std.specs.List.{AllByRecursion}
 use Rattle.std.specs.Option.{unwrap_or}
 use Rattle.std.specs.FinMap.{get, insert, empty, get-empty, get-insert, get-from_sorted}
 use Rattle.names.specs.declared.payee.Payee.TheVariants.{Party as ToParty}
@@ -8,11 +9,11 @@ use Rattle.names.specs.Orders.{account_cmp, bytes_cmp}
 use Rattle.names.specs.Totals.{account_total, bytes_total}
 use Rattle.contract.specs.declared.input.Input.TheVariants.{Deposit, Notify}
 use Rattle.contract.specs.declared.warning.Warning.TheVariants as warnings
-use Rattle.contract.specs.Tree.{not_obs}
+use Rattle.contract.specs.Tree.{not_obs, close}
 use Rattle.states.specs.States.{with_money}
 use Rattle.evaluation.specs.Evaluation.{looked}
 use Rattle.evaluation.specs.Numbers.{fits, all_fit}
-use Rattle.semantics.specs.Walk.{standing}
+use Rattle.semantics.specs.Walk.{Turn, standing}
 use Rattle.semantics.specs.Reduction.{account_of, balance}
 use Rattle.semantics.specs.Computed.{applied, one_input, from_start, computed}
 use Rattle.semantics.specs.Rows.{interval, party_a, party_b, name_x, nothing, a_has_three, is_large}
@@ -20,11 +21,11 @@ use Rattle.analysis_spec.specs.declared.kind.AlarmKind.{AlarmKind}
 use Rattle.analysis_spec.specs.declared.kind.AlarmKind.TheVariants.{NonPositiveDeposit, PartialPay, Shadowing, Leaves128}
 use Rattle.analysis_spec.specs.declared.path.PathStep.{PathStep}
 use Rattle.analysis_spec.specs.declared.path.PathStep.TheVariants.{Then, Case, Action}
-use Rattle.analysis_spec.specs.Marks.{Mark, mark, marks_of}
+use Rattle.analysis_spec.specs.Marks.{passed, Mark, mark, marks_of}
 use Rattle.analysis_spec.specs.Promises.{HasKind, TellsOf, ComesAt}
 use Rattle.analysis_spec.proofs.MarkLemmas.{warnings_in, marks_tell}
 use Rattle.analysis_spec.specs.Runs.{walk_from, standing_after}
-use Rattle.analysis_spec.specs.Rows.{early, pays_twice, waits_twice, tries_first, binds_again, SecondPaysPartly, FirstPaysAll, FirstActionWarns, WhatFollowsIsSilent, SecondActionIsSilent, TriedCaseLeaves, LaterCaseStays, SecondBindingShadows, FirstBindingIsNew}
+use Rattle.analysis_spec.specs.Rows.{early, pays_twice, waits_twice, tries_first, binds_again, SecondPaysPartly, FirstPaysAll, FirstActionWarns, WhatFollowsIsSilent, SecondActionIsSilent, TriedCaseLeaves, LaterCaseStays, SecondBindingShadows, FirstBindingIsNew, pays_and_waits, RootIsReached, FirstCaseIsReached, RefusedRunReaches, SecondRunReaches}
 
 -- where one mark or two are elsewhere, or don't tell of the alarm, it doesn't come
 at_first : (kind : AlarmKind) (place : List PathStep) (m : Mark) → (m.place ≡ place → ⊥) → ComesAt kind place (m ∷ []) → ⊥
@@ -131,3 +132,24 @@ second_binding_shadows = (refl, record { tells = (refl, rw bound_before (inl ref
 pub first_binding_is_new : FirstBindingIsNew
 unfolding computed from_start fits notified bound_again
 first_binding_is_new h = at_neither Shadowing [] notified bound_again (λ e. cc) (λ e. cc) (subst (ComesAt Shadowing []) one_shadows h.1.comes)
+
+-- ---- places that are reached
+
+first_passed : (P : List PathStep → Type 0) (here : List PathStep) (ts : List Turn) → AllByRecursion P (passed here ts) → P here
+first_passed P here [] h = h.0
+first_passed P here (t ∷ ts) h = h.0
+
+pub root_is_reached : RootIsReached
+root_is_reached h = first_passed (λ there. there ≢ []) [] (walk_from (standing nothing close) (early [])).turns (h [] (early [])) refl
+
+pub first_case_is_reached : FirstCaseIsReached
+unfolding computed from_start one_input applied
+first_case_is_reached h = first_passed (λ there. there ≢ Case 0 ∷ []) (Case 0 ∷ []) _ (h [] (early (Deposit party_a party_b ada (pos 0) ∷ []))).1 refl
+
+pub refused_run_reaches : RefusedRunReaches
+unfolding computed from_start
+refused_run_reaches h = (h [] (early [])).1.0 refl
+
+pub second_run_reaches : SecondRunReaches
+unfolding computed from_start one_input applied fits
+second_run_reaches h = (h (early [] ∷ []) (early (Notify ∷ []))).1.0 refl

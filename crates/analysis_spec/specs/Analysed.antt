@@ -8,7 +8,8 @@ use Rattle.states.specs.States.{StateMaps}
 use Rattle.analysis_spec.specs.declared.kind.AlarmKind.{AlarmKind}
 use Rattle.analysis_spec.specs.declared.kind.AlarmKind.TheVariants.{Leaves128}
 use Rattle.analysis_spec.specs.declared.path.PathStep.{PathStep}
-use Rattle.analysis_spec.specs.Promises.{NeverWarns, NeverWarnsAt, StaysWithin128, NeverLeavesAt, PaysBetween}
+use Rattle.analysis_spec.specs.Places.{IsPart}
+use Rattle.analysis_spec.specs.Promises.{NeverWarns, NeverWarnsAt, StaysWithin128, NeverLeavesAt, NeverReached, PaysBetween}
 use Rattle.analysis_spec.specs.declared.alarm.Alarm.{Alarm}
 use Rattle.analysis_spec.specs.declared.paid.PaidRange.{PaidRange}
 
@@ -35,6 +36,10 @@ NamesWhereItComes alarms s c = (kind : AlarmKind) (place : List PathStep) → Is
 -- and no number first leaves 128 bits at a place without an alarm of Leaves128
 abbrev pub NamesWhereItLeaves : List Alarm → StateMaps → ContractTree → Type 0
 NamesWhereItLeaves alarms s c = (place : List PathStep) → IsSilentAt alarms Leaves128 place → NeverLeavesAt place s c
+
+-- each of these places is one of the contract, and no run comes to it
+abbrev pub AreNeverReached : List (List PathStep) → StateMaps → ContractTree → Type 0
+AreNeverReached places s c = AllByRecursion (λ place. IsPart place c × NeverReached place s c) places
 
 -- what is paid lies in its range
 abbrev pub PaysWithinRanges : List PaidRange → StateMaps → ContractTree → Type 0

@@ -34,6 +34,11 @@ abbrev pub led : List PathStep → List Turn → List PathStep
 led here [] = here
 led here (t ∷ ts) = led (here ++ step_of t) ts
 
+-- the places that turns lead through, from the first to the last
+abbrev pub passed : List PathStep → List Turn → List (List PathStep)
+passed here [] = here ∷ []
+passed here (t ∷ ts) = here ∷ passed (here ++ step_of t) ts
+
 -- where a transaction leads: one that is refused leads nowhere
 abbrev pub led_with : Result Standing SemFault → List PathStep → List Turn → List PathStep
 led_with (Ok a) here ts = led here ts

@@ -1,5 +1,6 @@
 -- Places in a contract.
-use Rattle.std.specs.Prelude.{ℕ, zero, suc, Option, Some, None}
+use Rattle.std.specs.Prelude.{ℕ, zero, suc, List, [], ◌∷◌, Option, Some, None}
+use Rattle.std.specs.Option.{IsSomeAnd}
 use Rattle.contract.specs.Tree.{ContractTree, CaseTrees, pay, if_obs, when, let_be, assert, no_cases, case_then}
 use Rattle.analysis_spec.specs.declared.path.PathStep.{PathStep}
 use Rattle.analysis_spec.specs.declared.path.PathStep.TheVariants.{Then, Else, TimeoutContinuation, Case}
@@ -20,3 +21,8 @@ part_behind (when ks t c) (Case n) = behind_case ks n
 part_behind (let_be x v c) Then = Some c
 part_behind (assert o c) Then = Some c
 part_behind c step = None
+
+-- a path leads to a part of a contract
+abbrev pub IsPart : List PathStep → ContractTree → Type 0
+IsPart [] c = Unit {0}
+IsPart (step ∷ path) c = IsSomeAnd (part_behind c step) (IsPart path)

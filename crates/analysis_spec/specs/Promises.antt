@@ -16,7 +16,7 @@ use Rattle.analysis_spec.specs.declared.kind.AlarmKind.{AlarmKind}
 use Rattle.analysis_spec.specs.declared.kind.AlarmKind.TheVariants.{NonPositiveDeposit, NonPositivePay, PartialPay, Shadowing, AssertionFailed, Leaves128}
 use Rattle.analysis_spec.specs.declared.path.PathStep.{PathStep}
 use Rattle.analysis_spec.specs.Runs.{walk_from, stands_after, payments_of, paid_to}
-use Rattle.analysis_spec.specs.Marks.{leads_after, Mark, marks_of}
+use Rattle.analysis_spec.specs.Marks.{passed, leads_after, Mark, marks_of}
 
 abbrev pub kind_of : Warning → AlarmKind
 kind_of (warnings.NonPositiveDeposit a p t n) = NonPositiveDeposit
@@ -72,6 +72,12 @@ abbrev pub NeverLeavesAt : List PathStep → StateMaps → ContractTree → Type
 NeverLeavesAt place s c =
     (earlier : List Transaction) (t : Transaction) → AllByRecursion HasWrittenTimes (t ∷ earlier) → let a = standing s c in
     ComesAt Leaves128 place (marks_of (leads_after [] a earlier) (stands_after a earlier) t) → ⊥
+
+-- whatever transactions came before, none starts at the place, goes through it or stops there, not even one that is refused
+abbrev pub NeverReached : List PathStep → StateMaps → ContractTree → Type 0
+NeverReached place s c =
+    (earlier : List Transaction) (t : Transaction) → let a = standing s c in
+    AllByRecursion (λ there. there ≢ place) (passed (leads_after [] a earlier) (walk_from (stands_after a earlier) t).turns)
 
 -- what a party is paid of a token is in no run above `most`, and in no run that closed the contract below `least`; a
 -- bound that is none says nothing

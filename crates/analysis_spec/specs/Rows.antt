@@ -12,7 +12,7 @@ use Rattle.semantics.specs.Rows.{interval, party_a, party_b, name_x, nothing, a_
 use Rattle.analysis_spec.specs.declared.kind.AlarmKind.TheVariants.{NonPositiveDeposit, NonPositivePay, PartialPay, Shadowing, AssertionFailed, Leaves128}
 use Rattle.analysis_spec.specs.declared.path.PathStep.TheVariants.{Then, Case, Action}
 use Rattle.analysis_spec.specs.Runs.{payments_of, paid_to}
-use Rattle.analysis_spec.specs.Promises.{NeverWarns, StaysWithin128, PaysBetween}
+use Rattle.analysis_spec.specs.Promises.{NeverWarns, StaysWithin128, NeverReached, PaysBetween}
 use Rattle.analysis_spec.specs.PlacedRuns.{EndsAt}
 
 -- these inputs, from 0 to 10
@@ -103,6 +103,24 @@ SecondBindingShadows = EndsAt Shadowing (Then ∷ Case 0 ∷ []) nothing binds_a
 
 abbrev pub FirstBindingIsNew : Type 0
 FirstBindingIsNew = EndsAt Shadowing [] nothing binds_again two_calls → ⊥
+
+-- ---- places that are reached
+
+-- each run starts at the root
+abbrev pub RootIsReached : Type 0
+RootIsReached = NeverReached [] nothing close → ⊥
+
+-- of two equal cases the first takes the input
+abbrev pub FirstCaseIsReached : Type 0
+FirstCaseIsReached = NeverReached (Case 0 ∷ []) nothing waits_twice → ⊥
+
+-- a transaction goes on from the Pay and is then refused, since its times are on both sides of the timeout
+abbrev pub RefusedRunReaches : Type 0
+RefusedRunReaches = NeverReached (Then ∷ []) nothing (pays_and_waits (pos 5)) → ⊥
+
+-- a second transaction comes to where the first doesn't
+abbrev pub SecondRunReaches : Type 0
+SecondRunReaches = NeverReached (Then ∷ Case 0 ∷ []) nothing binds_again → ⊥
 
 -- ---- payments
 

@@ -2,8 +2,8 @@
 //! analysis has to believe.
 //!
 //! The promises are definitions over the transaction function (`specs/Promises.antt`): `NeverWarns`,
-//! `StaysWithin128` and `PaysBetween` speak of every run from a state, `NeverWarnsAt` and `NeverLeavesAt` of a place of
-//! the contract. `specs/Marks.antt` tells a transaction step by step, with the place of each. `specs/Analysed.antt` says
+//! `StaysWithin128` and `PaysBetween` speak of every run from a state, `NeverWarnsAt`, `NeverLeavesAt` and `NeverReached` of a
+//! place of the contract. `specs/Marks.antt` tells a transaction step by step, with the place of each. `specs/Analysed.antt` says
 //! what alarms and ranges promise of a contract. `specs/CounterRuns.antt` says which runs end in an alarm, and
 //! `specs/PlacedRuns.antt` which do so at a place; such a run breaks a promise. `specs/Places.antt` says where a path
 //! leads. The rows in `specs/Rows.antt` show that each promise can be broken, and where.
@@ -24,4 +24,4 @@ pub use laws::{
 };
 pub use paid::PaidRange;
 pub use path::PathStep;
-pub use rows::{worked_payments, worked_places, worked_warnings};
+pub use rows::{worked_payments, worked_places, worked_reaches, worked_warnings};

@@ -1,6 +1,7 @@
 //! Worked promises: laws, each the contract of a function that does nothing.
 ghost use Rattle.analysis_spec.specs.Rows.{EmptyPayWarns, RefusedPayWarns, ZeroPayWarns, ZeroDepositWarns, SecondLetWarns, FalseAssertWarns, LeastByMinusOneLeaves};
 ghost use Rattle.analysis_spec.specs.Rows.{SecondPaysPartly, FirstPaysAll, FirstActionWarns, WhatFollowsIsSilent, SecondActionIsSilent, TriedCaseLeaves, LaterCaseStays, SecondBindingShadows, FirstBindingIsNew};
+ghost use Rattle.analysis_spec.specs.Rows.{RootIsReached, FirstCaseIsReached, RefusedRunReaches, SecondRunReaches};
 ghost use Rattle.analysis_spec.specs.Rows.{ThreeArePaid, TwoAreTooFew, FourAreTooMany, RefusedPaysNothing};
 
 use semantics::{worked_inputs, worked_reductions};
@@ -32,6 +33,14 @@ pub fn worked_places()
     ensures later { LaterCaseStays }
     ensures second_binding { SecondBindingShadows }
     ensures first_binding { FirstBindingIsNew }
+{}
+
+/// Places that a run reaches: where it starts, and what it goes on to, also where its last transaction is refused behind that.
+pub fn worked_reaches()
+    ensures root { RootIsReached }
+    ensures first_case { FirstCaseIsReached }
+    ensures refused { RefusedRunReaches }
+    ensures second { SecondRunReaches }
 {}
 
 /// What a party is paid in a run, and bounds that are broken by it.

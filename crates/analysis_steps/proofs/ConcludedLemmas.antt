@@ -34,7 +34,7 @@ use Rattle.analysis_spec.specs.declared.kind.AlarmKind.{AlarmKind}
 use Rattle.analysis_spec.specs.declared.kind.AlarmKind.TheVariants.{NonPositiveDeposit, NonPositivePay, PartialPay, Shadowing, AssertionFailed, Leaves128}
 use Rattle.analysis_spec.specs.Promises.{kind_of}
 use Rattle.analysis_walk.specs.Limits.{Scope, any_runs, written_runs, Allowed, GoesOn}
-use Rattle.analysis_walk.specs.Conclusions.{IsAmong, Concludes, PaysSo, BindsSo, AssertsSo, ObservesSo, DepositsSo}
+use Rattle.analysis_walk.specs.Conclusions.{IsAmong, Concludes, PaysSo, BindsSo, AssertsSo, ObservesSo}
 use Rattle.analysis_walk.proofs.ListLaws.{all_append, all_right}
 use Rattle.analysis_values.specs.Known.{View, Known, held, IsSeen, SeesBelow, IsDescribed, known}
 use Rattle.analysis_values.specs.Answered.{unless, GoesTo, Evaluates, FitsWhereSaid, Decides, Unites}
@@ -42,6 +42,7 @@ use Rattle.analysis_values.proofs.KnownLaws.{sees_more, same_seen}
 use Rattle.analysis_values.proofs.AccountLaws.{same_money_seen, account_decides, pays_one, pays_none}
 use Rattle.analysis_values.proofs.AnsweredLaws.{among_unless, among_right, goes_right}
 use Rattle.analysis_steps.specs.Amounts.{IsAbove, GivesAdded}
+use Rattle.analysis_steps.specs.Earlier.{PutsIn}
 use Rattle.analysis_steps.specs.Moved.{IsSaidToFit, IsGrown, Grows, IsCredited, Transfers}
 use Rattle.analysis_steps.proofs.AmountLemmas.{min_is, max_left, max_above, max_none}
 use Rattle.analysis_steps.proofs.MovedLemmas.{described_on}
@@ -280,11 +281,11 @@ module _ (k z w m : Known) (p : Party) (t : Token) (v : ValueTree) (l e : Linear
                 };
           }
 
-pub deposit_so : (k z w m : Known) (p : Party) (t : Token) (v : ValueTree) (l e : Linear) (above fit grown : Bool) (ks : List AlarmKind) → Evaluates k v z l → FitsWhereSaid k v fit
+pub put_so : (k z w m : Known) (p : Party) (t : Token) (v : ValueTree) (l e : Linear) (above fit grown : Bool) (ks : List AlarmKind) → Evaluates k v z l → FitsWhereSaid k v fit
     → (above ≡ true → IsAbove z.symbols l) → GivesAdded z.symbols w.symbols l e → w.view ≡ z.view → Grows w m p t e grown → ks ≡ unless above NonPositiveDeposit ++ unless (fit && grown) Leaves128
-    → DepositsSo IsDescribed k p t v (record { kinds = ks; known = Some m })
-deposit_so k z w m p t v l e above fit grown ks f g h a same x q =
-    subst (λ ks. DepositsSo IsDescribed k p t v (record { kinds = ks; known = Some m })) (sym q)
+    → PutsIn k p t v (record { kinds = ks; known = Some m })
+put_so k z w m p t v l e above fit grown ks f g h a same x q =
+    subst (λ ks. PutsIn k p t v (record { kinds = ks; known = Some m })) (sym q)
     (λ scope i s ps from d. deposit_concludes k z w m p t v l e above fit grown f g h a same x scope i s ps from d)
 
 -- ---- Let
@@ -381,11 +382,11 @@ led_described scope k i s ps d m h =
       seen = subst (λ v. IsSeen scope g.values v i s ps) (sym h.view) (same_seen scope k.symbols.next g.values d.numbers k.view i s ps g.agrees d.below d.seen);
     }
 
-some_led : (scope : Scope) (k : Known) (i : Interval) (s : StateMaps) (ps : List Payment) (d : IsDescribed scope k i s ps) (o : Option Known) → IsSomeAnd o (GoesTo k d.numbers) → IsSomeAnd o (λ m. IsDescribed scope m i s ps)
+pub some_led : (scope : Scope) (k : Known) (i : Interval) (s : StateMaps) (ps : List Payment) (d : IsDescribed scope k i s ps) (o : Option Known) → IsSomeAnd o (GoesTo k d.numbers) → IsSomeAnd o (λ m. IsDescribed scope m i s ps)
 some_led scope k i s ps d None h = h
 some_led scope k i s ps d (Some m) h = led_described scope k i s ps d m h
 
-some_is : (P : Known → Type 0) (o : Option Known) → IsSomeAnd o P → is_none o ≡ false
+pub some_is : (P : Known → Type 0) (o : Option Known) → IsSomeAnd o P → is_none o ≡ false
 some_is P None h = absurd h
 some_is P (Some m) h = refl
 

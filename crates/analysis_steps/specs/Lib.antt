@@ -1,4 +1,5 @@
 pub mod Amounts
 pub mod Moved
 pub mod Chosen
+pub mod Earlier
 pub mod Times

@@ -16,8 +16,8 @@ use contract::{Action, Case};
 use names::{Bound, ChoiceId};
 use std::alloc::Global;
 
-/// The most earlier cases that `choose` looks at: the last 64. A number that an older case takes is then thought to be
-/// left, which bounds the time.
+/// The most earlier cases that `choose`, `deposit` and `notify` look at: the last 64. An input that an older case takes is
+/// then thought to be left, which bounds the time.
 pub const MOST_CASES: usize = 64;
 
 // A range and one bound more, unless that is empty.
@@ -152,7 +152,7 @@ fn unless_empty(range: Bound) -> Option<Bound>
 
 // The last of the cases, as many as are looked at.
 #[tactic(auto, using(crate::proofs::ChosenLemmas::ends_at))]
-fn last_of(cases: &[Case]) -> &[Case]
+pub(crate) fn last_of(cases: &[Case]) -> &[Case]
     ensures { IsEndOf cases.now result.now }
 {
     if cases.len() > MOST_CASES {

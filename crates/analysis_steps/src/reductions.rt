@@ -73,7 +73,7 @@ pub fn bind(
 }
 
 // Whether that can't be.
-fn is_impossible(known: &Option<Known>) -> bool
+pub(crate) fn is_impossible(known: &Option<Known>) -> bool
     ensures { result ≡ is_none known.now }
 {
     match known {

@@ -27,7 +27,7 @@ use Rattle.analysis_walk.specs.declared.span.Span.{Span}
 use Rattle.analysis_walk.specs.Spans.{IsBetween}
 use Rattle.analysis_walk.specs.Rows.{IsPaidAt, Adds}
 use Rattle.analysis_walk.specs.Knowledge.{ClosesBy, TakesSo, actions_behind, actions_before}
-use Rattle.analysis_walk.specs.Found.{Shown, Finds, TellsOf, PaysWithin, Covers, CoversIf, CoversCasesIf, CoversCase, CoversAt, CoversUnless}
+use Rattle.analysis_walk.specs.Found.{Shown, Finds, Nothing, TellsOf, PaysWithin, Covers, CoversIf, CoversCasesIf, CoversCase, CoversAt, CoversUnless}
 
 -- ---- one step
 
@@ -47,6 +47,16 @@ closed old new spans e q add alarms range h =
     let a = account_of range.party range.token in
     let more : (n : ℤ) → IsPaidAt new.closings.rows (suc old.closings.count) a n → IsBetween range.least range.most n = λ n p. h.bounded n (subst (λ (m : ℕ). IsPaidAt new.closings.rows m a n) (sym q) p) in
     (record { alarms = subst (AreAmong alarms) e h.alarms; bounded = λ n p. more n (add.kept a n p) }, λ n i. more n (add.added a n i))
+
+-- a place that is left out shows nothing else
+pub left_out : (old new : Found) → new.alarms ≡ old.alarms → new.closings ≡ old.closings → Finds Nothing old new
+left_out old new e q alarms range h = (
+  record {
+    alarms = subst (AreAmong alarms) e h.alarms;
+    bounded = λ n p. h.bounded n (subst (λ (x : Closings). IsPaidAt x.rows x.count (account_of range.party range.token) n) (sym q) p);
+  },
+  tt,
+)
 
 still_not : (i j : ℕ) → (i ≡ j) ⊎ (i ≢ j) → (suc i ≡ suc j) ⊎ (suc i ≢ suc j)
 still_not i j (inl e) = inl (ap suc e)
@@ -156,8 +166,7 @@ module _ {K : Type 0} (Describes : Description K) where
         → AreCovered Describes alarms (range ∷ []) here (suc n) k (a ∷ earlier) rest → AreCovered Describes alarms (range ∷ []) here n k earlier (case_then a c rest)
     covers_case alarms range k earlier n (deposit p q t v) c rest x so told go on = deposit_covered Describes alarms (range ∷ []) here n k earlier p q t v c rest x so told go on
     covers_case alarms range k earlier n (choice id bounds) c rest x so told go on = choice_covered Describes alarms (range ∷ []) here n k earlier id bounds c rest x so told go on
-    covers_case alarms range k earlier n (notify q) c rest x so told go on =
-        notify_covered Describes alarms (range ∷ []) here n k earlier q c rest (record { kinds = x.kinds; if_true = x.known; if_false = so.0 }) so.1 told go on
+    covers_case alarms range k earlier n (notify q) c rest x so told go on = notify_covered Describes alarms (range ∷ []) here n k earlier q c rest x so told go on
 
     pub case_found : (k : K) (earlier : List ActionTree) (n : ℕ) (case : Case) (kinds : List AlarmKind) (o : Option K) (f g h : Found) → TakesSo Describes k earlier (action_tree case.action) (record { kinds = kinds; known = o })
         → Finds (TellsOf (here ++ AtAction n ∷ []) kinds) f g → Finds (CoversIf Describes (here ++ InCase n ∷ []) o (contract_tree case.then)) g h → Finds (CoversCase Describes here k earlier n case) f h

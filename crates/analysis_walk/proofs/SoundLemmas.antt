@@ -49,6 +49,13 @@ pub ok_answer : (b : Bool) (end : Result Standing SemFault) (a : Standing) → c
 ok_answer true end a h = (refl, h)
 ok_answer false end a h = absurd (cc)
 
+pub pay_goes_next : (s : StateMaps) (p : Party) (y : Payee) (t : Token) (due : ℤ) (ns : List ℤ) (c : ContractTree) → (pay_step s p y t due ns c).turn ≡ next
+pay_goes_next s p y t due ns c = either_next (int_lt (pos 0) due) (paying s p y t due (int_min (balance s p t) due) ns c) (not_paying s p y t due ns c) refl refl
+  where
+    either_next : (b : Bool) (r q : Reduction) → r.turn ≡ next → q.turn ≡ next → (cond b r q).turn ≡ next
+    either_next true r q e f = e
+    either_next false r q e f = f
+
 -- an interval may start later
 abbrev pub MayStartLater : Limits → Type 0
 MayStartLater L = (i : Interval) (n : ℤ) → L.Admits i → i.from ≤ℤ n → n ≤ℤ i.to → L.Admits (record i { from = n })
@@ -82,13 +89,6 @@ module _ (L : Limits) where
   Stands here a ps = StandsAt here a.state ps a.contract
 
   -- ---- a settling
-
-  pay_goes_next : (s : StateMaps) (p : Party) (y : Payee) (t : Token) (due : ℤ) (ns : List ℤ) (c : ContractTree) → (pay_step s p y t due ns c).turn ≡ next
-  pay_goes_next s p y t due ns c = either_next (int_lt (pos 0) due) (paying s p y t due (int_min (balance s p t) due) ns c) (not_paying s p y t due ns c) refl refl
-    where
-      either_next : (b : Bool) (r q : Reduction) → r.turn ≡ next → q.turn ≡ next → (cond b r q).turn ≡ next
-      either_next true r q e f = e
-      either_next false r q e f = f
 
   at_if : (i : Interval) (s : StateMaps) (ps : List Payment) (here : List PathStep) (c d : ContractTree) (ns : List ℤ) (b : Bool) → Keeps L here ns []
       → (L.Passes ns → (b ≡ true → Fine L (Resting i ps) (here ++ Then ∷ []) (settling (here ++ Then ∷ []) i s c) (settled i s c)) × (b ≡ false → Fine L (Resting i ps) (here ++ Else ∷ []) (settling (here ++ Else ∷ []) i s d) (settled i s d)))

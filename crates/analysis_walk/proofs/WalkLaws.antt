@@ -35,12 +35,12 @@ use Rattle.analysis_walk.specs.Limits.{Limits, Scope, any_runs, written_runs, Al
 use Rattle.analysis_walk.specs.Covered.{NoneTakes, Keeps, KeepsThen, CoversAction, Covers, CoversFrom}
 use Rattle.analysis_walk.specs.declared.conclusion.Conclusion.{Conclusion}
 use Rattle.analysis_walk.specs.declared.conclusion.Branches.{Branches}
-use Rattle.analysis_walk.specs.Conclusions.{IsAmong, Description, Concludes, PaysSo, BindsSo, AssertsSo, ObservesSo, DepositsSo, ChoosesSo, IsLater, WaitsSo, TimesOutSo, ClosesIn, DescribesStart}
+use Rattle.analysis_walk.specs.Conclusions.{IsAmong, Description, Concludes, PaysSo, BindsSo, AssertsSo, ObservesSo, DepositsSo, ChoosesSo, NotifiesSo, IsLater, WaitsSo, TimesOutSo, ClosesIn, DescribesStart}
 use Rattle.analysis_walk.specs.Walked.{alarms_at, AreAmong, IsCovered, AreCovered}
 use Rattle.analysis_walk.proofs.ListLaws.{both, all_left, all_right, all_weaker}
 
 -- an input that matches a deposit is of its account, its party, its token and its amount
-same_deposit : (a p : Party) (t : Token) (n : ℤ) (b q : Party) (u : Token) (m : ℤ) → agrees a p t b q u && int_eq n m ≡ true → (b ≡ a) × (q ≡ p) × (u ≡ t) × (m ≡ n)
+pub same_deposit : (a p : Party) (t : Token) (n : ℤ) (b q : Party) (u : Token) (m : ℤ) → agrees a p t b q u && int_eq n m ≡ true → (b ≡ a) × (q ≡ p) × (u ≡ t) × (m ≡ n)
 same_deposit a p t n b q u m h =
     let f = both (agrees a p t b q u) (int_eq n m) h in
     let g = both (same_party a b) (same_party p q && same_token t u) f.0 in
@@ -162,39 +162,37 @@ module _ {K : Type 0} (Describes : Description K) (alarms : List Alarm) (ranges 
   no_case_covered here n k earlier scope i s ps d = tt
 
   deposit_action : (scope : Scope) (here : List PathStep) (Q : K → Type 0) (F : StateMaps → Type 0) (k : K) (i : Interval) (s : StateMaps) (ps : List Payment) (earlier : List ActionTree) (b q : Party) (u : Token) (v : ValueTree)
-      (x : Conclusion K) → DepositsSo Describes k b u v x → AreAmong alarms (alarms_at here x.kinds) → IfSome x.known Q → Describes scope k i s ps → ((m : K) (then : StateMaps) → Describes scope m i then ps → Q m → F then)
+      (x : Conclusion K) → DepositsSo Describes k earlier b q u v x → AreAmong alarms (alarms_at here x.kinds) → IfSome x.known Q → Describes scope k i s ps → ((m : K) (then : StateMaps) → Describes scope m i then ps → Q m → F then)
       → CoversAction (limits scope alarms ranges) here i s earlier (deposit b q u v) F
   deposit_action scope here Q F k i s ps earlier b q u v x so told know d go = by_input
     where
       L : Limits
       L = limits scope alarms ranges
 
-      w : Concludes Describes scope x i (visited i s v ++ taken_numbers s (Deposit b q u (eval i s v))) (taken_warnings (Deposit b q u (eval i s v))) (taken s (Deposit b q u (eval i s v))) ps
-      w = so scope i s ps q d
-
       by_test : (t : Bool) → AreVisited scope alarms here (cond t (visited i s v) [])
-      by_test true = visits scope alarms here x.kinds (visited i s v) told (λ g. all_left (Allowed scope) (visited i s v) (taken_numbers s (Deposit b q u (eval i s v))) (w.numbers g))
+      by_test true = visits scope alarms here x.kinds (visited i s v) told (so scope i s ps d).0
       by_test false = inl tt
 
-      it : KeepsThen L here (visited i s v ++ taken_numbers s (Deposit b q u (eval i s v))) (taken_warnings (Deposit b q u (eval i s v))) (F (taken s (Deposit b q u (eval i s v))))
-      it = (
-        keeps scope here x i (visited i s v ++ taken_numbers s (Deposit b q u (eval i s v))) (taken_warnings (Deposit b q u (eval i s v))) (taken s (Deposit b q u (eval i s v))) ps w told,
-        λ a.
-            let m = goes scope here Q x i (visited i s v ++ taken_numbers s (Deposit b q u (eval i s v))) (taken_warnings (Deposit b q u (eval i s v))) (taken s (Deposit b q u (eval i s v))) ps w know a in
-            go m.0 (taken s (Deposit b q u (eval i s v))) m.1 m.2,
-      )
+      it : NoneTakes i s (Deposit b q u (eval i s v)) earlier
+          → KeepsThen L here (visited i s v ++ taken_numbers s (Deposit b q u (eval i s v))) (taken_warnings (Deposit b q u (eval i s v))) (F (taken s (Deposit b q u (eval i s v))))
+      it z =
+          let y : Input = Deposit b q u (eval i s v) in
+          let w = (so scope i s ps d).1 z in (
+            keeps scope here x i (visited i s v ++ taken_numbers s y) (taken_warnings y) (taken s y) ps w told,
+            λ a. let m = goes scope here Q x i (visited i s v ++ taken_numbers s y) (taken_warnings y) (taken s y) ps w know a in go m.0 (taken s y) m.1 m.2,
+          )
 
       by_input : (x : Input) → NoneTakes i s x earlier → (matches i s x (deposit b q u v) ≡ false → L.Visits here (tried i s x (deposit b q u v)))
           × (matches i s x (deposit b q u v) ≡ true → KeepsThen L here (tried i s x (deposit b q u v) ++ taken_numbers s x) (taken_warnings x) (F (taken s x)))
-      by_input (Deposit a p t n) _ = (
+      by_input (Deposit a p t n) f = (
         λ e. by_test (agrees a p t b q u),
         λ e.
             let l = same_deposit a p t n b q u (eval i s v) e in
             let y : Input = Deposit a p t n in
-            let R : Party → Party → Token → ℤ → Type 0 = λ a p t n. KeepsThen L here (visited i s v ++ taken_numbers s (Deposit a p t n)) (taken_warnings (Deposit a p t n)) (F (taken s (Deposit a p t n))) in
+            let R : Party → Party → Token → ℤ → Type 0 = λ a p t n. NoneTakes i s (Deposit a p t n) earlier → KeepsThen L here (visited i s v ++ taken_numbers s (Deposit a p t n)) (taken_warnings (Deposit a p t n)) (F (taken s (Deposit a p t n))) in
             let kept : R a p t n = subst (λ a. R a p t n) l.0 (subst (λ p. R b p t n) l.1 (subst (λ t. R b q t n) l.2 (subst (λ n. R b q u n) l.3 it))) in
             let agree = (both (agrees a p t b q u) (int_eq n (eval i s v)) e).0 in
-            subst (λ c. KeepsThen L here (cond c (visited i s v) [] ++ taken_numbers s y) (taken_warnings y) (F (taken s y))) (sym agree) kept,
+            subst (λ c. KeepsThen L here (cond c (visited i s v) [] ++ taken_numbers s y) (taken_warnings y) (F (taken s y))) (sym agree) (kept f),
       )
       by_input (Choice id n) _ = (λ e. inl tt, λ e. absurd (cc))
       by_input Notify _ = (λ e. inl tt, λ e. absurd (cc))
@@ -216,21 +214,21 @@ module _ {K : Type 0} (Describes : Description K) (alarms : List Alarm) (ranges 
   choice_action scope here Q F k i s ps earlier jd bounds x so told know d go Notify f = (λ e. inl tt, λ e. absurd (cc))
 
   notify_action : (scope : Scope) (here : List PathStep) (Q : K → Type 0) (F : StateMaps → Type 0) (k : K) (i : Interval) (s : StateMaps) (ps : List Payment) (earlier : List ActionTree) (o : ObservationTree)
-      (x : Branches K) → ObservesSo Describes k o x → AreAmong alarms (alarms_at here x.kinds) → IfSome x.if_true Q → Describes scope k i s ps → ((m : K) (then : StateMaps) → Describes scope m i then ps → Q m → F then)
+      (x : Conclusion K) → NotifiesSo Describes k earlier o x → AreAmong alarms (alarms_at here x.kinds) → IfSome x.known Q → Describes scope k i s ps → ((m : K) (then : StateMaps) → Describes scope m i then ps → Q m → F then)
       → CoversAction (limits scope alarms ranges) here i s earlier (notify o) F
   notify_action scope here Q F k i s ps earlier o x so told know d go (Deposit a p t n) f = (λ e. inl tt, λ e. absurd (cc))
   notify_action scope here Q F k i s ps earlier o x so told know d go (Choice id n) f = (λ e. inl tt, λ e. absurd (cc))
   notify_action scope here Q F k i s ps earlier o x so told know d go Notify f =
       let w = so scope i s ps d in
-      let P : K → Type 0 = λ m. Describes scope m i s ps in
-      let L = limits scope alarms ranges in
-      let kept = visits scope alarms here x.kinds (looked i s o) told w.numbers in (
-        λ e. kept,
-        λ e. subst (λ ns. KeepsThen L here ns [] (F s)) (sym (append-nil (looked i s o)))
-            ((kept, tt), λ a. let m = some_known P Q x.if_true know (subst (λ b. IsSomeAnd (cond b x.if_true x.if_false) P) e (w.known a)) in go m.0 s m.1 m.2),
+      let L = limits scope alarms ranges in (
+        λ e. visits scope alarms here x.kinds (looked i s o) told w.0,
+        λ e.
+            let c = w.1 f e in
+            subst (λ ns. KeepsThen L here ns [] (F s)) (sym (append-nil (looked i s o)))
+            (keeps scope here x i (looked i s o) [] s ps c told, λ a. let m = goes scope here Q x i (looked i s o) [] s ps c know a in go m.0 s m.1 m.2),
       )
 
-  pub deposit_covered : (here : List PathStep) (n : ℕ) (k : K) (earlier : List ActionTree) (p q : Party) (t : Token) (v : ValueTree) (c : ContractTree) (ks : CaseTrees) (x : Conclusion K) → DepositsSo Describes k p t v x
+  pub deposit_covered : (here : List PathStep) (n : ℕ) (k : K) (earlier : List ActionTree) (p q : Party) (t : Token) (v : ValueTree) (c : ContractTree) (ks : CaseTrees) (x : Conclusion K) → DepositsSo Describes k earlier p q t v x
       → AreAmong alarms (alarms_at (here ++ Action n ∷ []) x.kinds) → IfCovered (here ++ Case n ∷ []) x.known c → AreCovered Describes alarms ranges here (suc n) k (deposit p q t v ∷ earlier) ks
       → AreCovered Describes alarms ranges here n k earlier (case_then (deposit p q t v) c ks)
   deposit_covered here n k earlier p q t v c ks x so told go rest scope i s ps d = (
@@ -248,8 +246,8 @@ module _ {K : Type 0} (Describes : Description K) (alarms : List Alarm) (ranges 
     rest scope i s ps d,
   )
 
-  pub notify_covered : (here : List PathStep) (n : ℕ) (k : K) (earlier : List ActionTree) (o : ObservationTree) (c : ContractTree) (ks : CaseTrees) (x : Branches K) → ObservesSo Describes k o x
-      → AreAmong alarms (alarms_at (here ++ Action n ∷ []) x.kinds) → IfCovered (here ++ Case n ∷ []) x.if_true c → AreCovered Describes alarms ranges here (suc n) k (notify o ∷ earlier) ks
+  pub notify_covered : (here : List PathStep) (n : ℕ) (k : K) (earlier : List ActionTree) (o : ObservationTree) (c : ContractTree) (ks : CaseTrees) (x : Conclusion K) → NotifiesSo Describes k earlier o x
+      → AreAmong alarms (alarms_at (here ++ Action n ∷ []) x.kinds) → IfCovered (here ++ Case n ∷ []) x.known c → AreCovered Describes alarms ranges here (suc n) k (notify o ∷ earlier) ks
       → AreCovered Describes alarms ranges here n k earlier (case_then (notify o) c ks)
   notify_covered here n k earlier o c ks x so told go rest scope i s ps d = (
     notify_action scope (here ++ Action n ∷ []) (λ m. IsCovered Describes alarms ranges (here ++ Case n ∷ []) m c) (λ then. Covers (limits scope alarms ranges) (here ++ Case n ∷ []) i then ps c) k i s ps earlier o x so told go d

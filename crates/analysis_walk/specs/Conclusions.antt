@@ -8,7 +8,7 @@ use Rattle.names.specs.declared.payee.Payee.{Payee}
 use Rattle.names.specs.declared.token.Token.{Token}
 use Rattle.names.specs.declared.bound.Bound.{Bound}
 use Rattle.names.specs.declared.choice_id.ChoiceId.{ChoiceId}
-use Rattle.contract.specs.declared.input.Input.TheVariants.{Deposit, Choice}
+use Rattle.contract.specs.declared.input.Input.TheVariants.{Deposit, Choice, Notify}
 use Rattle.contract.specs.declared.interval.Interval.{Interval}
 use Rattle.contract.specs.declared.payment.Payment.{Payment}
 use Rattle.contract.specs.declared.warning.Warning.{Warning}
@@ -67,16 +67,24 @@ module _ {K : Type 0} (Describes : Description K) where
       (scope : Scope) (i : Interval) (s : StateMaps) (ps : List Payment) → Describes scope k i s ps →
       let branch : Conclusion K = record { kinds = x.kinds; known = cond (holds i s o) x.if_true x.if_false } in Concludes Describes scope branch i (looked i s o) [] s ps
 
-  -- of a deposit into an account, and of a choice that no earlier case takes
-  abbrev pub DepositsSo : K → Party → Token → ValueTree → Conclusion K → Type 0
-  DepositsSo k p t v x =
-      (scope : Scope) (i : Interval) (s : StateMaps) (ps : List Payment) (q : Party) → Describes scope k i s ps →
-      let input = Deposit p q t (eval i s v) in Concludes Describes scope x i (visited i s v ++ taken_numbers s input) (taken_warnings input) (taken s input) ps
+  -- of an input that no earlier case takes: a deposit of one party into the account of another, a choice, and a notify. Of
+  -- the numbers of a case that is only tried, too
+  abbrev pub DepositsSo : K → List ActionTree → Party → Party → Token → ValueTree → Conclusion K → Type 0
+  DepositsSo k earlier p q t v x =
+      (scope : Scope) (i : Interval) (s : StateMaps) (ps : List Payment) → Describes scope k i s ps →
+      let input = Deposit p q t (eval i s v) in
+      (GoesOn scope x.kinds → AllByRecursion (Allowed scope) (visited i s v))
+      × (NoneTakes i s input earlier → Concludes Describes scope x i (visited i s v ++ taken_numbers s input) (taken_warnings input) (taken s input) ps)
 
   abbrev pub ChoosesSo : K → List ActionTree → ChoiceId → List Bound → Conclusion K → Type 0
   ChoosesSo k earlier id bounds x =
       (scope : Scope) (i : Interval) (s : StateMaps) (ps : List Payment) (n : ℤ) → Describes scope k i s ps → NoneTakes i s (Choice id n) earlier → list_any (in_bound n) bounds ≡ true
       → Concludes Describes scope x i [] [] (record s { choices = insert s.choices id n }) ps
+
+  abbrev pub NotifiesSo : K → List ActionTree → ObservationTree → Conclusion K → Type 0
+  NotifiesSo k earlier o x =
+      (scope : Scope) (i : Interval) (s : StateMaps) (ps : List Payment) → Describes scope k i s ps →
+      (GoesOn scope x.kinds → AllByRecursion (Allowed scope) (looked i s o)) × (NoneTakes i s Notify earlier → holds i s o ≡ true → Concludes Describes scope x i (looked i s o) [] s ps)
 
   -- in this transaction and in any later one, whatever the minimum time is; then where a When waits, and where it has timed out
   abbrev pub IsLater : K → K → Type 0

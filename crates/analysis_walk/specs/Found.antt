@@ -32,6 +32,10 @@ Finds Shows old new = (alarms : List Alarm) (range : PaidRange) → Fits new ala
 
 -- ---- what is shown
 
+-- nothing more
+abbrev pub Nothing : Shown
+Nothing alarms range = Unit {0}
+
 -- alarms of these kinds at a place
 abbrev pub TellsOf : List PathStep → List AlarmKind → Shown
 TellsOf here kinds alarms range = AreAmong alarms (alarms_at here kinds)

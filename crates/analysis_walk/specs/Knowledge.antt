@@ -1,12 +1,12 @@
 -- What is concluded of steps.
-use Rattle.std.specs.Prelude.{List, [], ◌∷◌, Option}
+use Rattle.std.specs.Prelude.{List, [], ◌∷◌}
 use Rattle.names.specs.declared.account.Account.{Account}
 use Rattle.names.specs.declared.party.Party.{Party}
 use Rattle.names.specs.declared.token.Token.{Token}
 use Rattle.contract.specs.declared.tree.Case.{Case}
 use Rattle.contract.specs.Tree.{ActionTree, deposit, choice, notify, action_tree}
 use Rattle.analysis_walk.specs.declared.conclusion.Conclusion.{Conclusion}
-use Rattle.analysis_walk.specs.Conclusions.{Description, ObservesSo, DepositsSo, ChoosesSo, ClosesIn}
+use Rattle.analysis_walk.specs.Conclusions.{Description, DepositsSo, ChoosesSo, NotifiesSo, ClosesIn}
 use Rattle.analysis_walk.specs.declared.span.Span.{Span}
 use Rattle.analysis_walk.specs.Spans.{range_at}
 
@@ -24,6 +24,6 @@ ClosesBy Describes k spans = (p : Party) (t : Token) → ClosesIn Describes k (r
 
 -- what is concluded of an action is true, behind these of earlier cases
 abbrev pub TakesSo : {K : Type 0} → Description K → K → List ActionTree → ActionTree → Conclusion K → Type 0
-TakesSo Describes k earlier (deposit p q t v) x = DepositsSo Describes k p t v x
+TakesSo Describes k earlier (deposit p q t v) x = DepositsSo Describes k earlier p q t v x
 TakesSo Describes k earlier (choice id bounds) x = ChoosesSo Describes k earlier id bounds x
-TakesSo {K} Describes k earlier (notify o) x = (other : Option K) × ObservesSo Describes k o (record { kinds = x.kinds; if_true = x.known; if_false = other })
+TakesSo Describes k earlier (notify o) x = NotifiesSo Describes k earlier o x

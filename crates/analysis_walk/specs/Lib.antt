@@ -2,9 +2,11 @@ pub mod Limits
 pub mod Covered
 pub mod Conclusions
 pub mod Walked
+pub mod Avoided
 pub mod Laws
 pub mod Spans
 pub mod Knowledge
 pub mod Rows
 pub mod Found
+pub mod LeftOut
 pub mod NodesSupport

@@ -3,13 +3,13 @@ ghost use Rattle.std.specs.Prelude.{IfOk};
 ghost use Rattle.contract.specs.Tree.{action_tree};
 ghost use Rattle.analysis_walk.specs.Knowledge.{actions_before, TakesSo};
 
-use crate::conclusion::{Branches, Conclusion};
+use crate::conclusion::Conclusion;
 use crate::knowledge::Knowledge;
 use collections::Memory;
 use contract::{Action, Case};
 use std::alloc::Global;
 
-/// What is concluded of the action of a case, where it is taken.
+/// What is concluded of the action of a case, where it is taken, and no earlier case takes its input.
 pub(crate) fn take_action<K: Knowledge>(
     alloc: Global,
     known: K::Known,
@@ -19,20 +19,10 @@ pub(crate) fn take_action<K: Knowledge>(
     ensures { IfOk result (TakesSo K.describes known (actions_before earlier.now) (action_tree action.now)) }
 {
     match action {
-        Action::Deposit(account, _, token, amount) => K::deposit(
-            alloc, known, account, token, amount,
+        Action::Deposit(account, payer, token, amount) => K::deposit(
+            alloc, known, earlier, account, payer, token, amount,
         ),
         Action::Choice(id, bounds) => K::choose(alloc, known, earlier, id, bounds),
-        Action::Notify(observation) => {
-            let Branches {
-                kinds,
-                if_true,
-                if_false: _,
-            } = K::observe(alloc, &known, observation)?;
-            Ok(Conclusion {
-                kinds,
-                known: if_true,
-            })
-        }
+        Action::Notify(observation) => K::notify(alloc, known, earlier, observation),
     }
 }

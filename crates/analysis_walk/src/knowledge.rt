@@ -5,7 +5,7 @@ ghost use Rattle.contract.specs.declared.payment.Payment.{Payment};
 ghost use Rattle.contract.specs.Tree.{value_tree, observation_tree};
 ghost use Rattle.states.specs.States.{StateMaps};
 ghost use Rattle.analysis_walk.specs.Limits.{Scope};
-ghost use Rattle.analysis_walk.specs.Conclusions.{PaysSo, BindsSo, AssertsSo, ObservesSo, DepositsSo, ChoosesSo, IsLater, WaitsSo, TimesOutSo, DescribesStart};
+ghost use Rattle.analysis_walk.specs.Conclusions.{PaysSo, BindsSo, AssertsSo, ObservesSo, DepositsSo, ChoosesSo, NotifiesSo, IsLater, WaitsSo, TimesOutSo, DescribesStart};
 ghost use Rattle.analysis_walk.specs.Knowledge.{actions_before, ClosesBy};
 
 use crate::conclusion::{Branches, Conclusion};
@@ -65,15 +65,18 @@ pub trait Knowledge {
     ) -> Result<Branches<Self::Known>, Memory>
         ensures { IfOk result (ObservesSo describes known.now (observation_tree observation.now)) };
 
-    /// A deposit into the account of a party, by whomever.
+    /// A deposit into the account of one party by another, which no earlier case of its When takes. It may go wrong also
+    /// where the case is only tried.
     fn deposit(
         alloc: Global,
         known: Self::Known,
+        earlier: &[Case],
         account: &Party,
+        payer: &Party,
         token: &Token,
         amount: &Value,
     ) -> Result<Conclusion<Self::Known>, Memory>
-        ensures { IfOk result (DepositsSo describes known account.now token.now (value_tree amount.now)) };
+        ensures { IfOk result (DepositsSo describes known (actions_before earlier.now) account.now payer.now token.now (value_tree amount.now)) };
 
     /// A choice within bounds, which no earlier case of its When takes.
     fn choose(
@@ -84,6 +87,16 @@ pub trait Knowledge {
         bounds: &Items<Bound>,
     ) -> Result<Conclusion<Self::Known>, Memory>
         ensures { IfOk result (ChoosesSo describes known (actions_before earlier.now) id.now bounds.now) };
+
+    /// A notification while an observation is true, which no earlier case of its When takes. It may go wrong also where the
+    /// case is only tried.
+    fn notify(
+        alloc: Global,
+        known: Self::Known,
+        earlier: &[Case],
+        observation: &Observation,
+    ) -> Result<Conclusion<Self::Known>, Memory>
+        ensures { IfOk result (NotifiesSo describes known (actions_before earlier.now) (observation_tree observation.now)) };
 
     /// This transaction, or whichever later one.
     fn later(known: Self::Known) -> Result<Self::Known, Memory>

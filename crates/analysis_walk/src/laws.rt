@@ -1,5 +1,5 @@
 //! What a contract that keeps limits promises: laws, each the contract of a function that does nothing.
-ghost use Rattle.analysis_walk.specs.Laws.{AlarmsNameWhereItComes, AlarmsNameWhereItLeaves, PaymentsLieInRanges};
+ghost use Rattle.analysis_walk.specs.Laws.{AlarmsNameWhereItComes, AlarmsNameWhereItLeaves, AvoidedIsNeverReached, PaymentsLieInRanges};
 
 use semantics::{accounts_stay_above_zero, payments_are_natural, time_never_goes_back};
 
@@ -15,6 +15,13 @@ pub fn alarms_name_where_it_comes()
 /// that doesn't fit, leaves 128 bits first at no place without an alarm.
 pub fn alarms_name_where_it_leaves()
     ensures { AlarmsNameWhereItLeaves }
+{
+    time_never_goes_back();
+}
+
+/// No run comes to a place where none takes the path to it, told along the contract.
+pub fn avoided_is_never_reached()
+    ensures { AvoidedIsNeverReached }
 {
     time_never_goes_back();
 }

@@ -1,8 +1,9 @@
 //! The walk over a contract.
-ghost use Rattle.std.specs.Prelude.{◌≡◌, ◌<◌, length, OnOk};
+ghost use Rattle.std.specs.Prelude.{◌≡◌, ◌<◌, length, Some, OnOk};
 ghost use Rattle.contract.specs.Tree.{contract_tree};
 ghost use Rattle.analysis_spec.specs.declared.path.PathStep.TheVariants.{Then, Else};
 ghost use Rattle.analysis_walk.specs.Found.{Finds, Covers, CoversNext, CoversWhen, CoversEachIf, CoversBehind, CoversUnless};
+ghost use Rattle.analysis_walk.specs.LeftOut.{LeavesOut, IsLeftOut, IsLeftOutNext, IsLeftOutOfBoth, IsLeftOutOfWhen, IsLeftOutOfCases, IsLeftOutOfCase};
 
 use crate::action::take_action;
 use crate::conclusion::{Branches, Conclusion};
@@ -14,8 +15,8 @@ use collections::{Memory, TryClone};
 use contract::{Case, Contract};
 use std::alloc::Global;
 
-/// Finds what may go wrong in a contract at a place, from what is known there, and what parties are paid where it is
-/// closed. A branch is walked with a copy of what is known, but for the largest one, which comes last.
+/// Finds what may go wrong in a contract at a place, from what is known there, what parties are paid where it is closed,
+/// and where no run comes. A branch is walked with a copy of what is known, but for the largest one, which comes last.
 #[cycle(walk)]
 pub(crate) fn walk<K: Knowledge>(
     alloc: Global,
@@ -26,6 +27,7 @@ pub(crate) fn walk<K: Knowledge>(
 ) -> Result<(), Memory>
     ensures place { OnOk result (place.new.items ≡ place.old.items) }
     ensures found { OnOk result (Finds (Covers K.describes place.old.items known (contract_tree contract.now)) found.old found.new) }
+    ensures unreached { OnOk result (LeavesOut (IsLeftOut K.describes place.old.items known (contract_tree contract.now)) found.old found.new) }
 {
     match contract {
         Contract::Close => {
@@ -84,7 +86,7 @@ pub(crate) fn walk<K: Knowledge>(
     }
 }
 
-// Walks on one step from a place, where something is known there.
+// Walks on one step from a place, or leaves out what is there, where nothing is known.
 #[cycle(walk)]
 fn go_on<K: Knowledge>(
     alloc: Global,
@@ -96,8 +98,10 @@ fn go_on<K: Knowledge>(
 ) -> Result<(), Memory>
     ensures place { OnOk result (place.new.items ≡ place.old.items) }
     ensures found { OnOk result (Finds (CoversNext K.describes place.old.items step known contract.now) found.old found.new) }
+    ensures unreached { OnOk result (LeavesOut (IsLeftOutNext K.describes place.old.items step known contract.now) found.old found.new) }
 {
     let Some(there) = known else {
+        found.leave_out(alloc, place, step)?;
         return Ok(());
     };
     place.push(step)?;
@@ -120,6 +124,7 @@ fn walk_both<K: Knowledge>(
     ensures place { OnOk result (place.new.items ≡ place.old.items) }
     ensures then { OnOk result (Finds (CoversNext K.describes place.old.items Then if_true then.now) found.old found.new) }
     ensures otherwise { OnOk result (Finds (CoversNext K.describes place.old.items Else if_false otherwise.now) found.old found.new) }
+    ensures unreached { OnOk result (LeavesOut (IsLeftOutOfBoth K.describes place.old.items if_true then.now if_false otherwise.now) found.old found.new) }
 {
     if weight(then) <= weight(otherwise) {
         go_on::<K>(alloc, if_true, then, place, PathStep::Then, found)?;
@@ -146,6 +151,7 @@ fn walk_when<K: Knowledge>(
 ) -> Result<(), Memory>
     ensures place { OnOk result (place.new.items ≡ place.old.items) }
     ensures found { OnOk result (Finds (CoversWhen K.describes place.old.items known cases.now timeout then.now) found.old found.new) }
+    ensures unreached { OnOk result (LeavesOut (IsLeftOutOfWhen K.describes place.old.items known cases.now timeout then.now) found.old found.new) }
 {
     let known = K::later(known)?;
     let (last, size) = largest(cases);
@@ -184,7 +190,7 @@ fn walk_when<K: Knowledge>(
     }
 }
 
-// Walks the cases of a When, one of them last, where something is known there.
+// Walks the cases of a When, one of them last, or leaves out what follows each, where nothing is known.
 #[cycle(walk)]
 fn walk_cases<K: Knowledge>(
     alloc: Global,
@@ -196,8 +202,10 @@ fn walk_cases<K: Knowledge>(
 ) -> Result<(), Memory>
     ensures place { OnOk result (place.new.items ≡ place.old.items) }
     ensures found { OnOk result (Finds (CoversEachIf K.describes place.old.items known cases.now) found.old found.new) }
+    ensures unreached { OnOk result (LeavesOut (IsLeftOutOfCases K.describes place.old.items known cases.now) found.old found.new) }
 {
     let Some(each) = known else {
+        found.leave_out_cases(alloc, place, cases)?;
         return Ok(());
     };
     for index in 0..cases.len() {
@@ -224,6 +232,7 @@ fn walk_copied<K: Knowledge>(
     requires { index < length cases.now }
     ensures place { OnOk result (place.new.items ≡ place.old.items) }
     ensures found { OnOk result (Finds (CoversUnless K.describes place.old.items known.now cases.now last index) found.old found.new) }
+    ensures unreached { OnOk result (LeavesOut (IsLeftOutOfCases K.describes place.old.items (Some known.now) cases.now) found.old found.new) }
 {
     if index == last {
         return Ok(());
@@ -245,6 +254,7 @@ fn walk_case<K: Knowledge>(
 ) -> Result<(), Memory>
     ensures place { OnOk result (place.new.items ≡ place.old.items) }
     ensures found { OnOk result (Finds (CoversBehind K.describes place.old.items known earlier.now case.now) found.old found.new) }
+    ensures unreached { OnOk result (LeavesOut (IsLeftOutOfCase K.describes place.old.items known earlier.now case.now) found.old found.new) }
 {
     let index = earlier.len();
     let Conclusion { kinds, known } = take_action::<K>(alloc, known, earlier, &case.action)?;

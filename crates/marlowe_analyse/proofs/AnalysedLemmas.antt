@@ -1,6 +1,6 @@
 -- What is printed of a contract and a state.
-use Rattle.std.proofs.Common.{◌≡◌, ◌≢◌, ℕ, suc, arith, Bool, true, List, [], ◌∷◌, length, map, refl, sym, ap, ◌∙◌, subst}
-use Rattle.std.specs.Prelude.{Contains, ◌↔◌, ◌==◌}
+use Rattle.std.proofs.Common.{◌≡◌, ◌≢◌, ℕ, ℤ, suc, arith, Option, Some, None, Bool, true, false, not, List, [], ◌∷◌, length, map, refl, sym, ap, ◌∙◌, subst}
+use Rattle.std.specs.Prelude.{Contains, ◌↔◌, ◌==◌, IsTrue}
 use Rattle.std.specs.List.{AllByRecursion}
 use Rattle.std.proofs.lemmas.List.Elements.{All-from_recursion, recursion_from_All, All-contains, All-contains_itself, All-weaker}
 use Rattle.std.proofs.lemmas.Bool.Decides.{Decides-eqb}
@@ -10,13 +10,17 @@ use Rattle.analysis_spec.specs.declared.kind.AlarmKind.{AlarmKind}
 use Rattle.analysis_spec.specs.declared.kind.AlarmKind.TheVariants.{Leaves128}
 use Rattle.analysis_spec.specs.declared.alarm.Alarm.{Alarm}
 use Rattle.analysis_spec.specs.declared.paid.PaidRange.{PaidRange}
-use Rattle.analysis_spec.specs.Analysed.{IsSilent, NamesWhatComes, NamesWhereItComes, StaysUnlessTold, NamesWhereItLeaves}
+use Rattle.analysis_spec.specs.Analysed.{IsSilent, NamesWhatComes, NamesWhereItComes, StaysUnlessTold, NamesWhereItLeaves, AreNeverReached}
+use Rattle.analysis_spec.specs.declared.path.PathStep.{PathStep}
+use Rattle.places.specs.declared.key.Key.{Key}
+use Rattle.places.specs.Places.{path_keys}
 use Rattle.marlowe_analyse.specs.declared.analysed.Reader.{Reader}
 use Rattle.marlowe_analyse.specs.declared.told.ToldAlarm.{ToldAlarm}
-use Rattle.marlowe_analyse.specs.Told.{Alarms, without_runs, LeastsCanCome, NeverAlarms}
+use Rattle.marlowe_analyse.specs.Told.{Alarms, without_runs, LeastsCanCome, IsOut, NeverAlarms}
 use Rattle.marlowe_analyse.specs.ToldLines.{Line, line_at, line_of}
 use Rattle.marlowe_analyse.specs.Printed.{printed, TellsOfTree}
-use Rattle.marlowe_analyse.specs.RunsSupport.{HoldRanges, TellsAll}
+use Rattle.marlowe_analyse.specs.RunsSupport.{HoldRanges, TellsAll, TellPlaces}
+use Rattle.marlowe_analyse.proofs.UnreachedLemmas.{never_among}
 
 -- what is so of each alarm of these is so of each of fewer
 fewer : (P : Alarm → Type 0) (all alarms : List Alarm) → ((a : Alarm) → Contains alarms a → Contains all a) → AllByRecursion P all → AllByRecursion P alarms
@@ -36,28 +40,49 @@ same_empty f g [] [] e h = refl
 same_empty f g [] (y ∷ ys) e h = absurd (cc)
 same_empty f g (x ∷ xs) ys e h = absurd (cc)
 
-pub tells_of_tree : (reader : Reader) (given : Bool) (s : StateMaps) (c : ContractTree) (alarms : List Alarm) (ranges : List PaidRange) (told : List ToldAlarm) (clear : Bool) (out : List ℕ) → NamesWhereItComes alarms s c → NamesWhereItLeaves alarms s c → NamesWhatComes alarms s c
-    → StaysUnlessTold alarms s c → HoldRanges s c ranges → LeastsCanCome ranges s c → TellsAll s c alarms told → (clear ≡ true ↔ told ≡ []) → out ≡ printed reader given (map line_of told) ranges → TellsOfTree reader given s c clear out
-tells_of_tree reader given s c alarms ranges told clear out places leaving names stays hold leasts t k e =
+none_mapped : {X Y : Type 0} (f : X → Y) (xs : List X) → map f xs ≡ [] → xs ≡ []
+none_mapped f [] e = refl
+none_mapped f (x ∷ xs) e = absurd (cc)
+
+-- .. and where it is said that there is one
+pub not_empty_is : {X : Type 0} (xs : List X) (none : Bool) → (IsTrue none ↔ xs ≡ []) → (not none ≡ false ↔ xs ≡ [])
+not_empty_is xs true h = (λ e. h.0 refl, λ e. refl)
+not_empty_is xs false h = (λ e. absurd (cc), λ e. absurd (let q : false ≡ true = h.1 e in cc))
+
+-- from when on all can be taken out, where more alarms are told
+still_out : (s : StateMaps) (c : ContractTree) (all alarms : List Alarm) (time : Option (Option ℤ)) → (IsSilent all Leaves128 → IsSilent alarms Leaves128) → IsOut s c alarms time → IsOut s c all time
+still_out s c all alarms None f h = λ z. h (f z)
+still_out s c all alarms (Some t) f h = h
+
+pub tells_of_tree : (reader : Reader) (given : Bool) (s : StateMaps) (c : ContractTree) (alarms : List Alarm) (places : List (List PathStep)) (ranges : List PaidRange) (time : Option (Option ℤ)) (told : List ToldAlarm) (ways : List (List Key)) (clear unreached : Bool) (out : List ℕ)
+    → NamesWhereItComes alarms s c → NamesWhereItLeaves alarms s c → NamesWhatComes alarms s c → StaysUnlessTold alarms s c → AreNeverReached places s c → HoldRanges s c ranges → LeastsCanCome ranges s c → IsOut s c alarms time → TellsAll s c alarms told → TellPlaces places ways
+    → (clear ≡ true ↔ told ≡ []) → (unreached ≡ false ↔ ways ≡ []) → out ≡ printed reader given s.min_time (map line_of told) ways ranges time → TellsOfTree reader given s c clear unreached out
+tells_of_tree reader given s c alarms places ranges time told ways clear unreached out comes leaves names stays never hold leasts z t w k l e =
     let all = t.all in (
       all,
+      w.all,
       ranges,
+      time,
       record {
-        places = λ kind place z. places kind place (fewer (λ (a : Alarm). a.kind ≡ kind → a.place ≢ place) (without_runs all) alarms t.has z);
-        leaving = λ place z. leaving place (fewer (λ (a : Alarm). a.kind ≡ Leaves128 → a.place ≢ place) (without_runs all) alarms t.has z);
+        comes = λ kind place z. comes kind place (fewer (λ (a : Alarm). a.kind ≡ kind → a.place ≢ place) (without_runs all) alarms t.has z);
+        leaves = λ place z. leaves place (fewer (λ (a : Alarm). a.kind ≡ Leaves128 → a.place ≢ place) (without_runs all) alarms t.has z);
         warnings = λ kind z. names kind (fewer (λ (a : Alarm). a.kind ≢ kind) (without_runs all) alarms t.has z);
         numbers = λ z. stays (fewer (λ (a : Alarm). a.kind ≢ Leaves128) (without_runs all) alarms t.has z);
         ordered = t.ordered;
         runs = t.so.ends;
+        unreached = never_among s c places w.all never w.among;
+        apart = w.apart;
         paid = hold.paid;
         unpaid = hold.unpaid;
         leasts = leasts;
+        out = still_out s c (without_runs all) alarms time (fewer (λ (a : Alarm). a.kind ≢ Leaves128) (without_runs all) alarms t.has) z;
       },
-      e ∙ ap (λ (ls : List Line). printed reader given ls ranges) t.so.lines,
+      e ∙ (ap (λ (ls : List Line). printed reader given s.min_time ls ways ranges time) t.so.lines ∙ ap (λ (ks : List (List Key)). printed reader given s.min_time (map (line_at c) all) ks ranges time) w.keys),
       (λ h. same_empty line_of (line_at c) told all t.so.lines (k.0 h), λ h. k.1 (same_empty (line_at c) line_of all told (sym t.so.lines) h)),
+      (λ h. none_mapped path_keys w.all (sym w.keys ∙ l.0 h), λ h. l.1 (w.keys ∙ ap (map path_keys) h)),
     )
 
-pub never_alarms : (reader : Reader) (given : Bool) (s : StateMaps) (c : ContractTree) (clear : Bool) (out : List ℕ) → TellsOfTree reader given s c clear out → clear ≡ true → NeverAlarms s c
-never_alarms reader given s c clear out h e =
-    let none : (kind : AlarmKind) → IsSilent (without_runs h.0) kind = λ kind. subst (λ (found : Alarms). IsSilent (without_runs found) kind) (sym (h.4.0 e)) tt in
-    (λ kind. h.2.warnings kind (none kind), h.2.numbers (none Leaves128))
+pub never_alarms : (reader : Reader) (given : Bool) (s : StateMaps) (c : ContractTree) (clear unreached : Bool) (out : List ℕ) → TellsOfTree reader given s c clear unreached out → clear ≡ true → NeverAlarms s c
+never_alarms reader given s c clear unreached out h e =
+    let none : (kind : AlarmKind) → IsSilent (without_runs h.0) kind = λ kind. subst (λ (found : Alarms). IsSilent (without_runs found) kind) (sym (h.6.0 e)) tt in
+    (λ kind. h.4.warnings kind (none kind), h.4.numbers (none Leaves128))

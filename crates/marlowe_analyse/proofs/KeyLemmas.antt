@@ -1,12 +1,12 @@
 -- Alarms of one key are one.
-use Rattle.std.proofs.Common.{◌≡◌, ℕ, ◌<◌, ◌≤◌, ◌==◌, cond, List, [], ◌∷◌, ◌++◌, refl, sym, ap, ◌∙◌, arith}
+use Rattle.std.proofs.Common.{◌≡◌, ℕ, ◌≤◌, ◌==◌, cond, List, [], ◌∷◌, ◌++◌, append_assoc, refl, sym, ap, ◌∙◌, arith}
 use Rattle.std.specs.Prelude.{flat_map}
 use Rattle.analysis_spec.specs.declared.kind.AlarmKind.{AlarmKind}
 use Rattle.analysis_spec.specs.declared.kind.AlarmKind.TheVariants.{NonPositiveDeposit, NonPositivePay, PartialPay, Shadowing, AssertionFailed, Leaves128}
 use Rattle.analysis_spec.specs.declared.path.PathStep.{PathStep}
 use Rattle.analysis_spec.specs.declared.path.PathStep.TheVariants.{Then, Else, TimeoutContinuation, Case, Action}
 use Rattle.analysis_spec.specs.declared.alarm.Alarm.{Alarm}
-use Rattle.marlowe_analyse.specs.Order.{kind_rank, step_key, alarm_key}
+use Rattle.marlowe_analyse.specs.Order.{kind_rank, step_key, place_key, alarm_key, IsBelow}
 
 -- the kind of a rank, and the step of its numbers
 abbrev kind_at : ℕ → AlarmKind
@@ -101,3 +101,29 @@ pub same_alarm_by_key : (a b : Alarm) → alarm_key a ≡ alarm_key b → a ≡ 
 same_alarm_by_key a b e =
     let h = same a.place b.place a.kind b.kind e in
     ap (λ (k : AlarmKind). let x : Alarm = record { kind = k; place = a.place } in x) h.1 ∙ ap (λ (p : List PathStep). let x : Alarm = record { kind = b.kind; place = p } in x) h.0
+
+-- ---- places whose numbers begin alike
+
+first_numbers : (p : PathStep) (ps : List PathStep) (ns : List ℕ) → place_key (p ∷ ps) ++ ns ≡ spread p (place_key ps ++ ns)
+first_numbers p ps ns = ap (λ ms. (ms ++ place_key ps) ++ ns) (parts p)
+
+no_numbers : (ns : List ℕ) → ns ++ [] ≡ ns
+no_numbers [] = refl
+no_numbers (n ∷ ns) = ap (λ ms. n ∷ ms) (no_numbers ns)
+
+pub below_by_key : (ps qs : List PathStep) (ns : List ℕ) → place_key qs ≡ place_key ps ++ ns → IsBelow ps qs
+below_by_key [] qs ns e = (qs, refl)
+below_by_key (p ∷ ps) [] ns e = absurd (let q : [] ≡ spread p (place_key ps ++ ns) = e ∙ first_numbers p ps ns in cc)
+below_by_key (p ∷ ps) (q ∷ qs) ns e =
+    let a = heads _ _ _ _ (sym (first_numbers q qs []) ∙ (no_numbers (place_key (q ∷ qs)) ∙ (e ∙ first_numbers p ps ns))) in
+    let b = heads _ _ _ _ a.1 in
+    let d = heads _ _ _ _ b.1 in
+    let rest = below_by_key ps qs ns (sym (no_numbers (place_key qs)) ∙ d.1) in
+    let first : q ≡ p =
+    sym (step_again q) ∙ (ap (λ f. step_at f (index_of q) (behind_of q)) a.0 ∙ (ap (λ n. step_at (form_of p) n (behind_of q)) b.0 ∙ (ap (step_at (form_of p) (index_of p)) d.0 ∙ step_again p))) in
+    (rest.0, ap (λ x. x ∷ qs) first ∙ ap (λ xs. p ∷ xs) rest.1)
+
+-- and of those below others
+pub key_below : (ps path : List PathStep) → place_key (ps ++ path) ≡ place_key ps ++ place_key path
+key_below [] path = refl
+key_below (p ∷ ps) path = ap (λ ns. step_key p ++ ns) (key_below ps path) ∙ sym (append_assoc (step_key p) (place_key ps) (place_key path))

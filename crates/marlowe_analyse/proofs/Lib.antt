@@ -4,5 +4,6 @@ mod OrderLemmas
 mod RunsLemmas
 mod RangesLemmas
 mod WrittenLemmas
+mod UnreachedLemmas
 mod AnalysedLemmas
 mod ReadLemmas

@@ -1,5 +1,5 @@
 -- Lines behind lines.
-use Rattle.std.proofs.Common.{◌≡◌, ℕ, Bool, true, false, List, [], ◌∷◌, ◌++◌, map, length, refl, sym, ap, ◌∙◌, subst, append_assoc, Option, Some}
+use Rattle.std.proofs.Common.{◌≡◌, ℕ, ℤ, Bool, true, false, List, [], ◌∷◌, ◌++◌, map, length, refl, sym, ap, ◌∙◌, subst, append_assoc, Option, Some}
 use Rattle.std.specs.Prelude.{flat_map, codes, ◌==◌}
 use Rattle.contract.specs.declared.transaction.Transaction.{Transaction}
 use Rattle.analysis_spec.specs.declared.paid.PaidRange.{PaidRange}
@@ -67,8 +67,11 @@ word_put a b w v e h = subst (λ (x : List ℕ). Puts a b (string x)) e h
 pub place_put : (a b : Written) (ks ls : List Key) → ks ≡ ls → Puts a b (place_json ks) → Puts a b (place_json ls)
 place_put a b ks ls e h = subst (λ (x : List Key). Puts a b (place_json x)) e h
 
-pub told_put : (runs : Bool) (a b : Written) (ts us : List ToldAlarm) (rs qs : List PaidRange) → ts ≡ us → rs ≡ qs → Puts a b (told_json runs (map line_of ts) rs) → Puts a b (told_json runs (map line_of us) qs)
-told_put runs a b ts us rs qs e f h = subst (λ (x : List PaidRange). Puts a b (told_json runs (map line_of us) x)) f (subst (λ (x : List ToldAlarm). Puts a b (told_json runs (map line_of x) rs)) e h)
+pub told_put : (runs : Bool) (first : ℤ) (a b : Written) (ts us : List ToldAlarm) (ps os : List (List Key)) (rs qs : List PaidRange) (time : Option (Option ℤ)) → ts ≡ us → ps ≡ os → rs ≡ qs
+    → Puts a b (told_json runs first (map line_of ts) ps rs time) → Puts a b (told_json runs first (map line_of us) os qs time)
+told_put runs first a b ts us ps os rs qs time e g f h =
+    subst (λ (x : List PaidRange). Puts a b (told_json runs first (map line_of us) os x time)) f
+    (subst (λ (x : List (List Key)). Puts a b (told_json runs first (map line_of us) x rs time)) g (subst (λ (x : List ToldAlarm). Puts a b (told_json runs first (map line_of x) ps rs time)) e h))
 
 -- the text of a whole value, from a new writer
 module _ (a b : Written) (start bytes : List ℕ) (d : Data) (empty : start ≡ []) (before : a.before ≡ start) (none : a.tokens ≡ []) (put : Puts a b d) (is : bytes ≡ b.before ++ print b.tokens) where

@@ -35,17 +35,17 @@ the_parts (Ok g) (Ok z) given s c e h =
     (ap (λ (q : StateMaps × ContractTree). let y : Result StateMaps JsonFault = Ok q.0 in y) p, ap contract_tree (sym same) ∙ ap (λ (q : StateMaps × ContractTree). q.1) p)
 
 module _ (reader : Reader) (texts : Bool) (text : List ℕ) (start : Option (List ℕ)) (given : Contract) (is : of_text contract text ≡ Ok given) where
-  tells : (clear : Bool) (out : List ℕ) → TellsFrom reader (is_some start) (contract_tree given) (start_of texts start) clear out → TellsSo reader texts text start clear out
-  tells clear out h s c e =
+  tells : (clear unreached : Bool) (out : List ℕ) → TellsFrom reader (is_some start) (contract_tree given) (start_of texts start) clear unreached out → TellsSo reader texts text start clear unreached out
+  tells clear unreached out h s c e =
       let p = the_parts (of_text contract text) (start_of texts start) given s c is e in
-      subst (λ (t : ContractTree). TellsOfTree reader (is_some start) s t clear out) p.1 (h s p.0)
+      subst (λ (t : ContractTree). TellsOfTree reader (is_some start) s t clear unreached out) p.1 (h s p.0)
 
-  pub all_told_so : (r : Result Analysed RunFault) → IfOk r (λ t. TellsFrom reader (is_some start) (contract_tree given) (start_of texts start) t.is_clear t.text.items) → IfOk r (λ t. TellsSo reader texts text start t.is_clear t.text.items)
-  all_told_so (Ok t) h = tells t.is_clear t.text.items h
+  pub all_told_so : (r : Result Analysed RunFault) → IfOk r (λ t. TellsFrom reader (is_some start) (contract_tree given) (start_of texts start) t.is_clear t.has_unreached t.text.items) → IfOk r (λ t. TellsSo reader texts text start t.is_clear t.has_unreached t.text.items)
+  all_told_so (Ok t) h = tells t.is_clear t.has_unreached t.text.items h
   all_told_so (Err f) h = tt
 
-  pub is_clear_so : (r : Result Analysed RunFault) → IfOk r (λ t. TellsFrom reader (is_some start) (contract_tree given) (start_of texts start) t.is_clear t.text.items) → IfOk r (λ t. t.is_clear ≡ true → IsClear texts text start)
-  is_clear_so (Ok t) h = λ e s c q. never_alarms reader (is_some start) s c t.is_clear t.text.items (tells t.is_clear t.text.items h s c q) e
+  pub is_clear_so : (r : Result Analysed RunFault) → IfOk r (λ t. TellsFrom reader (is_some start) (contract_tree given) (start_of texts start) t.is_clear t.has_unreached t.text.items) → IfOk r (λ t. t.is_clear ≡ true → IsClear texts text start)
+  is_clear_so (Ok t) h = λ e s c q. never_alarms reader (is_some start) s c t.is_clear t.has_unreached t.text.items (tells t.is_clear t.has_unreached t.text.items h s c q) e
   is_clear_so (Err f) h = tt
 
 -- why nothing is read
@@ -64,8 +64,8 @@ pub not_read : (texts : Bool) (text : List ℕ) (start : Option (List ℕ)) (f :
 not_read texts text start f g h e n = fault_of (of_text contract text) (start_of texts start) f g h e n
 
 -- where the state is read
-pub tells_from : (reader : Reader) (given : Bool) (c : ContractTree) (start : Result StateMaps JsonFault) (s : StateMaps) (clear : Bool) (out : List ℕ) → start ≡ Ok s → TellsOfTree reader given s c clear out → TellsFrom reader given c start clear out
-tells_from reader given c start s clear out e h z f = let same : s ≡ z = cc in subst (λ (x : StateMaps). TellsOfTree reader given x c clear out) same h
+pub tells_from : (reader : Reader) (given : Bool) (c : ContractTree) (start : Result StateMaps JsonFault) (s : StateMaps) (clear unreached : Bool) (out : List ℕ) → start ≡ Ok s → TellsOfTree reader given s c clear unreached out → TellsFrom reader given c start clear unreached out
+tells_from reader given c start s clear unreached out e h z f = let same : s ≡ z = cc in subst (λ (x : StateMaps). TellsOfTree reader given x c clear unreached out) same h
 
 pub started : (start : Result StateMaps JsonFault) (s : StateMaps) → start ≡ Ok s → is_started start ≡ Ok tt
 started (Ok z) s e = refl

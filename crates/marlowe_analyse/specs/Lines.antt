@@ -6,6 +6,7 @@ use Rattle.contract.specs.declared.transaction.Transaction.{Transaction}
 use Rattle.json_write_contracts.specs.WrittenNames.{party_json, token_json}
 use Rattle.contract_json.specs.WrittenInput.{transaction_json}
 use Rattle.analysis_spec.specs.declared.paid.PaidRange.{PaidRange}
+use Rattle.places.specs.declared.key.Key.{Key}
 use Rattle.places.specs.Texts.{kind_name, place_text}
 use Rattle.marlowe_analyse.specs.ToldLines.{Line}
 
@@ -28,6 +29,16 @@ abbrev pub alarms_lines : Bool → List Line → List ℕ
 alarms_lines runs [] = codes "never warns, stays within 128 bits" ++ 10 ∷ []
 alarms_lines runs (l ∷ ls) = flat_map (alarm_lines runs) (l ∷ ls)
 
+-- a part to which no run comes, by the keys that lead there
+abbrev pub unreached_line : List Key → List ℕ
+unreached_line keys = codes "never reached: " ++ (place_text keys ++ 10 ∷ [])
+
+-- from when on all can be taken out, where it is told
+abbrev pub out_line : Option (Option ℤ) → List ℕ
+out_line None = []
+out_line (Some None) = codes "all can be taken out at once" ++ 10 ∷ []
+out_line (Some (Some t)) = codes "all can be taken out from " ++ (signed_decimal t ++ (codes " on" ++ 10 ∷ []))
+
 -- that runs start without accounts, where no state is given
 abbrev pub start_line : Bool → List ℕ
 start_line true = []
@@ -43,5 +54,5 @@ bounds_text None None = codes "not known"
 abbrev pub range_line : PaidRange → List ℕ
 range_line r = compact_text (party_json r.party) ++ (codes " " ++ (compact_text (token_json r.token) ++ (codes " " ++ (bounds_text r.least r.most ++ 10 ∷ []))))
 
-abbrev pub lines_of : Bool → List Line → List PaidRange → List ℕ
-lines_of runs lines ranges = alarms_lines runs lines ++ flat_map range_line ranges
+abbrev pub lines_of : Bool → List Line → List (List Key) → List PaidRange → List ℕ
+lines_of runs lines places ranges = alarms_lines runs lines ++ (flat_map unreached_line places ++ flat_map range_line ranges)

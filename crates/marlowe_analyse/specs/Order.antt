@@ -1,4 +1,5 @@
--- The order in which alarms are told: that of their places in the contract, and at one place that of their kinds.
+-- The order in which alarms are told: that of their places in the contract, and at one place that of their kinds. And that of
+-- parts to which no run comes.
 use Rattle.std.specs.Prelude.{◌≡◌, ℕ, List, [], ◌∷◌, ◌++◌, flat_map}
 use Rattle.std.specs.List.{AllByRecursion}
 use Rattle.std.specs.declared.cmp.Ordering.{Ordering}
@@ -28,9 +29,12 @@ step_key (Action n) = 8 ∷ n ∷ 0 ∷ []
 step_key (Case n) = 8 ∷ n ∷ 1 ∷ []
 step_key TimeoutContinuation = 9 ∷ 0 ∷ 0 ∷ []
 
+abbrev pub place_key : List PathStep → List ℕ
+place_key = flat_map step_key
+
 -- alarms stand in the order of these numbers, as words in a dictionary: so a place stands before those that go on from it
 abbrev pub alarm_key : Alarm → List ℕ
-alarm_key a = flat_map step_key a.place ++ kind_rank a.kind ∷ []
+alarm_key a = place_key a.place ++ kind_rank a.kind ∷ []
 
 abbrev pub key_cmp : List ℕ → List ℕ → Ordering
 key_cmp = slice_cmp nat_cmp
@@ -42,3 +46,12 @@ IsBefore a b = key_cmp (alarm_key a) (alarm_key b) ≡ Less
 abbrev pub AreInOrder : List Alarm → Type 0
 AreInOrder [] = Unit {0}
 AreInOrder (a ∷ rest) = AllByRecursion (IsBefore a) rest × AreInOrder rest
+
+-- a place lies below another, or is that one
+abbrev pub IsBelow : List PathStep → List PathStep → Type 0
+IsBelow above place = (path : List PathStep) × (place ≡ above ++ path)
+
+-- places stand in their order, and none lies below one before it
+abbrev pub StandApart : List (List PathStep) → Type 0
+StandApart [] = Unit {0}
+StandApart (p ∷ ps) = AllByRecursion (λ q. (key_cmp (place_key p) (place_key q) ≡ Less) × (IsBelow p q → ⊥)) ps × StandApart ps

@@ -1,11 +1,14 @@
 -- What is printed of a contract's text and a state's.
-use Rattle.std.specs.Prelude.{◌≡◌, ◌↔◌, ℕ, Bool, true, false, List, [], ◌++◌, map, Option, is_some, Result, Ok}
+use Rattle.std.specs.Prelude.{◌≡◌, ◌↔◌, ℕ, ℤ, Bool, true, false, List, [], ◌++◌, map, Option, is_some, Result, Ok}
 use Rattle.collections.specs.Answers.{◌>>=◌}
 use Rattle.contract.specs.Tree.{ContractTree, contract_tree}
 use Rattle.states.specs.States.{StateMaps}
 use Rattle.json_read_names.specs.ReadsText.{of_text}
 use Rattle.json_read_contracts.specs.ReadsContract.{contract}
 use Rattle.analysis_spec.specs.declared.paid.PaidRange.{PaidRange}
+use Rattle.analysis_spec.specs.declared.path.PathStep.{PathStep}
+use Rattle.places.specs.declared.key.Key.{Key}
+use Rattle.places.specs.Places.{path_keys}
 use Rattle.marlowe_refusals.specs.declared.fault.RunFault.{RunFault}
 use Rattle.marlowe_refusals.specs.Faults.{read_as, contract_fault, state_fault}
 use Rattle.marlowe_analyse.specs.declared.analysed.Reader.{Reader}
@@ -13,15 +16,16 @@ use Rattle.marlowe_analyse.specs.declared.analysed.Reader.TheVariants.{People, T
 use Rattle.marlowe_run.specs.Start.{start_of}
 use Rattle.marlowe_analyse.specs.Told.{Alarms, IsSo, NeverAlarms}
 use Rattle.marlowe_analyse.specs.ToldLines.{Line, line_at}
-use Rattle.marlowe_analyse.specs.Lines.{lines_of, start_line}
+use Rattle.marlowe_analyse.specs.Lines.{lines_of, out_line, start_line}
 use Rattle.marlowe_analyse.specs.Tools.{told_line}
 
--- alarms and ranges; and for people that runs start without accounts, where no state is given
-abbrev pub printed : Reader → Bool → List Line → List PaidRange → List ℕ
-printed People given lines ranges = lines_of true lines ranges ++ start_line given
-printed Tools given lines ranges = told_line true lines ranges
-printed PeopleWithoutRuns given lines ranges = lines_of false lines ranges ++ start_line given
-printed ToolsWithoutRuns given lines ranges = told_line false lines ranges
+-- alarms, parts to which no run comes, ranges, and from when on all can be taken out; for people also that runs start without accounts, where
+-- no state is given, and for tools the minimum time where all can be taken out at once
+abbrev pub printed : Reader → Bool → ℤ → List Line → List (List Key) → List PaidRange → Option (Option ℤ) → List ℕ
+printed People given first lines places ranges out = lines_of true lines places ranges ++ (out_line out ++ start_line given)
+printed Tools given first lines places ranges out = told_line true first lines places ranges out
+printed PeopleWithoutRuns given first lines places ranges out = lines_of false lines places ranges ++ (out_line out ++ start_line given)
+printed ToolsWithoutRuns given first lines places ranges out = told_line false first lines places ranges out
 
 -- the contract is read first, and then the state, whose numbers may be texts where that is said
 abbrev pub what_is_read : Bool → List ℕ → Option (List ℕ) → Result (StateMaps × ContractTree) RunFault
@@ -34,14 +38,17 @@ is_read texts text start = what_is_read texts text start >>= λ _. Ok tt
 abbrev pub IsReadAs : Bool → List ℕ → Option (List ℕ) → StateMaps → ContractTree → Type 0
 IsReadAs texts text start s c = what_is_read texts text start ≡ Ok (s, c)
 
--- what is printed tells what is so of a contract and a state, and it is said to be clear where there is no alarm
-abbrev pub TellsOfTree : Reader → Bool → StateMaps → ContractTree → Bool → List ℕ → Type 0
-TellsOfTree reader given s c clear out =
-    (alarms : Alarms) × (ranges : List PaidRange) × IsSo s c alarms ranges × (out ≡ printed reader given (map (line_at c) alarms) ranges) × (clear ≡ true ↔ alarms ≡ [])
+-- what is printed tells what is so of a contract and a state. It is said to be clear where there is no alarm, and to have
+-- unreached parts where one is told
+abbrev pub TellsOfTree : Reader → Bool → StateMaps → ContractTree → Bool → Bool → List ℕ → Type 0
+TellsOfTree reader given s c clear unreached out =
+    (alarms : Alarms) × (places : List (List PathStep)) × (ranges : List PaidRange) × (time : Option (Option ℤ)) × IsSo s c alarms places ranges time
+    × (out ≡ printed reader given s.min_time (map (line_at c) alarms) (map path_keys places) ranges time)
+    × (clear ≡ true ↔ alarms ≡ []) × (unreached ≡ false ↔ places ≡ [])
 
 -- .. of those that the texts are read as
-abbrev pub TellsSo : Reader → Bool → List ℕ → Option (List ℕ) → Bool → List ℕ → Type 0
-TellsSo reader texts text start clear out = (s : StateMaps) (c : ContractTree) → IsReadAs texts text start s c → TellsOfTree reader (is_some start) s c clear out
+abbrev pub TellsSo : Reader → Bool → List ℕ → Option (List ℕ) → Bool → Bool → List ℕ → Type 0
+TellsSo reader texts text start clear unreached out = (s : StateMaps) (c : ContractTree) → IsReadAs texts text start s c → TellsOfTree reader (is_some start) s c clear unreached out
 
 -- it never warns, and stays within 128 bits
 abbrev pub IsClear : Bool → List ℕ → Option (List ℕ) → Type 0

@@ -1,11 +1,12 @@
 -- What is told of all alarms. It serves proofs alone.
-use Rattle.std.specs.Prelude.{◌≡◌, ◌+◌, ◌<◌, ℕ, Bool, List, [], map, All, Contains, get_or, Option, None, is_some, Result, Ok}
-use Rattle.std.specs.List.{AllByRecursion}
+use Rattle.std.specs.Prelude.{◌≡◌, ◌+◌, ◌<◌, ℕ, nat_eq, Bool, if◌then◌else◌, List, [], ◌∷◌, map, All, Contains, get_or, Option, None, is_some, Result, Ok}
+use Rattle.std.specs.List.{AllByRecursion, starts_with}
 use Rattle.collections.specs.Answers.{◌>>=◌}
 use Rattle.contract.specs.Tree.{ContractTree}
 use Rattle.states.specs.States.{StateMaps}
 use Rattle.analysis_spec.specs.declared.alarm.Alarm.{Alarm}
 use Rattle.analysis_spec.specs.declared.paid.PaidRange.{PaidRange}
+use Rattle.analysis_spec.specs.declared.path.PathStep.{PathStep}
 use Rattle.analysis_spec.specs.Analysed.{PaysWithinRanges, PaysOthersNothing}
 use Rattle.json_read_names.specs.declared.fault.JsonFault.{JsonFault}
 use Rattle.marlowe_refusals.specs.declared.fault.RunFault.{RunFault}
@@ -15,7 +16,10 @@ use Rattle.marlowe_analyse.specs.declared.analysed.Analysed.{Analysed}
 use Rattle.marlowe_analyse.specs.declared.analysed.Reader.{Reader}
 use Rattle.marlowe_analyse.specs.declared.order.Standing.{Standing}
 use Rattle.marlowe_analyse.specs.declared.told.ToldAlarm.{ToldAlarm}
-use Rattle.marlowe_analyse.specs.Order.{AreInOrder}
+use Rattle.marlowe_analyse.specs.declared.unreached.Spot.{Spot}
+use Rattle.places.specs.declared.key.Key.{Key}
+use Rattle.places.specs.Places.{path_keys}
+use Rattle.marlowe_analyse.specs.Order.{place_key, AreInOrder, StandApart}
 use Rattle.marlowe_analyse.specs.OrderSupport.{IsUpTo}
 use Rattle.marlowe_analyse.specs.Told.{Alarms, without_runs, EndSo}
 use Rattle.marlowe_analyse.specs.ToldLines.{line_at, line_of, LineFits}
@@ -43,6 +47,33 @@ pub record TellsAll (s : StateMaps) (c : ContractTree) (alarms : List Alarm) (to
   pub has : (a : Alarm) → Contains alarms a → Contains (without_runs all) a
   pub ordered : AreInOrder (without_runs all)
 
+-- ---- parts to which no run comes
+
+-- the keys of places, each of them one of these
+pub record TellPlaces (places : List (List PathStep)) (told : List (List Key)) : Type 0 where
+  pub all : List (List PathStep)
+  pub keys : told ≡ map path_keys all
+  pub among : AllByRecursion (Contains places) all
+  pub apart : StandApart all
+
+-- a place that stands among others is one of these, and has its numbers
+pub record IsSpotOf (places : List (List PathStep)) (s : Spot) : Type 0 where
+  pub one : Contains places s.place.now
+  pub numbers : s.key.items ≡ place_key s.place.now
+
+-- whether one lies below another, or is that one
+abbrev pub lies_below : Spot → Spot → Bool
+lies_below above s = starts_with nat_eq s.key.items above.key.items
+
+-- those that don't lie below the one that was kept last
+abbrev pub kept_behind : Spot → List Spot → List Spot
+kept_behind last [] = []
+kept_behind last (s ∷ ss) = if lies_below last s then kept_behind last ss else s ∷ kept_behind s ss
+
+abbrev pub kept : List Spot → List Spot
+kept [] = []
+kept (s ∷ ss) = s ∷ kept_behind s ss
+
 -- ---- what parties are paid
 
 -- a range without its least
@@ -56,12 +87,12 @@ pub record HoldRanges (s : StateMaps) (c : ContractTree) (ranges : List PaidRang
 
 -- ---- a contract, and the state from which it starts
 
-abbrev pub TellsFrom : Reader → Bool → ContractTree → Result StateMaps JsonFault → Bool → List ℕ → Type 0
-TellsFrom reader given c start clear out = (s : StateMaps) → start ≡ Ok s → TellsOfTree reader given s c clear out
+abbrev pub TellsFrom : Reader → Bool → ContractTree → Result StateMaps JsonFault → Bool → Bool → List ℕ → Type 0
+TellsFrom reader given c start clear unreached out = (s : StateMaps) → start ≡ Ok s → TellsOfTree reader given s c clear unreached out
 
 -- .. that starts in the state of a text, if there is one
 abbrev pub AnalysedFrom : Reader → Bool → ContractTree → Option (List ℕ) → Analysed → Type 0
-AnalysedFrom reader texts c start told = TellsFrom reader (is_some start) c (start_of texts start) told.is_clear told.text.items
+AnalysedFrom reader texts c start told = TellsFrom reader (is_some start) c (start_of texts start) told.is_clear told.has_unreached told.text.items
 
 -- or why there is no state
 abbrev pub is_started : Result StateMaps JsonFault → Result (Unit {0}) RunFault

@@ -1,18 +1,22 @@
 -- What is told of a contract and the state in which it starts, and when that is so.
-use Rattle.std.specs.Prelude.{ℕ, List, map, Option, IfSome, option_map}
+use Rattle.std.specs.Prelude.{◌≡◌, ℕ, ℤ, List, map, Option, Some, None, IfSome, option_map}
 use Rattle.std.specs.Borrow.{Bor}
 use Rattle.std.specs.List.{AllByRecursion}
 use Rattle.contract.specs.Tree.{ContractTree}
 use Rattle.contract.specs.declared.transaction.Transaction.{Transaction}
 use Rattle.states.specs.States.{StateMaps}
+use Rattle.evaluation.specs.Timeouts.{last}
 use Rattle.analysis_spec.specs.declared.kind.AlarmKind.{AlarmKind}
+use Rattle.analysis_spec.specs.declared.kind.AlarmKind.TheVariants.{Leaves128}
 use Rattle.analysis_spec.specs.Promises.{NeverWarns, StaysWithin128}
 use Rattle.analysis_spec.specs.declared.alarm.Alarm.{Alarm}
 use Rattle.analysis_spec.specs.declared.paid.PaidRange.{PaidRange}
-use Rattle.analysis_spec.specs.Analysed.{NamesWhatComes, NamesWhereItComes, StaysUnlessTold, NamesWhereItLeaves, PaysWithinRanges, PaysOthersNothing}
+use Rattle.analysis_spec.specs.declared.path.PathStep.{PathStep}
+use Rattle.analysis_spec.specs.Analysed.{IsSilent, NamesWhatComes, NamesWhereItComes, StaysUnlessTold, NamesWhereItLeaves, AreNeverReached, PaysWithinRanges, PaysOthersNothing}
 use Rattle.analysis_spec.specs.PlacedRuns.{EndsAt}
 use Rattle.counter_runs.specs.Closing.{CanClose}
-use Rattle.marlowe_analyse.specs.Order.{AreInOrder}
+use Rattle.closing_times.specs.Closing.{ClosesFrom}
+use Rattle.marlowe_analyse.specs.Order.{AreInOrder, StandApart}
 
 -- alarms, and of each a run that ends in it where one is known
 abbrev pub Alarms : Type 0
@@ -29,18 +33,27 @@ EndSo s c = AllByRecursion (λ (a : Alarm × Option (List Transaction)). IfSome 
 abbrev pub LeastsCanCome : List PaidRange → StateMaps → ContractTree → Type 0
 LeastsCanCome ranges s c = AllByRecursion (λ (r : PaidRange). IfSome r.least (λ n. CanClose s c)) ranges
 
+-- from when on all can be taken out: from the last timeout, or at once where there is none. It isn't told where a number may leave 128 bits
+abbrev pub IsOut : StateMaps → ContractTree → List Alarm → Option (Option ℤ) → Type 0
+IsOut s c alarms None = IsSilent alarms Leaves128 → ⊥
+IsOut s c alarms (Some time) = (time ≡ last c) × ClosesFrom time s c
+
 -- a kind never comes at a place without an alarm of it, and one without any alarm never comes; alarms stand in order, none twice,
--- and each run ends in its alarm at its place; what is paid lies in its range, or is nothing
-pub record IsSo (s : StateMaps) (c : ContractTree) (alarms : Alarms) (ranges : List PaidRange) : Type 0 where
-  pub places : NamesWhereItComes (without_runs alarms) s c
-  pub leaving : NamesWhereItLeaves (without_runs alarms) s c
+-- and each run ends in its alarm at its place; no run comes to these places of the contract, which stand in order, none below
+-- another; what is paid lies in its range, or is nothing; and all can be taken out from that time on
+pub record IsSo (s : StateMaps) (c : ContractTree) (alarms : Alarms) (places : List (List PathStep)) (ranges : List PaidRange) (time : Option (Option ℤ)) : Type 0 where
+  pub comes : NamesWhereItComes (without_runs alarms) s c
+  pub leaves : NamesWhereItLeaves (without_runs alarms) s c
   pub warnings : NamesWhatComes (without_runs alarms) s c
   pub numbers : StaysUnlessTold (without_runs alarms) s c
   pub ordered : AreInOrder (without_runs alarms)
   pub runs : EndSo s c alarms
+  pub unreached : AreNeverReached places s c
+  pub apart : StandApart places
   pub paid : PaysWithinRanges ranges s c
   pub unpaid : PaysOthersNothing ranges s c
   pub leasts : LeastsCanCome ranges s c
+  pub out : IsOut s c (without_runs alarms) time
 
 -- no transaction of any run warns, and none is refused because a number leaves 128 bits
 abbrev pub NeverAlarms : StateMaps → ContractTree → Type 0

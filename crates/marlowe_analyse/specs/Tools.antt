@@ -7,6 +7,7 @@ use Rattle.contract.specs.declared.transaction.Transaction.{Transaction}
 use Rattle.json_write_contracts.specs.WrittenNames.{two, three, four, wide_json, party_json, token_json}
 use Rattle.contract_json.specs.WrittenInput.{transaction_json}
 use Rattle.analysis_spec.specs.declared.paid.PaidRange.{PaidRange}
+use Rattle.places.specs.declared.key.Key.{Key}
 use Rattle.places.specs.Texts.{kind_name, place_json}
 use Rattle.marlowe_analyse.specs.ToldLines.{Line}
 
@@ -26,9 +27,22 @@ bound_json (Some n) = wide_json n
 abbrev pub range_json : PaidRange → Data
 range_json r = four (codes "least") (bound_json r.least) (codes "most") (bound_json r.most) (codes "party") (party_json r.party) (codes "token") (token_json r.token)
 
-abbrev pub told_json : Bool → List Line → List PaidRange → Data
-told_json runs lines ranges = two (codes "alarms") (array (items_of (map (alarm_json runs) lines))) (codes "ranges") (array (items_of (map range_json ranges)))
+abbrev pub alarms_json : Bool → List Line → Data
+alarms_json runs lines = array (items_of (map (alarm_json runs) lines))
+
+abbrev pub ranges_json : List PaidRange → Data
+ranges_json ranges = array (items_of (map range_json ranges))
+
+-- a time, which is the minimum time where all can be taken out at once; null where none is told
+abbrev pub out_json : ℤ → Option (Option ℤ) → Data
+out_json first None = null
+out_json first (Some None) = wide_json first
+out_json first (Some (Some t)) = wide_json t
+
+abbrev pub told_json : Bool → ℤ → List Line → List (List Key) → List PaidRange → Option (Option ℤ) → Data
+told_json runs first lines places ranges out =
+    four (codes "alarms") (alarms_json runs lines) (codes "out_from") (out_json first out) (codes "ranges") (ranges_json ranges) (codes "unreached") (array (items_of (map place_json places)))
 
 -- .. as a line
-abbrev pub told_line : Bool → List Line → List PaidRange → List ℕ
-told_line runs lines ranges = compact_text (told_json runs lines ranges) ++ 10 ∷ []
+abbrev pub told_line : Bool → ℤ → List Line → List (List Key) → List PaidRange → Option (Option ℤ) → List ℕ
+told_line runs first lines places ranges out = compact_text (told_json runs first lines places ranges out) ++ 10 ∷ []

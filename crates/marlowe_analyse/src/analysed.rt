@@ -5,15 +5,17 @@ ghost use Rattle.contract.specs.Tree.{contract_tree};
 ghost use Rattle.marlowe_run.specs.Start.{start_of};
 ghost use Rattle.marlowe_analyse.specs.Told.{text_given};
 ghost use Rattle.marlowe_analyse.specs.ToldLines.{line_of, LineFits};
-ghost use Rattle.marlowe_analyse.specs.Lines.{lines_of, start_line};
+ghost use Rattle.marlowe_analyse.specs.Lines.{lines_of, out_line, start_line};
 ghost use Rattle.marlowe_analyse.specs.Printed.{printed, IsClear, TellsOfTree, TellsSo, is_read};
 ghost use Rattle.marlowe_analyse.specs.RunsSupport.{AnalysedFrom, is_started};
 
-use crate::lines::{put_alarms, put_ranges, put_start};
+use crate::lines::{put_alarms, put_out, put_ranges, put_start, put_unreached};
 use crate::ranges::told_ranges;
 use crate::runs::{told_alarms, work_of};
+use crate::taken::told_out;
 use crate::told::Told;
 use crate::tools::put_told;
+use crate::unreached::told_places;
 use analysis::analyse;
 use analysis_walk::Analysis;
 use collections::Memory;
@@ -26,7 +28,7 @@ use std::alloc::Global;
 /// Who reads what is printed.
 #[derive(Clone, Copy, Debug)]
 pub enum Reader {
-    /// Lines for people: alarms with their runs, and then what is paid.
+    /// Lines for people: alarms with their runs, then parts to which no run comes, and then what is paid.
     People,
     /// JSON for tools.
     Tools,
@@ -36,18 +38,22 @@ pub enum Reader {
     ToolsWithoutRuns,
 }
 
-/// What is printed of a contract, with a line feed at the end, and whether it never warns and stays within 128 bits.
+/// What is printed of a contract, with a line feed at the end, whether it never warns and stays within 128 bits, and whether
+/// a part is told to which no run comes.
 #[derive(Drop)]
 pub struct Analysed {
     pub text: Vec<u8>,
     pub is_clear: bool,
+    pub has_unreached: bool,
 }
 
 /// Analyses a contract from a state, both as JSON texts of at most 1,048,576 bytes; without a state its runs start
 /// without entries, at time 0. With `texts` a number of the state may also be a text of its digits, as outcomes
 /// have it where JSON lacks it. Refused is a text that is no contract or no state. For each alarm it looks for a run
 /// that ends in it, unless the reader wants none. All searches together do no more work than the length of the texts allows.
-/// Alarms stand in the order of the contract, none twice. A least is told only where a run is known that closes the contract.
+/// Alarms stand in the order of the contract, none twice, and so do the parts that are told to be never reached, none below
+/// another. A least is told only where a run is known that closes the contract. From when on all can be taken out is told
+/// exactly where there is no alarm of `Leaves128`.
 pub fn analyse_text(
     alloc: Global,
     contract: &[u8],
@@ -55,7 +61,8 @@ pub fn analyse_text(
     texts: bool,
     reader: Reader,
 ) -> Result<Analysed, RunFault>
-    ensures told { IfOk result (λ told. TellsSo reader texts contract.now (text_given state.entry) told.is_clear told.text.items) }
+    ensures told { IfOk result (λ told.
+        TellsSo reader texts contract.now (text_given state.entry) told.is_clear told.has_unreached told.text.items) }
     ensures clear { IfOk result (λ told. told.is_clear ≡ true → IsClear texts contract.now (text_given state.entry)) }
     ensures read { AsideBy RunFault.Memory (λ _. tt) result (is_read texts contract.now (text_given state.entry)) }
 {
@@ -102,16 +109,33 @@ fn analysis_text(
     length: usize,
     reader: Reader,
 ) -> Result<Analysed, Memory>
-    ensures { IfOk result (λ told. TellsOfTree reader given state.now (contract_tree contract.now) told.is_clear told.text.items) }
+    ensures { IfOk result (λ told.
+        TellsOfTree reader given state.now (contract_tree contract.now) told.is_clear told.has_unreached told.text.items) }
 {
-    let Analysis { alarms, ranges } = analyse(alloc, contract, state)?;
+    let Analysis {
+        alarms,
+        ranges,
+        unreached,
+    } = analyse(alloc, contract, state)?;
+    let out = told_out(contract, state, alarms.as_slice());
     let work = if has_runs(reader) { work_of(length) } else { 0 };
     let alarms = told_alarms(alloc, contract, state, alarms.as_slice(), work)?;
     let ranges = told_ranges(alloc, contract, state, ranges)?;
+    let unreached = told_places(alloc, unreached.as_slice())?;
     let is_clear = alarms.is_empty();
-    let told = Told { alarms, ranges };
-    let text = printed(alloc, &told, given, reader)?;
-    Ok(Analysed { text, is_clear })
+    let has_unreached = !unreached.is_empty();
+    let told = Told {
+        alarms,
+        unreached,
+        ranges,
+        out,
+    };
+    let text = printed(alloc, &told, given, state.min_time(), reader)?;
+    Ok(Analysed {
+        text,
+        is_clear,
+        has_unreached,
+    })
 }
 
 // Whether runs are looked for.
@@ -129,25 +153,35 @@ fn length_of(state: Option<&[u8]>) -> usize {
     }
 }
 
-fn printed(alloc: Global, told: &Told, given: bool, reader: Reader) -> Result<Vec<u8>, Memory>
+fn printed(
+    alloc: Global,
+    told: &Told,
+    given: bool,
+    first: i64,
+    reader: Reader,
+) -> Result<Vec<u8>, Memory>
     requires { All LineFits told.now.alarms.items }
-    ensures { IfOk result (λ text. text.items ≡ printed reader given (map line_of told.now.alarms.items) told.now.ranges) }
+    ensures { IfOk result (λ text. text.items
+        ≡ printed reader given first (map line_of told.now.alarms.items) told.now.unreached told.now.ranges told.now.out) }
 {
     match reader {
         Reader::People => for_people(alloc, told, given, true),
-        Reader::Tools => put_told(alloc, told, true),
+        Reader::Tools => put_told(alloc, told, first, true),
         Reader::PeopleWithoutRuns => for_people(alloc, told, given, false),
-        Reader::ToolsWithoutRuns => put_told(alloc, told, false),
+        Reader::ToolsWithoutRuns => put_told(alloc, told, first, false),
     }
 }
 
 fn for_people(alloc: Global, told: &Told, given: bool, runs: bool) -> Result<Vec<u8>, Memory>
     requires { All LineFits told.now.alarms.items }
-    ensures { IfOk result (λ text. text.items ≡ lines_of runs (map line_of told.now.alarms.items) told.now.ranges ++ start_line given) }
+    ensures { IfOk result (λ text. text.items
+        ≡ lines_of runs (map line_of told.now.alarms.items) told.now.unreached told.now.ranges ++ (out_line told.now.out ++ start_line given)) }
 {
     let mut out = Vec::new(alloc);
     put_alarms(alloc, &mut out, &told.alarms, runs)?;
+    put_unreached(alloc, &mut out, told.unreached.as_slice())?;
     put_ranges(alloc, &mut out, told.ranges.as_slice())?;
+    put_out(alloc, &mut out, told.out)?;
     put_start(&mut out, given)?;
     Ok(out)
 }

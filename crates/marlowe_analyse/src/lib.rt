@@ -1,4 +1,4 @@
-//! What a contract can warn of and what it can pay, from the texts of a contract and a state to what is printed.
+//! What a contract can warn of, what it can pay and what of it no run reaches, from the texts of a contract and a state to what is printed.
 #![tactic(auto)]
 
 mod analysed;
@@ -6,7 +6,9 @@ mod lines;
 mod order;
 mod ranges;
 mod runs;
+mod taken;
 mod told;
 mod tools;
+mod unreached;
 
 pub use analysed::{Analysed, Reader, analyse_text};

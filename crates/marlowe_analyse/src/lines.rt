@@ -1,9 +1,9 @@
 //! Lines for people.
-ghost use Rattle.std.specs.Prelude.{◌≡◌, [], ◌∷◌, ◌++◌, true, map, flat_map, codes, All, IfOk, IfSome, OnOk, string_bytes};
+ghost use Rattle.std.specs.Prelude.{◌≡◌, [], ◌∷◌, ◌++◌, true, map, flat_map, codes, All, Some, IfOk, IfSome, OnOk, string_bytes};
 ghost use Rattle.serde_json.specs.Written.{compact_text};
 ghost use Rattle.contract_json.specs.WrittenInput.{transaction_json, transaction_fits};
 ghost use Rattle.marlowe_analyse.specs.ToldLines.{line_of, LineFits, RunFits};
-ghost use Rattle.marlowe_analyse.specs.Lines.{transaction_line, run_lines, alarm_lines, alarms_lines, bounds_text, range_line, start_line};
+ghost use Rattle.marlowe_analyse.specs.Lines.{transaction_line, run_lines, alarm_lines, alarms_lines, unreached_line, bounds_text, range_line, out_line, start_line};
 
 use crate::told::ToldAlarm;
 use analysis_spec::PaidRange;
@@ -12,7 +12,7 @@ use contract::Transaction;
 use contract_json::{PutJson, WriteFault};
 use json::Writer;
 use json_write_contracts::term_text;
-use places::{kind_name, put_place};
+use places::{Key, kind_name, put_place};
 use std::alloc::{AllocError, Global};
 
 /// A line that there is no alarm, or the lines of each, with runs or without.
@@ -45,6 +45,28 @@ fn put_each(
         put_alarm(alloc, out, alarm, runs)?;
     }
     Ok(())
+}
+
+/// A line that says from when on all can be taken out, where that is told.
+pub(crate) fn put_out(
+    alloc: Global,
+    out: &mut Vec<u8>,
+    time: Option<Option<i64>>,
+) -> Result<(), Memory>
+    ensures { OnOk result (out.new.items ≡ out.old.items ++ out_line time) }
+{
+    match time {
+        Some(Some(time)) => put_time(alloc, out, time),
+        Some(None) => put_bytes(out, b"all can be taken out at once\n"),
+        None => Ok(()),
+    }
+}
+
+fn put_time(alloc: Global, out: &mut Vec<u8>, time: i64) -> Result<(), Memory>
+    ensures { OnOk result (out.new.items ≡ out.old.items ++ out_line (Some (Some time))) }
+{
+    let line = format!(in alloc; "all can be taken out from {time} on\n")?;
+    put_bytes(out, line.as_bytes())
 }
 
 /// Where no state is given, a line that runs start without accounts.
@@ -140,6 +162,28 @@ fn transaction_text(alloc: Global, transaction: &Transaction) -> Result<Vec<u8>,
         Err(WriteFault::Memory) => Err(AllocError),
         Err(WriteFault::OutOfRange) => unreachable!(),
     }
+}
+
+/// A line for each part to which no run comes, by the keys that lead there.
+pub(crate) fn put_unreached(
+    alloc: Global,
+    out: &mut Vec<u8>,
+    places: &[Items<Key>],
+) -> Result<(), Memory>
+    ensures { OnOk result (out.new.items ≡ out.old.items ++ flat_map unreached_line places.now) }
+{
+    for keys in places {
+        put_keys(alloc, out, keys)?;
+    }
+    Ok(())
+}
+
+fn put_keys(alloc: Global, out: &mut Vec<u8>, keys: &Items<Key>) -> Result<(), Memory>
+    ensures { OnOk result (out.new.items ≡ out.old.items ++ unreached_line keys.now) }
+{
+    put_bytes(out, b"never reached: ")?;
+    put_place(alloc, out, keys.as_slice())?;
+    put_bytes(out, b"\n")
 }
 
 /// A line for each party and token: what it is paid, as far as that is known.

@@ -63,7 +63,8 @@ fn key_of(alloc: Global, alarm: &Alarm) -> Result<Vec<usize>, Memory>
     Ok(key)
 }
 
-fn put_steps(key: &mut Vec<usize>, place: &[PathStep]) -> Result<(), Memory>
+/// Puts the numbers of a place behind others.
+pub(crate) fn put_steps(key: &mut Vec<usize>, place: &[PathStep]) -> Result<(), Memory>
     ensures { OnOk result (key.new.items ≡ key.old.items ++ flat_map step_key place.now) }
 {
     for step in place {

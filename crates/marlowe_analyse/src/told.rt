@@ -12,9 +12,12 @@ pub(crate) struct ToldAlarm {
     pub(crate) run: Option<Items<Transaction>>,
 }
 
-/// All alarms, and what parties are paid.
+/// All alarms, the ways to parts to which no run comes, what parties are paid, and from when on all can be taken out: the last timeout,
+/// or none where it is at once; or nothing, where a number may leave 128 bits.
 #[derive(Drop)]
 pub(crate) struct Told {
     pub(crate) alarms: Vec<ToldAlarm>,
+    pub(crate) unreached: Items<Items<Key>>,
     pub(crate) ranges: Items<PaidRange>,
+    pub(crate) out: Option<Option<i64>>,
 }

@@ -1,11 +1,12 @@
 //! JSON for tools.
-ghost use Rattle.std.specs.Prelude.{◌≡◌, true, false, map, All, IfOk, IfSome, OnOk, Some, None};
+ghost use Rattle.std.specs.Prelude.{◌≡◌, true, false, [], map, All, IfOk, IfSome, OnOk, Some, None};
 ghost use Rattle.serde_json.specs.Data.{array};
 ghost use Rattle.serde_json.specs.View.{items_of};
 ghost use Rattle.json_write_contracts.specs.Tokens.{Puts};
 ghost use Rattle.contract_json.specs.WrittenInput.{transaction_json, transaction_fits};
 ghost use Rattle.marlowe_analyse.specs.ToldLines.{line_of, LineFits, RunFits};
-ghost use Rattle.marlowe_analyse.specs.Tools.{run_json, alarm_json, bound_json, range_json, told_json, told_line};
+ghost use Rattle.marlowe_analyse.specs.Tools.{run_json, alarm_json, bound_json, range_json, out_json, told_json, told_line};
+ghost use Rattle.places.specs.Texts.{place_json};
 
 use crate::told::{Told, ToldAlarm};
 use analysis_spec::PaidRange;
@@ -14,16 +15,23 @@ use contract::Transaction;
 use contract_json::{PutJson, WriteFault};
 use json::Writer;
 use json_write_contracts::{put_amount, put_party, put_token, word};
-use places::{kind_name, put_place_json};
+use places::{Key, kind_name, put_place_json};
 use std::alloc::{AllocError, Global};
 
-/// All that is told, as one JSON text, with runs or without, and a line feed.
-pub(crate) fn put_told(alloc: Global, told: &Told, runs: bool) -> Result<Vec<u8>, Memory>
+/// All that is told, as one JSON text, with runs or without, and a line feed. The minimum time is told where all can be taken
+/// out at once.
+pub(crate) fn put_told(
+    alloc: Global,
+    told: &Told,
+    first: i64,
+    runs: bool,
+) -> Result<Vec<u8>, Memory>
     requires { All LineFits told.now.alarms.items }
-    ensures { IfOk result (λ text. text.items ≡ told_line runs (map line_of told.now.alarms.items) told.now.ranges) }
+    ensures { IfOk result (λ text. text.items
+        ≡ told_line runs first (map line_of told.now.alarms.items) told.now.unreached told.now.ranges told.now.out) }
 {
     let mut out = Writer::new(Vec::new(alloc));
-    put_all(alloc, &mut out, &told.alarms, told.ranges.as_slice(), runs)?;
+    put_all(alloc, &mut out, told, first, runs)?;
     let mut text = out.into_inner();
     text.push(b'\n')?;
     Ok(text)
@@ -32,19 +40,58 @@ pub(crate) fn put_told(alloc: Global, told: &Told, runs: bool) -> Result<Vec<u8>
 fn put_all(
     alloc: Global,
     out: &mut Writer,
-    alarms: &[ToldAlarm],
-    ranges: &[PaidRange],
+    told: &Told,
+    first: i64,
     runs: bool,
 ) -> Result<(), Memory>
-    requires { All LineFits alarms.now }
-    ensures { OnOk result (Puts out.old out.new (told_json runs (map line_of alarms.now) ranges.now)) }
+    requires { All LineFits told.now.alarms.items }
+    ensures { OnOk result (Puts out.old out.new
+        (told_json runs first (map line_of told.now.alarms.items) told.now.unreached told.now.ranges told.now.out)) }
 {
     out.begin_object()?;
     out.key("alarms")?;
-    put_alarms(alloc, out, alarms, runs)?;
+    put_alarms(alloc, out, &told.alarms, runs)?;
+    out.key("out_from")?;
+    put_out(alloc, out, told.out, first)?;
     out.key("ranges")?;
-    put_ranges(alloc, out, ranges)?;
+    put_ranges(alloc, out, told.ranges.as_slice())?;
+    out.key("unreached")?;
+    put_places(out, told.unreached.as_slice())?;
     out.end_object()?;
+    Ok(())
+}
+
+// A time, or null where none is told.
+fn put_out(
+    alloc: Global,
+    out: &mut Writer,
+    time: Option<Option<i64>>,
+    first: i64,
+) -> Result<(), Memory>
+    ensures { OnOk result (Puts out.old out.new (out_json first time)) }
+{
+    match time {
+        Some(Some(time)) => put_number(alloc, out, i128::from(time)),
+        Some(None) => put_number(alloc, out, i128::from(first)),
+        None => put_null(out),
+    }
+}
+
+fn put_places(out: &mut Writer, places: &[Items<Key>]) -> Result<(), Memory>
+    ensures { OnOk result (Puts out.old out.new (array (items_of (map place_json places.now)))) }
+{
+    out.begin_array()?;
+    for keys in places {
+        put_keys(out, keys)?;
+    }
+    out.end_array()?;
+    Ok(())
+}
+
+fn put_keys(out: &mut Writer, keys: &Items<Key>) -> Result<(), Memory>
+    ensures { OnOk result (Puts out.old out.new (place_json keys.now)) }
+{
+    put_place_json(out, keys.as_slice())?;
     Ok(())
 }
 

@@ -61,11 +61,14 @@ AsksAnalysis words task = (first_of (codes "CONTRACT") words ≡ Some task.contr
     × (first_of (codes "STATE") words ≡ option_map (λ path. path.now) task.state)
     × IsFlag (one_of (codes "json") words) task.json
     × IsFlag (one_of (codes "no-runs") words) task.no_runs
+    × IsFlag (one_of (codes "strict") words) task.strict
     × IsFlag (one_of (codes "text-numbers") words) task.text_numbers
     × IsFlag (one_of (codes "explain") words) task.explain
 
 abbrev pub AsksPlay : List Row → PlayTask → Type 0
-AsksPlay words task = (first_of (codes "SCENARIO") words ≡ Some task.scenario.now) × IsFlag (one_of (codes "one") words) task.one
+AsksPlay words task = (first_of (codes "SCENARIO") words ≡ Some task.scenario.now)
+    × IsFlag (one_of (codes "one") words) task.one
+    × IsFlag (one_of (codes "explain") words) task.explain
 
 -- a task is what is asked, by the command's name and its words
 abbrev pub IsAsked : Option (Text × List Row) → Task → Type 0

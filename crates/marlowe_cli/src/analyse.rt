@@ -17,6 +17,8 @@ pub struct AnalyseTask<'a> {
     pub json: bool,
     /// No run is looked for, and else one for each alarm.
     pub no_runs: bool,
+    /// Status 3 also where a part is told that no run reaches.
+    pub strict: bool,
     /// Numbers of the state may be texts.
     pub text_numbers: bool,
     /// Lines behind a refusal say where and why.
@@ -32,6 +34,7 @@ pub(crate) fn analyse_task<'a>(analyse: &ArgMatches<'a>) -> Result<Task<'a>, NoT
         state: word_if(analyse, "STATE"),
         json: is_given(analyse, "json"),
         no_runs: is_given(analyse, "no-runs"),
+        strict: is_given(analyse, "strict"),
         text_numbers: is_given(analyse, "text-numbers"),
         explain: is_given(analyse, "explain"),
     }))

@@ -53,7 +53,7 @@ wants_none (Some (name, rows)) (Trace task) (is, (contract, txs, state, last, te
 wants_none (Some (name, rows)) (Next task) (is, (contract, state, from, to, after, json, texts, explain)) none =
     no_flag (one_of (codes "explain") rows) task.explain explain none
 wants_none (Some (name, rows)) (Table task) (is, (contract, explain)) none = no_flag (one_of (codes "explain") rows) task.explain explain none
-wants_none (Some (name, rows)) (Analyse task) (is, (contract, state, json, runs, texts, explain)) none =
+wants_none (Some (name, rows)) (Analyse task) (is, (contract, state, json, runs, strict, texts, explain)) none =
     no_flag (one_of (codes "explain") rows) task.explain explain none
 wants_none (Some (name, rows)) (Play task) asked none = refl
 

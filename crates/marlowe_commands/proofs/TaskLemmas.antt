@@ -1,5 +1,5 @@
 -- Which words ask for an analysis or a trace, and what is printed for one.
-use Rattle.std.proofs.Common.{◌≡◌, ℕ, Bool, true, false, List, Option, Some, None, inl, inr, subst, codes}
+use Rattle.std.proofs.Common.{◌≡◌, ℕ, Bool, List, Option, Some, None, inl, inr, ap, ◌∙◌, codes}
 use Rattle.clap.specs.Words.{Row, Text}
 use Rattle.marlowe_cli.specs.declared.task.Task.{Task}
 use Rattle.marlowe_cli.specs.declared.task.Task.TheVariants.{Run, Trace, Next, Table, Analyse, Play}
@@ -7,7 +7,7 @@ use Rattle.marlowe_cli.specs.Asked.{IsAsked}
 use Rattle.marlowe_analyse.specs.declared.analysed.Reader.{Reader}
 use Rattle.marlowe_analyse.specs.Printed.{TellsSo}
 use Rattle.marlowe_commands.specs.Streams.{Streams, on_output, IsOnStreams}
-use Rattle.marlowe_commands.specs.Tasks.{AsksFor, IsAnalysis, IsTrace, PrintsAnalysis}
+use Rattle.marlowe_commands.specs.Tasks.{AsksFor, IsAnalysis, IsTrace, analysis_status, PrintsAnalysis}
 
 -- a task that is an analysis is asked for by its name
 pub asks_analysis : (words : Option (Text × List Row)) (task : Task) → IsAsked words task → IsAnalysis task → AsksFor (codes "analyse") words
@@ -37,14 +37,8 @@ on_streams words task streams asked (inr cut) = inr (asks_trace words task asked
 
 -- ---- what is printed for an analysis
 
--- it tells of no alarm, with status 0
-pub clear_printed : (reader : Reader) (texts : Bool) (contract : List ℕ) (state : Option (List ℕ)) (clear : Bool) (text : List ℕ) (streams : Streams)
-    → streams ≡ on_output text 0 → clear ≡ true → TellsSo reader texts contract state clear text → PrintsAnalysis reader texts contract state streams
-clear_printed reader texts contract state clear text streams printed is told =
-    inl (text, printed, subst (λ known. TellsSo reader texts contract state known text) is told)
-
--- or it tells of one, with status 3
-pub alarms_printed : (reader : Reader) (texts : Bool) (contract : List ℕ) (state : Option (List ℕ)) (clear : Bool) (text : List ℕ) (streams : Streams)
-    → streams ≡ on_output text 3 → clear ≡ false → TellsSo reader texts contract state clear text → PrintsAnalysis reader texts contract state streams
-alarms_printed reader texts contract state clear text streams printed is told =
-    inr (inl (text, printed, subst (λ known. TellsSo reader texts contract state known text) is told))
+pub status_printed : (reader : Reader) (strict texts : Bool) (contract : List ℕ) (state : Option (List ℕ)) (clear unreached : Bool) (text : List ℕ) (status : ℕ) (streams : Streams)
+    → streams ≡ on_output text status → status ≡ analysis_status strict clear unreached → TellsSo reader texts contract state clear unreached text
+    → PrintsAnalysis reader strict texts contract state streams
+status_printed reader strict texts contract state clear unreached text status streams printed is told =
+    inl (clear, unreached, text, printed ∙ ap (on_output text) is, told)

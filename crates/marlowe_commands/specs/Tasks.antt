@@ -1,5 +1,5 @@
 -- What is printed for each task.
-use Rattle.std.specs.Prelude.{◌≡◌, ◌⊎◌, ℕ, Bool, true, false, List, [], ◌∷◌, ◌++◌, Option, Some, None, Result, Ok, Err, codes}
+use Rattle.std.specs.Prelude.{◌≡◌, ◌⊎◌, ◌&&◌, ℕ, Bool, true, false, not, if◌then◌else◌, List, [], ◌∷◌, ◌++◌, Option, Some, None, Result, Ok, Err, codes}
 use Rattle.clap.specs.Words.{Row, Text, one_of}
 use Rattle.marlowe_refusals.specs.declared.fault.RunFault.{RunFault}
 use Rattle.marlowe_refusals.specs.declared.table_fault.TableFault.{TableFault}
@@ -41,11 +41,14 @@ abbrev pub PrintsTable : Result (List ℕ) TableFault → Streams → Type 0
 PrintsTable (Ok text) streams = streams ≡ on_output text 0
 PrintsTable (Err fault) streams = streams ≡ refused (table_refusal fault)
 
--- the analysis, with status 0 where it tells of no alarm and with 3 where it tells of one; or the refusal of the first text that isn't read
-abbrev pub PrintsAnalysis : Reader → Bool → List ℕ → Option (List ℕ) → Streams → Type 0
-PrintsAnalysis reader texts contract state streams =
-    ((text : List ℕ) × (streams ≡ on_output text 0) × TellsSo reader texts contract state true text)
-    ⊎ ((text : List ℕ) × (streams ≡ on_output text 3) × TellsSo reader texts contract state false text)
+-- 3 where there is an alarm, or strictly also where a part is told that no run reaches; else 0
+abbrev pub analysis_status : Bool → Bool → Bool → ℕ
+analysis_status strict clear unreached = if clear && not (strict && unreached) then 0 else 3
+
+-- the analysis, with this status; or the refusal of the first text that isn't read
+abbrev pub PrintsAnalysis : Reader → Bool → Bool → List ℕ → Option (List ℕ) → Streams → Type 0
+PrintsAnalysis reader strict texts contract state streams =
+    ((clear unreached : Bool) × (text : List ℕ) × (streams ≡ on_output text (analysis_status strict clear unreached)) × TellsSo reader texts contract state clear unreached text)
     ⊎ ((fault : RunFault) × (is_read texts contract state ≡ Err fault) × (streams ≡ refused (run_refusal fault)))
 
 -- the interval that is asked about
@@ -67,7 +70,7 @@ abbrev pub AsksFor : Text → Option (Text × List Row) → Type 0
 AsksFor name None = ⊥
 AsksFor name (Some (asked, words)) = asked ≡ name
 
--- a task wants explanations
+-- a task wants lines that explain a refusal; those of a play explain no refusal
 abbrev pub wants_explanations : Task → Bool
 wants_explanations (Run task) = task.explain
 wants_explanations (Trace task) = task.explain

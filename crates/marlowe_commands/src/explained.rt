@@ -15,7 +15,7 @@ use crate::printed::Printed;
 use crate::tasks::{analysis_printed, next_printed, run_printed, table_printed, trace_printed};
 use collections::Memory;
 use marlowe_analyse::Reader;
-use refusal_reasons::{Behind, Over, Source, Sources, reasons, table_reasons};
+use refusal_reasons::{Behind, Over, Source, Sources, reasons, table_reasons, text_if};
 use std::alloc::Global;
 
 // The status of a refusal.
@@ -130,25 +130,17 @@ pub fn analysis_explained(
     state: Option<Source<'_>>,
     texts: bool,
     reader: Reader,
+    strict: bool,
 ) -> Result<Printed, Memory>
     ensures told { IfOk result (λ printed. IsExplained
-        (PrintsAnalysis reader texts contract.entry.text.now (option_map (λ source. source.text.now) state.entry))
+        (PrintsAnalysis reader strict texts contract.entry.text.now (option_map (λ source. source.text.now) state.entry))
         (Tells contract.entry state.entry texts behind.Nothing) (streams_of printed)) }
     ensures stream { IfOk result (λ printed. MayExplain true IsOnOneStream (streams_of printed)) }
 {
-    let printed = analysis_printed(alloc, contract.text, text_if(state), texts, reader)?;
+    let printed = analysis_printed(alloc, contract.text, text_if(state), texts, reader, strict)?;
     if printed.status != REFUSED {
         return Ok(printed);
     }
     let lines = reasons(alloc, contract, state, texts, Behind::Nothing);
     Ok(printed.with_lines(lines))
-}
-
-fn text_if<'a>(state: Option<Source<'a>>) -> Option<&'a [u8]>
-    ensures { option_map (λ text. text.now) result ≡ option_map (λ source. source.text.now) state.entry }
-{
-    match state {
-        Some(source) => Some(source.text),
-        None => None,
-    }
 }

@@ -1,18 +1,18 @@
 //! The tasks of the program, from texts to what is printed.
-ghost use Rattle.std.specs.Prelude.{◌⊎◌, IfOk, map, option_map};
+ghost use Rattle.std.specs.Prelude.{◌≡◌, ◌⊎◌, IfOk, map, option_map};
 ghost use Rattle.marlowe_run.specs.Run.{run_by};
 ghost use Rattle.marlowe_run.specs.Start.{state_reading};
 ghost use Rattle.marlowe_run.specs.TableText.{table_text};
 ghost use Rattle.marlowe_trace.specs.Traced.{trace_text};
 ghost use Rattle.marlowe_next.specs.Question.{reached};
 ghost use Rattle.marlowe_commands.specs.Streams.{streams_of, IsOnOneStream, IsCut, IsTextOr};
-ghost use Rattle.marlowe_commands.specs.Tasks.{PrintsRun, PrintsTrace, PrintsNext, PrintsTable, PrintsAnalysis};
+ghost use Rattle.marlowe_commands.specs.Tasks.{PrintsRun, PrintsTrace, PrintsNext, PrintsTable, PrintsAnalysis, analysis_status};
 
 use crate::printed::Printed;
 use collections::Memory;
 use marlowe_analyse::{Analysed, Reader, analyse_text};
 use marlowe_next::next;
-use marlowe_play::{PlayFault, Watch, play_refusal, play_watched};
+use marlowe_play::{How, PlayFault, Watch, play_refusal, play_watched};
 use marlowe_refusals::{Fault, RunFault, TableFault, TraceFault, refusal};
 use marlowe_run::{run, run_with_texts, table_text};
 use marlowe_trace::{Traced, trace};
@@ -114,44 +114,60 @@ pub fn table_printed(alloc: Global, contract: &[u8]) -> Result<Printed, Memory>
 }
 
 /// What is printed for the analysis of a contract from a state: the analysis, with status 0 where the contract never warns and stays
-/// within 128 bits, and 3 where there is an alarm; or the line of its refusal. Numbers of the state may be `texts`.
-#[tactic(auto, using(crate::proofs::TaskLemmas::clear_printed, crate::proofs::TaskLemmas::alarms_printed))]
+/// within 128 bits, and 3 where there is an alarm, or with `strict` also where a part is told that no run reaches; or the line of its
+/// refusal. Numbers of the state may be `texts`.
+#[tactic(auto, using(crate::proofs::TaskLemmas::status_printed))]
 pub fn analysis_printed(
     alloc: Global,
     contract: &[u8],
     state: Option<&[u8]>,
     texts: bool,
     reader: Reader,
+    strict: bool,
 ) -> Result<Printed, Memory>
     ensures told { IfOk result (λ printed.
-        PrintsAnalysis reader texts contract.now (option_map (λ text. text.now) state.entry) (streams_of printed)) }
+        PrintsAnalysis reader strict texts contract.now (option_map (λ text. text.now) state.entry) (streams_of printed)) }
     ensures stream { IfOk result (λ printed. IsOnOneStream (streams_of printed)) }
 {
     match analyse_text(alloc, contract, state, texts, reader) {
-        Ok(Analysed { text, is_clear }) => {
-            if is_clear {
-                Ok(Printed::on_output(alloc, text, 0))
-            } else {
-                Ok(Printed::on_output(alloc, text, 3))
-            }
+        Ok(
+            Analysed {
+                text,
+                is_clear,
+                has_unreached,
+            },
+        ) => {
+            let status = analysis_status(strict, is_clear, has_unreached);
+            Ok(Printed::on_output(alloc, text, status))
         }
         Err(RunFault::Memory) => Err(AllocError),
         Err(fault) => Printed::refusal(alloc, refusal(alloc, &Fault::Run(fault))?),
     }
 }
 
-/// What is printed for a play, while somebody is told how far it is: its lines, with status 0, or the line of its refusal. `one` plan is
-/// played after another, or all at once.
+fn analysis_status(strict: bool, clear: bool, unreached: bool) -> u8
+    ensures told { result ≡ analysis_status strict clear unreached }
+    ensures either { (result ≡ 0) ⊎ (result ≡ 3) }
+{
+    if clear && !(strict && unreached) {
+        0
+    } else {
+        3
+    }
+}
+
+/// What is printed for a play, while somebody is told how far it is: its lines, with status 0, or the line of its refusal. `how` says whether
+/// plans are played one after another, and whether the lines are explained.
 pub fn play_printed<R: AllocGlobal + Threads + Wait + Sync, W: Watch + Sync>(
     rt: &R,
     watch: &W,
     scenario: &[u8],
-    one: bool,
+    how: How,
 ) -> Result<Printed, Memory>
     ensures { IfOk result (λ printed. IsTextOr 1 (streams_of printed)) }
 {
     let alloc = rt.alloc();
-    match play_watched(rt, alloc, scenario, one, watch) {
+    match play_watched(rt, alloc, scenario, how, watch) {
         Ok(text) => Ok(Printed::on_output(alloc, text, 0)),
         Err(PlayFault::Memory) => Err(AllocError),
         Err(fault) => Printed::refusal(alloc, play_refusal(alloc, &fault)?),

@@ -14,7 +14,7 @@ use crate::tasks::{
 use crate::texts::Texts;
 use marlowe_analyse::Reader;
 use marlowe_cli::{AnalyseTask, NextTask, PlayTask, RunTask, TableTask, TraceTask};
-use marlowe_play::Watch;
+use marlowe_play::{How, Watch};
 use refusal_reasons::{Source, Sources};
 use std::alloc::Global;
 use std::sync::Wait;
@@ -167,11 +167,25 @@ pub fn analysis_told<'a, T: Texts>(
     if explain {
         let contract = source(task.contract, &contract);
         let state = source_if(task.state, &state);
-        let printed = analysis_explained(alloc, contract, state, task.text_numbers, reader);
+        let printed = analysis_explained(
+            alloc,
+            contract,
+            state,
+            task.text_numbers,
+            reader,
+            task.strict,
+        );
         return Ok(printed?);
     }
     let state = state.as_ref().map(|text| text.as_slice());
-    let printed = analysis_printed(alloc, contract.as_slice(), state, task.text_numbers, reader);
+    let printed = analysis_printed(
+        alloc,
+        contract.as_slice(),
+        state,
+        task.text_numbers,
+        reader,
+        task.strict,
+    );
     Ok(printed?)
 }
 
@@ -194,5 +208,9 @@ pub fn play_told<'a, T: Texts, R: AllocGlobal + Threads + Wait + Sync, W: Watch 
     ensures { IfOk result (λ printed. IsTextOr 1 (streams_of printed)) }
 {
     let scenario = text_of(rt.alloc(), texts, task.scenario)?;
-    Ok(play_printed(rt, watch, scenario.as_slice(), task.one)?)
+    let how = How {
+        one: task.one,
+        explain: task.explain,
+    };
+    Ok(play_printed(rt, watch, scenario.as_slice(), how)?)
 }

@@ -135,12 +135,14 @@ fn analyse_command<'a>(alloc: Global) -> Draft<'a>
     let state = "The state from which it starts; without it no accounts and time 0";
     let json = "Prints JSON, for tools";
     let no_runs = "Looks for no runs, which takes most of the time where none is found";
+    let strict = "Status 3 also where a part is told that no run reaches";
     Draft::new(alloc, "analyse", about)
         .after_help(after_help)
         .with(contract(alloc))
         .with(optional(alloc, "STATE", state))
         .with(flag(alloc, "json", json))
         .with(flag(alloc, "no-runs", no_runs))
+        .with(flag(alloc, "strict", strict))
         .with(text_numbers(alloc))
         .with(explain(alloc))
 }
@@ -153,8 +155,11 @@ fn play_command<'a>(alloc: Global) -> Draft<'a>
         "A scenario says what a ledger begins with, which contracts are published and started on it,\nand what each party means to do there. Its form is described in docs/formats.md.";
     let scenario = "The scenario, as a JSON file";
     let one = "Plays the plans one after another, so that the text is always the same";
+    let explain =
+        "Says at the end who holds what, which payouts are unclaimed, and what contracts hold";
     Draft::new(alloc, "play", about)
         .after_help(after_help)
         .with(given(alloc, "SCENARIO", scenario))
         .with(flag(alloc, "one", one))
+        .with(flag(alloc, "explain", explain))
 }

@@ -1,14 +1,27 @@
-use Rattle.std.proofs.Common.{◌++◌, ap, ◌∙◌}
 use Rattle.contract.specs.Tree.{value_tree}
-use Rattle.analysis_spec.specs.declared.kind.AlarmKind.TheVariants.{NonPositiveDeposit, Leaves128}
-use Rattle.analysis_values.specs.Answered.{unless}
-use Rattle.analysis_steps.proofs.ConcludedLemmas.{deposit_so, two_put}
+use Rattle.analysis_walk.specs.Conclusions.{DepositsSo}
+use Rattle.analysis_walk.specs.Knowledge.{actions_before}
+use Rattle.analysis_values.specs.Known.{IsDescribed}
+use Rattle.analysis_steps.specs.Earlier.{Tries, PutsIn}
+use Rattle.analysis_steps.proofs.EarlierLemmas.{if_ok, tries_so, puts_so}
 use Rattle.analysis_steps.proofs.deposits.deposit.Goals as goal
 
-pub returns : goal.returns
-returns c =
-    let above = c.is_above-above.result in
-    deposit_so c.args.known c.evaluate.new.known c.added.new.known c.grow.new.known c.args.owner.now c.args.token.now (value_tree c.args.value.now) c.in_ok-due.due.number c.in_ok-more.more above
-    c.in_ok-due.due.fits c.in_ok-sum.sum c.put_unless-2.new.kinds c.in_ok-due.ensures.number c.in_ok-due.ensures.fits c.is_above-above.ensures c.in_ok-more.ensures.symbols c.added.ensures.view c.in_ok-sum.ensures
-    (two_put c.new-kinds.result c.put_unless.new.kinds c.put_unless-2.new.kinds (unless above NonPositiveDeposit) (unless c.both-fits.result Leaves128) c.new-kinds.ensures c.in_ok-put_unless.ensures c.in_ok-put_unless-2.ensures
-    ∙ ap (λ b. unless above NonPositiveDeposit ++ unless b Leaves128) c.both-fits.ensures)
+pub returns-then-taken : goal.returns-then-taken
+returns-then-taken c =
+    let k = c.args.known in
+    let es = actions_before c.args.earlier.now in
+    let p = c.args.owner.now in
+    let q = c.args.payer.now in
+    let t = c.args.token.now in
+    let v = value_tree c.args.value.now in
+    if_ok (Tries k v) (DepositsSo IsDescribed k es p q t v) (λ x h. tries_so k es p q t v x h (c.in_ok-taken.ensures c.if-taken.true)) c.tried.result c.tried.ensures
+
+pub returns-else-taken : goal.returns-else-taken
+returns-else-taken c =
+    let k = c.args.known in
+    let es = actions_before c.args.earlier.now in
+    let p = c.args.owner.now in
+    let q = c.args.payer.now in
+    let t = c.args.token.now in
+    let v = value_tree c.args.value.now in
+    if_ok (PutsIn k p t v) (DepositsSo IsDescribed k es p q t v) (λ x h. puts_so k es p q t v x h) c.put_in.result c.put_in.ensures

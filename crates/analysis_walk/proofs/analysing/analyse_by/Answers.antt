@@ -1,7 +1,10 @@
 use Rattle.std.proofs.Common.{subst, List}
 use Rattle.contract.specs.Tree.{contract_tree}
 use Rattle.analysis_spec.specs.declared.path.PathStep.{PathStep}
+use Rattle.analysis_walk.specs.Limits.{any_runs}
 use Rattle.analysis_walk.specs.Found.{Finds, Covers}
+use Rattle.analysis_walk.specs.LeftOut.{LeavesOut, IsLeftOut}
+use Rattle.analysis_walk.proofs.LeftOutLemmas.{left_never_reached}
 use Rattle.analysis_walk.proofs.AnalysedLemmas.{names_where_it_comes, names_where_it_leaves, names_what_comes, stays_unless_told, pays_within_ranges, pays_others_nothing}
 use Rattle.analysis_walk.proofs.analysing.analyse_by.Goals as goal
 
@@ -44,6 +47,14 @@ returns-clause-ranges g c =
     let t = contract_tree c.args.contract.now in
     let walked = subst (λ (here : List PathStep). Finds (Covers D here k t) c.new-found.result c.walk.new.found) c.new-place.ensures.items c.in_ok-walk.ensures.found in
     pays_within_ranges D k c.args.state.now t c.in_ok-known.ensures c.new-found.result c.walk.new.found walked c.payments_lie_in_ranges.ensures c.accounts-accounts.ensures.positive c.in_ok-ranges.ranges c.in_ok-ranges.ensures.bounded
+
+pub returns-clause-unreached : goal.returns-clause-unreached
+returns-clause-unreached g c =
+    let D = g.K.Knowledge.describes in
+    let k = c.in_ok-known.known in
+    let t = contract_tree c.args.contract.now in
+    let left = subst (λ (here : List PathStep). LeavesOut (IsLeftOut D here k t) c.new-found.result c.walk.new.found) c.new-place.ensures.items c.in_ok-walk.ensures.unreached in
+    left_never_reached D k c.args.state.now t (c.in_ok-known.ensures any_runs) c.avoided_is_never_reached.ensures c.new-found.result c.walk.new.found c.new-found.ensures.unreached left
 
 pub returns-clause-others : goal.returns-clause-others
 returns-clause-others g c =

@@ -1,6 +1,7 @@
-use Rattle.std.proofs.Common.{◌≡◌, ◌+◌, ◌*◌, map}
+use Rattle.std.proofs.Common.{◌≡◌, ◌+◌, ◌*◌, map, Some}
 use Rattle.contract.specs.Tree.{contract_tree, case_tree, case_trees}
 use Rattle.analysis_walk.specs.NodesSupport.{nodes, nodes_of}
+use Rattle.analysis_walk.specs.LeftOut.{LeavesOut, IsLeftOutOfCases}
 use Rattle.analysis_walk.proofs.FoundLemmas.{CoverBelow}
 use Rattle.analysis_walk.proofs.walk.«+walk».Given as goal
 
@@ -30,4 +31,5 @@ invariant-walk_cases-loop-index g l =
     record {
       place : l.place.items ≡ l.fn.place.items;
       found : CoverBelow g.K.Knowledge.describes l.fn.place.items l.each l.cases l.last l.index l.fn.found l.found;
+      unreached : LeavesOut (IsLeftOutOfCases g.K.Knowledge.describes l.fn.place.items (Some l.each) l.cases) l.fn.found l.found;
     }

@@ -15,6 +15,8 @@ returns c =
     let three = with_rule two (flag (codes "json")) in
     let with_four = c.with-4.ensures three (flag (codes "no-runs")) with_three c.flag-2.ensures in
     let four = with_rule three (flag (codes "no-runs")) in
-    let with_five = c.with-5.ensures four text_numbers with_four c.text_numbers.ensures in
-    let five = with_rule four text_numbers in
-    c.with-6.ensures five explain with_five c.explain.ensures
+    let with_five = c.with-5.ensures four (flag (codes "strict")) with_four c.flag-3.ensures in
+    let five = with_rule four (flag (codes "strict")) in
+    let with_six = c.with-6.ensures five text_numbers with_five c.text_numbers.ensures in
+    let six = with_rule five text_numbers in
+    c.with-7.ensures six explain with_six c.explain.ensures

@@ -1,0 +1,3 @@
+pub mod LastLemmas
+pub mod RunLemmas
+pub mod WorkedLemmas

@@ -1,0 +1,49 @@
+//! From when on all can be taken out.
+ghost use Rattle.std.specs.Prelude.{◌≡◌, ◌≢◌, true, false};
+ghost use Rattle.contract.specs.Tree.{contract_tree};
+ghost use Rattle.analysis_spec.specs.declared.kind.AlarmKind.TheVariants.{Leaves128};
+ghost use Rattle.analysis_spec.specs.Analysed.{IsSilent, StaysUnlessTold};
+ghost use Rattle.marlowe_analyse.specs.Told.{IsOut};
+
+use analysis_spec::{Alarm, AlarmKind};
+use closing_times::{contracts_close_from_their_last_timeout, last_timeout};
+use contract::{Contract, State};
+
+/// The time from which all can be taken out, whoever hands in the transaction: the last timeout, or none where it is at once; nothing
+/// where a number may leave 128 bits, since then a run may never close. Takes no memory.
+pub(crate) fn told_out(contract: &Contract, state: &State, alarms: &[Alarm]) -> Option<Option<i64>>
+    requires { StaysUnlessTold alarms.now state.now (contract_tree contract.now) }
+    ensures { IsOut state.now (contract_tree contract.now) alarms.now result }
+{
+    contracts_close_from_their_last_timeout();
+    // touch: the state is that of the promise
+    let _time = state.min_time();
+    if leaves(alarms) {
+        None
+    } else {
+        Some(last_timeout(contract))
+    }
+}
+
+// Whether there is an alarm that a number leaves 128 bits.
+fn leaves(alarms: &[Alarm]) -> bool
+    ensures none { result ≡ false → IsSilent alarms.now Leaves128 }
+    ensures some { result ≡ true → IsSilent alarms.now Leaves128 → ⊥ }
+{
+    for alarm in alarms {
+        if is_leaving(alarm.kind) {
+            return true;
+        }
+    }
+    false
+}
+
+fn is_leaving(kind: AlarmKind) -> bool
+    ensures yes { result ≡ true → kind ≡ Leaves128 }
+    ensures no { result ≡ false → kind ≢ Leaves128 }
+{
+    match kind {
+        AlarmKind::Leaves128 => true,
+        _ => false,
+    }
+}
