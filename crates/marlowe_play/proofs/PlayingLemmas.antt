@@ -1,5 +1,5 @@
 -- What is printed of a scenario that was read, and who played it.
-use Rattle.std.proofs.Common.{◌≡◌, ℕ, ℤ, suc, ◌+◌, ◌<◌, List, [], ◌∷◌, ◌++◌, length, map, drop, get_or, refl, sym, ◌∙◌, ap, ap₂, subst, arith, Result, Ok, Err}
+use Rattle.std.proofs.Common.{◌≡◌, ℕ, ℤ, Bool, suc, ◌+◌, ◌<◌, List, [], ◌∷◌, ◌++◌, length, map, drop, get_or, refl, sym, ◌∙◌, ap, ap₂, subst, arith, Result, Ok, Err}
 use Rattle.std.proofs.lemmas.Slice.Zip.{AllZip-long}
 use Rattle.std.proofs.lemmas.List.{length-map}
 use Rattle.std.proofs.lemmas.Option.{get_or_from_slice_get}
@@ -19,7 +19,7 @@ use Rattle.hub.specs.Seats.{SeatRecord, AreHeard, AreNumbered, answered}
 use Rattle.parties.specs.Plays.{PlayedPlan, AreOfPlan, added}
 use Rattle.play_lines.specs.PlayLines.{ThreadLine, played_lines}
 use Rattle.play_setup.specs.SetUp.{Begun, Begins, IsSetUp, object_of, course, currencies, key_output, plan_on, start_output}
-use Rattle.marlowe_play.specs.Played.{IsThreadLine, PlaysPlan, TellsAPlay, IsPlayed}
+use Rattle.marlowe_play.specs.Played.{IsThreadLine, IsTold, PlaysPlan, TellsAPlay, IsPlayed}
 use Rattle.marlowe_play.specs.PlayedSupport.{AreLines, HasPlayed, WerePlayed}
 
 -- ---- answers
@@ -167,8 +167,8 @@ how_many_starts s outputs seats w = starts_length s w.begun outputs w.first.answ
 -- ---- what is printed
 
 -- the lines of what all seats were told
-pub told_of : (s : Scenario) (c : Course) (objects : List Published) (outputs : List OutputRef) (seats : List SeatRecord) (threads : List ThreadLine) (text : List ℕ) → objects ≡ map object_of s.contracts → c.genesis ≡ map key_output s.genesis → c.first_tick ≡ s.tick → IsLegal c → AreHeard c.entries seats → length c.entries ≡ answered seats → WerePlayed s outputs seats → AreLines c objects s.threads outputs threads → text ≡ played_lines c.entries threads → TellsAPlay s text
-told_of s c objects outputs seats threads text are first at legal heard whole w lines is =
+pub told_of : (s : Scenario) (explain : Bool) (c : Course) (objects : List Published) (outputs : List OutputRef) (seats : List SeatRecord) (threads : List ThreadLine) (text : List ℕ) → objects ≡ map object_of s.contracts → c.genesis ≡ map key_output s.genesis → c.first_tick ≡ s.tick → IsLegal c → AreHeard c.entries seats → length c.entries ≡ answered seats → WerePlayed s outputs seats → AreLines c objects s.threads outputs threads → IsTold explain s.threads c outputs (played_lines c.entries threads) text → TellsAPlay s explain text
+told_of s explain c objects outputs seats threads text are first at legal heard whole w lines is =
     let same : c ≡ course (map key_output s.genesis) s.tick c.entries = ap₂ (λ (os : List Output) (t : ℤ). course os t c.entries) first at in
     record {
       entries = c.entries;
@@ -182,9 +182,9 @@ told_of s c objects outputs seats threads text are first at legal heard whole w 
       played = w.played;
       threads = threads;
       each = subst (λ (k : Course). AllZip (λ (b : Begun) (l : ThreadLine). IsThreadLine k b.thread.name b.object (start_output b) l) w.begun threads) same (lines_played s c objects outputs seats threads w are lines);
-      lines = is;
+      lines = subst (λ (k : Course). IsTold explain s.threads k (map start_output w.begun) (played_lines c.entries threads) text) same (subst (λ (os : List OutputRef). IsTold explain s.threads c os (played_lines c.entries threads) text) w.outputs_are is);
     }
 
 -- of a text that is a scenario
-pub was_told : (reading : Reading Scenario) (s : Scenario) (text : List ℕ) → reading ≡ Ok s → TellsAPlay s text → IsPlayed reading text
-was_told reading s text is told = subst (λ (r : Reading Scenario). IsPlayed r text) (sym is) told
+pub was_told : (reading : Reading Scenario) (s : Scenario) (explain : Bool) (text : List ℕ) → reading ≡ Ok s → TellsAPlay s explain text → IsPlayed reading explain text
+was_told reading s explain text is told = subst (λ (r : Reading Scenario). IsPlayed r explain text) (sym is) told

@@ -1,8 +1,9 @@
 -- What is printed of a play that came to its end.
-use Rattle.std.specs.Prelude.{◌≡◌, ℕ, ◌-◌, Bool, false, ◌&&◌, List, ◌∷◌, map, length, slice_get, Option, Some, None, Ok, Err}
+use Rattle.std.specs.Prelude.{◌≡◌, ℕ, ◌-◌, Bool, true, false, ◌&&◌, List, ◌∷◌, ◌++◌, map, length, slice_get, Option, Some, None, Ok, Err}
 use Rattle.std.specs.List.{AllZip}
 use Rattle.json_read_names.specs.Parts.{Reading}
 use Rattle.plans.specs.declared.plan.Plan.{Plan}
+use Rattle.plans.specs.declared.scenario.NamedThread.{NamedThread}
 use Rattle.plans.specs.declared.scenario.Scenario.{Scenario as ScenarioRead}
 use Rattle.table.specs.Along.{has_cont}
 use Rattle.table.specs.Flat.{cont_tree, is_close}
@@ -16,6 +17,9 @@ use Rattle.ledger_spec.specs.Replay.{Course, past_of, published, published_at, w
 use Rattle.hub.specs.Seats.{SeatRecord, AreHeard, answered}
 use Rattle.parties.specs.Plays.{AreOfPlan}
 use Rattle.play_lines.specs.PlayLines.{ThreadLine, played_lines}
+use Rattle.play_holdings.specs.declared.holding.Holding.{Holding}
+use Rattle.play_holdings.specs.HoldingLines.{holding_lines}
+use Rattle.chain_holdings.specs.After.{AreHoldings, AreWhatThereWas}
 use Rattle.play_setup.specs.SetUp.{Begun, IsSetUp, course, currencies, key_output, plan_on, start_output}
 
 -- a seat's answers are of a plan, whose threads and contracts are named as the setup made them
@@ -33,9 +37,22 @@ pub record IsThreadLine (c : Course) (name : List ℕ) (object : Published) (sta
   pub are : AreSteps (published_at (published c.entries)) (past_of (world c)) start records
   pub line_is : line ≡ record { name = name; steps = length records; closed = leaves_close object (slice_get records (length records - 1)) }
 
--- A PLAY TOLD: the text is the lines of a legal history over the scenario's first outputs and its tick. Its entries are those that its seats were told of
--- and no others: the first seat set the scenario up, and behind it each plan has one that made its calls. The threads are those that were started, in order
-pub record TellsAPlay (s : ScenarioRead) (text : List ℕ) : Type 0 where
+-- a text that is explained: behind its lines stands who holds what after the history, which together, token by token, is what the ledger began with
+pub record IsExplained (ts : List NamedThread) (c : Course) (starts : List OutputRef) (lines text : List ℕ) : Type 0 where
+  pub holdings : List Holding
+  pub after : AreHoldings c starts holdings
+  pub together : AreWhatThereWas c holdings
+  pub text_is : text ≡ lines ++ holding_lines ts holdings
+
+-- the lines alone, or explained
+abbrev pub IsTold : Bool → List NamedThread → Course → List OutputRef → List ℕ → List ℕ → Type 0
+IsTold false ts c starts lines text = text ≡ lines
+IsTold true ts c starts lines text = IsExplained ts c starts lines text
+
+-- A PLAY TOLD: the text is the lines of a legal history over the scenario's first outputs and its tick, explained if it is to be. Its entries are those
+-- that its seats were told of and no others: the first seat set the scenario up, and behind it each plan has one that made its calls. The threads are
+-- those that were started, in order
+pub record TellsAPlay (s : ScenarioRead) (explain : Bool) (text : List ℕ) : Type 0 where
   pub entries : List Entry
   pub legal : IsLegal (course (map key_output s.genesis) s.tick entries)
   pub first : SeatRecord
@@ -48,9 +65,9 @@ pub record TellsAPlay (s : ScenarioRead) (text : List ℕ) : Type 0 where
   pub threads : List ThreadLine
   pub each : AllZip (λ (b : Begun) (line : ThreadLine).
       IsThreadLine (course (map key_output s.genesis) s.tick entries) b.thread.name b.object (start_output b) line) begun threads
-  pub lines : text ≡ played_lines entries threads
+  pub lines : IsTold explain s.threads (course (map key_output s.genesis) s.tick entries) (map start_output begun) (played_lines entries threads) text
 
 -- what is printed of a scenario tells a play of it; of a text that is none, nothing is
-abbrev pub IsPlayed : Reading ScenarioRead → List ℕ → Type 0
-IsPlayed (Ok s) text = TellsAPlay s text
-IsPlayed (Err fault) text = ⊥
+abbrev pub IsPlayed : Reading ScenarioRead → Bool → List ℕ → Type 0
+IsPlayed (Ok s) explain text = TellsAPlay s explain text
+IsPlayed (Err fault) explain text = ⊥

@@ -1,34 +1,65 @@
-//! What is printed of a play: its history, and what became of each thread.
-ghost use Rattle.std.specs.Prelude.{◌≡◌, ◌<◌, ◌-◌, length, slice_get, IfOk, List};
+//! What is printed of a play: its history, what became of each thread, and who holds what.
+ghost use Rattle.std.specs.Prelude.{◌≡◌, ◌<◌, ◌-◌, length, map, slice_get, IfOk, List};
 ghost use Rattle.std.specs.List.{All};
 ghost use Rattle.plans.specs.declared.scenario.NamedThread.{NamedThread};
 ghost use Rattle.play_lines.specs.PlayLines.{ThreadLine as Told, played_lines};
-ghost use Rattle.marlowe_play.specs.Played.{IsThreadLine, leaves_close};
+ghost use Rattle.play_setup.specs.SetUp.{key_output};
+ghost use Rattle.marlowe_play.specs.Played.{IsThreadLine, IsExplained, IsTold, leaves_close};
 ghost use Rattle.marlowe_play.specs.PlayedSupport.{AreLines};
 
+use chain_holdings::holdings_after;
 use collections::{Memory, Text};
 use eutxo_types::OutputRef;
 use hub::{Chain, StepRecord};
-use plans::NamedThread;
+use plans::{NamedThread, Scenario};
+use play_holdings::holding_lines;
 use play_lines::{ThreadLine, played_lines};
-use play_setup::Stage;
+use play_setup::{Stage, key_outputs};
 use roles::Published;
 use std::alloc::Global;
 
-// The whole text. Each line ends in a line feed.
+// Puts the lines at the end of a text that say who holds what after the play.
+fn with_ending(
+    alloc: Global,
+    mut text: Vec<u8>,
+    chain: &Chain,
+    scenario: &Scenario,
+    starts: &[OutputRef],
+) -> Result<Vec<u8>, Memory>
+    requires genesis { chain.now.genesis ≡ map key_output scenario.now.genesis }
+    requires tick { chain.now.first_tick ≡ scenario.now.tick }
+    ensures { IfOk result (λ told. IsExplained scenario.now.threads chain.now starts.now text.items told.items) }
+{
+    let first = key_outputs(alloc, scenario.genesis.as_slice())?;
+    let holdings = holdings_after(alloc, chain, &first, scenario.tick, starts)?;
+    let ending = holding_lines(alloc, scenario.threads.as_slice(), &holdings)?;
+    text.extend_from_slice(ending.as_bytes())?;
+    Ok(text)
+}
+
+// The whole text, explained if it is to be. Each line ends in a line feed.
 pub(crate) fn played_text(
     alloc: Global,
     chain: &Chain,
-    threads: &[NamedThread],
+    scenario: &Scenario,
     stage: &Stage,
+    explain: bool,
 ) -> Result<Vec<u8>, Memory>
-    requires contracts { All (λ (t : NamedThread). t.contract < length stage.now.contracts.items) threads.now }
-    requires starts { length stage.now.starts.items ≡ length threads.now }
-    ensures { IfOk result (λ text. (lines : List Told) × (text.items ≡ played_lines chain.now.entries lines)
-        × AreLines chain.now stage.now.contracts.items threads.now stage.now.starts.items lines) }
+    requires contracts { All (λ (t : NamedThread). t.contract < length stage.now.contracts.items) scenario.now.threads }
+    requires starts { length stage.now.starts.items ≡ length scenario.now.threads }
+    requires genesis { chain.now.genesis ≡ map key_output scenario.now.genesis }
+    requires tick { chain.now.first_tick ≡ scenario.now.tick }
+    ensures { IfOk result (λ text. (lines : List Told)
+        × IsTold explain scenario.now.threads chain.now stage.now.starts.items (played_lines chain.now.entries lines) text.items
+        × AreLines chain.now stage.now.contracts.items scenario.now.threads stage.now.starts.items lines) }
 {
+    let threads = scenario.threads.as_slice();
     let lines = lines_of(alloc, chain, threads, &stage.contracts, &stage.starts)?;
-    played_lines(alloc, chain.entries(), &lines)
+    let text = played_lines(alloc, chain.entries(), &lines)?;
+    if explain {
+        return with_ending(alloc, text, chain, scenario, &stage.starts);
+    }
+    Ok(text)
 }
 
 // The lines of threads with these start outputs.

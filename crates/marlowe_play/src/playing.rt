@@ -1,5 +1,5 @@
 //! A scenario, from text to text.
-ghost use Rattle.std.specs.Prelude.{◌≡◌, ◌+◌, length, map, IfErr, IfOk};
+ghost use Rattle.std.specs.Prelude.{◌≡◌, ◌+◌, false, length, map, IfErr, IfOk};
 ghost use Rattle.hub.specs.Seats.{AreNumbered, answered};
 ghost use Rattle.json_read_names.specs.ReadsText.{of_text};
 ghost use Rattle.json_read_scenarios.specs.Named.{NamesWhatItHas};
@@ -22,6 +22,15 @@ use std::marker::Brand;
 use std::sync::Wait;
 use std::thread::Threads;
 
+/// How a scenario is played, and what is told of it.
+#[derive(Clone, Copy, Debug)]
+pub struct How {
+    /// The plans are played one after another, and else all at once.
+    pub one: bool,
+    /// Behind the lines stands who holds what at the end.
+    pub explain: bool,
+}
+
 /// Plays the scenario of a JSON text of at most 1,048,576 bytes, and gives the lines that tell what happened, each with a
 /// line feed: one for each entry of the history, one for each thread, and last the number of entries.
 ///
@@ -38,21 +47,27 @@ pub fn play<R: Threads + Wait + Sync>(
     one: bool,
 ) -> Result<Vec<u8>, PlayFault>
     ensures unread { IsRefused (of_text reads.scenario text.now) result }
-    ensures played { IfOk result (λ lines. IsPlayed (of_text reads.scenario text.now) lines.items) }
+    ensures played { IfOk result (λ lines. IsPlayed (of_text reads.scenario text.now) false lines.items) }
 {
-    play_watched(rt, alloc, text, one, &NoWatch)
+    let how = How {
+        one,
+        explain: false,
+    };
+    play_watched(rt, alloc, text, how, &NoWatch)
 }
 
-/// The same, while somebody is told how far it is.
+/// The same, while somebody is told how far it is. Where it is to `explain`, lines behind these say who holds what at the end, token by
+/// token: each address, each payout that nobody has claimed, and the contract of each thread. Together that is what the ledger
+/// began with.
 pub fn play_watched<R: Threads + Wait + Sync, W: Watch + Sync>(
     rt: &R,
     alloc: Global,
     text: &[u8],
-    one: bool,
+    how: How,
     watch: &W,
 ) -> Result<Vec<u8>, PlayFault>
     ensures unread { IsRefused (of_text reads.scenario text.now) result }
-    ensures played { IfOk result (λ lines. IsPlayed (of_text reads.scenario text.now) lines.items) }
+    ensures played { IfOk result (λ lines. IsPlayed (of_text reads.scenario text.now) how.explain lines.items) }
 {
     let scenario = match read_scenario(alloc, text) {
         Ok(scenario) => scenario,
@@ -60,7 +75,7 @@ pub fn play_watched<R: Threads + Wait + Sync, W: Watch + Sync>(
     };
     let chain = first_chain(alloc, scenario.genesis.as_slice(), scenario.tick)?;
     let opening = Opening::new(chain, scenario.plans.len() as u64 + 1);
-    play_on::<R, Brand, W>(rt, alloc, opening, &scenario, one, watch)
+    play_on::<R, Brand, W>(rt, alloc, opening, &scenario, how, watch)
 }
 
 // Plays a scenario on its ledger, which has begun.
@@ -69,7 +84,7 @@ fn play_on<R: Threads + Wait + Sync, J: Session + Send + Sync, W: Watch + Sync>(
     alloc: Global,
     opening: Opening,
     scenario: &Scenario,
-    one: bool,
+    how: How,
     watch: &W,
 ) -> Result<Vec<u8>, PlayFault>
     requires session { opening ≡ J.session }
@@ -78,12 +93,12 @@ fn play_on<R: Threads + Wait + Sync, J: Session + Send + Sync, W: Watch + Sync>(
     requires seats { opening.seats ≡ length scenario.now.plans + 1 }
     requires names { NamesWhatItHas scenario.now }
     ensures told { IfErr result (λ fault. IsOfText fault → ⊥) }
-    ensures played { IfOk result (λ lines. TellsAPlay scenario.now lines.items) }
+    ensures played { IfOk result (λ lines. TellsAPlay scenario.now how.explain lines.items) }
 {
     let (hub, seats) = opening.open::<J>(alloc)?;
-    let (stage, seats) = play_all(rt, alloc, &hub, seats, scenario, one, watch)?;
+    let (stage, seats) = play_all(rt, alloc, &hub, seats, scenario, how.one, watch)?;
     let closed = hub.close(seats);
-    let text = played_text(alloc, closed.chain(), scenario.threads.as_slice(), &stage)?;
+    let text = played_text(alloc, closed.chain(), scenario, &stage, how.explain)?;
     Ok(text)
 }
 

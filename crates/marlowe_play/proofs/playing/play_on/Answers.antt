@@ -9,6 +9,7 @@ use Rattle.hub.specs.Session.{Opened}
 use Rattle.ledger_spec.specs.Replay.{Course}
 use Rattle.play_lines.specs.PlayLines.{played_lines}
 use Rattle.play_setup.specs.SetUp.{object_of}
+use Rattle.marlowe_play.specs.Played.{IsTold}
 use Rattle.marlowe_play.specs.PlayedSupport.{AreLines}
 use Rattle.marlowe_play.proofs.PlayingLemmas.{how_many, told_of}
 use Rattle.marlowe_play.proofs.playing.play_on.Goals as goal
@@ -24,8 +25,15 @@ played_text-requires-clause-contracts g c =
     let s : Scenario = c.args.scenario.now in
     let objects : List Published = c.in_ok-stage.stage.contracts.items in
     let long : length objects ≡ length s.contracts = ap (λ (l : List Published). length l) c.in_ok-stage.ensures.contracts ∙ length-map s.contracts object_of in
-    let named = subst (λ (n : ℕ). All (λ (t : NamedThread). t.contract < n) s.threads) (sym long) c.requires.names.threads in
-    subst (λ (ts : List NamedThread). All (λ (t : NamedThread). t.contract < length objects) ts) (sym c.as_slice.ensures) named
+    subst (λ (n : ℕ). All (λ (t : NamedThread). t.contract < n) s.threads) (sym long) c.requires.names.threads
+
+-- the chain began with the scenario's outputs
+pub played_text-requires-clause-genesis : goal.played_text-requires-clause-genesis
+played_text-requires-clause-genesis g c = ap (λ (k : Course). k.genesis) c.chain.ensures ∙ c.close-closed.ensures.start.0 ∙ (ap (λ (o : Opened). o.genesis) (sym c.requires.session) ∙ c.requires.genesis)
+
+-- at its tick
+pub played_text-requires-clause-tick : goal.played_text-requires-clause-tick
+played_text-requires-clause-tick g c = ap (λ (k : Course). k.first_tick) c.chain.ensures ∙ c.close-closed.ensures.start.1 ∙ (ap (λ (o : Opened). o.first_tick) (sym c.requires.session) ∙ c.requires.tick)
 
 -- the closed hub's history, as it is printed
 pub returns-clause-played : goal.returns-clause-played
@@ -39,7 +47,6 @@ returns-clause-played g c =
     let first = start.0 ∙ (ap (λ (o : Opened). o.genesis) (sym c.requires.session) ∙ c.requires.genesis) in
     let at = start.1 ∙ (ap (λ (o : Opened). o.first_tick) (sym c.requires.session) ∙ c.requires.tick) in
     let told = c.in_ok-text.ensures in
-    let is = told.1 ∙ ap (λ (k : Course). played_lines k.entries told.0) c.chain.ensures in
-    let lines = subst (λ (k : Course). AreLines k objects c.as_slice.result.now outputs told.0) c.chain.ensures told.2 in
-    let threads = subst (λ (ts : List NamedThread). AreLines closed objects ts outputs told.0) c.as_slice.ensures lines in
-    told_of s closed objects outputs seats told.0 c.in_ok-text.text.items c.in_ok-stage.ensures.contracts first at c.close-closed.ensures.legal c.close-closed.ensures.heard c.close-closed.ensures.count c.in_ok-stage.ensures.seats threads is
+    let is = subst (λ (k : Course). IsTold c.args.how.explain s.threads k outputs (played_lines k.entries told.0) c.in_ok-text.text.items) c.chain.ensures told.1 in
+    let threads = subst (λ (k : Course). AreLines k objects s.threads outputs told.0) c.chain.ensures told.2 in
+    told_of s c.args.how.explain closed objects outputs seats told.0 c.in_ok-text.text.items c.in_ok-stage.ensures.contracts first at c.close-closed.ensures.legal c.close-closed.ensures.heard c.close-closed.ensures.count c.in_ok-stage.ensures.seats threads is
