@@ -1,21 +1,26 @@
 -- What follows a case that an input takes, once the account's sum fits.
-use Rattle.std.proofs.Common.{◌≡◌, ℕ, suc, ℤ, pos, ◌+ℤ◌, int_lt, Bool, true, false, cond, ◌&&◌, List, [], ◌∷◌, ◌++◌, refl, sym, ap, ◌∙◌, Result, Ok, Err, is_ok, Option, Some, None}
+use Rattle.std.proofs.Common.{◌≡◌, ℕ, suc, ℤ, pos, ◌+ℤ◌, int_lt, int_le, ◌<ℤ◌, arith, Bool, true, false, cond, ◌&&◌, List, [], ◌∷◌, ◌++◌, refl, sym, ap, ◌∙◌, Result, Ok, Err, is_ok, Option, Some, None}
 use Rattle.std.specs.Prelude.{slice_get, option_map}
+use Rattle.std.proofs.lemmas.Int.{ints}
 use Rattle.std.specs.Option.{is_none}
 use Rattle.std.specs.Result.{result_err}
 use Rattle.std.specs.Int.{int_max}
+use Rattle.names.specs.declared.party.Party.{Party}
+use Rattle.names.specs.declared.token.Token.{Token}
 use Rattle.contract.specs.declared.fault.SemFault.{SemFault}
-use Rattle.contract.specs.declared.fault.SemFault.TheVariants.{InvalidInterval, IntervalInPast, Useless, Leaves128}
+use Rattle.contract.specs.declared.fault.SemFault.TheVariants.{InvalidInterval, IntervalInPast, Useless, Leaves128, Ambiguous}
 use Rattle.contract.specs.declared.input.Input.{Input}
 use Rattle.contract.specs.declared.input.Input.TheVariants.{Deposit, Choice, Notify}
 use Rattle.contract.specs.declared.interval.Interval.{Interval}
 use Rattle.states.specs.States.{StateMaps, with_money}
-use Rattle.contract.specs.Tree.{ActionTree, ContractTree}
-use Rattle.evaluation.specs.Numbers.{all_fit, within}
+use Rattle.contract.specs.Tree.{ActionTree, ContractTree, CaseTrees, close, when}
+use Rattle.evaluation.specs.Numbers.{fits, all_fit, within}
+use Rattle.evaluation.specs.Checked.{checked}
 use Rattle.evaluation.specs.Path.{waits_for}
 use Rattle.evaluation.proofs.Numbers.{all_fit_append}
 use Rattle.semantics.specs.Walk.{Standing, standing, Walk, ended, joined, then_walk, answer_of}
-use Rattle.semantics.specs.Reduction.{account_of, balance}
+use Rattle.semantics.specs.Reduction.{account_of, balance, timing_out}
+use Rattle.semantics.specs.Settling.{reduction_then}
 use Rattle.semantics.specs.Transaction.{trimmed, begun}
 use Rattle.semantics.specs.Applying.{matches, tried, taken, taken_numbers, taking}
 use Rattle.semantics.specs.Computed.{settled, first_match, first_match_index, tried_to_match, take_match, applied, one_input, computed}
@@ -24,6 +29,7 @@ use Rattle.semantics.proofs.Walks.{ok_answer}
 use Rattle.next_inputs.specs.Taking.{taken_case}
 use Rattle.next_inputs.specs.Opening.{opening, case_from, next_case}
 use Rattle.next_inputs.specs.Behind.{IsRefusedBehind}
+use Rattle.next_inputs.specs.OpeningSupport.{SettlesAnyhow, refused_unless}
 use Rattle.next_inputs.proofs.OneInput.{opened, as_opening, still, taken_match, answers_so}
 
 abbrev Pair : Type 0
@@ -137,17 +143,22 @@ module _ (j : Interval) (s : StateMaps) (c : ContractTree) (n : ℕ) (x : Input)
   takes_it : taken_case j s x (waits_for c) ≡ Some n
   takes_it = ap (λ (h : Interval). taken_case h s x (waits_for c)) (sym t) ∙ (sym (ap (case_from (trimmed i from) x) o) ∙ next)
 
-  behind_answer : (d : ContractTree) → first_match j s x (waits_for c) ≡ Some d → answer_of (computed i from whole (x ∷ [])) ≡ cond (all_fit (taken_numbers s x)) (answer_of (opening j (taken s x) d)) (Err Leaves128)
-  behind_answer d e =
+  time_well : ((taken s x).min_time ≡ j.from) × (int_lt j.to j.from ≡ false)
+  time_well =
+      let a = standing s c in
+      (taken_time s x ∙ (opened_time i from whole a o ∙ ap (λ (h : Interval). h.from) t), ap (λ (h : Interval). int_lt h.to h.from) (sym t) ∙ fixed_well i from whole a o)
+
+  behind_settled : (d : ContractTree) → first_match j s x (waits_for c) ≡ Some d → answer_of (computed i from whole (x ∷ [])) ≡ cond (all_fit (taken_numbers s x)) (answer_of (settled j (taken s x) d)) (Err Leaves128)
+  behind_settled d e =
       let a = standing s c in
       let ks = waits_for c in
-      let time : (taken s x).min_time ≡ j.from = taken_time s x ∙ (opened_time i from whole a o ∙ ap (λ (h : Interval). h.from) t) in
-      let well : int_lt j.to j.from ≡ false = ap (λ (h : Interval). int_lt h.to h.from) (sym t) ∙ fixed_well i from whole a o in
       answers_so i from whole x a o
       ∙ (ap (λ (h : Interval). answer_of (one_input h x a)) t
       ∙ (ap answer_of (one_at j x a d e)
-      ∙ (joined_answer (tried_to_match j s x ks) (taken_numbers s x) (settled j (taken s x) d) (taken_match j s x ks n takes_it).2
-      ∙ ap (λ w. cond (all_fit (taken_numbers s x)) (answer_of w) (Err Leaves128)) (sym (fixed_already j (taken s x) d time well)))))
+      ∙ joined_answer (tried_to_match j s x ks) (taken_numbers s x) (settled j (taken s x) d) (taken_match j s x ks n takes_it).2))
+
+  behind_answer : (d : ContractTree) → first_match j s x (waits_for c) ≡ Some d → answer_of (computed i from whole (x ∷ [])) ≡ cond (all_fit (taken_numbers s x)) (answer_of (opening j (taken s x) d)) (Err Leaves128)
+  behind_answer d e = behind_settled d e ∙ ap (λ w. cond (all_fit (taken_numbers s x)) (answer_of w) (Err Leaves128)) (sym (fixed_already j (taken s x) d time_well.0 time_well.1))
 
 -- ---- what the code tells
 
@@ -172,3 +183,40 @@ refused_later j s c n x k t f found h g i from whole o l next =
     let m = found_case j s x (waits_for c) n k (takes_it j s c n x i from whole o l next) found in
     let e = sum_fits (all_fit (taken_numbers s x)) (taken s x) t (answer_of (opening j (taken s x) k.1)) h in
     g ∙ (ap (λ (y : StateMaps). result_err (answer_of (opening j y k.1))) e.0 ∙ (ap result_err e.1 ∙ ap result_err (sym (behind_answer j s c n x i from whole o l next k.1 m))))
+
+-- ---- where what follows has settled
+
+before : (n t : ℤ) → n <ℤ t → int_lt n t ≡ true
+before n t h = grind (arith, ints)
+
+pub close_settles : (j : Interval) (d : ContractTree) → d ≡ close → SettlesAnyhow j d
+close_settles j d e s = ap (λ (c : ContractTree). result_err (answer_of (settled j s c))) e
+
+pub waiting_settles : (j : Interval) (d : ContractTree) (ks : CaseTrees) (timeout : ℤ) (c : ContractTree) → d ≡ when ks timeout c → j.to <ℤ timeout → SettlesAnyhow j d
+waiting_settles j d ks timeout c e h s =
+    ap (λ (c : ContractTree). result_err (answer_of (settled j s c))) e
+    ∙ ap (λ b. result_err (answer_of (cond b (ended (Ok (standing s (when ks timeout c)))) (cond (int_le timeout j.from) (reduction_then (timing_out s c) (settled j s c)) (ended (Err Ambiguous)))))) (before j.to timeout h)
+
+sum_alone : (b : Bool) (r : Result Standing SemFault) → result_err r ≡ None → refused_unless b ≡ result_err (cond b r (Err Leaves128))
+sum_alone true r h = sym h
+sum_alone false r h = refl
+
+-- only the account's sum can leave
+pub refused_at_rest : (j : Interval) (s : StateMaps) (c : ContractTree) (n : ℕ) (x : Input) (k : Pair) (f : Option SemFault) → slice_get (waits_for c) n ≡ Some k → SettlesAnyhow j k.1
+    → f ≡ refused_unless (all_fit (taken_numbers s x)) → IsRefusedBehind j s c n x f
+refused_at_rest j s c n x k f found rests e i from whole o l next =
+    let m = found_case j s x (waits_for c) n k (takes_it j s c n x i from whole o l next) found in
+    e ∙ (sum_alone (all_fit (taken_numbers s x)) (answer_of (settled j (taken s x) k.1)) (rests (taken s x)) ∙ ap result_err (sym (behind_settled j s c n x i from whole o l next k.1 m)))
+
+-- the sum that a deposit makes
+told_of : (b : Bool) (z : ℤ) → result_err (cond b (Ok z) (Err Leaves128)) ≡ refused_unless (b && true)
+told_of true z = refl
+told_of false z = refl
+
+pub added : (held n : ℤ) (r : Result ℤ SemFault) (o : Option SemFault) → o ≡ result_err r → r ≡ checked (held +ℤ n) → int_lt (pos 0) n ≡ true → o ≡ refused_unless (all_fit (cond (int_lt (pos 0) n) ((held +ℤ n) ∷ []) []))
+unfolding checked
+added held n r o f g above =
+    f ∙ (ap result_err g ∙ (told_of (fits (held +ℤ n)) (held +ℤ n) ∙ sym (ap (λ b. refused_unless (all_fit (cond b ((held +ℤ n) ∷ []) []))) above)))
+
+pub not_added : (held n : ℤ) → int_lt (pos 0) n ≡ false → None ≡ refused_unless (all_fit (cond (int_lt (pos 0) n) ((held +ℤ n) ∷ []) []))
+not_added held n h = sym (ap (λ b. refused_unless (all_fit (cond b ((held +ℤ n) ∷ []) []))) h)

@@ -7,8 +7,15 @@ use Rattle.evaluation.specs.Parts.{case_tree_of}
 use Rattle.semantics.specs.Walk.{answer_of}
 use Rattle.next_inputs.specs.Opening.{opening}
 use Rattle.next_inputs.specs.Behind.{IsRefusedBehind}
-use Rattle.next_inputs.proofs.BehindLemmas.{refused_at_once, refused_later}
+use Rattle.next_inputs.proofs.BehindLemmas.{refused_at_once, refused_later, refused_at_rest}
 use Rattle.next_inputs.proofs.behind.refused_behind.Goals as goal
+
+pub returns-then-rests : goal.returns-then-rests
+returns-then-rests g c =
+    let S = g.S.Parts in
+    let o = c.args.parts.now in
+    let t = S.tree o c.args.place in
+    refused_at_rest c.args.interval c.args.state.now t c.args.index c.args.input.now (case_tree_of (S.tree o) (S.value_tree o) (S.observation_tree o) c.case-case.result) c.sum_refused.result c.case-case.ensures.tree (c.rests.ensures c.if-rests.true) c.sum_refused.ensures
 
 pub returns-in-Ok : goal.returns-in-Ok
 returns-in-Ok g c =

@@ -1,4 +1,4 @@
-use Rattle.std.proofs.Common.{◌≡◌, List, [], ap, sym, subst, ◌∙◌}
+use Rattle.std.proofs.Common.{List, [], ap, sym, subst, ◌∙◌}
 use Rattle.contract.specs.declared.fault.SemFault.TheVariants.{Useless}
 use Rattle.evaluation.specs.Path.{Turn}
 use Rattle.semantics.specs.Walk.{Walk, standing, answer_of}
