@@ -75,10 +75,11 @@ fn analysis_told(alloc: Global, analyse: &AnalyseTask<'_>) -> Result<String, All
     let state = state_told(analyse.state);
     let form = form_told(analyse.json);
     let runs = if analyse.no_runs { " without runs" } else { "" };
+    let strictly = if analyse.strict { " strictly" } else { "" };
     let texts = texts_told(analyse.text_numbers);
     let explained = explain_told(analyse.explain);
     format!(in alloc;
-        "analyse {} {state}{form}{runs}{texts}{explained}",
+        "analyse {} {state}{form}{runs}{strictly}{texts}{explained}",
         analyse.contract
     )
 }
@@ -89,7 +90,8 @@ fn play_told(alloc: Global, play: &PlayTask<'_>) -> Result<String, AllocError> {
     } else {
         "at once"
     };
-    format!(in alloc; "play {} {how}", play.scenario)
+    let explained = explain_told(play.explain);
+    format!(in alloc; "play {} {how}{explained}", play.scenario)
 }
 
 fn state_told<'a>(state: Option<&'a str>) -> &'a str {
