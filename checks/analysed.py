@@ -16,8 +16,10 @@ warn. The others are those of rows_commands/data/analyses with a few numbers, pa
   that leaves 128 bits is visited there;
 - in no random run a warning of a kind comes at a place without such an alarm, not even in a transaction that is refused, nor Leaves128 without its alarm
   at the place;
+- none starts at a part that is told as never reached, goes through it or stops there; such parts stand in order, none below another;
 - in each what a party was paid of a token is never above its `most`, 0 where it has no line, and no less than its `least` once all is closed;
 - alarms stand in the order of the contract, none twice, and no `least` is told where a transaction at the last timeout doesn't close the contract.
+- from the time on that is told, after each accepted transaction of a run, one without inputs takes all out, by interpreter.py.
 A random run takes choices at the ends of their bounds and elsewhere, intervals about timeouts, deposits as asked, and now and then others.
 """
 import argparse, collections, copy, glob, json, multiprocessing, os, random, re, subprocess, sys, tempfile, time
@@ -354,7 +356,11 @@ class Placed(interpreter.Transaction):
 
     def __init__(self, state, interval, at):
         super().__init__(state, interval)
-        self.at, self.here, self.told = list(at), None, []
+        self.at, self.here, self.told, self.passed = list(at), None, [], [tuple(at)]
+
+    def go(self, *keys):
+        self.at += keys
+        self.passed.append(tuple(self.at))
 
     def warn(self, warning, **keys):
         super().warn(warning, **keys)
@@ -382,7 +388,7 @@ class Placed(interpreter.Transaction):
                 self.bound[c["let"]] = number
             elif not self.holds(c["assert"]):
                 self.warn("AssertionFailed")
-            self.at.append(step)
+            self.go(step)
             c, self.turned = c[step], True
         self.close()
         return c
@@ -394,24 +400,24 @@ class Placed(interpreter.Transaction):
             if self.matches(given, case["case"]):
                 self.take(given)
                 self.turned = True
-                self.at += ["when", index, "then"]
+                self.go("when", index, "then")
                 return case["then"]
         raise interpreter.Refused("NoMatch")
 
 
 def placed(contract, state, tx, at):
-    """What a transaction tells of at which places, and the keys to what remains: those from before where it is refused."""
-    told = []
+    """What a transaction tells of at which places, the places that it comes to, and the keys to what remains: those from before where it is refused."""
+    told, passed = [], [tuple(at)]
     try:
         machine = Placed(state, tx["tx_interval"], at)
-        told = machine.told
+        told, passed = machine.told, machine.passed
         left = machine.settle(contract)
         for given in tx["tx_inputs"]:
             left = machine.settle(machine.apply(given, left))
-        return told, machine.at if machine.turned else at
+        return told, passed, machine.at if machine.turned else at
     except interpreter.Refused as fault:
         # (one that is refused for its interval was never anywhere)
-        return told + ([("Leaves128", machine.here)] if str(fault) == "Leaves128" else []), at
+        return told + ([("Leaves128", machine.here)] if str(fault) == "Leaves128" else []), passed, at
 
 
 class Difference(Exception):
@@ -435,9 +441,9 @@ STEPS = {"then": 1, "else": 2, "timeout_continuation": 4}
 KINDS = ["NonPositiveDeposit", "NonPositivePay", "PartialPay", "Shadowing", "AssertionFailed", "Leaves128"]
 
 
-def standing(alarm):
-    """Numbers by which an alarm stands before others: those of its steps, and then its kind."""
-    keys, numbers = list(alarm["place"][:-1]), []
+def place_order(place):
+    """Numbers by which a place stands before others: those of its steps."""
+    keys, numbers = list(place), []
     while keys:
         step = keys.pop(0)
         if step == "when":
@@ -445,7 +451,12 @@ def standing(alarm):
             numbers.append((3, number, int(what == "then")))
         else:
             numbers.append((STEPS[step], 0, 0))
-    return numbers + [(0, KINDS.index(alarm["kind"]), 0)]
+    return numbers
+
+
+def standing(alarm):
+    """Numbers by which an alarm stands before others: those of its steps, and then its kind."""
+    return place_order(alarm["place"][:-1]) + [(0, KINDS.index(alarm["kind"]), 0)]
 
 
 def last_timeout(contract):
@@ -457,6 +468,27 @@ def last_timeout(contract):
             last = max(last, it.get("timeout", last))
             todo += [it[key] for key in ("then", "else", "timeout_continuation") if key in it]
     return last
+
+
+def timeouts(contract):
+    """All timeouts of a contract, those in its cases too."""
+    todo = [contract]
+    while todo:
+        it = todo.pop()
+        if it != "close":
+            yield from [it["timeout"]] if "timeout" in it else []
+            todo += [it[key] for key in ("then", "else", "timeout_continuation") if key in it] + [case["then"] for case in it.get("when", [])]
+
+
+def leaves_nothing(contract, state, time):
+    """Whether a transaction without inputs, from a time on, leaves nothing in a contract, or nothing was left."""
+    if contract == "close" and not state["accounts"]:
+        return True
+    interval = {"from": time, "to": max(time, state["minTime"])}
+    try:
+        return interpreter.Transaction(state, interval).settle(contract) == "close"
+    except interpreter.Refused:
+        return False
 
 
 def closes(contract, state):
@@ -479,8 +511,14 @@ def analysis_of(program, contract, state):
     order = [standing(it) for it in told["alarms"]]
     if any(one >= other for one, other in zip(order, order[1:])):
         raise Difference("alarms don't stand in order, or one stands twice")
+    parts = [place_order(it) for it in told.get("unreached", [])]
+    if any(one >= other or other[:len(one)] == one for one, other in zip(parts, parts[1:])):
+        raise Difference("parts that are never reached don't stand in order, or one lies below another")
     if not closes(contract, state) and any(it["least"] is not None for it in told["ranges"]):
         raise Difference("a least is told of a contract that nothing closes")
+    time = None if "Leaves128" in {it["kind"] for it in told["alarms"]} else max(timeouts(contract), default=state["minTime"])
+    if told["out_from"] != time:
+        raise Difference(f"all can be taken out from {time} on, and not from {told['out_from']}")
     return told
 
 
@@ -490,7 +528,7 @@ def replay(program, contract, state, alarm):
     for number, tx in enumerate(run, 1):
         status, out, err = program.ask("run", contract, state, tx)
         is_last = number == len(run)
-        told, at = placed(contract, state, tx, at)
+        told, _, at = placed(contract, state, tx, at)
         if is_last and place not in told:
             raise Difference(f"the run to {alarm['kind']} at {alarm['place']} ends elsewhere: {told}", run)
         if is_last and alarm["kind"] == "Leaves128":
@@ -512,6 +550,7 @@ def replay(program, contract, state, alarm):
 def play(program, chance, contract, state, told, count):
     """Plays a random run, and looks whether all that comes was said."""
     kinds, alarms, at = {it["kind"] for it in told["alarms"]}, {(it["kind"], tuple(it["place"])) for it in told["alarms"]}, []
+    unreached = {tuple(it) for it in told.get("unreached", [])}
     bounds = {(party(it["party"]), token(it["token"])): (whole(it["least"]), whole(it["most"])) for it in told["ranges"]}
     paid, transactions = collections.Counter(), []
     for _ in range(MOST_TRANSACTIONS):
@@ -519,7 +558,10 @@ def play(program, chance, contract, state, told, count):
         transactions.append(tx)
         status, out, err = program.ask("run", contract, state, tx)
         count["transactions"] += 1
-        come, at = placed(contract, state, tx, at)
+        come, passed, at = placed(contract, state, tx, at)
+        for place in passed:
+            if place in unreached:
+                raise Difference(f"a transaction comes to {list(place)}, which is told as never reached", transactions)
         for kind, place in come:
             if (kind, place) not in alarms:
                 raise Difference(f"{kind} comes at {list(place)}, without an alarm there", transactions)
@@ -541,6 +583,10 @@ def play(program, chance, contract, state, told, count):
             if most is not None and amount > most:
                 raise Difference(f"{who} is paid {amount}, more than {most}", transactions)
         contract, state = answer["contract"], answer["state"]
+        if told["out_from"] is not None:
+            count["times at which all was taken out"] += 1
+            if not leaves_nothing(contract, state, told["out_from"]):
+                raise Difference(f"at {told['out_from']} not all can be taken out", transactions)
         if contract == "close" and not state["accounts"]:
             count["runs that closed"] += 1
             for who, (least, _) in bounds.items():

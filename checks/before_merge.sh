@@ -21,6 +21,7 @@ try() {
 
 try tools/believe.py --check
 try checks/pages.py
+try checks/schemas.py
 try checks/named.py
 try checks/refusals_cover.py
 try checks/rows_cover.py

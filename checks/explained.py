@@ -3,7 +3,7 @@
 
 Needs    (cd crates/marlowe && rt run -- --version)
 Usage    checks/explained.py [--program FILE]; spoiled.py --explain imports it
-Expect   a line for each way in which a text of rows_commands/data/explained_texts.txt was mended, and `N texts mended, none at fault`
+Expect   a line for each way in which a text of rows_commands/data/explained_*.txt was mended, and `N texts mended, none at fault`
 Else     the text, what it was told, and what is wrong; then status 1
 
 Each row there that is about a text of its own has the mended text in a comment behind `# mended`: it must be read. Where the lines name a key that
@@ -19,25 +19,44 @@ from rows import CRATES, Given, answered, lines_of
 
 ROOT = os.path.dirname(os.path.dirname(os.path.abspath(__file__)))
 PROGRAM = f"{ROOT}/crates/marlowe/out/marlowe"
-ROWS = f"{CRATES}/rows_commands/data/explained_texts.txt"
+ROWS = [f"{CRATES}/rows_commands/data/explained_{what}.txt" for what in ("texts", "states")]
 MOST_SHOWN, MOST_OF_PATH, LONGEST = 60, 400, 1_048_576
 
 PARTY, TOKEN = '{"address":"a"}', '{"currency_symbol":"","token_name":""}'
 CHOICE = '{"choice_name":"","choice_owner":%s}' % PARTY
-# Of each sort its reader, and a smallest text that it reads.
+ENTRIES = {"accounts": f"[[{PARTY},{TOKEN}],1]", "choices": f"[{CHOICE},0]", "boundValues": '["",0]'}
+
+
+def amount(json):
+    if readings.number(json) <= 0:
+        raise readings.Fault("BadState")
+
+
+def repeated(json):
+    raise readings.Fault("BadState")
+
+
+# Of each sort its reader, if it is sure, and a smallest text that it reads. (That an entry is a second one shows in its list alone.)
 SORTS = {
     "contract": (readings.contract, '"close"'), "list of cases": (readings.cases, "[]"), "case": (readings.case, '{"case":{"notify_if":true},"then":"close"}'),
     "action": (readings.action, '{"notify_if":true}'), "value": (readings.value, "0"), "observation": (readings.observation, "true"),
     "list of bounds": (readings.bounds, "[]"), "bound": (readings.bound, '{"from":0,"to":0}'), "choice id": (readings.choice_id, CHOICE),
     "token": (readings.token, TOKEN), "party": (readings.party, PARTY), "payee": (readings.payee, '{"party":%s}' % PARTY), "text": (readings.text, '""'),
-    "text of hexadecimal digits": (readings.symbol, '""'), "whole number": (readings.number, "0"), "time": (readings.time, "0"),
+    "text of hexadecimal digits": (readings.symbol, '""'), "whole number": (readings.number, "1"), "time": (readings.time, "0"),
     "transaction": (readings.transaction, '{"tx_interval":{"from":0,"to":0},"tx_inputs":[]}'), "interval": (readings.interval, '{"from":0,"to":0}'),
     "list of inputs": (readings.inputs, "[]"), "input": (readings.given, '"input_notify"'),
+    "state": (readings.state, '{"accounts":[],"choices":[],"boundValues":[],"minTime":0}'), "list of accounts": (readings.accounts, "[]"),
+    "entry of accounts": (lambda json: readings.accounts([json]), ENTRIES["accounts"]), "account": (readings.account, f"[{PARTY},{TOKEN}]"),
+    "list of choices": (lambda json: readings.keyed(json, readings.choice_id), "[]"),
+    "entry of choices": (lambda json: readings.keyed([json], readings.choice_id), ENTRIES["choices"]),
+    "list of bound values": (lambda json: readings.keyed(json, readings.text), "[]"),
+    "entry of bound values": (lambda json: readings.keyed([json], readings.text), ENTRIES["boundValues"]),
+    "number": (None, "0"), "number above 0": (amount, "1"), "second entry for one key": (repeated, None),
     "hexadecimal digits": (readings.symbol, '""'), "contract follows": (readings.case, '{"case":{"notify_if":true},"then":"close"}'),
 }
 FIRST = re.compile(r"refused (contract|state|transaction)(?: (\d+))? (\w+)")
 PLACE = re.compile(r"  (?P<file>.*?):(?P<line>\d+):(?P<column>\d+)(?: at (?P<path>[.\[]\S*))?: (?P<rest>.*)")
-WHY = re.compile(r"no (?:form of an? )?(?P<sort>[a-z ]+?)(?:, but its hash|; (?P<stands>.*))")
+WHY = re.compile(r"no (?:form of an? )?(?P<sort>[a-z ]+0?)(?:, but its hash|; (?P<stands>.*))")
 STEP = re.compile(r"\.(\w+)|\[(\d+)\]")
 BLANK = re.compile(r"[ \t\r\n]*")
 PLAIN = re.compile(r'"(?:[^"\\]|\\.)*"|[-+.\w]+', re.DOTALL)
@@ -104,6 +123,8 @@ class Explained:
         see(self.why and self.why["sort"] in SORTS, f"no sort: {found['rest']}")
         self.reader, self.smallest = SORTS[self.why["sort"]]
         see(STEP.sub("", self.path) == "", f"no path: {self.path}")
+        self.smallest = self.smallest or ENTRIES[re.findall(r"\.(\w+)\[\d+\]$", self.path)[0]]
+        self.beginning = beginning
         self.part = part_of(text, beginning)
         for key, index in STEP.findall(self.path):
             self.part = self.part.behind(key, index)
@@ -114,7 +135,8 @@ class Explained:
 
     def see_part(self):
         own = self.text[self.part.begin : self.part.end]
-        if self.reader:
+        # (what a text of digits stands for is the command's to say)
+        if self.reader and not (self.fault == "BadState" and own[0] == '"'):
             try:
                 self.reader(readings.parsed(own.encode()))
                 raise Wrong(f"{own[:200]} is a {self.why['sort']}")
@@ -125,9 +147,28 @@ class Explained:
             kind = "an object" if own[0] == "{" else "a list" if own[0] == "[" else None
             # (of a text that has escapes only that it is a text is asked)
             see(stands == f"here stands {kind or shown(own)}" or "\\" in own + stands, f"{stands}, and there is {own[:80]}")
+        elif stands.startswith("the first stands at"):
+            self.see_first(stands.removeprefix("the first stands at "))
         elif stands.startswith("its keys are"):
             see(own[0] == "{" and self.part.keys, "keys of no object")
             see(f'"{self.part.keys[0][0]}"'[:MOST_SHOWN] in stands or "\\" in stands, f"{stands}, and there is {own[:80]}")
+
+    def see_first(self, told):
+        """Sees that the entry that is told to be the first begins there, stands before the other in the same list, and has the same key."""
+        spot, path = told.split(", ", 1)
+        see(re.sub(r"\d+\]$", "", path) == re.sub(r"\d+\]$", "", self.path), f"{path} is of another list than {self.path}")
+        places = [STEP.findall(it) for it in (path, self.path)]
+        see(int(places[0][-1][1]) < int(places[1][-1][1]), f"{path} isn't before {self.path}")
+        keys = []
+        for place in places:
+            part = part_of(self.text, self.beginning)
+            for key, index in place:
+                part = part.behind(key, index)
+            if not keys:
+                see(spot == "%d:%d" % spot_of(self.text, part.begin), f"{path} doesn't begin at {spot}")
+            keys.append(json.loads(self.text[part.parts[0].begin : part.parts[0].end], strict=False))
+        # (of objects with keys that aren't read only that they are there is asked)
+        see(keys[0] == keys[1] or not isinstance(keys[0], str), f"the keys of {path} and {self.path} differ")
 
     def with_smallest(self):
         return self.text[: self.part.begin] + self.smallest + self.text[self.part.end :]
@@ -206,7 +247,7 @@ def main():
     asked = words.parse_args()
     program = os.path.abspath(asked.program)
     given, mended, ways, faults = Given(), None, {}, 0
-    for line, _ in answered(lines_of(ROWS)):
+    for line, _ in (row for rows in ROWS for row in answered(lines_of(rows))):
         word, _, rest = line.partition(" ")
         if line.startswith("# mended "):
             mended = given.whole(line.removeprefix("# mended "))

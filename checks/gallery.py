@@ -115,8 +115,12 @@ def faults_of_analysis(folder, contract, page):
     told, of_broken = (answers(folder).get(f"marlowe analyse {name}", "").splitlines() for name in ("contract.json", "broken.json"))
     if told[:1] != [NEVER_WARNS]:
         yield "contract.json: not analysed, or it may warn"
-    elif told[-1] != FROM_NOTHING or re.findall(SHARE, page, re.M) != [share(line) for line in told[1:-1]]:
+    elif told[-1] != FROM_NOTHING or re.findall(SHARE, page, re.M) != [share(line) for line in told if line.startswith("{")]:
         yield "README.md: its table has other shares than the row"
+    elif told[-2].replace("all can be taken out", "lets all be taken out") not in " ".join(page.split()):
+        yield "README.md: it has another time from which all can be taken out than the row"
+    elif any(line.startswith("never reached: ") for line in told) != ("`never reached`" in page):
+        yield "README.md: it doesn't say which parts no run reaches, or says so of a contract that has none"
     alarms = [line.split(" at ", 1) for line in of_broken if re.match(r"\w+ at \.", line)]
     if not alarms or not all(rest.endswith(", by this run:") for _, rest in alarms):
         yield "broken.json: not analysed, or an alarm without its run"

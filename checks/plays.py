@@ -4,6 +4,7 @@
 Needs    readings.py, ledger.py and random_scenarios.py beside it, and for `--compare` the built program:
          (cd crates/marlowe && rt run -- --version)
 Usage    plays.py SCENARIO                      prints what `marlowe play --one SCENARIO` has to print
+         plays.py --explain SCENARIO            the same of `marlowe play --one --explain SCENARIO`
          plays.py --replay SCENARIO PRINTED     makes the calls of a printed play again, in its order
          plays.py --compare N SEED PROGRAM      compares the program on N random scenarios, played on one thread and on many
          plays.py --race N SEED PROGRAM         has the program play N times, with ten plans of a hundred steps each that race for twenty threads
@@ -68,6 +69,30 @@ class Play:
         steps, end = self.chain.spine(start)
         return f"steps {steps} {'open' if end else 'closed'}"
 
+    def holdings(self):
+        """Who holds what at the end, a line for each holder and token: of a contract the first thread that a look shows there."""
+        ends = [self.chain.spine(start)[1] for start in self.starts]
+        held = collections.Counter()
+        for reference, output in self.chain.unspent.items():
+            for of, number in output.amount.items():
+                held[self.holder(ends, reference, output.lock), of] += number
+        return [f"{self.told(holder)} {token_text(of)} {number}" for (holder, of), number in sorted(held.items()) if number > 0]
+
+    def holder(self, ends, reference, lock):
+        if lock[0] == "key":
+            return 0, lock[1].encode(), b""
+        if lock[0] == "payout":
+            return 1, lock[1], lock[2].encode()
+        return 2, ends.index(reference), b""
+
+    def told(self, holder):
+        kind, first, second = holder
+        if kind == 0:
+            return f"holds {text_json(first)}"
+        if kind == 1:
+            return f'unclaimed "{first.hex()}" {text_json(second)}'
+        return f"in thread {ledger.compact(self.scenario['threads'][first]['name'])}"
+
     # The calls of a seat, one after the other; each is sent its reply.
 
     def setup(self):
@@ -129,6 +154,14 @@ class Play:
         return [ledger.Ask(self.starts[step["step"]], plan["keys"], []) for step in steps_of(intent)]
 
 
+def text_json(text):
+    return ledger.compact(text.decode())
+
+
+def token_text(of):
+    return "ADA" if of == (b"", b"") else ledger.compact(ledger.token_json(of))
+
+
 def steps_of(intent):
     return intent["steps"] if "steps" in intent else [intent]
 
@@ -163,13 +196,13 @@ def next_call(calls, reply):
         return None
 
 
-def played(text):
-    """The lines of a play whose plans take turns, each whole, on one thread."""
+def played(text, explain=False):
+    """The lines of a play whose plans take turns, each whole, on one thread, and who holds what at its end."""
     play = Play(text)
     run_whole(play, 0, play.setup())
     for place, plan in enumerate(play.scenario["plans"]):
         run_whole(play, place + 1, play.plan(plan))
-    return play.whole()
+    return play.whole() + (play.holdings() if explain else [])
 
 
 def run_whole(play, seat, calls):
@@ -238,10 +271,10 @@ def lines_of(text):
     return text.decode().removesuffix("\n").split("\n")
 
 
-def wanted(text):
+def wanted(text, explain=False):
     """What the program writes on standard output and on standard error, and its status."""
     try:
-        return "".join(line + "\n" for line in played(text)), "", 0
+        return "".join(line + "\n" for line in played(text, explain)), "", 0
     except Refused as line:
         return "", f"{line}\n", 1
 
@@ -269,6 +302,9 @@ def compare(count, seed, program):
             want, got = wanted(text), run(program, path, "--one")
             if want != got:
                 differs(seed, number, text, want, got)
+            more, got = wanted(text, True), run(program, path, "--one", "--explain")
+            if more != got:
+                differs(seed, number, text, more, got)
             many = run(program, path)
             if want[2] and many != want:
                 differs(seed, number, text, want, many)
@@ -356,8 +392,9 @@ def main(words):
         with open(words[1], "rb") as scenario, open(words[2], "rb") as printed:
             print("replayed", replayed(scenario.read(), lines_of(printed.read())), "entries")
         return None
-    with open(words[0], "rb") as file:
-        output, refusal, status = wanted(file.read())
+    explain = words[0] == "--explain"
+    with open(words[explain], "rb") as file:
+        output, refusal, status = wanted(file.read(), explain)
     sys.stdout.write(output)
     sys.stderr.write(refusal)
     sys.exit(status)

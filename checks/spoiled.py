@@ -79,6 +79,7 @@ PART = re.compile(rb'\{[^{}]*\}|\[[^][]*\]|(?<![^\s{[,:])"(?:[^"\\]|\\.)*"|-?\d+
 
 CLEAR = "never warns, stays within 128 bits"
 FROM_NOTHING = "from a start without accounts"
+OUT = re.compile(r"all can be taken out (?:at once|from (0|-?[1-9][0-9]*) on)")
 ALARM = re.compile(r"(\w+) at (\S+)(?:, by this run:|(, not known))")
 CASE = r"\.when\[(?:0|[1-9]\d*)\]"
 PLACE = re.compile(rf"(?:\.then|\.else|\.timeout_continuation|{CASE}\.then)*(?:\.(?:pay|if|let|assert)|{CASE}\.case\.(?:deposits|notify_if))")
@@ -306,7 +307,7 @@ def fault_explained(runner, word, line, answer):
         found = explained.FIRST.fullmatch(first)
         if not found:
             see(lines and all(it.startswith("  ") for it in lines), f"nothing is told of {first}")
-        elif found[1] != "state":
+        else:
             see_explained(runner, word, line, found, lines)
         return None
     except (explained.Wrong, readings.Fault, ValueError, LookupError, TypeError, AttributeError) as fault:
@@ -336,13 +337,17 @@ def see(is_so, what):
 
 
 def told_of(answer):
-    """What an analysis says: of each alarm the kind, the place as for people and the run, of each range the party, the token, the least, the most."""
+    """What an analysis says: of each alarm the kind, the place as for people and the run, of each range the party, the token, the least, the most; and
+    whether it says from when on all can be taken out."""
     text = answer.out.decode()
     see(text.endswith("\n"), "no line feed at the end")
     if text.startswith('{"alarms"'):
         return told_by_json(text[:-1])
     lines, alarms = text.split("\n")[-2::-1], []
     if lines[0] == FROM_NOTHING:
+        lines.pop(0)
+    is_out = bool(OUT.fullmatch(lines[0]))
+    if is_out:
         lines.pop(0)
     is_clear = lines[-1] == CLEAR
     if is_clear:
@@ -354,7 +359,7 @@ def told_of(answer):
             run.append(compact(lines.pop()))
         alarms.append((found[1], found[2], run))
     see(alarms or is_clear, "no alarm and not that it never warns")
-    return alarms, [range_of(it) for it in reversed(lines)]
+    return alarms, [range_of(it) for it in reversed(lines)], is_out
 
 
 def range_of(line):
@@ -368,11 +373,12 @@ def range_of(line):
 
 def told_by_json(text):
     told = compact(text)
-    see(list(told) == ["alarms", "ranges"], f"keys {list(told)}")
+    see(list(told) == ["alarms", "out_from", "ranges", "unreached"], f"keys {list(told)}")
+    number_of(told["out_from"])
     for keys, some in (["kind", "place", "run"], told["alarms"]), (["least", "most", "party", "token"], told["ranges"]):
         see(all(list(it) == keys for it in some), f"keys other than {keys}")
     alarms = [(it["kind"], "".join(f"[{key}]" if type(key) is int else f".{key}" for key in it["place"]), it["run"]) for it in told["alarms"]]
-    return alarms, [(it["party"], it["token"], number_of(it["least"]), number_of(it["most"])) for it in told["ranges"]]
+    return alarms, [(it["party"], it["token"], number_of(it["least"]), number_of(it["most"])) for it in told["ranges"]], told["out_from"] is not None
 
 
 def number_of(it):
@@ -624,4 +630,5 @@ def main():
     return 1 if still else 0
 
 
-sys.exit(main())
+if __name__ == "__main__":
+    sys.exit(main())

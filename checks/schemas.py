@@ -1,0 +1,311 @@
+#!/usr/bin/env python3
+"""Whether the schemas of docs/schema say which texts have a form, as readings.py does, and which texts the program prints.
+
+Usage    schemas.py [--count N]
+Needs    nothing built. With --count it spoils so many texts of each sort (300).
+Expect   how many texts of each sort have a form, how many have none, and how many are printed; `N texts, none at fault`, status 0; a few seconds.
+Else     the sort, the text, and what each says of it; then status 1.
+
+The texts: those of the examples, the gallery, the tutorial and the plays in crates/rows_commands/data, those of the readings in conformance/cases, each of
+them spoiled in the ways of spoiled.py, and texts with the keys of two forms, of which the first counts. Asked is:
+- that a text which is read has the schema's form, and one that is NoForm has not. Of other faults (a number that isn't whole, a time beyond its range, bytes
+  that aren't hexadecimal, an account of 0, a merkleized case) a schema may say either. It doesn't know which names a scenario has.
+- that an outcome, an answer of `next --json` and one of `analyse --json` has its form; and that it has none once a key of it is taken away.
+
+A schema is JSON Schema, draft 7, of these words alone, which are checked here: `type`, `required`, `properties`, `items`, `minItems`, `maxItems`, `enum`, `pattern`,
+`if`, `then`, `else`, `$ref`, and `definitions`, `title`, `$schema` beside them. As that draft says, what stands beside a `$ref` is passed over.
+"""
+import argparse
+import collections
+import functools
+import json
+import pathlib
+import random
+import re
+import sys
+
+import readings
+import rows
+import spoiled
+
+TOP = pathlib.Path(__file__).resolve().parent.parent
+SCHEMAS = TOP / "docs" / "schema"
+DATA = TOP / "crates" / "rows_commands" / "data"
+CASES = TOP / "conformance" / "cases"
+WORDS = {"type", "required", "properties", "items", "minItems", "maxItems", "enum", "pattern", "if", "then", "else", "$ref", "definitions", "title", "$schema"}
+
+
+# ---- schemas
+
+@functools.cache
+def schema_of(name):
+    return json.loads((SCHEMAS / name).read_text())
+
+
+def led_to(name, reference):
+    """The file and the schema that a reference in a file leads to."""
+    other, _, path = reference.partition("#")
+    name = other or name
+    schema = schema_of(name)
+    for key in filter(None, path.split("/")):
+        schema = schema[key]
+    return name, schema
+
+
+def is_whole(value):
+    return isinstance(value, int) and not isinstance(value, bool)
+
+
+TYPES = {
+    "string": lambda value: isinstance(value, str), "integer": is_whole, "boolean": lambda value: isinstance(value, bool),
+    "null": lambda value: value is None, "array": lambda value: isinstance(value, list), "object": lambda value: isinstance(value, dict),
+}
+
+
+def among(value, values):
+    """Whether a value is one of these: 1 isn't true, nor 0 false."""
+    return any(type(value) is type(other) and value == other for other in values)
+
+
+def items_are(name, items, value):
+    if isinstance(items, list):
+        return all(has_form(name, item, one) for item, one in zip(items, value))
+    return all(has_form(name, items, one) for one in value)
+
+
+def has_form(name, schema, value):
+    """Whether a value has the form of a schema in the file of that name."""
+    if "$ref" in schema:
+        return has_form(*led_to(name, schema["$ref"]), value)
+    if "type" in schema and not TYPES[schema["type"]](value) or "enum" in schema and not among(value, schema["enum"]):
+        return False
+    if isinstance(value, str) and not re.search(schema.get("pattern", ""), value):
+        return False
+    if isinstance(value, list):
+        if not schema.get("minItems", 0) <= len(value) <= schema.get("maxItems", len(value)) or not items_are(name, schema.get("items", {}), value):
+            return False
+    if isinstance(value, dict):
+        if not all(key in value for key in schema.get("required", [])):
+            return False
+        if not all(has_form(name, part, value[key]) for key, part in schema.get("properties", {}).items() if key in value):
+            return False
+    if "if" not in schema:
+        return True
+    return has_form(name, schema.get("then" if has_form(name, schema["if"], value) else "else", {}), value)
+
+
+def faults_of_schema(name, schema, is_map=False):
+    """The words that a schema has beside those that are checked, and its references that lead nowhere."""
+    for key, part in schema.items():
+        if not is_map and key not in WORDS:
+            yield f"{name}: the word {key}"
+        if key == "$ref" and not is_map:
+            try:
+                led_to(name, part)
+            except (KeyError, OSError):
+                yield f"{name}: {part} leads nowhere"
+        for one in part if isinstance(part, list) else [part]:
+            if isinstance(one, dict):
+                yield from faults_of_schema(name, one, not is_map and key in ("properties", "definitions"))
+
+
+# ---- texts that are read
+
+class AnyName(readings.Names):
+    """Names of which any may stand anywhere."""
+
+    def new(self, json):
+        return readings.text(json)
+
+    place = new
+
+
+class ScenarioOfAnyNames(readings.Scenario):
+    def __init__(self):
+        self.contracts, self.threads, self.plans = AnyName(), AnyName(), AnyName()
+
+
+READERS = {"contract": readings.contract, "state": readings.state, "transaction": readings.transaction, "input": readings.given}
+
+
+def fault_of(reader, value):
+    try:
+        reader(value)
+    except readings.Fault as fault:
+        return fault.args[0]
+    return None
+
+
+def faults_of(sort, value):
+    """The fault of a text, and the one that it has whatever names stand in it."""
+    if sort == "scenario":
+        return fault_of(readings.Scenario().whole, value), fault_of(ScenarioOfAnyNames().whole, value)
+    fault = fault_of(READERS[sort], value)
+    return fault, fault
+
+
+def parsed(text):
+    """The JSON of a text as the readings have it, or None where it is none."""
+    try:
+        return readings.parsed(text)
+    except (readings.Fault, RecursionError):
+        return None
+
+
+# The sort of the text that a row of this word has behind it.
+OF_ROWS = {"run": "transaction", "table": "contract", "play": "scenario", "last": "scenario", "threads": "scenario"}
+
+
+def sort_of(name):
+    """The sort of a file's text, by its name."""
+    for sort in [*READERS, "scenario"]:
+        if name.startswith(sort) and not name.startswith("transactions"):
+            return sort
+    return None
+
+
+def sort_by_keys(value):
+    """The sort of a text that its name doesn't tell."""
+    keys = {"tick": "scenario", "tx_inputs": "transaction", "accounts": "state", "when": "contract", "pay": "contract"}
+    return next((sort for key, sort in keys.items() if isinstance(value, dict) and key in value), None)
+
+
+def texts_of_rows(path):
+    """The texts that rows give, and those that stand behind their words."""
+    given, known = rows.Given(), {}
+    for line, _ in rows.answered(path.read_text().splitlines()):
+        word, _, rest = line.partition(" ")
+        if given.keeps(word, rest):
+            continue
+        for name, text in given.files.items():
+            if known.get(name) != text:
+                known[name] = text
+                yield sort_of(name.split("/")[-1]), text
+        if word in OF_ROWS and rest.startswith(("{", "$", '"')):
+            yield OF_ROWS[word], given.whole(rest)
+
+
+def texts_at_hand():
+    """The sorts and texts of the files, of rows and of the suite's readings."""
+    for path in sorted(DATA.rglob("*.json")):
+        yield sort_of(path.name) or sort_by_keys(parsed(path.read_bytes())), path.read_bytes()
+    for path in sorted(DATA.rglob("*.txt")):
+        yield from texts_of_rows(path)
+    for line in (CASES / "readings.jsonl").read_text().splitlines():
+        case = json.loads(line)
+        for sort, value in case.get("ask", {}).get("read", {}).items():
+            yield sort, json.dumps(value).encode()
+        if "line" in case and isinstance(parsed(case["line"].encode()), dict):
+            for sort, value in parsed(case["line"].encode()).get("read", {}).items():
+                if sort in READERS and not isinstance(value, readings.Float):
+                    yield sort, json.dumps(value, default=lambda _: 0.5).encode()
+
+
+# Texts with the keys of two forms. The first form in the order of docs/formats.md counts: so each stands beside whether it is read.
+ADA = {"currency_symbol": "", "token_name": ""}
+ROLE = {"role_token": "a"}
+PAY = {"pay": 1, "token": ADA, "from_account": ROLE, "to": {"party": ROLE}}
+IF = {"if": True, "then": "close", "else": "close"}
+OF_TWO_FORMS = [
+    ("contract", {**IF, **PAY}, True), ("contract", {**IF, **PAY, "pay": "one"}, False), ("contract", {**PAY, **IF, "if": 7}, True),
+    ("contract", {**IF, "when": 7, "timeout": 1, "timeout_continuation": "close"}, True), ("contract", {**IF, "if": 7, "assert": True}, False),
+    ("contract", {"let": 1, "be": 1, "then": "close", "assert": True}, False), ("contract", {"let": "x", "be": 1, "then": "close", "assert": 7}, True),
+    ("contract", {"assert": {"value": 1, "ge_than": 1, "gt": "x"}, "then": "close"}, True),
+    ("contract", {"assert": {"value": 1, "ge_than": "x", "gt": 1}, "then": "close"}, False),
+    ("contract", {"assert": {"both": True, "and": True, "either": 1, "or": 1}, "then": "close"}, True),
+    ("contract", {"assert": {"not": 1, "chose_something_for": {"choice_name": "n", "choice_owner": ROLE}}, "then": "close"}, False),
+    ("contract", {"let": "x", "be": {"negate": 1, "add": "x", "and": "x"}, "then": "close"}, True),
+    ("contract", {"let": "x", "be": {"add": 1, "and": 1, "value": "x", "minus": "x"}, "then": "close"}, True),
+    ("contract", {"let": "x", "be": {"use_value": 7, "if": True, "then": 1, "else": 1}, "then": "close"}, False),
+    ("contract", {"let": "x", "be": {"amount_of_token": ADA, "in_account": {"address": "x", "role_token": 7}}, "then": "close"}, True),
+    ("contract", {"let": "x", "be": {"amount_of_token": ADA, "in_account": {"address": 7, "role_token": "x"}}, "then": "close"}, False),
+    ("contract", {**PAY, "to": {"account": ROLE, "party": 7}, "then": "close"}, True), ("contract", {**PAY, "to": {"account": 7, "party": ROLE}, "then": "close"}, False),
+    ("input", {"for_choice_id": {"choice_name": "n", "choice_owner": ROLE}, "input_that_chooses_num": 1, "that_deposits": "x"}, True),
+    ("input", {"for_choice_id": 7, "input_that_chooses_num": 7, "input_from_party": ROLE, "that_deposits": 1, "of_token": ADA, "into_account": ROLE}, True),
+]
+
+
+def of_two_forms():
+    for sort, value, is_read in OF_TWO_FORMS:
+        if (faults_of(sort, value)[0] is None) != is_read:
+            yield f"{sort} {json.dumps(value)}: readings.py reads otherwise than is written here"
+        yield from fault_of_text(sort, value)
+
+
+def fault_of_text(sort, value):
+    """What is wrong with what a schema says of a text's JSON."""
+    fault, with_any_names = faults_of(sort, value)
+    holds = has_form(f"{sort}.json", schema_of(f"{sort}.json"), value)
+    if fault is None and not holds or with_any_names == "NoForm" and holds:
+        yield f"{sort} {json.dumps(value, default=repr)[:400]}: {fault or 'read'}, and by its schema {'it has a form' if holds else 'it has none'}"
+
+
+# ---- texts that are printed
+
+def printed():
+    """Answers of the program, as the rows have them, with the schema of each."""
+    for path in sorted(DATA.rglob("output.json")):
+        yield "outcome.json", path.read_text()
+    for path in sorted(DATA.rglob("*.txt")):
+        for line, written in rows.answered(path.read_text().splitlines()):
+            words, answer = line.split(), rows.output_of(written)
+            if not words or not answer or not answer[0].startswith("{"):
+                continue
+            if words[0] in ("run", "trace") or words[:2] in (["marlowe", "run"], ["marlowe", "trace"]):
+                yield from (("outcome.json", each) for each in answer)
+            elif words[:2] == ["marlowe", "next"] and "--json" in words:
+                yield "next.json", answer[0]
+            elif words[0] == "json" or words[:2] == ["marlowe", "analyse"] and "--json" in words:
+                yield "analysis.json", answer[0]
+
+
+def faults_of_printed(counts):
+    for name, text in printed():
+        value = json.loads(text)
+        counts[f"{name}: printed"] += 1
+        if not has_form(name, schema_of(name), value):
+            yield f"{name}: {text[:400]}: is printed and has no form"
+        for key in value:
+            if has_form(name, schema_of(name), {other: value[other] for other in value if other != key}):
+                yield f"{name}: {text[:400]}: has a form without {key}"
+
+
+# ---- all
+
+def faults(count, counts):
+    for path in sorted(SCHEMAS.glob("*.json")):
+        yield from faults_of_schema(path.name, schema_of(path.name))
+    at_hand = collections.defaultdict(list)
+    for sort, text in texts_at_hand():
+        if sort:
+            at_hand[sort].append(text)
+    chance = random.Random(1)
+    every = [text for texts in at_hand.values() for text in texts if text]
+    for sort, texts in at_hand.items():
+        spoilt = [spoiled.spoiled(chance, chance.choice(texts), every)[0] for _ in range(count)]
+        for text in texts + spoilt:
+            value = parsed(text)
+            if value is not None:
+                counts[f"{sort}.json: {'read' if faults_of(sort, value)[0] is None else 'not read'}"] += 1
+                yield from fault_of_text(sort, value)
+    yield from of_two_forms()
+    counts["of two forms"] += len(OF_TWO_FORMS)
+    yield from faults_of_printed(counts)
+
+
+def main():
+    sys.setrecursionlimit(100_000)
+    asked = argparse.ArgumentParser()
+    asked.add_argument("--count", type=int, default=300)
+    counts, found = collections.Counter(), []
+    for fault in faults(asked.parse_args().count, counts):
+        found.append(fault)
+        print(fault)
+    for name, number in sorted(counts.items()):
+        print(f"{name} {number}")
+    print(f"{sum(counts.values())} texts, {len(found) or 'none'} at fault")
+    sys.exit(bool(found))
+
+
+if __name__ == "__main__":
+    main()
