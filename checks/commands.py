@@ -154,13 +154,20 @@ def play_apart(text):
     return (output + refusal).removesuffix("\n")
 
 
+def explained_apart(text):
+    output, refusal, _ = plays.wanted(text, True)
+    return (output + refusal).removesuffix("\n")
+
+
 # Words of the program, each with how many files it takes.
-APART = {"run": (3, run_apart), "table": (1, table_apart), "play": (1, play_apart)}
+APART = {"run": (3, run_apart), "table": (1, table_apart), "play": (1, play_apart), "play --explain": (1, explained_apart)}
 
 
 def apart(folder, line):
     """What Python says that the program prints, or None for a line of which it says nothing: one that is at fault, or asks for help or for an analysis."""
     command, *names = [word for word in line.split() if word != "--one"]
+    if command == "play" and "--explain" in names:
+        command, names = "play --explain", [name for name in names if name != "--explain"]
     count, answered = APART.get(command, (None, None))
     if len(names) != count or any(name.startswith("-") for name in names):
         return None

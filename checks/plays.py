@@ -4,6 +4,7 @@
 Needs    readings.py, ledger.py and random_scenarios.py beside it, and for `--compare` the built program:
          (cd crates/marlowe && rt run -- --version)
 Usage    plays.py SCENARIO                      prints what `marlowe play --one SCENARIO` has to print
+         plays.py --explain SCENARIO            the same of `marlowe play --one --explain SCENARIO`
          plays.py --replay SCENARIO PRINTED     makes the calls of a printed play again, in its order
          plays.py --compare N SEED PROGRAM      compares the program on N random scenarios, played on one thread and on many
          plays.py --race N SEED PROGRAM         has the program play N times, with ten plans of a hundred steps each that race for twenty threads
@@ -50,11 +51,13 @@ class Play:
             raise Refused(f"refused scenario {fault}") from None
         genesis = [ledger.Output(("key", funds["address"]), ledger.amount(funds["amount"])) for funds in self.scenario["genesis"]]
         self.chain, self.lines, self.starts = ledger.Chain(genesis, self.scenario["tick"]), [], []
+        self.notes = collections.defaultdict(list)
         self.answered = collections.Counter()
 
     def answer(self, seat, call):
         """Makes a call for a seat, and its line."""
         reply = self.chain.call(*call)
+        self.notes[len(self.lines)] += refusals(reply.text)
         self.lines.append(f"{len(self.lines)} {seat}.{self.answered[seat]} {reply.text}")
         self.answered[seat] += 1
         return reply
@@ -64,9 +67,54 @@ class Play:
         threads = [f"thread {thread['name']} {self.steps(start)}" for thread, start in zip(self.scenario["threads"], self.starts)]
         return self.lines + threads + [f"entries {len(self.lines)}"]
 
+    def explained(self):
+        """The same with notes behind the entries, and with who holds what."""
+        lines = self.whole()
+        noted = [line for place, entry in enumerate(self.lines) for line in [entry] + ["    " + note for note in self.notes[place]]]
+        return noted + lines[len(self.lines):] + self.holdings()
+
+    def intent_text(self, intent):
+        if "claim" in intent:
+            return f"claim {ledger.compact(self.scenario['contracts'][intent['claim']]['name'])} {ledger.compact(intent['role'])}"
+        names = [ledger.compact(self.scenario["threads"][step["step"]]["name"]) for step in steps_of(intent)]
+        return " ".join(["steps" if "steps" in intent else "step"] + names)
+
+    def leave_out(self, intent, fault):
+        """The note of an intent on which nothing was built, behind its last look."""
+        if "claim" in intent and fault == "NoThread":
+            cause = "nothing to claim"
+        else:
+            cause = f"not built: {fault}: {build_words(fault)}"
+        if "claim" in intent or steps_of(intent):
+            self.notes[len(self.lines) - 1].append(f"{self.intent_text(intent)}: {cause}")
+
     def steps(self, start):
         steps, end = self.chain.spine(start)
         return f"steps {steps} {'open' if end else 'closed'}"
+
+    def holdings(self):
+        """Who holds what at the end, a line for each holder and token: of a contract the first thread that a look shows there."""
+        ends = [self.chain.spine(start)[1] for start in self.starts]
+        held = collections.Counter()
+        for reference, output in self.chain.unspent.items():
+            for of, number in output.amount.items():
+                held[self.holder(ends, reference, output.lock), of] += number
+        return [f"{self.told(holder)} {token_text(of)} {number}" for (holder, of), number in sorted(held.items()) if number > 0]
+
+    def holder(self, ends, reference, lock):
+        if lock[0] == "key":
+            return 0, lock[1].encode(), b""
+        if lock[0] == "payout":
+            return 1, lock[1], lock[2].encode()
+        return 2, ends.index(reference), b""
+
+    def told(self, holder):
+        kind, first, second = holder
+        if kind == 0:
+            return f"holds {text_json(first)}"
+        if kind == 1:
+            return f'unclaimed "{first.hex()}" {text_json(second)}'
+        return f"in thread {ledger.compact(self.scenario['threads'][first]['name'])}"
 
     # The calls of a seat, one after the other; each is sent its reply.
 
@@ -115,7 +163,8 @@ class Play:
                 looks.append(reply.look)
             try:
                 transaction = built(plan, intent, looks)
-            except ledger.Hindered:
+            except ledger.Hindered as fault:
+                self.leave_out(intent, str(fault))
                 return
             reply = yield "enqueue" if pool else "submit", transaction
             if pool or not (reply.fault or "").startswith("NotUnspent"):
@@ -127,6 +176,52 @@ class Play:
             currency = bytes.fromhex(self.scenario["contracts"][intent["claim"]]["currency"])
             return [ledger.Ask(None, plan["keys"], [(currency, intent["role"])])]
         return [ledger.Ask(self.starts[step["step"]], plan["keys"], []) for step in steps_of(intent)]
+
+
+RULES = {
+    "NotUnspent": "rule 4: what input {} spends was spent before, or never was",
+    "OutsideInterval": "rule 6: the ledger's tick isn't in the interval",
+}
+BUILDS = {
+    "NoThread": "there is no thread to step, or no payout to claim",
+    "Semantics": "the contract refuses its inputs: {}",
+    "NotSigned": "an output is offered whose address isn't among the signers",
+    "NotAuthorised": "no offered output holds the token of {}",
+    "NoFunds": "the offered outputs hold too little of {}",
+    "TooMany": "there are too many contracts, inputs or outputs for one transaction, or they hold too much",
+    "Repeated": "an output is offered twice, or a thread is stepped twice",
+}
+
+
+def build_words(fault):
+    name, _, of = fault.partition(" ")
+    if name == "NotAuthorised" and "address" in json.loads(of):
+        return f"{of} isn't among the signers"
+    return BUILDS[name].format(token_text(ledger.token(json.loads(of))) if name == "NoFunds" else of)
+
+
+def rule_words(fault):
+    name, _, of = fault.partition(" ")
+    return RULES[name].format(of)
+
+
+def refusals(reply):
+    """The notes of a reply, which it has where something was refused."""
+    if reply == "advance backward":
+        return ["the tick is later already"]
+    if reply == "enqueue full":
+        return ["the pool has 1024 transactions, and takes no more"]
+    if reply.startswith("submit refused "):
+        return [rule_words(reply.removeprefix("submit refused "))]
+    return [f"ticket {place}: {rule_words(fault)}" for place, fault in re.findall("([0-9]+) refused ([A-Za-z]+(?: [0-9]+)?)", reply) if reply.startswith("round ")]
+
+
+def text_json(text):
+    return ledger.compact(text.decode())
+
+
+def token_text(of):
+    return "ADA" if of == (b"", b"") else ledger.compact(ledger.token_json(of))
 
 
 def steps_of(intent):
@@ -144,12 +239,14 @@ def built(plan, intent, looks):
 
 
 def stopped(calls, limit):
-    """The first calls, so many as the limit says, or all where there is none."""
+    """The first calls, so many as the limit says, or all where there is none. After the last of them the party still builds on what it was shown."""
     reply, answered = None, 0
-    while limit is None or answered < limit:
+    while True:
         try:
             call = calls.send(reply)
         except StopIteration:
+            return
+        if answered == limit:
             return
         reply = yield call
         answered += 1
@@ -163,13 +260,13 @@ def next_call(calls, reply):
         return None
 
 
-def played(text):
-    """The lines of a play whose plans take turns, each whole, on one thread."""
+def played(text, explain=False):
+    """The lines of a play whose plans take turns, each whole, on one thread, and who holds what at its end."""
     play = Play(text)
     run_whole(play, 0, play.setup())
     for place, plan in enumerate(play.scenario["plans"]):
         run_whole(play, place + 1, play.plan(plan))
-    return play.whole()
+    return play.explained() if explain else play.whole()
 
 
 def run_whole(play, seat, calls):
@@ -238,10 +335,10 @@ def lines_of(text):
     return text.decode().removesuffix("\n").split("\n")
 
 
-def wanted(text):
+def wanted(text, explain=False):
     """What the program writes on standard output and on standard error, and its status."""
     try:
-        return "".join(line + "\n" for line in played(text)), "", 0
+        return "".join(line + "\n" for line in played(text, explain)), "", 0
     except Refused as line:
         return "", f"{line}\n", 1
 
@@ -269,6 +366,9 @@ def compare(count, seed, program):
             want, got = wanted(text), run(program, path, "--one")
             if want != got:
                 differs(seed, number, text, want, got)
+            more, got = wanted(text, True), run(program, path, "--one", "--explain")
+            if more != got:
+                differs(seed, number, text, more, got)
             many = run(program, path)
             if want[2] and many != want:
                 differs(seed, number, text, want, many)
@@ -356,8 +456,9 @@ def main(words):
         with open(words[1], "rb") as scenario, open(words[2], "rb") as printed:
             print("replayed", replayed(scenario.read(), lines_of(printed.read())), "entries")
         return None
-    with open(words[0], "rb") as file:
-        output, refusal, status = wanted(file.read())
+    explain = words[0] == "--explain"
+    with open(words[explain], "rb") as file:
+        output, refusal, status = wanted(file.read(), explain)
     sys.stdout.write(output)
     sys.stderr.write(refusal)
     sys.exit(status)

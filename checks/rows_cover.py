@@ -185,6 +185,8 @@ LEFT = {
     "== AlarmKind": "no call gives one yet",
     "== PathStep": "no call gives one yet",
     "== SourceFault": ONE,
+    "copy Holder": "each line of what is held, of a play that a row explains, has one",
+    "copy Holding": "each line of what is held, of a play that a row explains, is one",
 }
 
 

@@ -1,11 +1,13 @@
 //! Inputs and transactions, written to a text.
 //! Where a call fails, what was written before it stays, and behind it stand some tokens or none.
-ghost use Rattle.std.specs.Prelude.{◌≡◌, true, map, OnOk, OnErr};
+ghost use Rattle.std.specs.Prelude.{◌≡◌, true, [], ◌∷◌, ◌++◌, map, OnOk, OnErr};
 ghost use Rattle.std.specs.List.{list_all};
 ghost use Rattle.hex.specs.Hex.{IsBytes};
+ghost use Rattle.json.specs.Token as json_token;
 ghost use Rattle.serde_json.specs.Data.{array};
 ghost use Rattle.serde_json.specs.View.{items_of};
 ghost use Rattle.json_write_outcomes.specs.Each.{Each};
+ghost use Rattle.json_write_contracts.specs.Members.{member_tokens, AddsFitting};
 ghost use Rattle.json_write_contracts.specs.Tokens.{Keeps, Puts, PutsFitting};
 ghost use Rattle.contract_json.specs.InputSymbols.{InputSymbols};
 ghost use Rattle.json_write_contracts.specs.WrittenNames as written_names;
@@ -17,18 +19,23 @@ use collections::{Items, Memory};
 use contract::{Input, Interval, Transaction};
 use json::Writer;
 use json_write_contracts::{
-    WriteFault, put_choice_id, put_number, put_party, put_time, put_token, word,
+    WriteFault, end_with_one, put_member, put_number, symbol_is_bytes, word,
 };
 use names::{ChoiceId, Party, Token};
 use std::alloc::Global;
 
-fn put_whole(out: &mut Writer, number: &i128) -> Result<(), WriteFault>
-    ensures put { PutsFitting result out.old out.new (number_fits number.now) (written_names.number_json number.now) }
+// The last member of an object, a number, and the object's end.
+fn end_with_number(out: &mut Writer, key: &str, number: &i128) -> Result<(), WriteFault>
+    ensures put { AddsFitting result out.old out.new (number_fits number.now)
+        (member_tokens key.now (written_names.number_json number.now) ++ json_token.Token.end_object ∷ []) }
     ensures err { OnErr result (Keeps out.old out.new) }
 {
-    put_number(out, *number)
+    out.key(key)?;
+    put_number(out, *number)?;
+    Ok(out.end_object()?)
 }
 
+// few ways out
 fn put_deposit(
     alloc: Global,
     out: &mut Writer,
@@ -41,30 +48,27 @@ fn put_deposit(
     ensures err { OnErr result (Keeps out.old out.new) }
     ensures symbol { OnOk result (IsBytes token.now.symbol) }
 {
+    // touch: the symbol is bytes
+    symbol_is_bytes(token);
     out.begin_object()?;
-    out.key("input_from_party")?;
-    put_party(out, party)?;
-    out.key("into_account")?;
-    put_party(out, account)?;
-    out.key("of_token")?;
-    put_token(alloc, out, token)?;
-    out.key("that_deposits")?;
-    put_whole(out, amount)?;
-    out.end_object()?;
-    Ok(())
+    put_member(alloc, out, "input_from_party", party)?;
+    put_member(alloc, out, "into_account", account)?;
+    put_member(alloc, out, "of_token", token)?;
+    end_with_number(out, "that_deposits", amount)
 }
 
-fn put_choice(out: &mut Writer, id: &ChoiceId, number: &i128) -> Result<(), WriteFault>
+fn put_choice(
+    alloc: Global,
+    out: &mut Writer,
+    id: &ChoiceId,
+    number: &i128,
+) -> Result<(), WriteFault>
     ensures put { PutsInput result out.old out.new (Input.Choice id.now number.now) }
     ensures err { OnErr result (Keeps out.old out.new) }
 {
     out.begin_object()?;
-    out.key("for_choice_id")?;
-    put_choice_id(out, id)?;
-    out.key("input_that_chooses_num")?;
-    put_whole(out, number)?;
-    out.end_object()?;
-    Ok(())
+    put_member(alloc, out, "for_choice_id", id)?;
+    end_with_number(out, "input_that_chooses_num", number)
 }
 
 pub(crate) fn put_input(alloc: Global, out: &mut Writer, input: &Input) -> Result<(), WriteFault>
@@ -76,7 +80,7 @@ pub(crate) fn put_input(alloc: Global, out: &mut Writer, input: &Input) -> Resul
         Input::Deposit(account, party, token, amount) => {
             put_deposit(alloc, out, account, party, token, amount)
         }
-        Input::Choice(id, number) => put_choice(out, id, number),
+        Input::Choice(id, number) => put_choice(alloc, out, id, number),
         Input::Notify => {
             word(out, "input_notify")?;
             Ok(())
@@ -97,27 +101,25 @@ fn put_inputs(alloc: Global, out: &mut Writer, inputs: &Items<Input>) -> Result<
     Ok(())
 }
 
-fn put_moment(out: &mut Writer, time: &i64) -> Result<(), Memory>
-    ensures put { OnOk result (Puts out.old out.new (written_names.number_json time.now)) }
-    ensures err { OnErr result (Keeps out.old out.new) }
-    ensures fits { time_fits time.now ≡ true }
+// It does nothing: its clause says that a time fits.
+fn is_time(time: &i64)
+    ensures { time_fits time.now ≡ true }
 {
-    put_time(out, *time)
+    let _value = *time;
 }
 
-fn put_interval(out: &mut Writer, interval: &Interval) -> Result<(), Memory>
+fn put_interval(alloc: Global, out: &mut Writer, interval: &Interval) -> Result<(), Memory>
     ensures put { OnOk result (Puts out.old out.new (interval_json interval.now)) }
     ensures err { OnErr result (Keeps out.old out.new) }
     ensures from { OnOk result (time_fits interval.now.from ≡ true) }
     ensures to { OnOk result (time_fits interval.now.to ≡ true) }
 {
+    // touch: both fit
+    is_time(&interval.from);
+    is_time(&interval.to);
     out.begin_object()?;
-    out.key("from")?;
-    put_moment(out, &interval.from)?;
-    out.key("to")?;
-    put_moment(out, &interval.to)?;
-    out.end_object()?;
-    Ok(())
+    put_member(alloc, out, "from", &interval.from)?;
+    end_with_one(alloc, out, "to", &interval.to)
 }
 
 pub(crate) fn put_transaction(
@@ -135,7 +137,7 @@ pub(crate) fn put_transaction(
     out.key("tx_inputs")?;
     put_inputs(alloc, out, &transaction.inputs)?;
     out.key("tx_interval")?;
-    put_interval(out, &transaction.interval)?;
+    put_interval(alloc, out, &transaction.interval)?;
     out.end_object()?;
     Ok(())
 }

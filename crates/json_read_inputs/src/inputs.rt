@@ -3,11 +3,9 @@ ghost use Rattle.collections.specs.Answers.{Aside};
 ghost use Rattle.json_read_names.specs.Parts.{list};
 ghost use Rattle.json_read_inputs.specs.ReadsInput as reads;
 
+use crate::members::{choice_id_at, party_at, time_at, token_at, whole_at};
 use contract::{Input, Interval, Items, Transaction};
-use json_read_names::{
-    InputForm, JsonFault, choice_id_from_json, has_two, input_form, member, party_from_json,
-    read_time, read_whole, token_from_json,
-};
+use json_read_names::{InputForm, JsonFault, has_two, input_form, member};
 use json_tree::JsonValue;
 use std::alloc::Global;
 
@@ -20,15 +18,15 @@ pub fn input_from_json<J: JsonValue>(alloc: Global, json: &J) -> Result<Input, J
     match input_form(json) {
         InputForm::Notify => Ok(Input::Notify),
         InputForm::Deposit => {
-            let depositor = party_from_json(alloc, member(json, "input_from_party")?)?;
-            let amount = read_whole(member(json, "that_deposits")?)?;
-            let token = token_from_json(alloc, member(json, "of_token")?)?;
-            let account = party_from_json(alloc, member(json, "into_account")?)?;
+            let depositor = party_at(alloc, json, "input_from_party")?;
+            let amount = whole_at(json, "that_deposits")?;
+            let token = token_at(alloc, json, "of_token")?;
+            let account = party_at(alloc, json, "into_account")?;
             Ok(Input::Deposit(account, depositor, token, amount))
         }
         InputForm::Choice => {
-            let id = choice_id_from_json(alloc, member(json, "for_choice_id")?)?;
-            let number = read_whole(member(json, "input_that_chooses_num")?)?;
+            let id = choice_id_at(alloc, json, "for_choice_id")?;
+            let number = whole_at(json, "input_that_chooses_num")?;
             Ok(Input::Choice(id, number))
         }
         InputForm::Nothing => Err(JsonFault::NoForm),
@@ -42,8 +40,8 @@ pub fn interval_from_json<J: JsonValue>(json: &J) -> Result<Interval, JsonFault>
     if !has_two(json, "from", "to") {
         return Err(JsonFault::NoForm);
     }
-    let from = read_time(member(json, "from")?)?;
-    let to = read_time(member(json, "to")?)?;
+    let from = time_at(json, "from")?;
+    let to = time_at(json, "to")?;
     Ok(Interval { from, to })
 }
 

@@ -3,6 +3,7 @@
 
 mod amounts;
 mod inputs;
+mod members;
 mod numbers;
 mod rows;
 mod state_forms;

@@ -3,11 +3,10 @@ ghost use Rattle.collections.specs.Answers.{Aside};
 ghost use Rattle.json_read_inputs.specs.ReadsState as reads;
 ghost use Rattle.json_read_inputs.specs.Rows.{number_by};
 
-use crate::amounts::accounts_by;
+use crate::members::{accounts_at, entries_at, time_at};
 use crate::numbers::Numbers;
-use crate::rows::entries_from_json;
 use contract::{ChoiceId, State, Text};
-use json_read_names::{JsonFault, has_two, member, read_time};
+use json_read_names::{JsonFault, has_two};
 use json_tree::JsonValue;
 use std::alloc::Global;
 
@@ -18,10 +17,10 @@ fn state_by<J: JsonValue>(alloc: Global, json: &J, numbers: Numbers) -> Result<S
     if !(has_two(json, "accounts", "choices") && has_two(json, "boundValues", "minTime")) {
         return Err(JsonFault::NoForm);
     }
-    let accounts = accounts_by(alloc, member(json, "accounts")?, numbers)?;
-    let choices = entries_from_json::<J, ChoiceId>(alloc, member(json, "choices")?, numbers)?;
-    let bound_values = entries_from_json::<J, Text>(alloc, member(json, "boundValues")?, numbers)?;
-    let min_time = read_time(member(json, "minTime")?)?;
+    let accounts = accounts_at(alloc, json, "accounts", numbers)?;
+    let choices = entries_at::<J, ChoiceId>(alloc, json, "choices", numbers)?;
+    let bound_values = entries_at::<J, Text>(alloc, json, "boundValues", numbers)?;
+    let min_time = time_at(json, "minTime")?;
     Ok(State::from_entries(accounts, choices, bound_values, min_time))
 }
 

@@ -65,7 +65,9 @@ AsksAnalysis words task = (first_of (codes "CONTRACT") words ≡ Some task.contr
     × IsFlag (one_of (codes "explain") words) task.explain
 
 abbrev pub AsksPlay : List Row → PlayTask → Type 0
-AsksPlay words task = (first_of (codes "SCENARIO") words ≡ Some task.scenario.now) × IsFlag (one_of (codes "one") words) task.one
+AsksPlay words task = (first_of (codes "SCENARIO") words ≡ Some task.scenario.now)
+    × IsFlag (one_of (codes "one") words) task.one
+    × IsFlag (one_of (codes "explain") words) task.explain
 
 -- a task is what is asked, by the command's name and its words
 abbrev pub IsAsked : Option (Text × List Row) → Task → Type 0

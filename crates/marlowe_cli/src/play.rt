@@ -13,6 +13,8 @@ pub struct PlayTask<'a> {
     pub scenario: &'a str,
     /// The plans are played one after another, and else all at once.
     pub one: bool,
+    /// Behind the lines stands who holds what at the end.
+    pub explain: bool,
 }
 
 /// What `play` is asked, from what was found for its words.
@@ -22,5 +24,6 @@ pub(crate) fn play_task<'a>(play: &ArgMatches<'a>) -> Result<Task<'a>, NoTask>
     Ok(Task::Play(PlayTask {
         scenario: word(play, "SCENARIO")?,
         one: is_given(play, "one"),
+        explain: is_given(play, "explain"),
     }))
 }

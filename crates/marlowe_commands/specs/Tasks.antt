@@ -67,7 +67,7 @@ abbrev pub AsksFor : Text → Option (Text × List Row) → Type 0
 AsksFor name None = ⊥
 AsksFor name (Some (asked, words)) = asked ≡ name
 
--- a task wants explanations
+-- a task wants lines that explain a refusal; those of a play explain no refusal
 abbrev pub wants_explanations : Task → Bool
 wants_explanations (Run task) = task.explain
 wants_explanations (Trace task) = task.explain

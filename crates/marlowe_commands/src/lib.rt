@@ -17,7 +17,7 @@ pub use command_line::command;
 pub use explained::{
     analysis_explained, next_explained, run_explained, table_explained, trace_explained,
 };
-pub use marlowe_play::{NoWatch, PlayFault, Watch};
+pub use marlowe_play::{How, NoWatch, PlayFault, Watch};
 pub use printed::Printed;
 pub use tasks::{
     analysis_printed, next_printed, play_printed, run_printed, table_printed, trace_printed,

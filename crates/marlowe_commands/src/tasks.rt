@@ -12,7 +12,7 @@ use crate::printed::Printed;
 use collections::Memory;
 use marlowe_analyse::{Analysed, Reader, analyse_text};
 use marlowe_next::next;
-use marlowe_play::{PlayFault, Watch, play_refusal, play_watched};
+use marlowe_play::{How, PlayFault, Watch, play_refusal, play_watched};
 use marlowe_refusals::{Fault, RunFault, TableFault, TraceFault, refusal};
 use marlowe_run::{run, run_with_texts, table_text};
 use marlowe_trace::{Traced, trace};
@@ -140,18 +140,18 @@ pub fn analysis_printed(
     }
 }
 
-/// What is printed for a play, while somebody is told how far it is: its lines, with status 0, or the line of its refusal. `one` plan is
-/// played after another, or all at once.
+/// What is printed for a play, while somebody is told how far it is: its lines, with status 0, or the line of its refusal. `how` says whether
+/// plans are played one after another, and whether the lines are explained.
 pub fn play_printed<R: AllocGlobal + Threads + Wait + Sync, W: Watch + Sync>(
     rt: &R,
     watch: &W,
     scenario: &[u8],
-    one: bool,
+    how: How,
 ) -> Result<Printed, Memory>
     ensures { IfOk result (λ printed. IsTextOr 1 (streams_of printed)) }
 {
     let alloc = rt.alloc();
-    match play_watched(rt, alloc, scenario, one, watch) {
+    match play_watched(rt, alloc, scenario, how, watch) {
         Ok(text) => Ok(Printed::on_output(alloc, text, 0)),
         Err(PlayFault::Memory) => Err(AllocError),
         Err(fault) => Printed::refusal(alloc, play_refusal(alloc, &fault)?),

@@ -14,7 +14,7 @@ use crate::tasks::{
 use crate::texts::Texts;
 use marlowe_analyse::Reader;
 use marlowe_cli::{AnalyseTask, NextTask, PlayTask, RunTask, TableTask, TraceTask};
-use marlowe_play::Watch;
+use marlowe_play::{How, Watch};
 use refusal_reasons::{Source, Sources};
 use std::alloc::Global;
 use std::sync::Wait;
@@ -194,5 +194,9 @@ pub fn play_told<'a, T: Texts, R: AllocGlobal + Threads + Wait + Sync, W: Watch 
     ensures { IfOk result (λ printed. IsTextOr 1 (streams_of printed)) }
 {
     let scenario = text_of(rt.alloc(), texts, task.scenario)?;
-    Ok(play_printed(rt, watch, scenario.as_slice(), task.one)?)
+    let how = How {
+        one: task.one,
+        explain: task.explain,
+    };
+    Ok(play_printed(rt, watch, scenario.as_slice(), how)?)
 }

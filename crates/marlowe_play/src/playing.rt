@@ -1,5 +1,5 @@
 //! A scenario, from text to text.
-ghost use Rattle.std.specs.Prelude.{◌≡◌, ◌+◌, length, map, IfErr, IfOk};
+ghost use Rattle.std.specs.Prelude.{◌≡◌, ◌+◌, false, length, map, IfErr, IfOk};
 ghost use Rattle.hub.specs.Seats.{AreNumbered, answered};
 ghost use Rattle.json_read_names.specs.ReadsText.{of_text};
 ghost use Rattle.json_read_scenarios.specs.Named.{NamesWhatItHas};
@@ -14,13 +14,22 @@ use crate::lines::played_text;
 use crate::turns::{play_turns, seats_of, take_first, turns_of};
 use hub::{Hub, Opening, Seat, Session};
 use json_read_scenarios::read_scenario;
-use parties::{NoWatch, Watch};
+use parties::{LeftOut, NoWatch, Watch};
 use plans::Scenario;
 use play_setup::{Stage, first_chain, set_up};
 use std::alloc::Global;
 use std::marker::Brand;
 use std::sync::Wait;
 use std::thread::Threads;
+
+/// How a scenario is played, and what is told of it.
+#[derive(Clone, Copy, Debug)]
+pub struct How {
+    /// The plans are played one after another, and else all at once.
+    pub one: bool,
+    /// Behind entries stands why something was refused or wasn't built, and behind the lines who holds what at the end.
+    pub explain: bool,
+}
 
 /// Plays the scenario of a JSON text of at most 1,048,576 bytes, and gives the lines that tell what happened, each with a
 /// line feed: one for each entry of the history, one for each thread, and last the number of entries.
@@ -38,21 +47,28 @@ pub fn play<R: Threads + Wait + Sync>(
     one: bool,
 ) -> Result<Vec<u8>, PlayFault>
     ensures unread { IsRefused (of_text reads.scenario text.now) result }
-    ensures played { IfOk result (λ lines. IsPlayed (of_text reads.scenario text.now) lines.items) }
+    ensures played { IfOk result (λ lines. IsPlayed (of_text reads.scenario text.now) false lines.items) }
 {
-    play_watched(rt, alloc, text, one, &NoWatch)
+    let how = How {
+        one,
+        explain: false,
+    };
+    play_watched(rt, alloc, text, how, &NoWatch)
 }
 
-/// The same, while somebody is told how far it is.
+/// The same, while somebody is told how far it is. Where it is to `explain`, lines of four blanks and a text stand behind entries: why
+/// something was refused, and behind a look on which nothing was built, what hindered the intent. And lines behind all others say who
+/// holds what at the end, token by token: each address, each payout that nobody has claimed, and the contract of each thread.
+/// Together that is what the ledger began with.
 pub fn play_watched<R: Threads + Wait + Sync, W: Watch + Sync>(
     rt: &R,
     alloc: Global,
     text: &[u8],
-    one: bool,
+    how: How,
     watch: &W,
 ) -> Result<Vec<u8>, PlayFault>
     ensures unread { IsRefused (of_text reads.scenario text.now) result }
-    ensures played { IfOk result (λ lines. IsPlayed (of_text reads.scenario text.now) lines.items) }
+    ensures played { IfOk result (λ lines. IsPlayed (of_text reads.scenario text.now) how.explain lines.items) }
 {
     let scenario = match read_scenario(alloc, text) {
         Ok(scenario) => scenario,
@@ -60,7 +76,7 @@ pub fn play_watched<R: Threads + Wait + Sync, W: Watch + Sync>(
     };
     let chain = first_chain(alloc, scenario.genesis.as_slice(), scenario.tick)?;
     let opening = Opening::new(chain, scenario.plans.len() as u64 + 1);
-    play_on::<R, Brand, W>(rt, alloc, opening, &scenario, one, watch)
+    play_on::<R, Brand, W>(rt, alloc, opening, &scenario, how, watch)
 }
 
 // Plays a scenario on its ledger, which has begun.
@@ -69,7 +85,7 @@ fn play_on<R: Threads + Wait + Sync, J: Session + Send + Sync, W: Watch + Sync>(
     alloc: Global,
     opening: Opening,
     scenario: &Scenario,
-    one: bool,
+    how: How,
     watch: &W,
 ) -> Result<Vec<u8>, PlayFault>
     requires session { opening ≡ J.session }
@@ -78,17 +94,17 @@ fn play_on<R: Threads + Wait + Sync, J: Session + Send + Sync, W: Watch + Sync>(
     requires seats { opening.seats ≡ length scenario.now.plans + 1 }
     requires names { NamesWhatItHas scenario.now }
     ensures told { IfErr result (λ fault. IsOfText fault → ⊥) }
-    ensures played { IfOk result (λ lines. TellsAPlay scenario.now lines.items) }
+    ensures played { IfOk result (λ lines. TellsAPlay scenario.now how.explain lines.items) }
 {
     let (hub, seats) = opening.open::<J>(alloc)?;
-    let (stage, seats) = play_all(rt, alloc, &hub, seats, scenario, one, watch)?;
+    let (stage, seats, left) = play_all(rt, alloc, &hub, seats, scenario, how.one, watch)?;
     let closed = hub.close(seats);
-    let text = played_text(alloc, closed.chain(), scenario.threads.as_slice(), &stage)?;
+    let text = played_text(alloc, closed.chain(), scenario, &stage, &left, how.explain)?;
     Ok(text)
 }
 
-// Sets the scenario up by the first seat, and has each plan played by a party with one of the others: what was set up, and all
-// seats, in order.
+// Sets the scenario up by the first seat, and has each plan played by a party with one of the others: what was set up, all
+// seats, in order, and what each plan left out.
 fn play_all<R: Threads + Wait + Sync, J: Session + Send + Sync, W: Watch + Sync>(
     rt: &R,
     alloc: Global,
@@ -97,19 +113,19 @@ fn play_all<R: Threads + Wait + Sync, J: Session + Send + Sync, W: Watch + Sync>
     scenario: &Scenario,
     one: bool,
     watch: &W,
-) -> Result<(Stage, Vec<Seat<J>>), PlayFault>
+) -> Result<(Stage, Vec<Seat<J>>, Vec<Vec<LeftOut>>), PlayFault>
     requires names { NamesWhatItHas scenario.now }
     requires seats { length seats.items ≡ length scenario.now.plans + 1 }
     requires numbers { AreNumbered 0 seats.items }
     requires answers { answered seats.items ≡ 0 }
     ensures told { IfErr result (λ fault. IsOfText fault → ⊥) }
     ensures contracts { IfOk result (λ r. r.0.contracts.items ≡ map object_of scenario.now.contracts) }
-    ensures seats { IfOk result (λ r. WerePlayed scenario.now r.0.starts.items r.1.items) }
+    ensures seats { IfOk result (λ r. WerePlayed scenario.now r.0.starts.items r.1.items (map (λ l. l.items) r.2.items)) }
 {
     let mut first = take_first(&mut seats);
     let stage = set_up(rt, alloc, hub, &mut first, watch, scenario)?;
     let turns = turns_of(alloc, hub, scenario, &stage.starts, seats)?;
     let ended = play_turns(rt, alloc, watch, turns, one)?;
-    let seats = seats_of(alloc, first, ended)?;
-    Ok((stage, seats))
+    let (seats, left) = seats_of(alloc, first, ended)?;
+    Ok((stage, seats, left))
 }

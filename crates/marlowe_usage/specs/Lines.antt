@@ -74,9 +74,9 @@ table_rules = given (codes "CONTRACT") ∷ explain ∷ []
 abbrev pub analyse_rules : List Rule
 analyse_rules = given (codes "CONTRACT") ∷ optional (codes "STATE") ∷ flag (codes "json") ∷ flag (codes "no-runs") ∷ text_numbers ∷ explain ∷ []
 
--- `play SCENARIO [--one]`
+-- `play SCENARIO [--one] [--explain]`
 abbrev pub play_rules : List Rule
-play_rules = given (codes "SCENARIO") ∷ flag (codes "one") ∷ []
+play_rules = given (codes "SCENARIO") ∷ flag (codes "one") ∷ flag (codes "explain") ∷ []
 
 -- the program without its commands: it has a version and needs a command
 abbrev pub program : App

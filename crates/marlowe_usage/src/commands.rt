@@ -153,8 +153,11 @@ fn play_command<'a>(alloc: Global) -> Draft<'a>
         "A scenario says what a ledger begins with, which contracts are published and started on it,\nand what each party means to do there. Its form is described in docs/formats.md.";
     let scenario = "The scenario, as a JSON file";
     let one = "Plays the plans one after another, so that the text is always the same";
+    let explain =
+        "Says at the end who holds what, which payouts are unclaimed, and what contracts hold";
     Draft::new(alloc, "play", about)
         .after_help(after_help)
         .with(given(alloc, "SCENARIO", scenario))
         .with(flag(alloc, "one", one))
+        .with(flag(alloc, "explain", explain))
 }

@@ -24,8 +24,9 @@ impl Drop for NamedContract {
         let NamedContract {
             name: _,
             currency: _,
-            contract: _,
+            contract,
         } = self;
+        drop(contract);
     }
 }
 

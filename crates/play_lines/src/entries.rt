@@ -25,8 +25,14 @@ pub(crate) fn print_entries(
     Ok(())
 }
 
-// An entry's line: its number, its seat with its number there, the call and what it was answered.
-fn print_entry(alloc: Global, out: &mut String, number: usize, entry: &Entry) -> Result<(), Memory>
+/// Puts an entry's line at the end of a text: its number, its seat with its number there, the call and what it was answered. Answers
+/// `Memory` only where a growth was refused.
+pub fn print_entry(
+    alloc: Global,
+    out: &mut String,
+    number: usize,
+    entry: &Entry,
+) -> Result<(), Memory>
     ensures { OnOk result (string_bytes out.new ≡ string_bytes out.old ++ entry_line number entry.now) }
 {
     let seat = entry.seat;

@@ -8,7 +8,8 @@ mod text;
 mod threads;
 mod worked;
 
+pub use entries::print_entry;
 pub use fault_texts::{build_fault_text, tx_fault_text};
 pub use text::played_lines;
-pub use threads::ThreadLine;
+pub use threads::{ThreadLine, print_threads};
 pub use worked::worked_lines;

@@ -25,7 +25,8 @@ impl<'a> Model for ThreadLine<'a> {
     ghost view = { λ t. record { name = t.name.now; steps = t.steps; closed = t.closed } };
 }
 
-pub(crate) fn print_threads(out: &mut String, threads: &[ThreadLine<'_>]) -> Result<(), Memory>
+/// Puts a line for each thread at the end of a text. Answers `Memory` only where a growth was refused.
+pub fn print_threads(out: &mut String, threads: &[ThreadLine<'_>]) -> Result<(), Memory>
     ensures { OnOk result (string_bytes out.new ≡ string_bytes out.old ++ thread_lines threads.now) }
 {
     for thread in threads {

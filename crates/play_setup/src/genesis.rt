@@ -20,8 +20,8 @@ pub fn first_chain(alloc: Global, genesis: &[Funds], tick: i64) -> Result<Chain,
     }
 }
 
-// An output under the key of each address.
-fn key_outputs(alloc: Global, genesis: &[Funds]) -> Result<Items<Output>, Memory>
+/// What the scenario's addresses have at the beginning: an output under the key of each, in order.
+pub fn key_outputs(alloc: Global, genesis: &[Funds]) -> Result<Items<Output>, Memory>
     ensures { IfOk result (λ outputs. outputs ≡ map key_output genesis.now) }
 {
     let mut outputs = Items::new(alloc);

@@ -14,6 +14,6 @@ mod stage;
 mod starts;
 
 pub use fault::SetupFault;
-pub use genesis::first_chain;
+pub use genesis::{first_chain, key_outputs};
 pub use naming::plan_on;
 pub use stage::{Stage, set_up};

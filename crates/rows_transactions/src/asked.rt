@@ -5,6 +5,7 @@ use crate::copies::{amounts_room, found_copies, published_copies, rooms, tx_copi
 use crate::data::datum_row;
 use crate::faults::{apart_row, copies_row};
 use crate::finds::Finds;
+use crate::lines::{in_row, in_two_lines};
 use crate::sums::{added, are_sums, subtracted, totals};
 use collections::{Items, Same};
 use eutxo::{Checked, Resolved, Validator};
@@ -22,7 +23,7 @@ pub fn answered(
     rest: &str,
 ) -> Result<String, RowFault> {
     match word {
-        "transaction" => Ok(finished(alloc, tx)?),
+        "transaction" => in_row(finished(alloc, tx)),
         "asks" => asks_line(alloc, tx, &finds.outputs, &known.published),
         "datum_hash" => datum_row(alloc, known, rest),
         "sums" => are_sums(alloc, known, rest),
@@ -44,11 +45,11 @@ pub fn copied<V: Validator + Same + Drop>(
     sort: &str,
 ) -> Result<String, RowFault> {
     match sort {
-        "transaction" => Ok(tx_copies(alloc, tx)?),
-        "rooms" => Ok(rooms(alloc, tx)?),
-        "published" => Ok(published_copies(alloc, &known.published)?),
-        "checks" => Ok(check_copies(alloc, checks)?),
-        "TxFault" => Ok(copies_row(alloc)?),
+        "transaction" => in_row(tx_copies(alloc, tx)),
+        "rooms" => in_row(rooms(alloc, tx)),
+        "published" => in_row(published_copies(alloc, &known.published)),
+        "checks" => in_row(check_copies(alloc, checks)),
+        "TxFault" => in_row(copies_row(alloc)),
         _ => Err(RowFault::NoSuchRow),
     }
 }
@@ -107,7 +108,5 @@ fn finished(alloc: Global, tx: &mut Tx) -> Result<String, AllocError> {
 fn spelled(alloc: Global, tx: &Tx) -> Result<String, AllocError> {
     let bytes = encode_tx(alloc, tx)?;
     let id = tx_id(alloc, tx)?;
-    let bytes = hex::encode(alloc, bytes.as_slice())?;
-    let id = hex::encode(alloc, id.as_slice())?;
-    format!(in alloc; "{bytes}\n{id}")
+    in_two_lines(alloc, bytes.as_slice(), id.as_slice())
 }

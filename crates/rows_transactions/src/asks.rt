@@ -1,10 +1,11 @@
 //! How often a script is asked.
+use crate::checks::resolved_of;
 use crate::resolved::copies_of;
 use crate::stubborn::Stubborn;
 use collections::{Items, Memory};
-use eutxo::{Checked, Resolved, Scripts, Shared, Validator, check, recheck};
+use eutxo::{Checked, Resolved, Scripts, Validator, check, recheck};
 use eutxo_types::{Output, Tx};
-use rows_text::{Identified, Named, RowFault};
+use rows_text::{Identified, Named, RowFault, both, done};
 use std::alloc::Global;
 use std::sync::Arc;
 use std::sync::atomic::{AtomicU64, Ordering};
@@ -18,44 +19,58 @@ pub fn asks_line(
     names: &[Named],
 ) -> Result<String, RowFault> {
     let asked = Arc::new(alloc, AtomicU64::new(0))?;
-    let checked = checked(alloc, tx, found_by(alloc, outputs, names, 0, &asked))?;
+    let first = found_by(alloc, outputs, names, 0, &asked);
+    let equal = found_by(alloc, outputs, names, 0, &asked);
+    let other = found_by(alloc, outputs, names, 1, &asked);
+    counted(alloc, tx, &asked, both(first, both(equal, other)))
+}
+
+// It is generic in the scripts, so that no proof walks through their drop, and so are the next ones.
+fn counted<V: Validator + Drop>(
+    alloc: Global,
+    tx: &Tx,
+    asked: &AtomicU64,
+    found: Result<(Resolved<V>, (Resolved<V>, Resolved<V>)), Memory>,
+) -> Result<String, RowFault> {
+    let (first, (equal, other)) = found?;
+    let checked = both(check(alloc, tx, first), Ok((equal, other)));
+    counted_again(alloc, tx, asked, checked)
+}
+
+fn counted_again<V: Validator + Drop>(
+    alloc: Global,
+    tx: &Tx,
+    asked: &AtomicU64,
+    checked: Result<(Checked<V>, (Resolved<V>, Resolved<V>)), Memory>,
+) -> Result<String, RowFault> {
     let at_first = asked.load(Ordering::SeqCst);
-    let at_hand = std::slice::from_ref(&checked);
-    check_again(
-        alloc,
-        tx,
-        found_by(alloc, outputs, names, 0, &asked),
-        at_hand,
-    )?;
+    let (checked, (equal, other)) = checked?;
+    let counts = counts_again(alloc, tx, asked, &checked, &equal, &other);
+    told(alloc, at_first, counts)
+}
+
+fn counts_again<V: Validator>(
+    alloc: Global,
+    tx: &Tx,
+    asked: &AtomicU64,
+    checked: &Checked<V>,
+    equal: &Resolved<V>,
+    other: &Resolved<V>,
+) -> Result<(u64, u64), Memory> {
+    let at_hand = std::slice::from_ref(checked);
+    drop(recheck(alloc, tx, equal, at_hand)?);
     let again = asked.load(Ordering::SeqCst);
-    check_again(
-        alloc,
-        tx,
-        found_by(alloc, outputs, names, 1, &asked),
-        at_hand,
-    )?;
-    let otherwise = asked.load(Ordering::SeqCst);
+    drop(recheck(alloc, tx, other, at_hand)?);
+    Ok((again, asked.load(Ordering::SeqCst)))
+}
+
+fn told(
+    alloc: Global,
+    at_first: u64,
+    counts: Result<(u64, u64), Memory>,
+) -> Result<String, RowFault> {
+    let (again, otherwise) = counts?;
     Ok(format!(in alloc; "asked {at_first}, {again}, {otherwise}")?)
-}
-
-// A check. It is generic in the scripts, so that no proof walks through their drop, and so is the next one.
-fn checked<V: Validator + Drop>(
-    alloc: Global,
-    tx: &Tx,
-    found: Result<Resolved<V>, Memory>,
-) -> Result<Checked<V>, Memory> {
-    check(alloc, tx, found?)
-}
-
-fn check_again<V: Validator + Drop>(
-    alloc: Global,
-    tx: &Tx,
-    found: Result<Resolved<V>, Memory>,
-    at_hand: &[Checked<V>],
-) -> Result<(), Memory> {
-    let found = found?;
-    let _verdict = recheck(alloc, tx, &found, at_hand)?;
-    Ok(())
 }
 
 fn found_by(
@@ -66,12 +81,19 @@ fn found_by(
     asked: &Arc<AtomicU64, Global>,
 ) -> Result<Resolved<Stubborn>, Memory> {
     let mut scripts = Scripts::new(alloc);
+    let put = put_scripts(alloc, &mut scripts, names, kind, asked);
+    resolved_of(done(scripts, put), copies_of(alloc, outputs.as_slice()))
+}
+
+fn put_scripts(
+    alloc: Global,
+    scripts: &mut Scripts<Stubborn>,
+    names: &[Named],
+    kind: u64,
+    asked: &Arc<AtomicU64, Global>,
+) -> Result<(), Memory> {
     for named in names {
-        let script = Arc::new(alloc, Stubborn::new(kind, asked)?)?;
-        scripts.insert(named.id(), Shared::new(script))?;
+        scripts.insert(named.id(), Stubborn::shared(alloc, kind, asked)?)?;
     }
-    Ok(Resolved {
-        outputs: copies_of(alloc, outputs.as_slice())?,
-        scripts,
-    })
+    Ok(())
 }

@@ -1,12 +1,15 @@
 //! Checks of transactions.
+use crate::lines::in_row;
 use crate::resolved::copies_of;
 use crate::stubborn::Stubborn;
 use collections::{Items, Memory};
-use eutxo::{Resolved, Scripts, Shared, Validator, check, judge_local, judge_spent, verdict_of};
+use eutxo::{
+    Judged, Resolved, Scripts, Shared, Validator, check, judge_local, judge_spent, verdict_of,
+};
 use eutxo_types::{Output, Tx};
 use roles::Published;
-use rows_text::{Identified, Named, RowFault, called, verdict_line};
-use std::alloc::Global;
+use rows_text::{Identified, Named, RowFault, both, called, done, verdict_line};
+use std::alloc::{AllocError, Global};
 use std::sync::Arc;
 use std::sync::atomic::AtomicU64;
 
@@ -24,7 +27,7 @@ impl Asked for Published {
 impl Asked for Stubborn {
     fn of(alloc: Global, _named: &Named) -> Result<Shared<Stubborn>, Memory> {
         let asked = Arc::new(alloc, AtomicU64::new(0))?;
-        Ok(Shared::new(Arc::new(alloc, Stubborn::new(0, &asked)?)?))
+        Stubborn::shared(alloc, 0, &asked)
     }
 }
 
@@ -35,7 +38,7 @@ pub fn check_line<V: Validator + Drop>(
     found: Result<Resolved<V>, RowFault>,
 ) -> Result<String, RowFault> {
     let checked = called(check(alloc, tx, found?))?;
-    Ok(verdict_line(alloc, checked.verdict())?)
+    in_row(verdict_line(alloc, checked.verdict()))
 }
 
 /// The line for the verdict on a transaction whose inputs find these outputs, by the stubborn script under each id of what has a name.
@@ -55,13 +58,35 @@ pub fn found_under<V: Asked>(
     names: &[Named],
 ) -> Result<Resolved<V>, RowFault> {
     let mut scripts = Scripts::new(alloc);
+    let put = put_scripts(alloc, &mut scripts, names);
+    resolved_of(done(scripts, put), outputs_of(alloc, outputs))
+}
+
+fn put_scripts<V: Asked>(
+    alloc: Global,
+    scripts: &mut Scripts<V>,
+    names: &[Named],
+) -> Result<(), RowFault> {
     for named in names {
         scripts.insert(named.id(), V::of(alloc, named)?)?;
     }
-    Ok(Resolved {
-        outputs: copies_of(alloc, outputs.as_slice())?,
-        scripts,
-    })
+    Ok(())
+}
+
+fn outputs_of(
+    alloc: Global,
+    outputs: &Items<Option<Output>>,
+) -> Result<Items<Option<Output>>, RowFault> {
+    Ok(copies_of(alloc, outputs.as_slice())?)
+}
+
+/// A resolution of outputs and scripts, where both were made.
+pub fn resolved_of<V: Drop, E: Drop>(
+    scripts: Result<Scripts<V>, E>,
+    outputs: Result<Items<Option<Output>>, E>,
+) -> Result<Resolved<V>, E> {
+    let (scripts, outputs) = both(scripts, outputs)?;
+    Ok(Resolved { outputs, scripts })
 }
 
 /// The verdict by what a transaction and its resolution decide, or with the word `spent` by the rules of what it spends alone. It is
@@ -74,8 +99,13 @@ pub fn rules_line<V: Validator + Drop>(
 ) -> Result<String, RowFault> {
     let found = found?;
     let judged = match word {
-        "spent" => judge_spent(alloc, tx, &found)?,
-        _ => judge_local(alloc, tx, &found)?,
+        "spent" => judge_spent(alloc, tx, &found),
+        _ => judge_local(alloc, tx, &found),
     };
-    Ok(verdict_line(alloc, &verdict_of(judged.fault))?)
+    in_row(judged_line(alloc, judged))
+}
+
+fn judged_line(alloc: Global, judged: Result<Judged, Memory>) -> Result<String, AllocError> {
+    let verdict = verdict_of(judged?.fault);
+    verdict_line(alloc, &verdict)
 }

@@ -1,49 +1,44 @@
 //! Copies of what is written, beside what they are of.
+use crate::lines::{in_row, put_all, put_named};
 use collections::{Items, Memory, Same, Text, TryClone};
 use eutxo::Resolved;
 use eutxo_types::{Datum, Lock, Spend, Tx};
 use rows_text::{
-    Named, RowFault, amounts_of, data_for_outputs, put_beside, put_copies, put_copy, put_same,
-    put_same_copy,
+    Named, RowFault, amounts_of, data_for_outputs, done, put_copy, put_same, put_same_copy,
+    put_words,
 };
 use std::alloc::{AllocError, Global};
 
 /// Of the transaction, its inputs and its outputs, and of their parts, whether a copy is the same.
 pub fn tx_copies(alloc: Global, tx: &Tx) -> Result<String, AllocError> {
     let mut lines = String::from_str(alloc, "transaction")?;
-    put_copy(&mut lines, tx)?;
-    put_inputs(&mut lines, tx.inputs.as_slice())?;
-    put_outputs(&mut lines, tx)?;
-    lines.push_str("\nsigners")?;
-    put_copies(&mut lines, tx.signers.as_slice())?;
-    put_beside(&mut lines, tx.signers.as_slice())?;
-    Ok(lines)
+    let put = put_tx(&mut lines, tx);
+    done(lines, put)
+}
+
+fn put_tx(lines: &mut String, tx: &Tx) -> Result<(), Memory> {
+    put_copy(lines, tx)?;
+    put_inputs(lines, tx.inputs.as_slice())?;
+    put_outputs(lines, tx)?;
+    put_all(lines, "\nsigners", tx.signers.as_slice())
 }
 
 fn put_inputs(lines: &mut String, inputs: &[Spend]) -> Result<(), Memory> {
-    lines.push_str("\ninputs")?;
-    put_copies(lines, inputs)?;
-    put_beside(lines, inputs)?;
+    put_all(lines, "\ninputs", inputs)?;
     for input in inputs {
-        lines.push_str("\n reference")?;
-        put_copy(lines, &input.reference)?;
-        lines.push_str(" redeemer")?;
-        put_copy(lines, &input.redeemer)?;
+        put_named(lines, "\n reference", &input.reference)?;
+        put_named(lines, " redeemer", &input.redeemer)?;
     }
     Ok(())
 }
 
 fn put_outputs(lines: &mut String, tx: &Tx) -> Result<(), Memory> {
     let outputs = tx.outputs.as_slice();
-    lines.push_str("\noutputs")?;
-    put_copies(lines, outputs)?;
-    put_beside(lines, outputs)?;
+    put_all(lines, "\noutputs", outputs)?;
     let mut datums = data_for_outputs(tx).iter();
     for output in outputs {
-        lines.push_str("\n lock")?;
-        put_copy(lines, &output.lock)?;
-        lines.push_str(" amount")?;
-        put_copy(lines, &output.amount)?;
+        put_named(lines, "\n lock", &output.lock)?;
+        put_named(lines, " amount", &output.amount)?;
         if output.lock.is_contract() {
             put_datum(lines, datums.next())?;
         }
@@ -53,10 +48,7 @@ fn put_outputs(lines: &mut String, tx: &Tx) -> Result<(), Memory> {
 
 fn put_datum(lines: &mut String, datum: Option<&Datum>) -> Result<(), Memory> {
     match datum {
-        Some(datum) => {
-            lines.push_str(" datum")?;
-            put_copy(lines, datum)
-        }
+        Some(datum) => put_named(lines, " datum", datum),
         None => Ok(()),
     }
 }
@@ -68,53 +60,69 @@ pub fn found_copies<V: Same + Drop>(
     found: Result<Resolved<V>, RowFault>,
 ) -> Result<String, RowFault> {
     let found = found?;
+    in_row(found_line(alloc, &found))
+}
+
+fn found_line<V: Same + Drop>(alloc: Global, found: &Resolved<V>) -> Result<String, AllocError> {
     let mut line = String::from_str(alloc, "found")?;
-    put_same_copy(&mut line, &found)?;
+    let put = put_found(&mut line, found);
+    done(line, put)
+}
+
+fn put_found<V: Same + Drop>(line: &mut String, found: &Resolved<V>) -> Result<(), Memory> {
+    put_same_copy(line, found)?;
     line.push_str(" scripts")?;
-    put_same_copy(&mut line, &found.scripts)?;
-    Ok(line)
+    put_same_copy(line, &found.scripts)
 }
 
 /// Of what is published under each name, whether a copy is the same, and the one before it.
 pub fn published_copies(alloc: Global, names: &[Named]) -> Result<String, AllocError> {
     let mut line = String::from_str(alloc, "published")?;
+    let put = put_published(&mut line, names);
+    done(line, put)
+}
+
+fn put_published(line: &mut String, names: &[Named]) -> Result<(), Memory> {
     for named in names {
-        put_copy(&mut line, named.published())?;
+        put_copy(line, named.published())?;
     }
     line.push_str(" beside")?;
     let mut last: Option<&Named> = None;
     for named in names {
         if let Some(before) = last {
-            put_same(&mut line, *before.published() == *named.published())?;
+            put_same(line, *before.published() == *named.published())?;
         }
         last = Some(named);
     }
-    Ok(line)
+    Ok(())
 }
 
 /// How many items a copy has, and for how many it asked for room.
 pub fn rooms(alloc: Global, tx: &Tx) -> Result<String, AllocError> {
     let mut line = String::from_str(alloc, "rooms")?;
-    put_room(alloc, &mut line, &tx.inputs)?;
-    put_room(alloc, &mut line, &tx.outputs)?;
-    put_room(alloc, &mut line, &tx.signers)?;
+    let put = put_rooms(alloc, &mut line, tx);
+    done(line, put)
+}
+
+fn put_rooms(alloc: Global, line: &mut String, tx: &Tx) -> Result<(), Memory> {
+    put_room(alloc, line, &tx.inputs)?;
+    put_room(alloc, line, &tx.outputs)?;
+    put_room(alloc, line, &tx.signers)?;
     line.push_str(" texts")?;
     for signer in tx.signers.as_slice() {
-        put_text_room(alloc, &mut line, signer)?;
+        put_text_room(alloc, line, signer)?;
     }
     line.push_str(" bytes")?;
     for output in tx.outputs.as_slice() {
-        put_currency_room(alloc, &mut line, &output.lock)?;
+        put_currency_room(alloc, line, &output.lock)?;
     }
-    Ok(line)
+    Ok(())
 }
 
 /// How many entries a copy of these amounts has, and for how many it asked for room.
 pub fn amounts_room(alloc: Global, rest: &str) -> Result<String, RowFault> {
     let copy = amounts_of(alloc, rest)?.try_clone()?.into_vec();
-    let mut line = String::from_str(alloc, "room")?;
-    put_numbers(alloc, &mut line, copy.len(), copy.capacity())?;
-    Ok(line)
+    in_row(format!(in alloc; "room {} of {}", copy.len(), copy.capacity()))
 }
 
 fn put_currency_room(alloc: Global, line: &mut String, lock: &Lock) -> Result<(), Memory> {
@@ -142,6 +150,5 @@ fn put_text_room(alloc: Global, line: &mut String, text: &Text) -> Result<(), Me
 }
 
 fn put_numbers(alloc: Global, line: &mut String, count: usize, room: usize) -> Result<(), Memory> {
-    let told = format!(in alloc; " {count} of {room}")?;
-    line.push_str(told.as_str())
+    put_words(line, format!(in alloc; " {count} of {room}"))
 }

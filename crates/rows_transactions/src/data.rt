@@ -1,4 +1,5 @@
 //! Data as bytes.
+use crate::lines::{in_row, in_two_lines};
 use contract_bytes::Spell;
 use eutxo_types::{Cont, Datum, datum_hash};
 use rows_text::{Known, RowFault, datum_of, number, parts};
@@ -8,14 +9,12 @@ use std::alloc::{AllocError, Global};
 pub fn datum_row(alloc: Global, known: &Known, rest: &str) -> Result<String, RowFault> {
     let (cont, state) = parts(rest)?;
     let datum = datum_of(alloc, known, Cont(number(cont)?), state)?;
-    Ok(spelled(alloc, &datum)?)
+    in_row(spelled(alloc, &datum))
 }
 
 fn spelled(alloc: Global, datum: &Datum) -> Result<String, AllocError> {
     let mut bytes = Vec::new(alloc);
     datum.put(&mut bytes)?;
     let digest = datum_hash(alloc, datum)?;
-    let bytes = hex::encode(alloc, bytes.as_slice())?;
-    let digest = hex::encode(alloc, digest.as_slice())?;
-    format!(in alloc; "{bytes}\n{digest}")
+    in_two_lines(alloc, bytes.as_slice(), digest.as_slice())
 }

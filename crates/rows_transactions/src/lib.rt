@@ -48,6 +48,7 @@ mod copies;
 mod data;
 mod faults;
 mod finds;
+mod lines;
 mod resolved;
 mod stubborn;
 mod sums;

@@ -2,7 +2,7 @@
 use bundle::Bundle;
 use collections::{Bytes, Memory, Text};
 use contract::Input;
-use eutxo::{Spent, StepAnswer, StepFault, Validator};
+use eutxo::{Shared, Spent, StepAnswer, StepFault, Validator};
 use eutxo_types::{Datum, Tx};
 use std::alloc::Global;
 use std::sync::Arc;
@@ -23,6 +23,16 @@ impl Stubborn {
             kind,
             asked: Arc::try_clone(asked)?,
         })
+    }
+
+    /// The same, with several owners.
+    pub fn shared(
+        alloc: Global,
+        kind: u64,
+        asked: &Arc<AtomicU64, Global>,
+    ) -> Result<Shared<Stubborn>, Memory> {
+        let stubborn = Stubborn::new(kind, asked)?;
+        Ok(Shared::new(Arc::new(alloc, stubborn)?))
     }
 }
 

@@ -1,53 +1,57 @@
 //! Sums and differences of bundles.
+use crate::lines::in_row;
 use bundle::{Bundle, BundleFault, total_of};
-use collections::TryClone;
+use collections::{Memory, TryClone};
+use contract::Token;
 use roles::holds_sums;
 use rows_text::{
-    Known, RowFault, bundle_of, first, parts, put_amounts, same_or_other, sides, state_of,
-    token_of, word_of,
+    Known, RowFault, both, bundle_of, done, first, parts, put_amounts, same_or_other, sides,
+    state_of, times, token_of, word_of,
 };
 use std::alloc::{AllocError, Global};
 
 /// Adds, from `AMOUNTS / AMOUNTS`: the line for the answer, and what is in the first bundle afterwards.
 pub fn added(alloc: Global, rest: &str) -> Result<String, RowFault> {
-    let (mut held, more) = both(alloc, rest)?;
+    let (mut held, more) = two_bundles(alloc, rest)?;
     let answer = held.add(&more);
-    Ok(line_of(alloc, answer, &held)?)
+    in_row(line_of(alloc, answer, &held))
 }
 
 /// Subtracts, from `AMOUNTS / AMOUNTS`: the line for the answer, and what is in the first bundle afterwards.
 pub fn subtracted(alloc: Global, rest: &str) -> Result<String, RowFault> {
-    let (mut held, less) = both(alloc, rest)?;
+    let (mut held, less) = two_bundles(alloc, rest)?;
     let answer = held.subtract(&less);
-    Ok(line_of(alloc, answer, &held)?)
+    in_row(line_of(alloc, answer, &held))
 }
 
 /// Whether amounts are the sums of the accounts of a state, from `STATE TOKEN AMOUNT ..`.
 pub fn are_sums(alloc: Global, known: &Known, rest: &str) -> Result<String, RowFault> {
     let (state, amounts) = first(rest);
-    let state = state_of(alloc, known, state)?;
-    let amount = bundle_of(alloc, amounts)?;
-    let same = holds_sums(alloc, &amount, &state)?;
-    Ok(String::from_str(alloc, same_or_other(same))?)
+    let (state, amount) = both(state_of(alloc, known, state), bundle_of(alloc, amounts))?;
+    same_line(alloc, holds_sums(alloc, &amount, &state))
 }
 
 /// Whether the sums of a token over two lists of amounts are the same, from `TOKEN AMOUNTS / AMOUNTS`: the first list has the amounts
 /// twice, the second once.
 pub fn totals(alloc: Global, rest: &str) -> Result<String, RowFault> {
     let (token, rest) = parts(rest)?;
-    let token = token_of(alloc, token)?;
-    let (held, other) = both(alloc, rest)?;
-    let twice = [held.try_clone()?, held];
-    let once = [other];
-    let same = total_of(&twice, &token) == total_of(&once, &token);
-    Ok(String::from_str(alloc, same_or_other(same))?)
+    let (token, (held, other)) = both(token_of(alloc, token), two_bundles(alloc, rest))?;
+    same_line(alloc, are_same(alloc, &token, &held, &other))
 }
 
-fn both(alloc: Global, rest: &str) -> Result<(Bundle, Bundle), RowFault> {
+fn are_same(alloc: Global, token: &Token, held: &Bundle, other: &Bundle) -> Result<bool, Memory> {
+    let twice = times(alloc, 2, held.try_clone())?;
+    let once = std::slice::from_ref(other);
+    Ok(total_of(twice.as_slice(), token) == total_of(once, token))
+}
+
+fn same_line(alloc: Global, same: Result<bool, Memory>) -> Result<String, RowFault> {
+    Ok(String::from_str(alloc, same_or_other(same?))?)
+}
+
+fn two_bundles(alloc: Global, rest: &str) -> Result<(Bundle, Bundle), RowFault> {
     let (held, other) = sides(rest, '/')?;
-    let held = bundle_of(alloc, held)?;
-    let other = bundle_of(alloc, other)?;
-    Ok((held, other))
+    both(bundle_of(alloc, held), bundle_of(alloc, other))
 }
 
 fn line_of(
@@ -56,9 +60,13 @@ fn line_of(
     held: &Bundle,
 ) -> Result<String, AllocError> {
     let mut line = answer_line(alloc, answer)?;
+    let put = put_held(alloc, &mut line, held);
+    done(line, put)
+}
+
+fn put_held(alloc: Global, line: &mut String, held: &Bundle) -> Result<(), AllocError> {
     line.push(':')?;
-    put_amounts(alloc, &mut line, held)?;
-    Ok(line)
+    put_amounts(alloc, line, held)
 }
 
 // `done`, or the fault with its token.

@@ -89,7 +89,8 @@ fn play_told(alloc: Global, play: &PlayTask<'_>) -> Result<String, AllocError> {
     } else {
         "at once"
     };
-    format!(in alloc; "play {} {how}", play.scenario)
+    let explained = explain_told(play.explain);
+    format!(in alloc; "play {} {how}{explained}", play.scenario)
 }
 
 fn state_told<'a>(state: Option<&'a str>) -> &'a str {

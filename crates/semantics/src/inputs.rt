@@ -13,8 +13,9 @@ ghost use Rattle.evaluation.specs.Parts.{IsEntered, StandsWait, wait_tree};
 ghost use Rattle.semantics.specs.Answer.{Continues, tree_of_next};
 
 use crate::accounts::deposit;
+use crate::copies::three_copies;
 use crate::log::Log;
-use collections::{Memory, Same, TryClone};
+use collections::{Memory, Same};
 use contract::{Bound, ChoiceId, Input, Interval, Party, SemFault, State, Token, Warning};
 use evaluation::{Parts, Wait};
 
@@ -175,10 +176,6 @@ fn non_positive_deposit(
     ensures { IfOk result (λ warning. warning
         ≡ Warning.NonPositiveDeposit account.now party.now token.now amount) }
 {
-    Ok(Warning::NonPositiveDeposit(
-        account.try_clone()?,
-        party.try_clone()?,
-        token.try_clone()?,
-        amount,
-    ))
+    let (account, party, token) = three_copies(account, party, token)?;
+    Ok(Warning::NonPositiveDeposit(account, party, token, amount))
 }

@@ -4,6 +4,7 @@
 #![tactic(auto)]
 
 mod accounts;
+mod copies;
 mod inputs;
 mod laws;
 mod log;

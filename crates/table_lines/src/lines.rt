@@ -1,10 +1,11 @@
 //! The line of a node, after its number.
-ghost use Rattle.std.specs.Prelude.{◌≡◌, ◌++◌, ℕ, List, OnOk, string_bytes};
-ghost use Rattle.table_lines.specs.TableLines.{line_end, value_words, observation_words, case_words, cont_words};
+ghost use Rattle.std.specs.Prelude.{◌≡◌, [], ◌∷◌, ◌++◌, ℕ, List, OnOk, string_bytes};
+ghost use Rattle.serde_json.specs.Written.{compact_text};
+ghost use Rattle.table_lines.specs.TableLines.{line_end, v, value_words, observation_words, case_words, cont_words};
 
 use crate::lists::in_brackets;
 use collections::Memory;
-use json_write_contracts::term_text;
+use json_write_contracts::{Term, term_text};
 use nodes::{CaseNode, ContNode, ObservationNode, ValueNode};
 use std::alloc::Global;
 use std::fmt::Write;
@@ -19,6 +20,22 @@ pub(crate) trait Line {
         ensures { OnOk result (string_bytes out.new ≡ string_bytes out.old ++ line_end (words self.now)) };
 }
 
+// A word and two values.
+fn put_two_values(out: &mut String, word: &str, a: u32, b: u32) -> Result<(), Memory>
+    ensures { OnOk result (string_bytes out.new ≡ string_bytes out.old ++ line_end (word.now ∷ v a ∷ v b ∷ [])) }
+{
+    write!(out, " {word} v{a} v{b}\n")
+}
+
+// A word and a term.
+fn put_term<T: Term>(alloc: Global, out: &mut String, word: &str, term: &T) -> Result<(), Memory>
+    ensures { OnOk result (string_bytes out.new
+        ≡ string_bytes out.old ++ line_end (word.now ∷ compact_text (T.json term.now) ∷ [])) }
+{
+    let text = term_text(alloc, term)?;
+    write!(out, " {word} {text}\n")
+}
+
 impl Line for ValueNode {
     ghost words = { value_words };
 
@@ -31,20 +48,14 @@ impl Line for ValueNode {
             }
             ValueNode::Constant(n) => write!(out, " constant {n}\n"),
             ValueNode::NegValue(a) => write!(out, " negate v{a}\n"),
-            ValueNode::AddValue(a, b) => write!(out, " add v{a} v{b}\n"),
-            ValueNode::SubValue(a, b) => write!(out, " minus v{a} v{b}\n"),
-            ValueNode::MulValue(a, b) => write!(out, " multiply v{a} v{b}\n"),
-            ValueNode::DivValue(a, b) => write!(out, " divide v{a} v{b}\n"),
-            ValueNode::ChoiceValue(id) => {
-                let id = term_text(alloc, id)?;
-                write!(out, " value_of_choice {id}\n")
-            }
+            ValueNode::AddValue(a, b) => put_two_values(out, "add", *a, *b),
+            ValueNode::SubValue(a, b) => put_two_values(out, "minus", *a, *b),
+            ValueNode::MulValue(a, b) => put_two_values(out, "multiply", *a, *b),
+            ValueNode::DivValue(a, b) => put_two_values(out, "divide", *a, *b),
+            ValueNode::ChoiceValue(id) => put_term(alloc, out, "value_of_choice", id),
             ValueNode::TimeIntervalStart => out.push_str(" time_interval_start\n"),
             ValueNode::TimeIntervalEnd => out.push_str(" time_interval_end\n"),
-            ValueNode::UseValue(name) => {
-                let name = term_text(alloc, name)?;
-                write!(out, " use_value {name}\n")
-            }
+            ValueNode::UseValue(name) => put_term(alloc, out, "use_value", name),
             ValueNode::Cond(o, a, b) => write!(out, " if o{o} v{a} v{b}\n"),
         }
     }
@@ -58,15 +69,12 @@ impl Line for ObservationNode {
             ObservationNode::AndObs(o, p) => write!(out, " both o{o} o{p}\n"),
             ObservationNode::OrObs(o, p) => write!(out, " either o{o} o{p}\n"),
             ObservationNode::NotObs(o) => write!(out, " not o{o}\n"),
-            ObservationNode::ChoseSomething(id) => {
-                let id = term_text(alloc, id)?;
-                write!(out, " chose_something_for {id}\n")
-            }
-            ObservationNode::ValueGE(a, b) => write!(out, " ge_than v{a} v{b}\n"),
-            ObservationNode::ValueGT(a, b) => write!(out, " gt v{a} v{b}\n"),
-            ObservationNode::ValueLT(a, b) => write!(out, " lt v{a} v{b}\n"),
-            ObservationNode::ValueLE(a, b) => write!(out, " le_than v{a} v{b}\n"),
-            ObservationNode::ValueEQ(a, b) => write!(out, " equal_to v{a} v{b}\n"),
+            ObservationNode::ChoseSomething(id) => put_term(alloc, out, "chose_something_for", id),
+            ObservationNode::ValueGE(a, b) => put_two_values(out, "ge_than", *a, *b),
+            ObservationNode::ValueGT(a, b) => put_two_values(out, "gt", *a, *b),
+            ObservationNode::ValueLT(a, b) => put_two_values(out, "lt", *a, *b),
+            ObservationNode::ValueLE(a, b) => put_two_values(out, "le_than", *a, *b),
+            ObservationNode::ValueEQ(a, b) => put_two_values(out, "equal_to", *a, *b),
             ObservationNode::TrueObs => out.push_str(" true\n"),
             ObservationNode::FalseObs => out.push_str(" false\n"),
         }

@@ -1,9 +1,19 @@
-use Rattle.json_write_contracts.proofs.AddsLaws.{then, wrote}
+use Rattle.json_write_contracts.proofs.AddsLaws.{wrote, stopped, refused, left, after, failed}
 use Rattle.contract_json.proofs.inputs.put_choice.Goals as goal
 
 pub returns-clause-put : goal.returns-clause-put
-returns-clause-put c = (
-  c.in_ok-put_whole.ensures.put.0,
-  then (wrote c.in_ok-begin_object.ensures) (then (wrote c.in_ok-key.ensures) (then c.in_ok-put_choice_id.ensures.put
-      (then (wrote c.in_ok-key-2.ensures) (then c.in_ok-put_whole.ensures.put.1 (wrote c.in_ok-end_object.ensures))))),
-)
+returns-clause-put c =
+    let r = c.end_with_number.result in
+    after _ _ _ r (wrote c.in_ok-begin_object.ensures) (after _ _ _ r c.in_ok-put_member.ensures.put c.end_with_number.ensures.put)
+
+pub returns-clause-err : goal.returns-clause-err
+returns-clause-err c =
+    let r = c.end_with_number.result in
+    left _ r (wrote c.in_ok-begin_object.ensures) (left _ r c.in_ok-put_member.ensures.put c.end_with_number.ensures.err)
+
+pub returns-in_err-begin_object-clause-err : goal.returns-in_err-begin_object-clause-err
+returns-in_err-begin_object-clause-err c = failed c.from_residual.result (refused c.in_err-begin_object.ensures)
+
+pub returns-in_err-put_member-clause-err : goal.returns-in_err-put_member-clause-err
+returns-in_err-put_member-clause-err c =
+    stopped c.from_residual-in_err-put_member.result (wrote c.in_ok-begin_object.ensures) c.in_err-put_member.ensures.err

@@ -1,4 +1,4 @@
-use Rattle.std.proofs.Common.{◌≡◌, ◌∙◌, ℕ, ◌<◌, List, length, sym, ap, subst}
+use Rattle.std.proofs.Common.{◌≡◌, ◌∙◌, ℕ, ◌<◌, List, length, map, sym, ap, subst}
 use Rattle.std.proofs.lemmas.List.{length-map}
 use Rattle.std.specs.List.{All}
 use Rattle.eutxo_types.specs.declared.output_ref.OutputRef.{OutputRef}
@@ -7,8 +7,8 @@ use Rattle.plans.specs.declared.scenario.NamedThread.{NamedThread}
 use Rattle.plans.specs.declared.scenario.Scenario.{Scenario}
 use Rattle.hub.specs.Session.{Opened}
 use Rattle.ledger_spec.specs.Replay.{Course}
-use Rattle.play_lines.specs.PlayLines.{played_lines}
 use Rattle.play_setup.specs.SetUp.{object_of}
+use Rattle.marlowe_play.specs.Played.{IsTold}
 use Rattle.marlowe_play.specs.PlayedSupport.{AreLines}
 use Rattle.marlowe_play.proofs.PlayingLemmas.{how_many, told_of}
 use Rattle.marlowe_play.proofs.playing.play_on.Goals as goal
@@ -16,7 +16,7 @@ use Rattle.marlowe_play.proofs.playing.play_on.Goals as goal
 -- all seats are back
 pub close-closed-requires-clause-all : goal.close-closed-requires-clause-all
 close-closed-requires-clause-all g c =
-    how_many c.args.scenario.now c.in_ok-stage.stage.starts.items c.in_ok-stage.seats.items c.in_ok-stage.ensures.seats ∙ (sym c.requires.seats ∙ ap (λ (o : Opened). o.seats) c.requires.session)
+    how_many c.args.scenario.now c.in_ok-stage.stage.starts.items c.in_ok-stage.seats.items (map (λ l. l.items) c.in_ok-stage.left.items) c.in_ok-stage.ensures.seats ∙ (sym c.requires.seats ∙ ap (λ (o : Opened). o.seats) c.requires.session)
 
 -- each thread names a contract that was published
 pub played_text-requires-clause-contracts : goal.played_text-requires-clause-contracts
@@ -24,8 +24,15 @@ played_text-requires-clause-contracts g c =
     let s : Scenario = c.args.scenario.now in
     let objects : List Published = c.in_ok-stage.stage.contracts.items in
     let long : length objects ≡ length s.contracts = ap (λ (l : List Published). length l) c.in_ok-stage.ensures.contracts ∙ length-map s.contracts object_of in
-    let named = subst (λ (n : ℕ). All (λ (t : NamedThread). t.contract < n) s.threads) (sym long) c.requires.names.threads in
-    subst (λ (ts : List NamedThread). All (λ (t : NamedThread). t.contract < length objects) ts) (sym c.as_slice.ensures) named
+    subst (λ (n : ℕ). All (λ (t : NamedThread). t.contract < n) s.threads) (sym long) c.requires.names.threads
+
+-- the chain began with the scenario's outputs
+pub played_text-requires-clause-genesis : goal.played_text-requires-clause-genesis
+played_text-requires-clause-genesis g c = ap (λ (k : Course). k.genesis) c.chain.ensures ∙ c.close-closed.ensures.start.0 ∙ (ap (λ (o : Opened). o.genesis) (sym c.requires.session) ∙ c.requires.genesis)
+
+-- at its tick
+pub played_text-requires-clause-tick : goal.played_text-requires-clause-tick
+played_text-requires-clause-tick g c = ap (λ (k : Course). k.first_tick) c.chain.ensures ∙ c.close-closed.ensures.start.1 ∙ (ap (λ (o : Opened). o.first_tick) (sym c.requires.session) ∙ c.requires.tick)
 
 -- the closed hub's history, as it is printed
 pub returns-clause-played : goal.returns-clause-played
@@ -39,7 +46,7 @@ returns-clause-played g c =
     let first = start.0 ∙ (ap (λ (o : Opened). o.genesis) (sym c.requires.session) ∙ c.requires.genesis) in
     let at = start.1 ∙ (ap (λ (o : Opened). o.first_tick) (sym c.requires.session) ∙ c.requires.tick) in
     let told = c.in_ok-text.ensures in
-    let is = told.1 ∙ ap (λ (k : Course). played_lines k.entries told.0) c.chain.ensures in
-    let lines = subst (λ (k : Course). AreLines k objects c.as_slice.result.now outputs told.0) c.chain.ensures told.2 in
-    let threads = subst (λ (ts : List NamedThread). AreLines closed objects ts outputs told.0) c.as_slice.ensures lines in
-    told_of s closed objects outputs seats told.0 c.in_ok-text.text.items c.in_ok-stage.ensures.contracts first at c.close-closed.ensures.legal c.close-closed.ensures.heard c.close-closed.ensures.count c.in_ok-stage.ensures.seats threads is
+    let left = map (λ l. l.items) c.in_ok-stage.left.items in
+    let is = subst (λ (k : Course). IsTold c.args.how.explain s k outputs left told.0 c.in_ok-text.text.items) c.chain.ensures told.1 in
+    let threads = subst (λ (k : Course). AreLines k objects s.threads outputs told.0) c.chain.ensures told.2 in
+    told_of s c.args.how.explain closed objects outputs seats left told.0 c.in_ok-text.text.items c.in_ok-stage.ensures.contracts first at c.close-closed.ensures.legal c.close-closed.ensures.heard c.close-closed.ensures.count c.in_ok-stage.ensures.seats threads is

@@ -9,4 +9,6 @@ returns c =
     let start = c.after_help.ensures none c.new.ensures in
     let with_one = c.with.ensures none (given (codes "SCENARIO")) start c.given.ensures in
     let one = with_rule none (given (codes "SCENARIO")) in
-    c.with-2.ensures one (flag (codes "one")) with_one c.flag.ensures
+    let with_two = c.with-2.ensures one (flag (codes "one")) with_one c.flag.ensures in
+    let two = with_rule one (flag (codes "one")) in
+    c.with-3.ensures two (flag (codes "explain")) with_two c.flag-2.ensures

@@ -1,0 +1,5 @@
+pub mod Holders
+pub mod Holdings
+pub mod HoldingLines
+pub mod Rows
+pub mod SumsSupport
