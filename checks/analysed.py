@@ -470,7 +470,7 @@ def last_timeout(contract):
     return last
 
 
-def timeouts(contract):
+def all_timeouts(contract):
     """All timeouts of a contract, those in its cases too."""
     todo = [contract]
     while todo:
@@ -516,7 +516,7 @@ def analysis_of(program, contract, state):
         raise Difference("parts that are never reached don't stand in order, or one lies below another")
     if not closes(contract, state) and any(it["least"] is not None for it in told["ranges"]):
         raise Difference("a least is told of a contract that nothing closes")
-    time = None if "Leaves128" in {it["kind"] for it in told["alarms"]} else max(timeouts(contract), default=state["minTime"])
+    time = None if "Leaves128" in {it["kind"] for it in told["alarms"]} else max(all_timeouts(contract), default=state["minTime"])
     if told["out_from"] != time:
         raise Difference(f"all can be taken out from {time} on, and not from {told['out_from']}")
     return told

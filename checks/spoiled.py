@@ -80,6 +80,7 @@ PART = re.compile(rb'\{[^{}]*\}|\[[^][]*\]|(?<![^\s{[,:])"(?:[^"\\]|\\.)*"|-?\d+
 CLEAR = "never warns, stays within 128 bits"
 FROM_NOTHING = "from a start without accounts"
 OUT = re.compile(r"all can be taken out (?:at once|from (0|-?[1-9][0-9]*) on)")
+UNREACHED = "never reached: "
 ALARM = re.compile(r"(\w+) at (\S+)(?:, by this run:|(, not known))")
 CASE = r"\.when\[(?:0|[1-9]\d*)\]"
 PLACE = re.compile(rf"(?:\.then|\.else|\.timeout_continuation|{CASE}\.then)*(?:\.(?:pay|if|let|assert)|{CASE}\.case\.(?:deposits|notify_if))")
@@ -337,8 +338,8 @@ def see(is_so, what):
 
 
 def told_of(answer):
-    """What an analysis says: of each alarm the kind, the place as for people and the run, of each range the party, the token, the least, the most; and
-    whether it says from when on all can be taken out."""
+    """What an analysis says: of each alarm the kind, the place as for people and the run, of each range the party, the token, the least, the most;
+    whether it says from when on all can be taken out; and the parts that no run reaches, as for people."""
     text = answer.out.decode()
     see(text.endswith("\n"), "no line feed at the end")
     if text.startswith('{"alarms"'):
@@ -359,7 +360,10 @@ def told_of(answer):
             run.append(compact(lines.pop()))
         alarms.append((found[1], found[2], run))
     see(alarms or is_clear, "no alarm and not that it never warns")
-    return alarms, [range_of(it) for it in reversed(lines)], is_out
+    unreached = []
+    while lines and lines[-1].startswith(UNREACHED):
+        unreached.append(lines.pop()[len(UNREACHED):])
+    return alarms, [range_of(it) for it in reversed(lines)], is_out, unreached
 
 
 def range_of(line):
@@ -377,8 +381,14 @@ def told_by_json(text):
     number_of(told["out_from"])
     for keys, some in (["kind", "place", "run"], told["alarms"]), (["least", "most", "party", "token"], told["ranges"]):
         see(all(list(it) == keys for it in some), f"keys other than {keys}")
-    alarms = [(it["kind"], "".join(f"[{key}]" if type(key) is int else f".{key}" for key in it["place"]), it["run"]) for it in told["alarms"]]
-    return alarms, [(it["party"], it["token"], number_of(it["least"]), number_of(it["most"])) for it in told["ranges"]], told["out_from"] is not None
+    alarms = [(it["kind"], place_of(it["place"]), it["run"]) for it in told["alarms"]]
+    ranges = [(it["party"], it["token"], number_of(it["least"]), number_of(it["most"])) for it in told["ranges"]]
+    return alarms, ranges, told["out_from"] is not None, [place_of(it) for it in told["unreached"]]
+
+
+def place_of(keys):
+    """A place as it is told to people."""
+    return "".join(f"[{key}]" if type(key) is int else f".{key}" for key in keys)
 
 
 def number_of(it):
@@ -401,8 +411,8 @@ def in_order(pairs):
     return dict(pairs)
 
 
-def see_told(contract, alarms, ranges):
-    """Sees that what an analysis says may be said of the contract of a text: the places, the runs' forms, the order."""
+def see_told(contract, alarms, ranges, is_out, unreached):
+    """Sees that what an analysis says may be said of the contract of a text: the places, the runs' forms, the order, when all can be taken out."""
     order = []
     for kind, place, run in alarms:
         steps = re.findall(r"\w+", place)
@@ -411,6 +421,14 @@ def see_told(contract, alarms, ranges):
         see(run is None or run and all(map(is_transaction, run)), f"no run to {kind} at {place}: {run}")
         order.append((order_of(steps), list(ALARMS).index(kind)))
     see(order == sorted(set(order)), "alarms out of order")
+    see(is_out == all(kind != "Leaves128" for kind, _, _ in alarms), "when all can be taken out is told, or not, whatever leaves 128 bits")
+    parts = []
+    for place in unreached:
+        steps = re.findall(r"\w+", place) + [""]
+        form_at(contract, steps)
+        parts.append(order_of(steps))
+    see(parts == sorted(set(parts)), "parts that no run reaches out of order")
+    see(all(other[: len(one)] != one for one, other in zip(parts, parts[1:])), "a part that no run reaches below another")
     order = [((list(party) == ["role_token"], *map(str.encode, party.values())), (bytes.fromhex(token["currency_symbol"]), token["token_name"].encode()))
              for party, token, _, _ in ranges]
     see(order == sorted(set(order)), "ranges out of order")
