@@ -5,7 +5,7 @@ contract of many parts with an equal check beside judging it anew.
 Needs    (cd crates/rows_chain && rt run)
 Usage    checks_at_hand.py
 Expect   two rounds of 1,000 payments in milliseconds, two judgements of a step in microseconds, and the ratio of these two, which is far above 1: an equal
-         check costs a comparison of the published objects in full, and spares the script alone (docs/DECISIONS.md, "Checks at hand").
+         check costs a comparison of the published objects in full, and spares the script alone (docs/DECISIONS.md, "An equal check").
 Mind     a cost is what something adds to the processor time of a run, the least of RUNS runs. The judgement of a step is what a `recheck` adds to a `resolve`.
 """
 import json
