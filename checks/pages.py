@@ -1,14 +1,17 @@
 #!/usr/bin/env python3
-"""Whether the tutorial says what its files hold and what the program prints, and whether the links of all pages lead somewhere.
+"""Whether the tutorial says what its files hold and what the program prints, and whether what all pages link and name is there.
 
 Usage    pages.py
 Needs    nothing built: what is printed stands in the rows of crates/rows_commands/data/tutorial, which the gate runs.
-Expect   `N files and M commands as written, L links lead somewhere`. In docs/tutorial.md a line with a file's name has the file's text below it. Each
-         command is a row, and one that ends its block has below it what it prints, which may be folded at any comma: a line goes on with one that
+Expect   `N files and M commands as written, L links lead somewhere, W names are there`. In docs/tutorial.md a line with a file's name has the
+         file's text below it. Each command is a row, and one that ends its block has below it what it prints, which may be folded at any comma: a line goes on with one that
          begins with a space. Each file and each row of that folder comes up. A file that the rows give is a part of what a row before it prints,
          since that is where the reader takes it from. A link within the repository leads to a file or a folder, and one with a `#` to a heading
-         of it.
+         of it. A path in backquotes leads somewhere, from the top, from the page, from `crates` or from a crate's folder; where the section
+         has named crates before, from one of these. Of `crate::item` the crate has the item, and each other word in backquotes of CONTRIBUTING
+         comes up in some file.
 Else     a line for each fault, and status 1."""
+import functools
 import re
 import subprocess
 import sys
@@ -122,13 +125,63 @@ def faults_of_links(counts):
                 yield f"{page.relative_to(TOP)}: {link}: no such heading"
 
 
+# ---- names
+
+# What stands for any path, or is made by a command.
+EXCEPTIONS = {"conformance/cases/SUBJECT.jsonl", "out/rlib/CRATE.rlib/toolchain/mir.json"}
+CRATES = {path.name for path in (TOP / "crates").iterdir()}
+
+
+@functools.cache
+def words_of(folder):
+    """The words of all files below a folder, and the names of files and folders."""
+    found = set()
+    for path in folder.rglob("*"):
+        if {"out", ".git", "measurements"} & {*path.relative_to(TOP).parts}:
+            continue
+        found |= {path.name, path.stem}
+        if path.suffix in (".rt", ".antt", ".py", ".sh", ".txt", ".json", ".edit", ""):
+            found |= {*re.findall(r"\w+", path.read_text(errors="replace"))} if path.is_file() else set()
+    return found
+
+
+def is_there(page, word, named):
+    """Whether a path leads somewhere, where the section has named these crates before."""
+    if re.match(r"(src|specs|proofs|data|must-fail)/", word):
+        return any(any((TOP / "crates" / crate).glob(word)) for crate in named or CRATES)
+    return any(any(folder.glob(word)) for folder in (TOP, page.parent, TOP / "crates"))
+
+
+def faults_of_names(counts):
+    for page in pages():
+        named = set()
+        for line in re.sub(r"^```.*?^```", "", page.read_text(), flags=re.M | re.S).splitlines():
+            named = set() if line.startswith("#") else named
+            in_line = re.findall(r"`([^`]+)`", line)
+            named |= CRATES & {each for word in in_line for each in re.findall(r"\w+", word)}
+            for word in in_line:
+                item = re.fullmatch(r"(\w+)::([\w:]+)", word)
+                if item and item[1] in CRATES:
+                    is_right = {*item[2].split("::")} <= words_of(TOP / "crates" / item[1])
+                elif re.fullmatch(r"[\w.+-]+(/[\w.+*-]+)+/?", word) and word not in EXCEPTIONS:
+                    is_right = is_there(page, word, named)
+                elif page.name == "CONTRIBUTING.md" and re.fullmatch(r"\w+", word):
+                    is_right = word in words_of(TOP)
+                else:
+                    continue
+                counts["names"] += 1
+                if not is_right:
+                    yield f"{page.relative_to(TOP)}: `{word}`: nothing has this name"
+
+
 def main():
-    counts = {"files": set(), "commands": set(), "links": 0}
-    faults = [*faults_of_tutorial(counts), *faults_of_links(counts)]
+    counts = {"files": set(), "commands": set(), "links": 0, "names": 0}
+    faults = [*faults_of_tutorial(counts), *faults_of_links(counts), *faults_of_names(counts)]
     for fault in faults:
         print(fault)
     if not faults:
-        print(f"{len(counts['files'])} files and {len(counts['commands'])} commands as written, {counts['links']} links lead somewhere")
+        as_written = f"{len(counts['files'])} files and {len(counts['commands'])} commands as written"
+        print(f"{as_written}, {counts['links']} links lead somewhere, {counts['names']} names are there")
     return int(bool(faults))
 
 
