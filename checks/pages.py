@@ -9,9 +9,10 @@ Expect   `N files and M commands as written, L links lead somewhere, W names are
          since that is where the reader takes it from. A link within the repository leads to a file or a folder, and one with a `#` to a heading
          of it. A path in backquotes leads somewhere, from the top, from the page, from `crates` or from a crate's folder; where the section
          has named crates before, from one of these. Of `crate::item` the crate has the item, and each other word in backquotes of CONTRIBUTING
-         comes up in some file.
+         comes up in some file. README's table has the layers of crates.txt, and docs/layers.md names each crate.
 Else     a line for each fault, and status 1."""
 import functools
+import itertools
 import re
 import subprocess
 import sys
@@ -174,9 +175,29 @@ def faults_of_names(counts):
                     yield f"{page.relative_to(TOP)}: `{word}`: nothing has this name"
 
 
+# ---- layers
+
+def layers():
+    """The layers of crates.txt, each with its crates, from below to above."""
+    for text in (TOP / "crates.txt").read_text().split("# ---- ")[1:]:
+        heading, *lines = text.splitlines()
+        yield heading.split(":")[0], [line.split(":")[0] for line in lines if re.match(r"\w+:", line)]
+
+
+def faults_of_layers():
+    """README's table has the layers of crates.txt, in their order and with their ends, and docs/layers.md names each crate."""
+    table = re.findall(r"^\| ([\w ]+) \| `(\w+)`[^|]*?(?:`([\w.]+)`)? \|", (TOP / "README.md").read_text(), re.M)
+    written = [(layer, first, last) for layer, first, last in table if layer != "Uses and tests"]
+    wanted = [(layer, crates[0], crates[-1]) for layer, crates in layers() if layer != "Uses and tests"]
+    yield from (f"README.md: {one} where crates.txt has {other}" for one, other in itertools.zip_longest(written, wanted) if one != other)
+    text = re.sub(r"^```.*?^```", "", (TOP / "docs" / "layers.md").read_text(), flags=re.M | re.S)
+    named = {*re.findall(r"\w+", " ".join(re.findall(r"`([^`]+)`", text)))}
+    yield from (f"docs/layers.md: `{crate}` isn't named" for _, crates in layers() for crate in crates if crate not in named)
+
+
 def main():
     counts = {"files": set(), "commands": set(), "links": 0, "names": 0}
-    faults = [*faults_of_tutorial(counts), *faults_of_links(counts), *faults_of_names(counts)]
+    faults = [*faults_of_tutorial(counts), *faults_of_links(counts), *faults_of_names(counts), *faults_of_layers()]
     for fault in faults:
         print(fault)
     if not faults:
