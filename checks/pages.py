@@ -9,11 +9,13 @@ Expect   `N files and M commands as written, L links lead somewhere, W names are
          since that is where the reader takes it from. A link within the repository leads to a file or a folder, and one with a `#` to a heading
          of it. A path in backquotes leads somewhere, from the top, from the page, from `crates` or from a crate's folder; where the section
          has named crates before, from one of these. Of `crate::item` the crate has the item, and each other word in backquotes of CONTRIBUTING
-         comes up in some file. README's table has the layers of crates.txt, and docs/layers.md names each crate.
+         comes up in some file. README's table has the layers of crates.txt, and docs/layers.md names each crate. The
+         toolchain's line is that of `rt version`, where `rt` is there.
 Else     a line for each fault, and status 1."""
 import functools
 import itertools
 import re
+import shutil
 import subprocess
 import sys
 from pathlib import Path
@@ -195,9 +197,21 @@ def faults_of_layers():
     yield from (f"docs/layers.md: `{crate}` isn't named" for _, crates in layers() for crate in crates if crate not in named)
 
 
+# ---- the toolchain
+
+def faults_of_toolchain():
+    """The toolchain's line is the same in `marlowe --version`, in README and, where `rt` is there, by `rt version`."""
+    written = re.search(r'VERSION: &str = "[\d.]+ \((.*)\)"', (TOP / "crates" / "marlowe_usage" / "src" / "commands.rt").read_text())[1]
+    if f"`{written}`" not in (TOP / "README.md").read_text():
+        yield f"README.md: the toolchain isn't told as `{written}`"
+    if shutil.which("rt"):
+        told = subprocess.run(["rt", "version"], capture_output=True, text=True, check=True).stdout.strip()
+        yield from () if told == written else [f"crates/marlowe_usage/src/commands.rt: {written} where `rt version` prints {told}"]
+
+
 def main():
     counts = {"files": set(), "commands": set(), "links": 0, "names": 0}
-    faults = [*faults_of_tutorial(counts), *faults_of_links(counts), *faults_of_names(counts), *faults_of_layers()]
+    faults = [*faults_of_tutorial(counts), *faults_of_links(counts), *faults_of_names(counts), *faults_of_layers(), *faults_of_toolchain()]
     for fault in faults:
         print(fault)
     if not faults:

@@ -22,12 +22,15 @@ pub fn command_line<'a>(alloc: Global) -> Result<Command<'a>, AllocError>
         .made()
 }
 
+// The program's own version, and behind it the toolchain's line, with the logic in which what it stands on is proved.
+const VERSION: &str = "0.1.0 (rattle-kit-13f logic dac8208d650f15bf)";
+
 // The program without its commands.
 fn program<'a>(alloc: Global) -> Draft<'a>
     ensures { IsDraft program result }
 {
     let program = Command::new(alloc, "marlowe")
-        .version("0.1.0")
+        .version(VERSION)
         .about("Says what a Marlowe contract pays, and to whom, before money moves.")
         .subcommand_required(true)
         .arg_required_else_help(true);
@@ -64,9 +67,12 @@ fn run_command<'a>(alloc: Global) -> Draft<'a>
     ensures { IsDraft (command (codes "run") run_rules) result }
 {
     let about = "Computes one transaction and prints its outcome as JSON.";
+    let after_help =
+        "Status 0: the outcome is printed. 1: a text or the transaction is refused. 2: a file or these words are at fault.\n\nExample:\n  marlowe run contract.json state.json transaction.json";
     let state = "The state: accounts, choices, boundValues and minTime";
     let transaction = "The transaction: tx_interval and tx_inputs";
     Draft::new(alloc, "run", about)
+        .after_help(after_help)
         .with(contract(alloc))
         .with(given(alloc, "STATE", state))
         .with(given(alloc, "TX", transaction))
@@ -79,7 +85,7 @@ fn trace_command<'a>(alloc: Global) -> Draft<'a>
 {
     let about = "Computes transactions one after another and prints the outcome of each as JSON.";
     let after_help =
-        "Each starts in the contract and the state in which the one before it ended. The first that is refused ends the\ntrace: its number and its fault are on standard error, and the status is 1.";
+        "Each starts in the contract and the state in which the one before it ended. The first that is refused ends the\ntrace: its number and its fault are on standard error.\n\nStatus 0: all are accepted. 1: a text or a transaction is refused. 2: a file or these words are at fault.\n\nExample:\n  marlowe trace contract.json first.json then.json --last";
     let transactions = "Transactions: one, a list of them, or one on each line";
     let state = "The state from which they start; without it no accounts and time 0";
     let last = "Prints the last outcome alone";
@@ -98,7 +104,7 @@ fn next_command<'a>(alloc: Global) -> Draft<'a>
 {
     let about = "Prints the inputs that a contract takes next, and until when it waits for one.";
     let after_help =
-        "A time is a number of milliseconds since 1970 began. Without --from it is the state's minimum time, and without\n--to it is --from. What is printed is described in docs/formats.md.";
+        "A time is a number of milliseconds since 1970 began. Without --from it is the state's minimum time, and without\n--to it is --from. What is printed is described in docs/formats.md.\n\nStatus 0: it is printed. 1: a text, a transaction or the interval is refused. 2: a file or these words are at fault.\n\nExample:\n  marlowe next contract.json state.json --from 1735689600000";
     let state = "The state in which it is; without it no accounts and time 0";
     let from = "The first millisecond of the next transaction's interval";
     let to = "The last millisecond of that interval";
@@ -120,7 +126,10 @@ fn table_command<'a>(alloc: Global) -> Draft<'a>
     ensures { IsDraft (command (codes "table") table_rules) result }
 {
     let about = "Compiles a contract and prints its table, a line for each node.";
+    let after_help =
+        "Status 0: the table is printed. 1: the contract is refused. 2: a file or these words are at fault.\n\nExample:\n  marlowe table contract.json";
     Draft::new(alloc, "table", about)
+        .after_help(after_help)
         .with(contract(alloc))
         .with(explain(alloc))
 }
@@ -131,7 +140,7 @@ fn analyse_command<'a>(alloc: Global) -> Draft<'a>
     let about =
         "Says which warnings a contract can give, in any run, and what each party can be paid.";
     let after_help =
-        "An alarm has its kind, its place in the contract's text, and a run that ends in it, a transaction a line, or\n`not known`. Status 0: it never warns and stays within 128 bits; 3: there is an alarm. What is promised, and\nwhat `not known` means, is described in docs/analysis.md.";
+        "An alarm has its kind, its place in the contract's text, and a run that ends in it, a transaction a line, or\n`not known`. What is promised, and what `not known` means, is described in docs/analysis.md.\n\nStatus 0: it never warns and stays within 128 bits. 3: there is an alarm. 1: a text is refused. 2: a file or\nthese words are at fault.\n\nExample:\n  marlowe analyse contract.json --no-runs";
     let state = "The state from which it starts; without it no accounts and time 0";
     let json = "Prints JSON, for tools";
     let no_runs = "Looks for no runs, which takes most of the time where none is found";
@@ -152,7 +161,7 @@ fn play_command<'a>(alloc: Global) -> Draft<'a>
 {
     let about = "Plays a scenario and prints a line for each call that was answered.";
     let after_help =
-        "A scenario says what a ledger begins with, which contracts are published and started on it,\nand what each party means to do there. Its form is described in docs/formats.md.";
+        "A scenario says what a ledger begins with, which contracts are published and started on it,\nand what each party means to do there. Its form is described in docs/formats.md.\n\nStatus 0: it was played to its end. 1: the scenario or its setup is refused. 2: a file or these words are at fault.\n\nExample:\n  marlowe play scenario.json --one";
     let scenario = "The scenario, as a JSON file";
     let one = "Plays the plans one after another, so that the text is always the same";
     let explain =
