@@ -6,7 +6,8 @@ use Rattle.marlowe_usage.proofs.commands.run_command.Goals as goal
 pub returns : goal.returns
 returns c =
     let none = new_app (codes "run") in
-    let with_one = c.with.ensures none (given (codes "CONTRACT")) c.new.ensures c.contract.ensures in
+    let start = c.after_help.ensures none c.new.ensures in
+    let with_one = c.with.ensures none (given (codes "CONTRACT")) start c.contract.ensures in
     let one = with_rule none (given (codes "CONTRACT")) in
     let with_two = c.with-2.ensures one (given (codes "STATE")) with_one c.given.ensures in
     let two = with_rule one (given (codes "STATE")) in
