@@ -1,0 +1,244 @@
+-- A walk over a contract, step by step: what is known, and which floors are kept from there on.
+use Rattle.std.proofs.Common.{◌≡◌, ℕ, zero, suc, ◌+◌, ◌<◌, ◌≤◌, ℤ, pos, neg_ℤ, ◌+ℤ◌, ◌≤ℤ◌, cond, List, [], ◌∷◌, ◌++◌, map, take, length, refl, sym, subst, ◌∙◌, Option, Some, None, IfSome, arith, below_more}
+use Rattle.std.proofs.lemmas.Int.{ints}
+use Rattle.std.proofs.Math.ListN.{get_or}
+use Rattle.std.specs.List.{AllByRecursion}
+use Rattle.std.specs.Option.{IsSomeAnd}
+use Rattle.names.specs.declared.account.Account.{Account}
+use Rattle.names.specs.declared.party.Party.{Party}
+use Rattle.names.specs.declared.payee.Payee.{Payee}
+use Rattle.names.specs.declared.token.Token.{Token}
+use Rattle.contract.specs.declared.payment.Payment.{Payment}
+use Rattle.contract.specs.declared.tree.Case.{Case}
+use Rattle.contract.specs.Tree.{ValueTree, ObservationTree, ActionTree, ContractTree, CaseTrees, close, pay, if_obs, when, let_be, assert, case_then, action_tree, contract_tree, case_tree, case_trees}
+use Rattle.contract.proofs.TreeLaws.{case_tree-parts}
+use Rattle.states.specs.States.{StateMaps, counted}
+use Rattle.evaluation.specs.Evaluation.{eval, visited, looked}
+use Rattle.semantics.specs.Reduction.{binding, account_of}
+use Rattle.semantics.specs.Applying.{taken}
+use Rattle.semantics.specs.Computed.{pay_step, refunds}
+use Rattle.analysis_spec.specs.Runs.{reaches_party, paid_to}
+use Rattle.losses.specs.Losses.{LosesAtMost}
+use Rattle.losses.specs.declared.loss.Loss.{Loss}
+use Rattle.losses.specs.Told.{LoseWithin, OthersLoseNothing}
+use Rattle.analysis_walk.specs.Limits.{Scope, any_runs, Allowed}
+use Rattle.analysis_walk.specs.Conclusions.{PaysSo, BindsSo, AssertsSo, ObservesSo, IsLater, WaitsSo, TimesOutSo, DescribesStart}
+use Rattle.analysis_walk.specs.declared.conclusion.Conclusion.{Conclusion}
+use Rattle.analysis_walk.specs.declared.conclusion.Branches.{Branches}
+use Rattle.analysis_walk.specs.Knowledge.{actions_behind, actions_before}
+use Rattle.analysis_walk.proofs.ListLaws.{all_weaker}
+use Rattle.analysis_walk.proofs.PaidLaws.{total_append}
+use Rattle.analysis_values.specs.Known.{Known, IsDescribed}
+use Rattle.loss_walk.specs.Nets.{Nets, NetsBoundLosses}
+use Rattle.loss_walk.specs.Brings.{TakesOff, Takes}
+use Rattle.loss_walk.specs.Floors.{Rows, IsFloor, Shown, Finds, Nothing, ClosesAbove, IsCovered, AreCovered, CoversIf, CoversCasesIf, CoversEachIf, CoversCase, CoversBehind, CoversIndex, AreFloors, NameAll}
+
+any_allowed : (ns : List ℤ) → AllByRecursion (Allowed any_runs) ns
+any_allowed [] = tt
+any_allowed (n ∷ ns) = (tt, any_allowed ns)
+
+some_known : (P Q : Known → Type 0) (o : Option Known) → IfSome o Q → IsSomeAnd o P → (m : Known) × P m × Q m
+some_known P Q None h k = absurd k
+some_known P Q (Some m) h k = (m, k, h)
+
+paid_append : (a : Account) (ps qs : List Payment) → paid_to a.owner a.token (ps ++ qs) ≡ paid_to a.owner a.token ps +ℤ paid_to a.owner a.token qs
+paid_append a ps qs = total_append (λ (p : Payment). reaches_party a.owner p.to (counted a.token p.token p.amount)) ps qs
+
+-- ---- two steps
+
+pub first_of : (P Q : Shown) (f g h : Rows) → Finds P f g → Finds Q g h → Finds P f h
+first_of P Q f g h one other a n fit = one a n (other a n fit).0
+
+pub both_of : (P Q : Shown) (f g h : Rows) → Finds P f g → Finds Q g h → Finds (λ a n. P a n × Q a n) f h
+both_of P Q f g h one other a n fit =
+    let u = other a n fit in
+    let w = one a n u.0 in
+    (w.0, (w.1, u.1))
+
+pub behind_nothing : (Q : Shown) (f g h : Rows) → Finds Nothing f g → Finds Q g h → Finds Q f h
+behind_nothing Q f g h one other a n fit =
+    let u = other a n fit in
+    ((one a n u.0).0, u.1)
+
+-- ---- a contract
+
+tree_found : (tree c : ContractTree) (k : Known) (f g : Rows) → tree ≡ c → Finds (IsCovered k c) f g → Finds (IsCovered k tree) f g
+tree_found tree c k f g e go = subst (λ (z : ContractTree). Finds (IsCovered k z) f g) (sym e) go
+
+pub close_found : (tree : ContractTree) (k : Known) (f g : Rows) → tree ≡ close → Finds (ClosesAbove k) f g → Finds (IsCovered k tree) f g
+close_found tree k f g e go =
+    tree_found tree close k f g e
+    (λ a n fit. let u = go a n fit in (u.0, λ i s ps d. subst (λ (x : ℤ). n ≤ℤ x) (paid_append a ps (refunds s).payments) (u.1 i s ps d)))
+
+pub pay_found : (tree : ContractTree) (k : Known) (p : Party) (y : Payee) (t : Token) (v : ValueTree) (c : ContractTree) (x : Conclusion Known) (f g : Rows) → tree ≡ pay p y t v c → PaysSo IsDescribed k p y t v x
+    → Finds (CoversIf x.known c) f g → Finds (IsCovered k tree) f g
+pay_found tree k p y t v c x f g e so go =
+    tree_found tree (pay p y t v c) k f g e
+    (λ a n fit.
+    let u = go a n fit in (
+      u.0,
+      λ i s ps d.
+          let r = pay_step s p y t (eval i s v) (visited i s v) c in
+          let m = some_known (λ m. IsDescribed any_runs m i r.state (ps ++ r.payments)) (λ m. IsCovered m c a n) x.known u.1 ((so any_runs i s ps c d).known (any_allowed r.numbers)) in
+          subst (λ (z : ℤ). Nets a.owner a.token n i r.state z c) (paid_append a ps r.payments) (m.2 i r.state (ps ++ r.payments) m.1),
+    ))
+
+pub let_found : (tree : ContractTree) (k : Known) (name : List ℕ) (v : ValueTree) (c : ContractTree) (x : Conclusion Known) (f g : Rows) → tree ≡ let_be name v c → BindsSo IsDescribed k name v x → Finds (CoversIf x.known c) f g
+    → Finds (IsCovered k tree) f g
+let_found tree k name v c x f g e so go =
+    tree_found tree (let_be name v c) k f g e
+    (λ a n fit.
+    let u = go a n fit in (
+      u.0,
+      λ i s ps d.
+          let r = binding s name (eval i s v) (visited i s v) c in
+          let m = some_known (λ m. IsDescribed any_runs m i r.state ps) (λ m. IsCovered m c a n) x.known u.1 ((so any_runs i s ps c d).known (any_allowed r.numbers)) in
+          m.2 i r.state ps m.1,
+    ))
+
+pub assert_found : (tree : ContractTree) (k : Known) (o : ObservationTree) (c : ContractTree) (x : Conclusion Known) (f g : Rows) → tree ≡ assert o c → AssertsSo IsDescribed k o x → Finds (CoversIf x.known c) f g → Finds (IsCovered k tree) f g
+assert_found tree k o c x f g e so go =
+    tree_found tree (assert o c) k f g e
+    (λ a n fit.
+    let u = go a n fit in (
+      u.0,
+      λ i s ps d.
+          let m = some_known (λ m. IsDescribed any_runs m i s ps) (λ m. IsCovered m c a n) x.known u.1 ((so any_runs i s ps c d).known (any_allowed (looked i s o))) in
+          m.2 i s ps m.1,
+    ))
+
+pub if_found : (tree : ContractTree) (k : Known) (o : ObservationTree) (c e : ContractTree) (x : Branches Known) (f g : Rows) → tree ≡ if_obs o c e → ObservesSo IsDescribed k o x
+    → Finds (λ a n. CoversIf x.if_true c a n × CoversIf x.if_false e a n) f g → Finds (IsCovered k tree) f g
+if_found tree k o c e x f g is so go =
+    tree_found tree (if_obs o c e) k f g is
+    (λ a n fit.
+    let u = go a n fit in (
+      u.0,
+      λ i s ps d.
+          let P : Known → Type 0 = λ m. IsDescribed any_runs m i s ps in
+          let w = (so any_runs i s ps d).known (any_allowed (looked i s o)) in (
+            λ q. let m = some_known P (λ m. IsCovered m c a n) x.if_true u.1.0 (subst (λ b. IsSomeAnd (cond b x.if_true x.if_false) P) q w) in m.2 i s ps m.1,
+            λ q. let m = some_known P (λ m. IsCovered m e a n) x.if_false u.1.1 (subst (λ b. IsSomeAnd (cond b x.if_true x.if_false) P) q w) in m.2 i s ps m.1,
+          ),
+    ))
+
+-- ---- a When
+
+when_covered : (a : Account) (n : ℤ) (k l : Known) (ks : CaseTrees) (t : ℤ) (c : ContractTree) (o u : Option Known) → IsLater IsDescribed k l → WaitsSo IsDescribed l t o → TimesOutSo IsDescribed l t u → CoversCasesIf o ks a n → CoversIf u c a n
+    → IsCovered k (when ks t c) a n
+when_covered a n k l ks t c o u later waits out go end i s ps d j now g v =
+    let s2 : StateMaps = record s { min_time = now } in
+    let P : Known → Type 0 = λ m. IsDescribed any_runs m j s2 ps in
+    let known = later any_runs i j s ps now d g v tt in (
+      λ q. let m = some_known P (λ m. AreCovered m [] ks a n) o go (waits any_runs j s2 ps known q) in m.2 j s2 ps m.1,
+      λ q. let m = some_known P (λ m. IsCovered m c a n) u end (out any_runs j s2 ps known q) in m.2 j s2 ps m.1,
+    )
+
+pub when_found : (k l : Known) (ks : CaseTrees) (t : ℤ) (c : ContractTree) (o u : Option Known) (f g h : Rows) → IsLater IsDescribed k l → WaitsSo IsDescribed l t o → TimesOutSo IsDescribed l t u → Finds (CoversIf u c) f g → Finds (CoversCasesIf o ks) g h
+    → Finds (IsCovered k (when ks t c)) f h
+when_found k l ks t c o u f g h later waits out end go a n fit =
+    let y = go a n fit in
+    let x = end a n y.0 in
+    (x.0, when_covered a n k l ks t c o u later waits out y.1 x.1)
+
+-- Close after the timeout, with what is known before it
+pub closed_found : (k l : Known) (ks : CaseTrees) (t : ℤ) (c : ContractTree) (o : Option Known) (f g h : Rows) → IsLater IsDescribed k l → WaitsSo IsDescribed l t o → c ≡ close → Finds (ClosesAbove l) f g → Finds (CoversCasesIf o ks) g h
+    → Finds (IsCovered k (when ks t c)) f h
+closed_found k l ks t c o f g h later waits e end go = when_found k l ks t c o (Some l) f g h later waits (λ scope i s ps d q. d) (close_found c l f g e end) go
+
+-- ---- cases
+
+pub case_found : (k : Known) (earlier : List ActionTree) (case : Case) (o : Option Known) (f g : Rows) → Takes k earlier (action_tree case.action) o → Finds (CoversIf o (contract_tree case.then)) f g → Finds (CoversCase k earlier case) f g
+case_found k earlier case o f g so go a n fit =
+    let u = go a n fit in (
+      u.0,
+      λ rest on i s ps d. (
+        λ x z e.
+            let P : Known → Type 0 = λ m. (qs : List Payment) × IsDescribed any_runs m i (taken s x) qs × TakesOff ps qs x in
+            let m = some_known P (λ m. IsCovered m (contract_tree case.then) a n) o u.1 (so i s ps x d z e) in
+            subst (λ (y : ℤ). Nets a.owner a.token n i (taken s x) y (contract_tree case.then)) (m.1.2 a) (m.2 i (taken s x) m.1.0 m.1.1),
+        on i s ps d,
+      ),
+    )
+
+-- each of these cases, behind earlier ones
+abbrev EachCovered : Account → ℤ → Known → List ActionTree → List Case → Type 0
+EachCovered a n k earlier [] = Unit {0}
+EachCovered a n k earlier (case ∷ cases) = CoversCase k earlier case a n × EachCovered a n k (action_tree case.action ∷ earlier) cases
+
+all_covered : (a : Account) (n : ℤ) (k : Known) (earlier : List ActionTree) (cases : List Case) → EachCovered a n k earlier cases → AreCovered k earlier (case_trees (map case_tree cases)) a n
+all_covered a n k earlier [] h = λ i s ps d. tt
+all_covered a n k earlier (case ∷ cases) h =
+    subst (λ (z : ActionTree × ContractTree). AreCovered k earlier (case_then z.0 z.1 (case_trees (map case_tree cases))) a n) (sym (case_tree-parts case))
+    (h.0 (case_trees (map case_tree cases)) (all_covered a n k (action_tree case.action ∷ earlier) cases h.1))
+
+each_covered : (a : Account) (n : ℤ) (k : Known) (earlier : List ActionTree) (ks : List Case) → ((j : ℕ) (case : Case) → j < length ks → case ≡ get_or ks j case → CoversCase k (actions_behind earlier (take j ks)) case a n)
+    → EachCovered a n k earlier ks
+each_covered a n k earlier [] h = tt
+each_covered a n k earlier (x ∷ ks) h = (h 0 x (omega arith) refl, each_covered a n k (action_tree x.action ∷ earlier) ks (λ j case l e. h (suc j) case (omega arith) e))
+
+-- the cases at indexes below i are covered
+abbrev pub CoverBelow : Known → List Case → ℕ → Rows → Rows → Type 0
+CoverBelow k cases i start now = Finds (λ a n. (j : ℕ) → j < i → CoversIndex k cases j a n) start now
+
+pub none_below : (k : Known) (cases : List Case) (rows : Rows) → CoverBelow k cases 0 rows rows
+none_below k cases rows a n h = (h, λ j l. absurd (omega (arith, l)))
+
+pub one_below : (k : Known) (cases : List Case) (i : ℕ) (start now next : Rows) → CoverBelow k cases i start now → Finds (CoversIndex k cases i) now next → CoverBelow k cases (i + 1) start next
+one_below k cases i start now next below at a n h =
+    let u = at a n h in
+    let w = below a n u.0 in
+    (w.0, below_more (λ j. CoversIndex k cases j a n) i w.1 u.1)
+
+pub all_below : (k : Known) (o : Option Known) (cases : List Case) (i : ℕ) (start now : Rows) → o ≡ Some k → length cases ≤ i → CoverBelow k cases i start now → Finds (CoversEachIf o cases) start now
+all_below k o cases i start now e l below =
+    subst (λ (x : Option Known). Finds (CoversEachIf x cases) start now) (sym e)
+    (λ a n h. let w = below a n h in (w.0, all_covered a n k [] cases (each_covered a n k [] cases (λ j case b is. w.1 j (omega (arith, b, l)) case is))))
+
+same_case : (ks : List Case) (i : ℕ) (c d : Case) → i < length ks → c ≡ get_or ks i c → d ≡ get_or ks i d → c ≡ d
+same_case [] i c d l e q = absurd (omega arith)
+same_case (x ∷ ks) zero c d l e q = e ∙ sym q
+same_case (x ∷ ks) (suc i) c d l e q = same_case ks i c d (omega arith) e q
+
+pub at_index : (k : Known) (cases : List Case) (i : ℕ) (case : Case) (f g : Rows) → i < length cases → case ≡ get_or cases i case → Finds (CoversBehind k (take i cases) case) f g → Finds (CoversIndex k cases i) f g
+at_index k cases i case f g l is at a n h =
+    let u = at a n h in
+    (u.0, λ other o. subst (λ (x : Case). CoversCase k (actions_before (take i cases)) x a n) (same_case cases i case other l is o) u.1)
+
+-- ---- where something is known
+
+pub none_known : {K : Type 0} (o : Option K) → ((m : K) → o ≡ Some m → ⊥) → o ≡ None
+none_known None h = refl
+none_known (Some m) h = absurd (h m refl)
+
+pub known_found : (k : Known) (o : Option Known) (c : ContractTree) (f g : Rows) → o ≡ Some k → Finds (IsCovered k c) f g → Finds (CoversIf o c) f g
+known_found k o c f g e go = subst (λ (x : Option Known). Finds (CoversIf x c) f g) (sym e) go
+
+pub none_found : (o : Option Known) (c : ContractTree) (f : Rows) → o ≡ None → Finds (CoversIf o c) f f
+none_found o c f e = subst (λ (x : Option Known). Finds (CoversIf x c) f f) (sym e) (λ a n h. (h, tt))
+
+pub no_cases_found : (o : Option Known) (cases : List Case) (f : Rows) → o ≡ None → Finds (CoversEachIf o cases) f f
+no_cases_found o cases f e = subst (λ (x : Option Known). Finds (CoversEachIf x cases) f f) (sym e) (λ a n h. (h, tt))
+
+-- ---- all
+
+module _ (k : Known) (s : StateMaps) (c : ContractTree) (none rows : Rows) (start : (scope : Scope) → DescribesStart IsDescribed scope k s) (walked : Finds (IsCovered k c) none rows) (law : NetsBoundLosses) where
+  loses : (p : Party) (t : Token) (n : ℤ) → IsFloor rows (account_of p t) n → LosesAtMost p t (neg_ℤ n) s c
+  loses p t n h = law p t n s c (λ i g v. (walked (account_of p t) n h).1 i (record s { min_time = i.from }) [] (start any_runs i g v tt))
+
+  turned_back : (n : ℤ) → neg_ℤ (neg_ℤ n) ≡ n
+  turned_back n = omega (arith, ints)
+
+  most : (p : Party) (t : Token) (o : Option ℤ) → IfSome o (λ n. IsFloor rows (account_of p t) (neg_ℤ n)) → IfSome o (λ n. LosesAtMost p t n s c)
+  most p t None h = tt
+  most p t (Some n) h = subst (λ (m : ℤ). LosesAtMost p t m s c) (turned_back n) (loses p t (neg_ℤ n) h)
+
+  pub lose_within : (losses : List Loss) → AreFloors rows losses → LoseWithin losses s c
+  lose_within losses h =
+      all_weaker (λ (l : Loss). IfSome l.most (λ n. IsFloor rows (account_of l.party l.token) (neg_ℤ n))) (λ (l : Loss). IfSome l.most (λ n. LosesAtMost l.party l.token n s c)) (λ l f. most l.party l.token l.most f) losses h
+
+  no_loss : neg_ℤ (pos 0) ≡ pos 0
+  no_loss = omega (arith, ints)
+
+  pub others_lose_nothing : (losses : List Loss) → NameAll rows losses → OthersLoseNothing losses s c
+  others_lose_nothing losses h p t u = subst (λ (m : ℤ). LosesAtMost p t m s c) no_loss (loses p t (pos 0) (h p t u))

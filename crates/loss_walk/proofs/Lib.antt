@@ -1,0 +1,5 @@
+mod NetLemmas
+mod BringLemmas
+mod FloorLemmas
+mod CoverLemmas
+mod NodesLemmas

@@ -1,0 +1,9 @@
+use Rattle.std.proofs.lemmas.Result.{on_ok_weaker}
+use Rattle.loss_walk.proofs.BringLemmas.{takes_held}
+use Rattle.loss_walk.proofs.brings.take_held.Goals as goal
+
+pub returns : goal.returns
+returns c =
+    on_ok_weaker c.set_paid.result
+    (λ h. takes_held c.args.known.now c.difference.new.known c.set_paid.new.self c.args.party.now c.args.owner.now c.args.token.now c.in_ok-before.before c.in_ok-held.held c.in_ok-total.total c.in_ok-before.ensures c.in_ok-held.ensures
+    c.in_ok-total.ensures.symbols c.difference.ensures.view h) c.set_paid.ensures

@@ -1,0 +1,125 @@
+-- Floors that a walk finds: they hold of whichever floors are no higher than those that are found.
+use Rattle.std.specs.Prelude.{◌≡◌, take, get_or, ℕ, ℤ, pos, neg_ℤ, ◌≤ℤ◌, List, [], ◌∷◌, ◌++◌, map, Option, Some, None, IfSome}
+use Rattle.std.specs.List.{AllByRecursion}
+use Rattle.std.specs.Option.{IsSomeAnd}
+use Rattle.std.specs.FinMap.Entries.{find}
+use Rattle.names.specs.declared.account.Account.{Account}
+use Rattle.names.specs.declared.party.Party.{Party}
+use Rattle.names.specs.declared.token.Token.{Token}
+use Rattle.names.specs.Orders.{account_cmp}
+use Rattle.contract.specs.declared.interval.Interval.{Interval}
+use Rattle.contract.specs.declared.payment.Payment.{Payment}
+use Rattle.contract.specs.declared.tree.Case.{Case}
+use Rattle.contract.specs.declared.tree.Contract.{Contract}
+use Rattle.contract.specs.Tree.{ActionTree, ContractTree, when, CaseTrees, case_then, action_tree, case_tree, case_trees, contract_tree}
+use Rattle.states.specs.States.{StateMaps}
+use Rattle.semantics.specs.Reduction.{account_of}
+use Rattle.semantics.specs.Computed.{refunds}
+use Rattle.analysis_spec.specs.Runs.{paid_to}
+use Rattle.losses.specs.declared.loss.Loss.{Loss}
+use Rattle.losses.specs.Told.{IsUnnamed}
+use Rattle.analysis_walk.specs.Limits.{any_runs}
+use Rattle.analysis_walk.specs.Knowledge.{actions_before}
+use Rattle.analysis_values.specs.Known.{Known, IsDescribed}
+use Rattle.loss_walk.specs.declared.floor.Floor.{Floor}
+use Rattle.loss_walk.specs.Nets.{Nets, NetsCases}
+
+abbrev pub Rows : Type 0
+Rows = List (Account × Floor)
+
+-- a number is no more than a bound, which is known
+abbrev pub IsUnder : Option ℤ → ℤ → Type 0
+IsUnder o n = IsSomeAnd o (λ m. n ≤ℤ m)
+
+-- without a row the floor is 0
+abbrev pub least_of : Option Floor → Option ℤ
+least_of None = Some (pos 0)
+least_of (Some f) = f.least
+
+-- a number is a floor for an account: no more than 0, and no more than what its row has
+abbrev pub IsFloor : Rows → Account → ℤ → Type 0
+IsFloor rows a n = (n ≤ℤ pos 0) × IsUnder (least_of (find account_cmp a rows)) n
+
+-- what holds of an account and a floor
+abbrev pub Shown : Type 1
+Shown = Account → ℤ → Type 0
+
+-- more is found, and with it something is shown
+abbrev pub Finds : Shown → Rows → Rows → Type 0
+Finds Shows old new = (a : Account) (n : ℤ) → IsFloor new a n → IsFloor old a n × Shows a n
+
+-- ---- what is shown
+
+-- nothing more
+abbrev pub Nothing : Shown
+Nothing a n = Unit {0}
+
+-- where the contract is closed, no less was paid in all
+abbrev pub ClosesAbove : Known → Shown
+ClosesAbove k a n = (i : Interval) (s : StateMaps) (ps : List Payment) → IsDescribed any_runs k i s ps → n ≤ℤ paid_to a.owner a.token (ps ++ (refunds s).payments)
+
+-- .. of one account, and of each of these
+abbrev pub Lowers : Known → Account → Shown
+Lowers k x a n = a ≡ x → ClosesAbove k a n
+
+abbrev pub LowersAll : Known → List Account → Shown
+LowersAll k xs a n = AllByRecursion (λ x. Lowers k x a n) xs
+
+-- a contract keeps the floor, from what is known
+abbrev pub IsCovered : Known → ContractTree → Shown
+IsCovered k c a n = (i : Interval) (s : StateMaps) (ps : List Payment) → IsDescribed any_runs k i s ps → Nets a.owner a.token n i s (paid_to a.owner a.token ps) c
+
+abbrev pub AreCovered : Known → List ActionTree → CaseTrees → Shown
+AreCovered k earlier ks a n = (i : Interval) (s : StateMaps) (ps : List Payment) → IsDescribed any_runs k i s ps → NetsCases a.owner a.token n i s (paid_to a.owner a.token ps) earlier ks
+
+-- .. where something is known
+abbrev pub CoversIf : Option Known → ContractTree → Shown
+CoversIf o c a n = IfSome o (λ k. IsCovered k c a n)
+
+abbrev pub CoversNext : Option Known → Contract → Shown
+CoversNext o c = CoversIf o (contract_tree c)
+
+abbrev pub CoversBoth : Option Known → Contract → Option Known → Contract → Shown
+CoversBoth o c p d a n = CoversNext o c a n × CoversNext p d a n
+
+-- a When, and its cases where something is known
+abbrev pub CoversWhen : Known → List Case → ℤ → Contract → Shown
+CoversWhen k cases timeout then = IsCovered k (when (case_trees (map case_tree cases)) timeout (contract_tree then))
+
+abbrev pub CoversCasesIf : Option Known → CaseTrees → Shown
+CoversCasesIf o ks a n = IfSome o (λ k. AreCovered k [] ks a n)
+
+abbrev pub CoversEachIf : Option Known → List Case → Shown
+CoversEachIf o cases = CoversCasesIf o (case_trees (map case_tree cases))
+
+-- a case behind others, before whichever others
+abbrev pub CoversCase : Known → List ActionTree → Case → Shown
+CoversCase k earlier case a n =
+    (rest : CaseTrees) → AreCovered k (action_tree case.action ∷ earlier) rest a n → AreCovered k earlier (case_then (action_tree case.action) (contract_tree case.then) rest) a n
+
+abbrev pub CoversBehind : Known → List Case → Case → Shown
+CoversBehind k earlier case = CoversCase k (actions_before earlier) case
+
+-- the case at an index
+abbrev pub CoversIndex : Known → List Case → ℕ → Shown
+CoversIndex k cases i a n = (case : Case) → case ≡ get_or cases i case → CoversCase k (actions_before (take i cases)) case a n
+
+-- ---- what is told
+
+-- a loss for a floor
+abbrev pub IsTurned : Option ℤ → ℤ → Type 0
+IsTurned least n = (pos 0 ≤ℤ n) × IsUnder least (neg_ℤ n)
+
+-- each loss that is told is one for a floor
+abbrev pub AreFloors : Rows → List Loss → Type 0
+AreFloors rows losses = AllByRecursion (λ (l : Loss). IfSome l.most (λ n. IsFloor rows (account_of l.party l.token) (neg_ℤ n))) losses
+
+-- the row of an account is told, unless it has no loss
+pub record Tells (rows : Rows) (x : Account) (old new : List Loss) : Type 0 where
+  pub kept : (p : Party) (t : Token) → IsUnnamed new p t → IsUnnamed old p t
+  pub named : IsUnnamed new x.owner x.token → IsUnder (least_of (find account_cmp x rows)) (pos 0)
+  pub floors : AreFloors rows old → AreFloors rows new
+
+-- who isn't named has a floor of 0
+abbrev pub NameAll : Rows → List Loss → Type 0
+NameAll rows losses = (p : Party) (t : Token) → IsUnnamed losses p t → IsFloor rows (account_of p t) (pos 0)

@@ -1,0 +1,3 @@
+pub mod Nets
+pub mod Brings
+pub mod Floors

@@ -1,0 +1,77 @@
+//! Floors of all parties and tokens, as far as a walk has come.
+ghost use Rattle.std.specs.Prelude.{OnOk};
+ghost use Rattle.loss_walk.specs.Floors.{Finds, Nothing, ClosesAbove, LowersAll, Lowers};
+
+use crate::floor::{Floor, lowered, noted};
+use analysis_steps::close;
+use analysis_values::Known;
+use collections::{Entries, Memory, TryClone};
+use contract::Action;
+use names::Account;
+
+/// One more close: what each party was paid there, less what it brought.
+pub(crate) fn put_close(rows: &mut Entries<Account, Floor>, known: &Known) -> Result<(), Memory>
+    ensures { OnOk result (Finds (ClosesAbove known.now) rows.old rows.new) }
+{
+    let names = known.named()?;
+    put_all(rows, known, names.as_slice())?;
+    Ok(())
+}
+
+// .. of the owners of these accounts.
+fn put_all(
+    rows: &mut Entries<Account, Floor>,
+    known: &Known,
+    names: &[Account],
+) -> Result<(), Memory>
+    ensures { OnOk result (Finds (LowersAll known.now names.now) rows.old rows.new) }
+{
+    for account in names {
+        put_one(rows, known, account)?;
+    }
+    Ok(())
+}
+
+fn put_one(
+    rows: &mut Entries<Account, Floor>,
+    known: &Known,
+    account: &Account,
+) -> Result<(), Memory>
+    ensures { OnOk result (Finds (Lowers known.now account.now) rows.old rows.new) }
+{
+    let span = close(known, account)?;
+    let row = rows.get(account);
+    rows.set(account, lowered(row, span.least))?;
+    Ok(())
+}
+
+/// Notes who brings something by an action, if it can come.
+pub(crate) fn note(
+    rows: &mut Entries<Account, Floor>,
+    action: &Action,
+    comes: bool,
+) -> Result<(), Memory>
+    ensures { OnOk result (Finds Nothing rows.old rows.new) }
+{
+    if !comes {
+        return Ok(());
+    }
+    match action {
+        Action::Deposit(_, payer, token, _) => {
+            let account = Account {
+                owner: payer.try_clone()?,
+                token: token.try_clone()?,
+            };
+            note_one(rows, &account)
+        }
+        _ => Ok(()),
+    }
+}
+
+fn note_one(rows: &mut Entries<Account, Floor>, account: &Account) -> Result<(), Memory>
+    ensures { OnOk result (Finds Nothing rows.old rows.new) }
+{
+    let row = rows.get(account);
+    rows.set(account, noted(row))?;
+    Ok(())
+}

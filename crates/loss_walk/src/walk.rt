@@ -1,0 +1,183 @@
+//! The walk over a contract.
+ghost use Rattle.std.specs.Prelude.{◌≡◌, ◌<◌, length, true, OnOk};
+ghost use Rattle.contract.specs.Tree.{contract_tree, close};
+ghost use Rattle.loss_walk.specs.Floors.{Finds, IsCovered, CoversNext, CoversBoth, CoversWhen, CoversEachIf, CoversIndex, CoversBehind};
+
+use crate::brings::take_action;
+use crate::floor::Floor;
+use crate::rows::{note, put_close};
+use analysis_steps::{assert, bind, branch, later, pay, time_out, wait};
+use analysis_values::Known;
+use analysis_walk::{Branches, Conclusion};
+use collections::{Entries, Memory, TryClone};
+use contract::{Case, Contract};
+use names::Account;
+use std::alloc::Global;
+
+// Whether a contract is Close.
+fn is_closed(contract: &Contract) -> bool
+    ensures { result ≡ true → contract_tree contract.now ≡ close }
+{
+    matches!(contract, Contract::Close)
+}
+
+/// Finds floors for what parties are paid, less what they bring, wherever a contract is closed, from what is known.
+#[cycle(walk)]
+pub(crate) fn walk(
+    alloc: Global,
+    known: Known,
+    contract: &Contract,
+    rows: &mut Entries<Account, Floor>,
+) -> Result<(), Memory>
+    ensures { OnOk result (Finds (IsCovered known (contract_tree contract.now)) rows.old rows.new) }
+{
+    match contract {
+        Contract::Close => {
+            put_close(rows, &known)?;
+            Ok(())
+        }
+        Contract::Pay(from, to, token, amount, then) => {
+            let Conclusion { kinds: _, known } = pay(alloc, known, from, to, token, amount)?;
+            go_on(alloc, known, then.get(), rows)?;
+            Ok(())
+        }
+        Contract::If(observation, then, otherwise) => {
+            let Branches {
+                kinds: _,
+                if_true,
+                if_false,
+            } = branch(alloc, &known, observation)?;
+            walk_both(alloc, if_true, then.get(), if_false, otherwise.get(), rows)?;
+            Ok(())
+        }
+        Contract::When(cases, timeout, then) => {
+            walk_when(alloc, known, cases.as_slice(), *timeout, then.get(), rows)?;
+            Ok(())
+        }
+        Contract::Let(name, value, then) => {
+            let Conclusion { kinds: _, known } = bind(alloc, known, name, value)?;
+            go_on(alloc, known, then.get(), rows)?;
+            Ok(())
+        }
+        Contract::Assert(observation, then) => {
+            let Conclusion { kinds: _, known } = assert(alloc, known, observation)?;
+            go_on(alloc, known, then.get(), rows)?;
+            Ok(())
+        }
+    }
+}
+
+// Walks on, where something is known.
+#[cycle(walk)]
+fn go_on(
+    alloc: Global,
+    known: Option<Known>,
+    contract: &Contract,
+    rows: &mut Entries<Account, Floor>,
+) -> Result<(), Memory>
+    ensures { OnOk result (Finds (CoversNext known contract.now) rows.old rows.new) }
+{
+    let Some(there) = known else {
+        return Ok(());
+    };
+    walk(alloc, there, contract, rows)?;
+    Ok(())
+}
+
+// Walks both branches of an If.
+#[cycle(walk)]
+fn walk_both(
+    alloc: Global,
+    if_true: Option<Known>,
+    then: &Contract,
+    if_false: Option<Known>,
+    otherwise: &Contract,
+    rows: &mut Entries<Account, Floor>,
+) -> Result<(), Memory>
+    ensures { OnOk result (Finds (CoversBoth if_true then.now if_false otherwise.now) rows.old rows.new) }
+{
+    go_on(alloc, if_true, then, rows)?;
+    go_on(alloc, if_false, otherwise, rows)?;
+    Ok(())
+}
+
+// Walks the cases of a When and what it goes on with from its timeout on. Where that is Close, it is closed with all that
+// is known before, so that nothing is copied.
+#[cycle(walk)]
+fn walk_when(
+    alloc: Global,
+    known: Known,
+    cases: &[Case],
+    timeout: i64,
+    then: &Contract,
+    rows: &mut Entries<Account, Floor>,
+) -> Result<(), Memory>
+    ensures { OnOk result (Finds (CoversWhen known cases.now timeout then.now) rows.old rows.new) }
+{
+    let known = later(known)?;
+    if is_closed(then) {
+        put_close(rows, &known)?;
+        let waiting = wait(alloc, known, timeout)?;
+        walk_cases(alloc, waiting, cases, rows)?;
+        Ok(())
+    } else {
+        let over = time_out(alloc, known.try_clone()?, timeout)?;
+        go_on(alloc, over, then, rows)?;
+        let waiting = wait(alloc, known, timeout)?;
+        walk_cases(alloc, waiting, cases, rows)?;
+        Ok(())
+    }
+}
+
+// Walks the cases of a When, where something is known.
+#[cycle(walk)]
+fn walk_cases(
+    alloc: Global,
+    known: Option<Known>,
+    cases: &[Case],
+    rows: &mut Entries<Account, Floor>,
+) -> Result<(), Memory>
+    ensures { OnOk result (Finds (CoversEachIf known cases.now) rows.old rows.new) }
+{
+    let Some(each) = known else {
+        return Ok(());
+    };
+    for index in 0..cases.len() {
+        walk_copied(alloc, &each, cases, index, rows)?;
+    }
+    Ok(())
+}
+
+// Walks a case of a When with a copy of what is known.
+#[cycle(walk)]
+fn walk_copied(
+    alloc: Global,
+    known: &Known,
+    cases: &[Case],
+    index: usize,
+    rows: &mut Entries<Account, Floor>,
+) -> Result<(), Memory>
+    requires { index < length cases.now }
+    ensures { OnOk result (Finds (CoversIndex known.now cases.now index) rows.old rows.new) }
+{
+    let copy = known.try_clone()?;
+    walk_case(alloc, copy, &cases[..index], &cases[index], rows)?;
+    Ok(())
+}
+
+// Walks a case of a When behind others.
+#[cycle(walk)]
+fn walk_case(
+    alloc: Global,
+    known: Known,
+    earlier: &[Case],
+    case: &Case,
+    rows: &mut Entries<Account, Floor>,
+) -> Result<(), Memory>
+    ensures { OnOk result (Finds (CoversBehind known earlier.now case.now) rows.old rows.new) }
+{
+    let there = take_action(alloc, known, earlier, &case.action)?;
+    note(rows, &case.action, there.is_some())?;
+    go_on(alloc, there, &case.then, rows)?;
+    Ok(())
+}
