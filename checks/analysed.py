@@ -517,6 +517,8 @@ def analysis_of(program, contract, state):
     if not closes(contract, state) and any(it["least"] is not None for it in told["ranges"]):
         raise Difference("a least is told of a contract that nothing closes")
     time = None if "Leaves128" in {it["kind"] for it in told["alarms"]} else max(all_timeouts(contract), default=state["minTime"])
+    if (told["down"] is None) != (time is None):
+        raise Difference("what parties can lose is told, or not, whatever leaves 128 bits")
     if told["out_from"] != time:
         raise Difference(f"all can be taken out from {time} on, and not from {told['out_from']}")
     return told
@@ -552,7 +554,8 @@ def play(program, chance, contract, state, told, count):
     kinds, alarms, at = {it["kind"] for it in told["alarms"]}, {(it["kind"], tuple(it["place"])) for it in told["alarms"]}, []
     unreached = {tuple(it) for it in told.get("unreached", [])}
     bounds = {(party(it["party"]), token(it["token"])): (whole(it["least"]), whole(it["most"])) for it in told["ranges"]}
-    paid, transactions = collections.Counter(), []
+    down = None if told["down"] is None else {(party(it["party"]), token(it["token"])): whole(it["most"]) for it in told["down"]}
+    paid, brought, transactions = collections.Counter(), collections.Counter(), []
     for _ in range(MOST_TRANSACTIONS):
         tx = made_transaction(chance, contract, state)
         transactions.append(tx)
@@ -578,6 +581,9 @@ def play(program, chance, contract, state, told, count):
         for it in answer["payments"]:
             if "party" in it["to"]:
                 paid[party(it["to"]["party"]), token(it["token"])] += whole(it["amount"])
+        for given in tx["tx_inputs"]:
+            if has(given, "that_deposits"):
+                brought[party(given["input_from_party"]), token(given["of_token"])] += max(0, given["that_deposits"])
         for who, amount in paid.items():
             most = bounds.get(who, (0, 0))[1]
             if most is not None and amount > most:
@@ -592,6 +598,11 @@ def play(program, chance, contract, state, told, count):
             for who, (least, _) in bounds.items():
                 if least is not None and paid[who] < least:
                     raise Difference(f"{who} is paid {paid[who]}, less than {least}", transactions)
+            for who, amount in {} if down is None else brought.items():
+                count["losses"] += 1
+                count["losses as great as told"] += amount - paid[who] == down.get(who, 0)
+                if down.get(who, 0) is not None and amount - paid[who] > down.get(who, 0):
+                    raise Difference(f"{who} is {amount - paid[who]} down, more than {down.get(who, 0)}", transactions)
             return
         if not is_read_again(state):
             count["runs to a state that isn't read again"] += 1

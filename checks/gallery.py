@@ -115,9 +115,9 @@ def faults_of_analysis(folder, contract, page):
     told, of_broken = (answers(folder).get(f"marlowe analyse {name}", "").splitlines() for name in ("contract.json", "broken.json"))
     if told[:1] != [NEVER_WARNS]:
         yield "contract.json: not analysed, or it may warn"
-    elif told[-1] != FROM_NOTHING or re.findall(SHARE, page, re.M) != [share(line) for line in told if line.startswith("{")]:
+    elif told[-1] != FROM_NOTHING or re.findall(SHARE, page, re.M) != [share(line) for line in told if line.startswith("{") and not line.endswith(" down")]:
         yield "README.md: its table has other shares than the row"
-    elif told[-2].replace("all can be taken out", "lets all be taken out") not in " ".join(page.split()):
+    elif not all(line.replace("all can be taken out", "lets all be taken out") in " ".join(page.split()) for line in told if line.startswith("all ")):
         yield "README.md: it has another time from which all can be taken out than the row"
     elif any(line.startswith("never reached: ") for line in told) != ("`never reached`" in page):
         yield "README.md: it doesn't say which parts no run reaches, or says so of a contract that has none"

@@ -80,6 +80,7 @@ PART = re.compile(rb'\{[^{}]*\}|\[[^][]*\]|(?<![^\s{[,:])"(?:[^"\\]|\\.)*"|-?\d+
 CLEAR = "never warns, stays within 128 bits"
 FROM_NOTHING = "from a start without accounts"
 OUT = re.compile(r"all can be taken out (?:at once|from (0|-?[1-9][0-9]*) on)")
+DOWN = re.compile(r"(?:at most (?P<most>[1-9]\d*) down|never down|down not known)(?P<given> from the given state)?")
 UNREACHED = "never reached: "
 ALARM = re.compile(r"(\w+) at (\S+)(?:, by this run:|(, not known))")
 CASE = r"\.when\[(?:0|[1-9]\d*)\]"
@@ -347,9 +348,15 @@ def told_of(answer):
     lines, alarms = text.split("\n")[-2::-1], []
     if lines[0] == FROM_NOTHING:
         lines.pop(0)
-    is_out = bool(OUT.fullmatch(lines[0]))
+    losses = []
+    while lines and (found := loss_of(lines[0])):
+        losses.insert(0, found)
+        lines.pop(0)
+    is_out = bool(lines and OUT.fullmatch(lines[0]))
     if is_out:
         lines.pop(0)
+    see(is_out or not losses, "losses are told, but not from when on all can be taken out")
+    see_in_order(losses)
     is_clear = lines[-1] == CLEAR
     if is_clear:
         lines.pop()
@@ -366,6 +373,21 @@ def told_of(answer):
     return alarms, [range_of(it) for it in reversed(lines)], is_out, unreached
 
 
+def loss_of(line):
+    """The party and the token of a line that tells what is lost, or None."""
+    if not line.startswith(('{"address":', '{"role_token":')):
+        return None
+    _, one = json.JSONDecoder().raw_decode(line)
+    _, two = json.JSONDecoder().raw_decode(line, one + 1)
+    return (compact(line[:one]), compact(line[one + 1 : two])) if line[two] == " " and DOWN.fullmatch(line, two + 1) else None
+
+
+def see_in_order(losses):
+    order = [((list(party) == ["role_token"], *map(str.encode, party.values())), (bytes.fromhex(token["currency_symbol"]), token["token_name"].encode()))
+             for party, token in losses]
+    see(order == sorted(set(order)), "losses out of order")
+
+
 def range_of(line):
     _, one = json.JSONDecoder().raw_decode(line)
     _, two = json.JSONDecoder().raw_decode(line, one + 1)
@@ -377,8 +399,12 @@ def range_of(line):
 
 def told_by_json(text):
     told = compact(text)
-    see(list(told) == ["alarms", "out_from", "ranges", "unreached"], f"keys {list(told)}")
+    see(list(told) == ["alarms", "down", "out_from", "ranges", "unreached"], f"keys {list(told)}")
     number_of(told["out_from"])
+    see((told["down"] is None) == (told["out_from"] is None), "losses are told, or not, where from when on all can be taken out isn't, or is")
+    for it in told["down"] or []:
+        see(list(it) == ["most", "party", "token"] and (number_of(it["most"]) or 0) >= 0, f"no loss: {it}")
+    see_in_order([(it["party"], it["token"]) for it in told["down"] or []])
     for keys, some in (["kind", "place", "run"], told["alarms"]), (["least", "most", "party", "token"], told["ranges"]):
         see(all(list(it) == keys for it in some), f"keys other than {keys}")
     alarms = [(it["kind"], place_of(it["place"]), it["run"]) for it in told["alarms"]]

@@ -12,11 +12,12 @@ use Rattle.analysis_spec.specs.declared.alarm.Alarm.{Alarm}
 use Rattle.analysis_spec.specs.declared.paid.PaidRange.{PaidRange}
 use Rattle.analysis_spec.specs.Analysed.{IsSilent, NamesWhatComes, NamesWhereItComes, StaysUnlessTold, NamesWhereItLeaves, AreNeverReached}
 use Rattle.analysis_spec.specs.declared.path.PathStep.{PathStep}
+use Rattle.losses.specs.declared.loss.Loss.{Loss}
 use Rattle.places.specs.declared.key.Key.{Key}
 use Rattle.places.specs.Places.{path_keys}
 use Rattle.marlowe_analyse.specs.declared.analysed.Reader.{Reader}
 use Rattle.marlowe_analyse.specs.declared.told.ToldAlarm.{ToldAlarm}
-use Rattle.marlowe_analyse.specs.Told.{Alarms, without_runs, LeastsCanCome, IsOut, NeverAlarms}
+use Rattle.marlowe_analyse.specs.Told.{Alarms, without_runs, LeastsCanCome, IsOut, AreLosses, NeverAlarms}
 use Rattle.marlowe_analyse.specs.ToldLines.{Line, line_at, line_of}
 use Rattle.marlowe_analyse.specs.Printed.{printed, TellsOfTree}
 use Rattle.marlowe_analyse.specs.RunsSupport.{HoldRanges, TellsAll, TellPlaces}
@@ -54,15 +55,21 @@ still_out : (s : StateMaps) (c : ContractTree) (all alarms : List Alarm) (time :
 still_out s c all alarms None f h = λ z. h (f z)
 still_out s c all alarms (Some t) f h = h
 
-pub tells_of_tree : (reader : Reader) (given : Bool) (s : StateMaps) (c : ContractTree) (alarms : List Alarm) (places : List (List PathStep)) (ranges : List PaidRange) (time : Option (Option ℤ)) (told : List ToldAlarm) (ways : List (List Key)) (clear unreached : Bool) (out : List ℕ)
-    → NamesWhereItComes alarms s c → NamesWhereItLeaves alarms s c → NamesWhatComes alarms s c → StaysUnlessTold alarms s c → AreNeverReached places s c → HoldRanges s c ranges → LeastsCanCome ranges s c → IsOut s c alarms time → TellsAll s c alarms told → TellPlaces places ways
-    → (clear ≡ true ↔ told ≡ []) → (unreached ≡ false ↔ ways ≡ []) → out ≡ printed reader given s.min_time (map line_of told) ways ranges time → TellsOfTree reader given s c clear unreached out
-tells_of_tree reader given s c alarms places ranges time told ways clear unreached out comes leaves names stays never hold leasts z t w k l e =
+-- and what parties can lose
+still_lost : (s : StateMaps) (c : ContractTree) (all alarms : List Alarm) (losses : Option (List Loss)) → (IsSilent all Leaves128 → IsSilent alarms Leaves128) → AreLosses s c alarms losses → AreLosses s c all losses
+still_lost s c all alarms None f h = λ z. h (f z)
+still_lost s c all alarms (Some ls) f h = h
+
+pub tells_of_tree : (reader : Reader) (given : Bool) (s : StateMaps) (c : ContractTree) (alarms : List Alarm) (places : List (List PathStep)) (ranges : List PaidRange) (time : Option (Option ℤ)) (losses : Option (List Loss)) (told : List ToldAlarm) (ways : List (List Key)) (clear unreached : Bool) (out : List ℕ)
+    → NamesWhereItComes alarms s c → NamesWhereItLeaves alarms s c → NamesWhatComes alarms s c → StaysUnlessTold alarms s c → AreNeverReached places s c → HoldRanges s c ranges → LeastsCanCome ranges s c → IsOut s c alarms time → AreLosses s c alarms losses → TellsAll s c alarms told → TellPlaces places ways
+    → (clear ≡ true ↔ told ≡ []) → (unreached ≡ false ↔ ways ≡ []) → out ≡ printed reader given s.min_time (map line_of told) ways ranges time losses → TellsOfTree reader given s c clear unreached out
+tells_of_tree reader given s c alarms places ranges time losses told ways clear unreached out comes leaves names stays never hold leasts z y t w k l e =
     let all = t.all in (
       all,
       w.all,
       ranges,
       time,
+      losses,
       record {
         comes = λ kind place z. comes kind place (fewer (λ (a : Alarm). a.kind ≡ kind → a.place ≢ place) (without_runs all) alarms t.has z);
         leaves = λ place z. leaves place (fewer (λ (a : Alarm). a.kind ≡ Leaves128 → a.place ≢ place) (without_runs all) alarms t.has z);
@@ -76,13 +83,14 @@ tells_of_tree reader given s c alarms places ranges time told ways clear unreach
         unpaid = hold.unpaid;
         leasts = leasts;
         out = still_out s c (without_runs all) alarms time (fewer (λ (a : Alarm). a.kind ≢ Leaves128) (without_runs all) alarms t.has) z;
+        down = still_lost s c (without_runs all) alarms losses (fewer (λ (a : Alarm). a.kind ≢ Leaves128) (without_runs all) alarms t.has) y;
       },
-      e ∙ (ap (λ (ls : List Line). printed reader given s.min_time ls ways ranges time) t.so.lines ∙ ap (λ (ks : List (List Key)). printed reader given s.min_time (map (line_at c) all) ks ranges time) w.keys),
+      e ∙ (ap (λ (ls : List Line). printed reader given s.min_time ls ways ranges time losses) t.so.lines ∙ ap (λ (ks : List (List Key)). printed reader given s.min_time (map (line_at c) all) ks ranges time losses) w.keys),
       (λ h. same_empty line_of (line_at c) told all t.so.lines (k.0 h), λ h. k.1 (same_empty (line_at c) line_of all told (sym t.so.lines) h)),
       (λ h. none_mapped path_keys w.all (sym w.keys ∙ l.0 h), λ h. l.1 (w.keys ∙ ap (map path_keys) h)),
     )
 
 pub never_alarms : (reader : Reader) (given : Bool) (s : StateMaps) (c : ContractTree) (clear unreached : Bool) (out : List ℕ) → TellsOfTree reader given s c clear unreached out → clear ≡ true → NeverAlarms s c
 never_alarms reader given s c clear unreached out h e =
-    let none : (kind : AlarmKind) → IsSilent (without_runs h.0) kind = λ kind. subst (λ (found : Alarms). IsSilent (without_runs found) kind) (sym (h.6.0 e)) tt in
-    (λ kind. h.4.warnings kind (none kind), h.4.numbers (none Leaves128))
+    let none : (kind : AlarmKind) → IsSilent (without_runs h.0) kind = λ kind. subst (λ (found : Alarms). IsSilent (without_runs found) kind) (sym (h.7.0 e)) tt in
+    (λ kind. h.5.warnings kind (none kind), h.5.numbers (none Leaves128))

@@ -10,6 +10,7 @@ use Rattle.serde_json.specs.View.{items_of}
 use Rattle.serde_json.specs.Written.{compact_text}
 use Rattle.serde_json.proofs.Texts.{print-outline}
 use Rattle.json_write_contracts.specs.Tokens.{Puts, data_tokens}
+use Rattle.losses.specs.declared.loss.Loss.{Loss}
 use Rattle.places.specs.declared.key.Key.{Key}
 use Rattle.marlowe_analyse.specs.declared.told.ToldAlarm.{ToldAlarm}
 use Rattle.marlowe_analyse.specs.ToldLines.{line_of}
@@ -52,6 +53,14 @@ pub range_pieces : (p q t u b d line : List ℕ) → line ≡ p ++ (codes " " ++
 range_pieces p q t u b d line e f g h =
     e ∙ ap (λ x. x ++ (codes " " ++ (t ++ (codes " " ++ (b ++ codes "\n"))))) f ∙ ap (λ x. q ++ (codes " " ++ (x ++ (codes " " ++ (b ++ codes "\n"))))) g ∙ ap (λ x. q ++ (codes " " ++ (u ++ (codes " " ++ (x ++ codes "\n"))))) h
 
+-- what it can lose
+pub loss_pieces : (a b d p q t u m n g line : List ℕ) → line ≡ p ++ (codes " " ++ (t ++ (codes " " ++ m))) → p ≡ q → t ≡ u → m ≡ n → b ≡ a ++ line → d ≡ b ++ g → d ≡ a ++ ((q ++ (codes " " ++ (u ++ (codes " " ++ n)))) ++ g)
+loss_pieces a b d p q t u m n g line e f h i j k =
+    two_pieces a b d (q ++ (codes " " ++ (u ++ (codes " " ++ n)))) g
+    (j
+    ∙ ap (λ x. a ++ x)
+    (e ∙ ap (λ x. x ++ (codes " " ++ (t ++ (codes " " ++ m)))) f ∙ ap (λ x. q ++ (codes " " ++ (x ++ (codes " " ++ m)))) h ∙ ap (λ x. q ++ (codes " " ++ (u ++ (codes " " ++ x)))) i)) k
+
 -- ---- JSON
 
 map_after : {X Y Z : Type 0} (f : Y → Z) (g : X → Y) (xs : List X) → map (λ x. f (g x)) xs ≡ map f (map g xs)
@@ -67,11 +76,11 @@ word_put a b w v e h = subst (λ (x : List ℕ). Puts a b (string x)) e h
 pub place_put : (a b : Written) (ks ls : List Key) → ks ≡ ls → Puts a b (place_json ks) → Puts a b (place_json ls)
 place_put a b ks ls e h = subst (λ (x : List Key). Puts a b (place_json x)) e h
 
-pub told_put : (runs : Bool) (first : ℤ) (a b : Written) (ts us : List ToldAlarm) (ps os : List (List Key)) (rs qs : List PaidRange) (time : Option (Option ℤ)) → ts ≡ us → ps ≡ os → rs ≡ qs
-    → Puts a b (told_json runs first (map line_of ts) ps rs time) → Puts a b (told_json runs first (map line_of us) os qs time)
-told_put runs first a b ts us ps os rs qs time e g f h =
-    subst (λ (x : List PaidRange). Puts a b (told_json runs first (map line_of us) os x time)) f
-    (subst (λ (x : List (List Key)). Puts a b (told_json runs first (map line_of us) x rs time)) g (subst (λ (x : List ToldAlarm). Puts a b (told_json runs first (map line_of x) ps rs time)) e h))
+pub told_put : (runs : Bool) (first : ℤ) (a b : Written) (ts us : List ToldAlarm) (ps os : List (List Key)) (rs qs : List PaidRange) (time : Option (Option ℤ)) (losses : Option (List Loss)) → ts ≡ us → ps ≡ os → rs ≡ qs
+    → Puts a b (told_json runs first (map line_of ts) ps rs time losses) → Puts a b (told_json runs first (map line_of us) os qs time losses)
+told_put runs first a b ts us ps os rs qs time losses e g f h =
+    subst (λ (x : List PaidRange). Puts a b (told_json runs first (map line_of us) os x time losses)) f
+    (subst (λ (x : List (List Key)). Puts a b (told_json runs first (map line_of us) x rs time losses)) g (subst (λ (x : List ToldAlarm). Puts a b (told_json runs first (map line_of x) ps rs time losses)) e h))
 
 -- the text of a whole value, from a new writer
 module _ (a b : Written) (start bytes : List ℕ) (d : Data) (empty : start ≡ []) (before : a.before ≡ start) (none : a.tokens ≡ []) (put : Puts a b d) (is : bytes ≡ b.before ++ print b.tokens) where

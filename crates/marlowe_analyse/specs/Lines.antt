@@ -1,11 +1,13 @@
 -- The lines for people.
-use Rattle.std.specs.Prelude.{ℕ, ℤ, Bool, true, false, List, [], ◌∷◌, ◌++◌, flat_map, Option, Some, None, codes}
+use Rattle.std.specs.Prelude.{ℕ, ℤ, pos, Bool, true, false, if◌then◌else◌, List, [], ◌∷◌, ◌++◌, flat_map, Option, Some, None, codes}
 use Rattle.std.specs.Fmt.{signed_decimal}
+use Rattle.std.specs.Ordering.{int_eq}
 use Rattle.serde_json.specs.Written.{compact_text}
 use Rattle.contract.specs.declared.transaction.Transaction.{Transaction}
 use Rattle.json_write_contracts.specs.WrittenNames.{party_json, token_json}
 use Rattle.contract_json.specs.WrittenInput.{transaction_json}
 use Rattle.analysis_spec.specs.declared.paid.PaidRange.{PaidRange}
+use Rattle.losses.specs.declared.loss.Loss.{Loss}
 use Rattle.places.specs.declared.key.Key.{Key}
 use Rattle.places.specs.Texts.{kind_name, place_text}
 use Rattle.marlowe_analyse.specs.ToldLines.{Line}
@@ -38,6 +40,24 @@ abbrev pub out_line : Option (Option ℤ) → List ℕ
 out_line None = []
 out_line (Some None) = codes "all can be taken out at once" ++ 10 ∷ []
 out_line (Some (Some t)) = codes "all can be taken out from " ++ (signed_decimal t ++ (codes " on" ++ 10 ∷ []))
+
+-- how much more a party brings than it is paid, at most
+abbrev pub loss_text : Option ℤ → List ℕ
+loss_text None = codes "down not known"
+loss_text (Some n) = if int_eq n (pos 0) then codes "never down" else codes "at most " ++ (signed_decimal n ++ codes " down")
+
+-- where a state is given, only what is brought from there on counts
+abbrev pub given_text : Bool → List ℕ
+given_text true = codes " from the given state" ++ 10 ∷ []
+given_text false = 10 ∷ []
+
+abbrev pub loss_line : Bool → Loss → List ℕ
+loss_line given l = (compact_text (party_json l.party) ++ (codes " " ++ (compact_text (token_json l.token) ++ (codes " " ++ loss_text l.most)))) ++ given_text given
+
+-- what each party can lose, where it is told
+abbrev pub losses_lines : Bool → Option (List Loss) → List ℕ
+losses_lines given None = []
+losses_lines given (Some losses) = flat_map (loss_line given) losses
 
 -- that runs start without accounts, where no state is given
 abbrev pub start_line : Bool → List ℕ

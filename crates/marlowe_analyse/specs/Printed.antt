@@ -7,6 +7,7 @@ use Rattle.json_read_names.specs.ReadsText.{of_text}
 use Rattle.json_read_contracts.specs.ReadsContract.{contract}
 use Rattle.analysis_spec.specs.declared.paid.PaidRange.{PaidRange}
 use Rattle.analysis_spec.specs.declared.path.PathStep.{PathStep}
+use Rattle.losses.specs.declared.loss.Loss.{Loss}
 use Rattle.places.specs.declared.key.Key.{Key}
 use Rattle.places.specs.Places.{path_keys}
 use Rattle.marlowe_refusals.specs.declared.fault.RunFault.{RunFault}
@@ -16,16 +17,16 @@ use Rattle.marlowe_analyse.specs.declared.analysed.Reader.TheVariants.{People, T
 use Rattle.marlowe_run.specs.Start.{start_of}
 use Rattle.marlowe_analyse.specs.Told.{Alarms, IsSo, NeverAlarms}
 use Rattle.marlowe_analyse.specs.ToldLines.{Line, line_at}
-use Rattle.marlowe_analyse.specs.Lines.{lines_of, out_line, start_line}
+use Rattle.marlowe_analyse.specs.Lines.{lines_of, out_line, losses_lines, start_line}
 use Rattle.marlowe_analyse.specs.Tools.{told_line}
 
--- alarms, parts to which no run comes, ranges, and from when on all can be taken out; for people also that runs start without accounts, where
+-- alarms, parts to which no run comes, ranges, from when on all can be taken out, and what parties can lose; for people also that runs start without accounts, where
 -- no state is given, and for tools the minimum time where all can be taken out at once
-abbrev pub printed : Reader → Bool → ℤ → List Line → List (List Key) → List PaidRange → Option (Option ℤ) → List ℕ
-printed People given first lines places ranges out = lines_of true lines places ranges ++ (out_line out ++ start_line given)
-printed Tools given first lines places ranges out = told_line true first lines places ranges out
-printed PeopleWithoutRuns given first lines places ranges out = lines_of false lines places ranges ++ (out_line out ++ start_line given)
-printed ToolsWithoutRuns given first lines places ranges out = told_line false first lines places ranges out
+abbrev pub printed : Reader → Bool → ℤ → List Line → List (List Key) → List PaidRange → Option (Option ℤ) → Option (List Loss) → List ℕ
+printed People given first lines places ranges out losses = lines_of true lines places ranges ++ (out_line out ++ (losses_lines given losses ++ start_line given))
+printed Tools given first lines places ranges out losses = told_line true first lines places ranges out losses
+printed PeopleWithoutRuns given first lines places ranges out losses = lines_of false lines places ranges ++ (out_line out ++ (losses_lines given losses ++ start_line given))
+printed ToolsWithoutRuns given first lines places ranges out losses = told_line false first lines places ranges out losses
 
 -- the contract is read first, and then the state, whose numbers may be texts where that is said
 abbrev pub what_is_read : Bool → List ℕ → Option (List ℕ) → Result (StateMaps × ContractTree) RunFault
@@ -42,8 +43,8 @@ IsReadAs texts text start s c = what_is_read texts text start ≡ Ok (s, c)
 -- unreached parts where one is told
 abbrev pub TellsOfTree : Reader → Bool → StateMaps → ContractTree → Bool → Bool → List ℕ → Type 0
 TellsOfTree reader given s c clear unreached out =
-    (alarms : Alarms) × (places : List (List PathStep)) × (ranges : List PaidRange) × (time : Option (Option ℤ)) × IsSo s c alarms places ranges time
-    × (out ≡ printed reader given s.min_time (map (line_at c) alarms) (map path_keys places) ranges time)
+    (alarms : Alarms) × (places : List (List PathStep)) × (ranges : List PaidRange) × (time : Option (Option ℤ)) × (losses : Option (List Loss)) × IsSo s c alarms places ranges time losses
+    × (out ≡ printed reader given s.min_time (map (line_at c) alarms) (map path_keys places) ranges time losses)
     × (clear ≡ true ↔ alarms ≡ []) × (unreached ≡ false ↔ places ≡ [])
 
 -- .. of those that the texts are read as

@@ -16,6 +16,8 @@ use Rattle.analysis_spec.specs.Analysed.{IsSilent, NamesWhatComes, NamesWhereItC
 use Rattle.analysis_spec.specs.PlacedRuns.{EndsAt}
 use Rattle.counter_runs.specs.Closing.{CanClose}
 use Rattle.closing_times.specs.Closing.{ClosesFrom}
+use Rattle.losses.specs.declared.loss.Loss.{Loss}
+use Rattle.losses.specs.Told.{LoseWithin, OthersLoseNothing}
 use Rattle.marlowe_analyse.specs.Order.{AreInOrder, StandApart}
 
 -- alarms, and of each a run that ends in it where one is known
@@ -38,10 +40,15 @@ abbrev pub IsOut : StateMaps → ContractTree → List Alarm → Option (Option 
 IsOut s c alarms None = IsSilent alarms Leaves128 → ⊥
 IsOut s c alarms (Some time) = (time ≡ last c) × ClosesFrom time s c
 
+-- what parties can lose, and who isn't named loses nothing. It isn't told where a number may leave 128 bits
+abbrev pub AreLosses : StateMaps → ContractTree → List Alarm → Option (List Loss) → Type 0
+AreLosses s c alarms None = IsSilent alarms Leaves128 → ⊥
+AreLosses s c alarms (Some losses) = LoseWithin losses s c × OthersLoseNothing losses s c
+
 -- a kind never comes at a place without an alarm of it, and one without any alarm never comes; alarms stand in order, none twice,
 -- and each run ends in its alarm at its place; no run comes to these places of the contract, which stand in order, none below
--- another; what is paid lies in its range, or is nothing; and all can be taken out from that time on
-pub record IsSo (s : StateMaps) (c : ContractTree) (alarms : Alarms) (places : List (List PathStep)) (ranges : List PaidRange) (time : Option (Option ℤ)) : Type 0 where
+-- another; what is paid lies in its range, or is nothing; all can be taken out from that time on; and parties lose no more
+pub record IsSo (s : StateMaps) (c : ContractTree) (alarms : Alarms) (places : List (List PathStep)) (ranges : List PaidRange) (time : Option (Option ℤ)) (losses : Option (List Loss)) : Type 0 where
   pub comes : NamesWhereItComes (without_runs alarms) s c
   pub leaves : NamesWhereItLeaves (without_runs alarms) s c
   pub warnings : NamesWhatComes (without_runs alarms) s c
@@ -54,6 +61,7 @@ pub record IsSo (s : StateMaps) (c : ContractTree) (alarms : Alarms) (places : L
   pub unpaid : PaysOthersNothing ranges s c
   pub leasts : LeastsCanCome ranges s c
   pub out : IsOut s c (without_runs alarms) time
+  pub down : AreLosses s c (without_runs alarms) losses
 
 -- no transaction of any run warns, and none is refused because a number leaves 128 bits
 abbrev pub NeverAlarms : StateMaps → ContractTree → Type 0

@@ -4,9 +4,10 @@ use Rattle.serde_json.specs.Data.{Data, string, array, null}
 use Rattle.serde_json.specs.View.{items_of}
 use Rattle.serde_json.specs.Written.{compact_text}
 use Rattle.contract.specs.declared.transaction.Transaction.{Transaction}
-use Rattle.json_write_contracts.specs.WrittenNames.{two, three, four, wide_json, party_json, token_json}
+use Rattle.json_write_contracts.specs.WrittenNames.{two, three, four, five, wide_json, party_json, token_json}
 use Rattle.contract_json.specs.WrittenInput.{transaction_json}
 use Rattle.analysis_spec.specs.declared.paid.PaidRange.{PaidRange}
+use Rattle.losses.specs.declared.loss.Loss.{Loss}
 use Rattle.places.specs.declared.key.Key.{Key}
 use Rattle.places.specs.Texts.{kind_name, place_json}
 use Rattle.marlowe_analyse.specs.ToldLines.{Line}
@@ -39,10 +40,18 @@ out_json first None = null
 out_json first (Some None) = wide_json first
 out_json first (Some (Some t)) = wide_json t
 
-abbrev pub told_json : Bool → ℤ → List Line → List (List Key) → List PaidRange → Option (Option ℤ) → Data
-told_json runs first lines places ranges out =
-    four (codes "alarms") (alarms_json runs lines) (codes "out_from") (out_json first out) (codes "ranges") (ranges_json ranges) (codes "unreached") (array (items_of (map place_json places)))
+-- what parties can lose: null where it isn't told
+abbrev pub loss_json : Loss → Data
+loss_json l = three (codes "most") (bound_json l.most) (codes "party") (party_json l.party) (codes "token") (token_json l.token)
+
+abbrev pub losses_json : Option (List Loss) → Data
+losses_json None = null
+losses_json (Some losses) = array (items_of (map loss_json losses))
+
+abbrev pub told_json : Bool → ℤ → List Line → List (List Key) → List PaidRange → Option (Option ℤ) → Option (List Loss) → Data
+told_json runs first lines places ranges out losses =
+    five (codes "alarms") (alarms_json runs lines) (codes "down") (losses_json losses) (codes "out_from") (out_json first out) (codes "ranges") (ranges_json ranges) (codes "unreached") (array (items_of (map place_json places)))
 
 -- .. as a line
-abbrev pub told_line : Bool → ℤ → List Line → List (List Key) → List PaidRange → Option (Option ℤ) → List ℕ
-told_line runs first lines places ranges out = compact_text (told_json runs first lines places ranges out) ++ 10 ∷ []
+abbrev pub told_line : Bool → ℤ → List Line → List (List Key) → List PaidRange → Option (Option ℤ) → Option (List Loss) → List ℕ
+told_line runs first lines places ranges out losses = compact_text (told_json runs first lines places ranges out losses) ++ 10 ∷ []

@@ -5,14 +5,14 @@ ghost use Rattle.contract.specs.Tree.{contract_tree};
 ghost use Rattle.marlowe_run.specs.Start.{start_of};
 ghost use Rattle.marlowe_analyse.specs.Told.{text_given};
 ghost use Rattle.marlowe_analyse.specs.ToldLines.{line_of, LineFits};
-ghost use Rattle.marlowe_analyse.specs.Lines.{lines_of, out_line, start_line};
+ghost use Rattle.marlowe_analyse.specs.Lines.{lines_of, out_line, losses_lines, start_line};
 ghost use Rattle.marlowe_analyse.specs.Printed.{printed, IsClear, TellsOfTree, TellsSo, is_read};
 ghost use Rattle.marlowe_analyse.specs.RunsSupport.{AnalysedFrom, is_started};
 
-use crate::lines::{put_alarms, put_out, put_ranges, put_start, put_unreached};
+use crate::lines::{put_alarms, put_losses, put_out, put_ranges, put_start, put_unreached};
 use crate::ranges::told_ranges;
 use crate::runs::{told_alarms, work_of};
-use crate::taken::told_out;
+use crate::taken::{told_losses, told_out};
 use crate::told::Told;
 use crate::tools::put_told;
 use crate::unreached::told_places;
@@ -28,7 +28,8 @@ use std::alloc::Global;
 /// Who reads what is printed.
 #[derive(Clone, Copy, Debug)]
 pub enum Reader {
-    /// Lines for people: alarms with their runs, then parts to which no run comes, and then what is paid.
+    /// Lines for people: alarms with their runs, then parts to which no run comes, and then what is paid, from when on all can be
+    /// taken out, and what parties can lose.
     People,
     /// JSON for tools.
     Tools,
@@ -53,7 +54,7 @@ pub struct Analysed {
 /// that ends in it, unless the reader wants none. All searches together do no more work than the length of the texts allows.
 /// Alarms stand in the order of the contract, none twice, and so do the parts that are told to be never reached, none below
 /// another. A least is told only where a run is known that closes the contract. From when on all can be taken out is told
-/// exactly where there is no alarm of `Leaves128`.
+/// exactly where there is no alarm of `Leaves128`, and so is what parties can lose: who isn't named loses nothing.
 pub fn analyse_text(
     alloc: Global,
     contract: &[u8],
@@ -118,6 +119,7 @@ fn analysis_text(
         unreached,
     } = analyse(alloc, contract, state)?;
     let out = told_out(contract, state, alarms.as_slice());
+    let losses = told_losses(alloc, contract, state, alarms.as_slice())?;
     let work = if has_runs(reader) { work_of(length) } else { 0 };
     let alarms = told_alarms(alloc, contract, state, alarms.as_slice(), work)?;
     let ranges = told_ranges(alloc, contract, state, ranges)?;
@@ -129,6 +131,7 @@ fn analysis_text(
         unreached,
         ranges,
         out,
+        losses,
     };
     let text = printed(alloc, &told, given, state.min_time(), reader)?;
     Ok(Analysed {
@@ -162,7 +165,7 @@ fn printed(
 ) -> Result<Vec<u8>, Memory>
     requires { All LineFits told.now.alarms.items }
     ensures { IfOk result (λ text. text.items
-        ≡ printed reader given first (map line_of told.now.alarms.items) told.now.unreached told.now.ranges told.now.out) }
+        ≡ printed reader given first (map line_of told.now.alarms.items) told.now.unreached told.now.ranges told.now.out told.now.losses) }
 {
     match reader {
         Reader::People => for_people(alloc, told, given, true),
@@ -175,13 +178,15 @@ fn printed(
 fn for_people(alloc: Global, told: &Told, given: bool, runs: bool) -> Result<Vec<u8>, Memory>
     requires { All LineFits told.now.alarms.items }
     ensures { IfOk result (λ text. text.items
-        ≡ lines_of runs (map line_of told.now.alarms.items) told.now.unreached told.now.ranges ++ (out_line told.now.out ++ start_line given)) }
+        ≡ lines_of runs (map line_of told.now.alarms.items) told.now.unreached told.now.ranges
+        ++ (out_line told.now.out ++ (losses_lines given told.now.losses ++ start_line given))) }
 {
     let mut out = Vec::new(alloc);
     put_alarms(alloc, &mut out, &told.alarms, runs)?;
     put_unreached(alloc, &mut out, told.unreached.as_slice())?;
     put_ranges(alloc, &mut out, told.ranges.as_slice())?;
     put_out(alloc, &mut out, told.out)?;
+    put_losses(alloc, &mut out, &told.losses, given)?;
     put_start(&mut out, given)?;
     Ok(out)
 }

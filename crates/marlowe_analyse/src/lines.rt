@@ -3,7 +3,7 @@ ghost use Rattle.std.specs.Prelude.{◌≡◌, [], ◌∷◌, ◌++◌, true, ma
 ghost use Rattle.serde_json.specs.Written.{compact_text};
 ghost use Rattle.contract_json.specs.WrittenInput.{transaction_json, transaction_fits};
 ghost use Rattle.marlowe_analyse.specs.ToldLines.{line_of, LineFits, RunFits};
-ghost use Rattle.marlowe_analyse.specs.Lines.{transaction_line, run_lines, alarm_lines, alarms_lines, unreached_line, bounds_text, range_line, out_line, start_line};
+ghost use Rattle.marlowe_analyse.specs.Lines.{transaction_line, run_lines, alarm_lines, alarms_lines, unreached_line, bounds_text, range_line, out_line, loss_text, given_text, loss_line, losses_lines, start_line};
 
 use crate::told::ToldAlarm;
 use analysis_spec::PaidRange;
@@ -12,6 +12,7 @@ use contract::Transaction;
 use contract_json::{PutJson, WriteFault};
 use json::Writer;
 use json_write_contracts::term_text;
+use losses::Loss;
 use places::{Key, kind_name, put_place};
 use std::alloc::{AllocError, Global};
 
@@ -67,6 +68,72 @@ fn put_time(alloc: Global, out: &mut Vec<u8>, time: i64) -> Result<(), Memory>
 {
     let line = format!(in alloc; "all can be taken out from {time} on\n")?;
     put_bytes(out, line.as_bytes())
+}
+
+/// A line for each party and token: what it can lose, where that is told.
+pub(crate) fn put_losses(
+    alloc: Global,
+    out: &mut Vec<u8>,
+    losses: &Option<Items<Loss>>,
+    given: bool,
+) -> Result<(), Memory>
+    ensures { OnOk result (out.new.items ≡ out.old.items ++ losses_lines given losses.now) }
+{
+    match losses {
+        Some(losses) => put_each_loss(alloc, out, losses.as_slice(), given),
+        None => Ok(()),
+    }
+}
+
+fn put_each_loss(
+    alloc: Global,
+    out: &mut Vec<u8>,
+    losses: &[Loss],
+    given: bool,
+) -> Result<(), Memory>
+    ensures { OnOk result (out.new.items ≡ out.old.items ++ flat_map (loss_line given) losses.now) }
+{
+    for loss in losses {
+        put_loss(alloc, out, loss, given)?;
+    }
+    Ok(())
+}
+
+fn put_loss(alloc: Global, out: &mut Vec<u8>, loss: &Loss, given: bool) -> Result<(), Memory>
+    ensures { OnOk result (out.new.items ≡ out.old.items ++ loss_line given loss.now) }
+{
+    let party = term_text(alloc, &loss.party)?;
+    let token = term_text(alloc, &loss.token)?;
+    let most = loss_text(alloc, loss.most)?;
+    let line = format!(in alloc; "{party} {token} {most}")?;
+    put_bytes(out, line.as_bytes())?;
+    put_given(out, given)
+}
+
+// The end of a line: where a state is given, only what is brought from there on counts.
+fn put_given(out: &mut Vec<u8>, given: bool) -> Result<(), Memory>
+    ensures { OnOk result (out.new.items ≡ out.old.items ++ given_text given) }
+{
+    if given {
+        put_bytes(out, b" from the given state\n")
+    } else {
+        put_bytes(out, b"\n")
+    }
+}
+
+fn loss_text(alloc: Global, most: Option<i128>) -> Result<String, Memory>
+    ensures { IfOk result (λ text. string_bytes text ≡ loss_text most) }
+{
+    match most {
+        Some(most) => {
+            if most == 0 {
+                format!(in alloc; "never down")
+            } else {
+                format!(in alloc; "at most {most} down")
+            }
+        }
+        None => format!(in alloc; "down not known"),
+    }
 }
 
 /// Where no state is given, a line that runs start without accounts.

@@ -1,13 +1,17 @@
-//! From when on all can be taken out.
-ghost use Rattle.std.specs.Prelude.{◌≡◌, ◌≢◌, true, false};
+//! From when on all can be taken out, and what parties can lose.
+ghost use Rattle.std.specs.Prelude.{◌≡◌, ◌≢◌, true, false, IfOk};
 ghost use Rattle.contract.specs.Tree.{contract_tree};
 ghost use Rattle.analysis_spec.specs.declared.kind.AlarmKind.TheVariants.{Leaves128};
 ghost use Rattle.analysis_spec.specs.Analysed.{IsSilent, StaysUnlessTold};
-ghost use Rattle.marlowe_analyse.specs.Told.{IsOut};
+ghost use Rattle.marlowe_analyse.specs.Told.{IsOut, AreLosses};
 
 use analysis_spec::{Alarm, AlarmKind};
 use closing_times::{contracts_close_from_their_last_timeout, last_timeout};
+use collections::{Items, Memory};
 use contract::{Contract, State};
+use loss_walk::losses_of;
+use losses::Loss;
+use std::alloc::Global;
 
 /// The time from which all can be taken out, whoever hands in the transaction: the last timeout, or none where it is at once; nothing
 /// where a number may leave 128 bits, since then a run may never close. Takes no memory.
@@ -23,6 +27,22 @@ pub(crate) fn told_out(contract: &Contract, state: &State, alarms: &[Alarm]) -> 
     } else {
         Some(last_timeout(contract))
     }
+}
+
+/// What parties can lose; nothing where a number may leave 128 bits, since then what they brought may never come out.
+pub(crate) fn told_losses(
+    alloc: Global,
+    contract: &Contract,
+    state: &State,
+    alarms: &[Alarm],
+) -> Result<Option<Items<Loss>>, Memory>
+    ensures { IfOk result (AreLosses state.now (contract_tree contract.now) alarms.now) }
+{
+    if leaves(alarms) {
+        return Ok(None);
+    }
+    let losses = losses_of(alloc, contract, state)?;
+    Ok(Some(losses))
 }
 
 // Whether there is an alarm that a number leaves 128 bits.

@@ -5,7 +5,7 @@ ghost use Rattle.serde_json.specs.View.{items_of};
 ghost use Rattle.json_write_contracts.specs.Tokens.{Puts};
 ghost use Rattle.contract_json.specs.WrittenInput.{transaction_json, transaction_fits};
 ghost use Rattle.marlowe_analyse.specs.ToldLines.{line_of, LineFits, RunFits};
-ghost use Rattle.marlowe_analyse.specs.Tools.{run_json, alarm_json, bound_json, range_json, out_json, told_json, told_line};
+ghost use Rattle.marlowe_analyse.specs.Tools.{run_json, alarm_json, bound_json, range_json, out_json, loss_json, losses_json, told_json, told_line};
 ghost use Rattle.places.specs.Texts.{place_json};
 
 use crate::told::{Told, ToldAlarm};
@@ -15,6 +15,7 @@ use contract::Transaction;
 use contract_json::{PutJson, WriteFault};
 use json::Writer;
 use json_write_contracts::{put_amount, put_party, put_token, word};
+use losses::Loss;
 use places::{Key, kind_name, put_place_json};
 use std::alloc::{AllocError, Global};
 
@@ -28,7 +29,7 @@ pub(crate) fn put_told(
 ) -> Result<Vec<u8>, Memory>
     requires { All LineFits told.now.alarms.items }
     ensures { IfOk result (λ text. text.items
-        ≡ told_line runs first (map line_of told.now.alarms.items) told.now.unreached told.now.ranges told.now.out) }
+        ≡ told_line runs first (map line_of told.now.alarms.items) told.now.unreached told.now.ranges told.now.out told.now.losses) }
 {
     let mut out = Writer::new(Vec::new(alloc));
     put_all(alloc, &mut out, told, first, runs)?;
@@ -46,11 +47,13 @@ fn put_all(
 ) -> Result<(), Memory>
     requires { All LineFits told.now.alarms.items }
     ensures { OnOk result (Puts out.old out.new
-        (told_json runs first (map line_of told.now.alarms.items) told.now.unreached told.now.ranges told.now.out)) }
+        (told_json runs first (map line_of told.now.alarms.items) told.now.unreached told.now.ranges told.now.out told.now.losses)) }
 {
     out.begin_object()?;
     out.key("alarms")?;
     put_alarms(alloc, out, &told.alarms, runs)?;
+    out.key("down")?;
+    put_losses(alloc, out, &told.losses)?;
     out.key("out_from")?;
     put_out(alloc, out, told.out, first)?;
     out.key("ranges")?;
@@ -75,6 +78,41 @@ fn put_out(
         Some(None) => put_number(alloc, out, i128::from(first)),
         None => put_null(out),
     }
+}
+
+// What parties can lose, or null where that isn't told.
+fn put_losses(alloc: Global, out: &mut Writer, losses: &Option<Items<Loss>>) -> Result<(), Memory>
+    ensures { OnOk result (Puts out.old out.new (losses_json losses.now)) }
+{
+    match losses {
+        Some(losses) => put_each_loss(alloc, out, losses.as_slice()),
+        None => put_null(out),
+    }
+}
+
+fn put_each_loss(alloc: Global, out: &mut Writer, losses: &[Loss]) -> Result<(), Memory>
+    ensures { OnOk result (Puts out.old out.new (array (items_of (map loss_json losses.now)))) }
+{
+    out.begin_array()?;
+    for loss in losses {
+        put_loss(alloc, out, loss)?;
+    }
+    out.end_array()?;
+    Ok(())
+}
+
+fn put_loss(alloc: Global, out: &mut Writer, loss: &Loss) -> Result<(), Memory>
+    ensures { OnOk result (Puts out.old out.new (loss_json loss.now)) }
+{
+    out.begin_object()?;
+    out.key("most")?;
+    put_bound(alloc, out, loss.most)?;
+    out.key("party")?;
+    put_party(out, &loss.party)?;
+    out.key("token")?;
+    put_token(alloc, out, &loss.token)?;
+    out.end_object()?;
+    Ok(())
 }
 
 fn put_places(out: &mut Writer, places: &[Items<Key>]) -> Result<(), Memory>
