@@ -15,7 +15,10 @@ use Rattle.part_tokens.specs.PartTokens.{first_token, token_at}
 use Rattle.json_forms.specs.declared.sort.Sort.{Sort}
 use Rattle.json_forms.specs.declared.sort.Sort.TheVariants as sorts
 use Rattle.json_stops.specs.declared.stop.Step.{Step}
-use Rattle.json_stops.specs.Stops.{Place, StopsAt, fault_as}
+use Rattle.json_read_scenarios.specs.ReadsScenario.{scenario}
+use Rattle.json_forms.specs.declared.sort.ScenarioSort.TheVariants as parts
+use Rattle.json_stops.specs.Stops.{Place, StopsAt, fault_of, fault_as}
+use Rattle.scenario_stops.specs.Stops.{StopsIn, names_in}
 use Rattle.explanations.specs.declared.broken.NoJson.{NoJson}
 use Rattle.explanations.specs.Told.{Told}
 use Rattle.explanations.specs.Lines.{beside, lines_of}
@@ -43,8 +46,8 @@ IsFirst text tree path (sorts.Repeated index) first =
 IsFirst text tree path sort first = first ≡ None
 
 -- what is told of a place, in a text that is read as a tree: n is the offset at which it begins, and `part` the tree that stands there
-abbrev pub told_at : List ℕ → Json → Place → ℕ → Json → Option Spot → Told
-told_at text tree at n part first =
+abbrev pub told_at : List ℕ → Json → Place → ℕ → Json → Option Spot → List (List ℕ) → Told
+told_at text tree at n part first names =
     record {
       path = at.path;
       spot = spot_at text n;
@@ -53,21 +56,24 @@ told_at text tree at n part first =
       token = token_behind text (indexes_of at.path tree);
       keys = keys_in part;
       first = first;
+      names = names;
     }
 
--- the lines of a place at which reading stops
-pub record IsTold (file text : List ℕ) (sort : Sort) (d : Data) (lines : List ℕ) : Type 0 where
-  pub at : Place
+-- the lines of a place in a text, with the names that there are
+pub record IsToldAt (file text : List ℕ) (d : Data) (at : Place) (names : List (List ℕ)) (lines : List ℕ) : Type 0 where
   pub tree : Json
   pub part : Json
   pub offset : ℕ
   pub first : Option Spot
-  pub stops : StopsAt sort d at
   pub of_tree : view tree ≡ d
   pub of_part : view part ≡ at.json
   pub stands : StandsAt text offset (token_behind text (indexes_of at.path tree))
   pub is_first : IsFirst text tree at.path at.sort first
-  pub lines_are : lines ≡ lines_of file (told_at text tree at offset part first)
+  pub lines_are : lines ≡ lines_of file (told_at text tree at offset part first names)
+
+-- the lines of a place at which reading stops
+abbrev pub IsTold : List ℕ → List ℕ → Sort → Data → List ℕ → Type 0
+IsTold file text sort d lines = (at : Place) × StopsAt sort d at × IsToldAt file text d at [] lines
 
 -- nothing is told where it is read
 abbrev pub IsToldBy : List ℕ → List ℕ → Sort → Data → List ℕ → Option JsonFault → Type 0
@@ -95,3 +101,23 @@ ReadingIsTold file text sort lines (Err fault) = FaultIsTold file text lines fau
 -- the lines that explain why a text isn't read as one of a sort
 abbrev pub Explains : List ℕ → List ℕ → Sort → List ℕ → Type 0
 Explains file text sort lines = ReadingIsTold file text sort lines (json_of text)
+
+-- ---- a scenario
+
+-- the names that a part of a sort may be
+abbrev pub names_there : Data → Sort → List (List ℕ)
+names_there d (sorts.OfScenario (parts.NameOf kind)) = names_in kind d
+names_there d sort = []
+
+-- the lines of a place at which the reading of a scenario stops; nothing is told where it is read
+abbrev pub IsToldScenario : List ℕ → List ℕ → Data → List ℕ → Option JsonFault → Type 0
+IsToldScenario file text d lines None = lines ≡ []
+IsToldScenario file text d lines (Some fault) = (at : Place) × StopsIn d at × IsToldAt file text d at (names_there d at.sort) lines
+
+abbrev pub ScenarioIsTold : List ℕ → List ℕ → List ℕ → Reading Data → Type 0
+ScenarioIsTold file text lines (Ok d) = IsToldScenario file text d lines (fault_of (scenario d))
+ScenarioIsTold file text lines (Err fault) = FaultIsTold file text lines fault
+
+-- the lines that explain why a text isn't read as a scenario
+abbrev pub ExplainsScenario : List ℕ → List ℕ → List ℕ → Type 0
+ExplainsScenario file text lines = ScenarioIsTold file text lines (json_of text)

@@ -11,12 +11,13 @@ use Rattle.text_spots.specs.Shown.{is_among, shown, path_shown}
 use Rattle.json_forms.specs.declared.sort.Numbers.TheVariants as numbers
 use Rattle.json_forms.specs.declared.sort.Sort.{Sort}
 use Rattle.json_forms.specs.declared.sort.Sort.TheVariants as sorts
+use Rattle.json_forms.specs.declared.sort.ScenarioSort.TheVariants as parts
 use Rattle.json_forms.specs.declared.form.Form.{Form}
 use Rattle.json_forms.specs.Forms.{Field, key_word, forms_of}
 use Rattle.json_forms.specs.Lacking.{is_there, lacking, meant, nearest}
 use Rattle.json_stops.specs.declared.stop.Step.{Step}
 use Rattle.json_stops.specs.declared.stop.Step.TheVariants as steps
-use Rattle.explanations.specs.Words.{sort_text, bare_sort_text, sort_hint, form_text}
+use Rattle.explanations.specs.Words.{sort_text, bare_sort_text, sort_hint, form_text, kinds_text}
 use Rattle.explanations.specs.Told.{Told}
 
 -- ---- where
@@ -111,7 +112,7 @@ bad_state_text sort t = no_form_text [] t
 abbrev pub fault_text : JsonFault → Told → List ℕ
 fault_text faults.NoForm t = no_form_text (forms_of t.sort) t
 fault_text faults.NotWhole t = codes "no whole number; " ++ stands_text t.token
-fault_text faults.OutOfRange t = codes "no time; " ++ stands_text t.token
+fault_text faults.OutOfRange t = no_form_text [] t
 fault_text faults.BadHex t = codes "no hexadecimal digits; " ++ stands_text t.token
 fault_text faults.Merkleized t = codes "no contract follows, but its hash"
 fault_text faults.BadState t = bad_state_text t.sort t
@@ -136,6 +137,9 @@ is_of_numbers sorts.Value = true
 is_of_numbers sorts.Whole = true
 is_of_numbers sorts.Time = true
 is_of_numbers (sorts.Amount numbers.Whole) = true
+is_of_numbers (sorts.OfScenario parts.Count) = true
+is_of_numbers (sorts.OfScenario parts.Workers) = true
+is_of_numbers (sorts.OfScenario parts.Calls) = true
 is_of_numbers sort = false
 
 abbrev pub is_of_contracts : Sort → Bool
@@ -188,7 +192,7 @@ bad_state_hint sort = codes "an account holds a number above 0: leave out one th
 abbrev pub hint_text : JsonFault → Told → List ℕ
 hint_text faults.NoForm t = no_form_hint t
 hint_text faults.NotWhole t = sort_hint sorts.Whole
-hint_text faults.OutOfRange t = sort_hint sorts.Time
+hint_text faults.OutOfRange t = sort_hint t.sort
 hint_text faults.BadHex t = hex_hint t.token
 hint_text faults.Merkleized t = codes "put what follows in its place, as \"then\""
 hint_text faults.BadState t = bad_state_hint t.sort
@@ -213,9 +217,19 @@ near_text keys (Some form) = near_of keys form (lacking keys form)
 abbrev pub near_sought : Sort → List (List ℕ) → List ℕ
 near_sought sort keys = near_text keys (meant keys sort)
 
+-- the names that there are, ten at most
+abbrev pub names_text : List ℕ → List (List ℕ) → List ℕ
+names_text kinds [] = codes "  there are no " ++ (kinds ++ codes "\n")
+names_text kinds (n ∷ ns) = (codes "  the " ++ (kinds ++ codes " are ")) ++ (text_shown n ++ (more_keys_text ns ++ codes "\n"))
+
+-- of a name that none has
+abbrev pub names_line : Sort → List (List ℕ) → List ℕ
+names_line (sorts.OfScenario (parts.NameOf kind)) names = names_text (kinds_text kind) names
+names_line sort names = []
+
 abbrev pub hint_line : List ℕ → List ℕ
 hint_line hint = codes "\n  " ++ (hint ++ codes "\n")
 
 abbrev pub lines_of : List ℕ → Told → List ℕ
 lines_of file t =
-    where_text file t.spot t.path ++ (fault_text t.fault t ++ (hint_line (hint_text t.fault t) ++ near_sought t.sort (sought t.keys)))
+    where_text file t.spot t.path ++ (fault_text t.fault t ++ (hint_line (hint_text t.fault t) ++ (near_sought t.sort (sought t.keys) ++ names_line t.sort t.names)))

@@ -26,6 +26,7 @@ misspelled =
       token = Token.begin_object;
       keys = codes "pay" ∷ codes "token" ∷ codes "from_acount" ∷ codes "to" ∷ codes "then" ∷ [];
       first = None;
+      names = [];
     }
 
 abbrev pub MisspelledKeysAreTold : Type 0
@@ -36,7 +37,7 @@ MisspelledKeysAreTold =
 
 -- a word that is none
 abbrev pub big_close : Told
-big_close = record { path = []; spot = record { line = 1; column = 1 }; sort = sorts.Contract; fault = faults.NoForm; token = Token.string (codes "Close"); keys = []; first = None }
+big_close = record { path = []; spot = record { line = 1; column = 1 }; sort = sorts.Contract; fault = faults.NoForm; token = Token.string (codes "Close"); keys = []; first = None; names = [] }
 
 abbrev pub WordsAreTold : Type 0
 WordsAreTold =
@@ -45,11 +46,11 @@ WordsAreTold =
 -- a time in quotation marks, and one that is none
 abbrev pub quoted_time : Told
 quoted_time =
-    record { path = steps.Key keys.Timeout ∷ []; spot = record { line = 1; column = 22 }; sort = sorts.Time; fault = faults.NoForm; token = Token.string (codes "100"); keys = []; first = None }
+    record { path = steps.Key keys.Timeout ∷ []; spot = record { line = 1; column = 22 }; sort = sorts.Time; fault = faults.NoForm; token = Token.string (codes "100"); keys = []; first = None; names = [] }
 
 abbrev pub pointed_time : Told
 pointed_time =
-    record { path = steps.Key keys.Timeout ∷ []; spot = record { line = 1; column = 22 }; sort = sorts.Time; fault = faults.NotWhole; token = Token.number (codes "1e3"); keys = []; first = None }
+    record { path = steps.Key keys.Timeout ∷ []; spot = record { line = 1; column = 22 }; sort = sorts.Time; fault = faults.NotWhole; token = Token.number (codes "1e3"); keys = []; first = None; names = [] }
 
 abbrev pub NumbersAreTold : Type 0
 NumbersAreTold =
@@ -71,6 +72,7 @@ empty_account =
       token = Token.number (codes "0");
       keys = [];
       first = None;
+      names = [];
     }
 
 abbrev pub bound_twice : Told
@@ -83,6 +85,7 @@ bound_twice =
       token = Token.begin_array;
       keys = [];
       first = Some (record { line = 2; column = 5 });
+      names = [];
     }
 
 abbrev pub BadStatesAreTold : Type 0

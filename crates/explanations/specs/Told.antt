@@ -9,7 +9,7 @@ use Rattle.json_stops.specs.declared.stop.Step.{Step}
 use Rattle.explanations.specs.declared.part.Told as code
 
 -- the way to it and its spot in the text, what it is read as, why it isn't, the token with which it begins, where it is an object
--- its keys, and where it is an entry that is given again the spot of the first
+-- its keys, where it is an entry that is given again the spot of the first, and where it is a name that none has the names that there are
 pub record Told : Type 0 where
   pub path : List Step
   pub spot : Spot
@@ -18,7 +18,8 @@ pub record Told : Type 0 where
   pub token : Token
   pub keys : List (List ℕ)
   pub first : Option Spot
+  pub names : List (List ℕ)
 
 -- what code tells
 abbrev pub seen : code.Told → Told
-seen t = record { path = t.path.now; spot = t.spot; sort = t.sort; fault = t.fault; token = token_of t.token; keys = map (λ key. key.now) t.keys.now; first = t.first }
+seen t = record { path = t.path.now; spot = t.spot; sort = t.sort; fault = t.fault; token = token_of t.token; keys = map (λ key. key.now) t.keys.now; first = t.first; names = map (λ name. name.now) t.names.now }

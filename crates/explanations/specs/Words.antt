@@ -2,8 +2,92 @@
 use Rattle.std.specs.Prelude.{ℕ, List, codes}
 use Rattle.json_forms.specs.declared.sort.Sort.{Sort}
 use Rattle.json_forms.specs.declared.sort.Sort.TheVariants as sorts
+use Rattle.json_forms.specs.declared.sort.NamedSort.{NamedSort}
+use Rattle.json_forms.specs.declared.sort.NamedSort.TheVariants as named
+use Rattle.json_forms.specs.declared.sort.ScenarioSort.{ScenarioSort}
+use Rattle.json_forms.specs.declared.sort.ScenarioSort.TheVariants as parts
 use Rattle.json_forms.specs.declared.form.Form.{Form}
 use Rattle.json_forms.specs.declared.form.Form.TheVariants as forms
+
+-- what a part is read as that only a scenario has, with its article and without
+abbrev pub scenario_sort_text : ScenarioSort → List ℕ
+scenario_sort_text parts.Scenario = codes "a scenario"
+scenario_sort_text parts.Genesis = codes "a genesis"
+scenario_sort_text parts.Funds = codes "an entry of genesis"
+scenario_sort_text parts.Contracts = codes "a list of contracts"
+scenario_sort_text parts.NamedContract = codes "a named contract"
+scenario_sort_text parts.Threads = codes "a list of threads"
+scenario_sort_text parts.NamedThread = codes "a thread"
+scenario_sort_text parts.Plans = codes "a list of plans"
+scenario_sort_text parts.Plan = codes "a plan"
+scenario_sort_text parts.PlanKeys = codes "a list of keys"
+scenario_sort_text parts.Intents = codes "a list of intents"
+scenario_sort_text parts.Intent = codes "an intent"
+scenario_sort_text parts.Steps = codes "a list of steps"
+scenario_sort_text parts.OneStep = codes "a step"
+scenario_sort_text (parts.NewName kind) = codes "a new name"
+scenario_sort_text (parts.NameOf named.Contract) = codes "a contract of the scenario"
+scenario_sort_text (parts.NameOf named.Thread) = codes "a thread of the scenario"
+scenario_sort_text (parts.NameOf named.Plan) = codes "a plan of the scenario"
+scenario_sort_text parts.Count = codes "a number of transactions"
+scenario_sort_text parts.Workers = codes "a number of workers"
+scenario_sort_text parts.Calls = codes "a number of calls"
+scenario_sort_text parts.Truth = codes "a truth value"
+
+abbrev pub bare_scenario_sort_text : ScenarioSort → List ℕ
+bare_scenario_sort_text parts.Scenario = codes "scenario"
+bare_scenario_sort_text parts.Genesis = codes "genesis"
+bare_scenario_sort_text parts.Funds = codes "entry of genesis"
+bare_scenario_sort_text parts.Contracts = codes "list of contracts"
+bare_scenario_sort_text parts.NamedContract = codes "named contract"
+bare_scenario_sort_text parts.Threads = codes "list of threads"
+bare_scenario_sort_text parts.NamedThread = codes "thread"
+bare_scenario_sort_text parts.Plans = codes "list of plans"
+bare_scenario_sort_text parts.Plan = codes "plan"
+bare_scenario_sort_text parts.PlanKeys = codes "list of keys"
+bare_scenario_sort_text parts.Intents = codes "list of intents"
+bare_scenario_sort_text parts.Intent = codes "intent"
+bare_scenario_sort_text parts.Steps = codes "list of steps"
+bare_scenario_sort_text parts.OneStep = codes "step"
+bare_scenario_sort_text (parts.NewName kind) = codes "new name"
+bare_scenario_sort_text (parts.NameOf named.Contract) = codes "contract of the scenario"
+bare_scenario_sort_text (parts.NameOf named.Thread) = codes "thread of the scenario"
+bare_scenario_sort_text (parts.NameOf named.Plan) = codes "plan of the scenario"
+bare_scenario_sort_text parts.Count = codes "number of transactions"
+bare_scenario_sort_text parts.Workers = codes "number of workers"
+bare_scenario_sort_text parts.Calls = codes "number of calls"
+bare_scenario_sort_text parts.Truth = codes "truth value"
+
+-- what such a part is
+abbrev pub scenario_sort_hint : ScenarioSort → List ℕ
+scenario_sort_hint parts.Scenario = codes "a scenario has \"tick\", \"genesis\", \"contracts\", \"threads\" and \"plans\""
+scenario_sort_hint parts.Genesis = codes "a genesis is a list, also of none or one: what addresses have when the ledger begins"
+scenario_sort_hint parts.Funds = codes "an entry of genesis has \"address\" and \"amount\""
+scenario_sort_hint parts.Contracts = codes "contracts stand in a list, also none or one"
+scenario_sort_hint parts.NamedContract = codes "a named contract has \"name\", \"currency\" and \"contract\""
+scenario_sort_hint parts.Threads = codes "threads stand in a list, also none or one"
+scenario_sort_hint parts.NamedThread = codes "a thread has \"name\", \"contract\", \"by\", \"accounts\" and \"minTime\""
+scenario_sort_hint parts.Plans = codes "plans stand in a list, also none or one"
+scenario_sort_hint parts.Plan = codes "a plan has \"name\", \"keys\", \"change\" and \"intents\", and there are at most 63 plans"
+scenario_sort_hint parts.PlanKeys = codes "keys are texts and stand in a list, also none or one"
+scenario_sort_hint parts.Intents = codes "intents stand in a list, also none or one"
+scenario_sort_hint parts.Intent = codes "an intent has \"step\", \"steps\", \"claim\", \"round\" or \"advance\""
+scenario_sort_hint parts.Steps = codes "steps stand in a list, also none or one"
+scenario_sort_hint parts.OneStep = codes "a step has \"step\" and \"inputs\""
+scenario_sort_hint (parts.NewName kind) = codes "each of a list has a name of its own"
+scenario_sort_hint (parts.NameOf named.Contract) = codes "a contract is named as in \"contracts\""
+scenario_sort_hint (parts.NameOf named.Thread) = codes "a thread is named as in \"threads\""
+scenario_sort_hint (parts.NameOf named.Plan) = codes "a plan is named as in \"plans\""
+scenario_sort_hint parts.Count = codes "a round takes 0 to 18446744073709551615 transactions"
+scenario_sort_hint parts.Workers = codes "1 to 16 workers check a round"
+scenario_sort_hint parts.Calls = codes "a plan stops after 0 to 9223372036854775807 calls"
+scenario_sort_hint parts.Truth = codes "a truth value is true or false, without quotation marks"
+
+-- what has names
+abbrev pub kinds_text : NamedSort → List ℕ
+kinds_text named.Contract = codes "contracts"
+kinds_text named.Thread = codes "threads"
+kinds_text named.Plan = codes "plans"
 
 -- what a part is read as, with its article and without
 abbrev pub sort_text : Sort → List ℕ
@@ -38,6 +122,9 @@ sort_text (sorts.BoundEntry numbers) = codes "an entry of bound values"
 sort_text sorts.NumberOrText = codes "a number"
 sort_text (sorts.Amount numbers) = codes "a number above 0"
 sort_text (sorts.Repeated first) = codes "a second entry for one key"
+sort_text sorts.Amounts = codes "a list of amounts"
+sort_text sorts.AmountEntry = codes "an entry of amounts"
+sort_text (sorts.OfScenario part) = scenario_sort_text part
 
 abbrev pub bare_sort_text : Sort → List ℕ
 bare_sort_text sorts.Contract = codes "contract"
@@ -71,6 +158,9 @@ bare_sort_text (sorts.BoundEntry numbers) = codes "entry of bound values"
 bare_sort_text sorts.NumberOrText = codes "number"
 bare_sort_text (sorts.Amount numbers) = codes "number above 0"
 bare_sort_text (sorts.Repeated first) = codes "second entry for one key"
+bare_sort_text sorts.Amounts = codes "list of amounts"
+bare_sort_text sorts.AmountEntry = codes "entry of amounts"
+bare_sort_text (sorts.OfScenario part) = bare_scenario_sort_text part
 
 -- what such a part is
 abbrev pub sort_hint : Sort → List ℕ
@@ -105,6 +195,9 @@ sort_hint (sorts.BoundEntry numbers) = codes "an entry of bound values is a list
 sort_hint sorts.NumberOrText = codes "a number is a whole number, or a text of its decimal digits, from -2^127 to 2^127 - 1"
 sort_hint (sorts.Amount numbers) = codes "an account holds a number above 0"
 sort_hint (sorts.Repeated first) = codes "each key stands once: add up what belongs together, or leave one out"
+sort_hint sorts.Amounts = codes "amounts stand in a list, also none or one"
+sort_hint sorts.AmountEntry = codes "an entry of amounts is a list of two: a token and how much of it there is"
+sort_hint (sorts.OfScenario part) = scenario_sort_hint part
 
 abbrev pub form_text : Form → List ℕ
 form_text forms.Pay = codes "a pay"
@@ -146,3 +239,14 @@ form_text forms.Interval = codes "an interval"
 form_text forms.DepositInput = codes "a deposit"
 form_text forms.ChoiceInput = codes "a choice"
 form_text (forms.State numbers) = codes "a state"
+form_text forms.Scenario = codes "a scenario"
+form_text forms.Funds = codes "an entry of genesis"
+form_text forms.NamedContract = codes "a named contract"
+form_text forms.NamedThread = codes "a thread"
+form_text forms.Plan = codes "a plan"
+form_text forms.Step = codes "a step"
+form_text forms.Steps = codes "a steps"
+form_text forms.Claim = codes "a claim"
+form_text forms.Round = codes "a round"
+form_text forms.Advance = codes "an advance"
+form_text forms.OneStep = codes "a step"

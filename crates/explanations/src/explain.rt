@@ -1,10 +1,11 @@
 //! From the name and the text of a file to the lines.
-ghost use Rattle.std.specs.Prelude.{◌≢◌, IfOk};
+ghost use Rattle.std.specs.Prelude.{◌≡◌, ◌≢◌, IfOk, map};
 ghost use Rattle.std.specs.Str.{IsUtf8};
 ghost use Rattle.json.specs.Reads.{token_of};
 ghost use Rattle.json_tree.specs.View.{view};
-ghost use Rattle.json_stops.specs.Stops.{StopsAt, fault_as};
-ghost use Rattle.explanations.specs.Explained.{Explains, FaultIsTold, IsFirst, IsTold, IsToldBy};
+ghost use Rattle.json_read_scenarios.specs.ReadsScenario.{scenario};
+ghost use Rattle.json_stops.specs.Stops.{fault_as, fault_of};
+ghost use Rattle.explanations.specs.Explained.{Explains, ExplainsScenario, FaultIsTold, IsFirst, IsToldAt, IsToldBy, IsToldScenario, names_there};
 ghost use Rattle.explanations.specs.ExplainedSupport.{Begins, place_of};
 
 use crate::broken::MAX_DEPTH;
@@ -16,11 +17,12 @@ use crate::standing::sure_offset;
 use crate::text_lines::{no_json_lines, too_long_line};
 use collections::Memory;
 use json::{Scratch, Token};
-use json_forms::Sort;
+use json_forms::{ScenarioSort, Sort};
 use json_read_names::{JsonFault, json_of};
 use json_stops::{Step, Stop, first_stop};
 use json_tree::Json;
 use part_tokens::beginning_of;
+use scenario_stops::names_in;
 use std::alloc::{AllocError, Global};
 use text_spots::{Spot, spot_at};
 
@@ -69,24 +71,59 @@ fn told_json(
 {
     let found = first_stop(alloc, sort, json)?;
     match found {
-        Some((stop, part)) => told_stop(alloc, file, text, sort, json, &stop, part),
+        Some((stop, part)) => { told_stop(alloc, file, text, json, &stop, part, &[]) }
         None => Ok(Vec::new(alloc)),
     }
 }
 
+/// The same of a scenario. Of a name that none has they tell the names that there are.
+pub fn explained_scenario(alloc: Global, file: &str, text: &[u8]) -> Result<Vec<u8>, Memory>
+    ensures { IfOk result (λ lines. ExplainsScenario file.now text.now lines.items) }
+{
+    let mut scratch = Scratch::new(alloc);
+    match json_of(alloc, text, &mut scratch) {
+        Ok(json) => told_scenario(alloc, file, text, &json),
+        Err(fault) => told_fault(alloc, file, text, fault),
+    }
+}
+
+fn told_scenario(alloc: Global, file: &str, text: &[u8], json: &Json<'_>) -> Result<Vec<u8>, Memory>
+    requires { IsUtf8 text.now }
+    ensures { IfOk result (λ lines.
+        IsToldScenario file.now text.now (view json.now) lines.items (fault_of (scenario (view json.now)))) }
+{
+    let found = scenario_stops::first_stop(alloc, json)?;
+    match found {
+        Some((stop, part)) => {
+            let names = names_there(alloc, json, stop.sort)?;
+            told_stop(alloc, file, text, json, &stop, part, &names)
+        }
+        None => Ok(Vec::new(alloc)),
+    }
+}
+
+fn names_there<'j>(alloc: Global, json: &'j Json<'_>, sort: Sort) -> Result<Vec<&'j str>, Memory>
+    ensures { IfOk result (λ names. map (λ name. name.now) names.items ≡ names_there (view json.now) sort) }
+{
+    match sort {
+        Sort::OfScenario(ScenarioSort::NameOf(kind)) => names_in(alloc, kind, json),
+        _ => Ok(Vec::new(alloc)),
+    }
+}
+
 // The lines of a stop.
-fn told_stop(
+fn told_stop<'x>(
     alloc: Global,
     file: &str,
     text: &[u8],
-    sort: Sort,
     json: &Json<'_>,
     stop: &Stop,
     part: &Json<'_>,
+    names: &'x [&'x str],
 ) -> Result<Vec<u8>, Memory>
-    requires utf8 { IsUtf8 text.now }
-    requires stops { StopsAt sort (view json.now) (place_of stop.now part.now) }
-    ensures { IfOk result (λ lines. IsTold file.now text.now sort (view json.now) lines.items) }
+    requires { IsUtf8 text.now }
+    ensures { IfOk result (λ lines.
+        IsToldAt file.now text.now (view json.now) (place_of stop.now part.now) (map (λ name. name.now) names.now) lines.items) }
 {
     let indexes = indexes_of(alloc, json, &stop.path)?;
     let keys = keys_in(alloc, part)?;
@@ -101,6 +138,7 @@ fn told_stop(
         token: found.1,
         keys: &keys,
         first,
+        names,
     };
     told_lines(alloc, file, &told)
 }

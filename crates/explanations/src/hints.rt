@@ -13,7 +13,7 @@ use crate::pieces::text_shown;
 use crate::words::{form_text, sort_hint};
 use collections::Memory;
 use json::Token;
-use json_forms::{Form, Key, Numbers, Sort, key_word, lacking_key, meant_form};
+use json_forms::{Form, Key, Numbers, ScenarioSort, Sort, key_word, lacking_key, meant_form};
 use json_read_names::JsonFault;
 use std::alloc::Global;
 
@@ -21,13 +21,13 @@ use std::alloc::Global;
 const MOST_SOUGHT: usize = 100;
 
 /// What to do about a part at which reading stops.
-pub(crate) fn hint_text(alloc: Global, told: &Told<'_>) -> Result<String, Memory>
+pub(crate) fn hint_text(alloc: Global, told: &Told<'_, '_>) -> Result<String, Memory>
     ensures { IfOk result (λ text. string_bytes text ≡ hint_text told.now.fault (seen told.now)) }
 {
     match told.fault {
         JsonFault::NoForm => no_form_hint(alloc, told),
         JsonFault::NotWhole => word(alloc, sort_hint(Sort::Whole)),
-        JsonFault::OutOfRange => word(alloc, sort_hint(Sort::Time)),
+        JsonFault::OutOfRange => word(alloc, sort_hint(told.sort)),
         JsonFault::BadHex => hex_hint(alloc, told.token),
         JsonFault::Merkleized => word(alloc, "put what follows in its place, as \"then\""),
         JsonFault::BadState => word(alloc, bad_state_hint(told.sort)),
@@ -50,7 +50,7 @@ fn bad_state_hint(sort: Sort) -> &'static str
     }
 }
 
-fn no_form_hint(alloc: Global, told: &Told<'_>) -> Result<String, Memory>
+fn no_form_hint(alloc: Global, told: &Told<'_, '_>) -> Result<String, Memory>
     ensures { IfOk result (λ text. string_bytes text ≡ no_form_hint (seen told.now)) }
 {
     if has_key(told.keys, "constant_param") {
@@ -143,6 +143,7 @@ fn is_of_numbers(sort: Sort) -> bool
 {
     match sort {
         Sort::Value | Sort::Whole | Sort::Time | Sort::Amount(Numbers::Whole) => true,
+        Sort::OfScenario(ScenarioSort::Count | ScenarioSort::Workers | ScenarioSort::Calls) => true,
         _ => false,
     }
 }

@@ -1,5 +1,5 @@
-//! What is told of a contract, a transaction or a state that can't be read: where reading stops, what was wanted there and what stands
-//! there, in lines for people.
+//! What is told of a contract, a transaction, a state or a scenario that can't be read: where reading stops, what was wanted there and
+//! what stands there, in lines for people.
 #![tactic(auto)]
 
 mod broken;
@@ -15,7 +15,7 @@ mod text_lines;
 mod words;
 
 pub use broken::{MAX_DEPTH, NoJson};
-pub use explain::explained;
+pub use explain::{explained, explained_scenario};
 pub use laws::worked_lines;
 pub use lines::told_lines;
 pub use part::Told;

@@ -1,17 +1,19 @@
 //! The lines of a part at which reading stops.
-ghost use Rattle.std.specs.Prelude.{◌≡◌, ◌++◌, [], Some, IfOk, OnOk, codes, decimal, map, string_bytes};
+ghost use Rattle.std.specs.Prelude.{◌≡◌, ◌∷◌, ◌++◌, [], Some, IfOk, OnOk, codes, decimal, map, string_bytes};
 ghost use Rattle.json.specs.Reads.{token_of};
 ghost use Rattle.text_spots.specs.Shown.{path_shown};
-ghost use Rattle.explanations.specs.Lines.{at_text, bad_state_text, beside, fault_text, first_spot_text, form_wanted_text, hint_line, hint_text, keys_or_token, lines_of, near_line, near_sought, no_form_text, path_text, repeated_text, sought, spot_text, stands_text, where_text};
+ghost use Rattle.explanations.specs.Lines.{at_text, bad_state_text, beside, fault_text, first_spot_text, form_wanted_text, hint_line, hint_text, keys_or_token, lines_of, names_line, names_text, near_line, near_sought, no_form_text, path_text, repeated_text, sought, spot_text, stands_text, where_text};
 ghost use Rattle.explanations.specs.Told.{seen};
 
 use crate::hints::{hint_text, sought};
 use crate::part::Told;
-use crate::pieces::{beside, path_text, put_bytes, put_keys, text_shown, token_text};
-use crate::words::{bare_sort_text, sort_text};
+use crate::pieces::{
+    beside, path_text, put_bytes, put_key, put_keys, put_more_keys, text_shown, token_text,
+};
+use crate::words::{bare_sort_text, kinds_text, sort_text};
 use collections::Memory;
 use json::Token;
-use json_forms::{Form, Sort, forms_of, lacking_key, meant_form, nearest_key};
+use json_forms::{Form, ScenarioSort, Sort, forms_of, lacking_key, meant_form, nearest_key};
 use json_read_names::JsonFault;
 use json_stops::Step;
 use std::alloc::Global;
@@ -19,14 +21,14 @@ use text_spots::{Spot, put_path_shown};
 
 /// The lines of a part at which reading stops, each behind two blanks: where it is, what is wrong and what stands there; what to do
 /// about it; and where a key lacks, the key that may have been meant.
-pub fn told_lines(alloc: Global, file: &str, told: &Told<'_>) -> Result<Vec<u8>, Memory>
+pub fn told_lines(alloc: Global, file: &str, told: &Told<'_, '_>) -> Result<Vec<u8>, Memory>
     ensures { IfOk result (λ lines. lines.items ≡ lines_of file.now (seen told.now)) }
 {
     let mut out = Vec::new(alloc);
     put_where(alloc, &mut out, file, told.spot, told.path)?;
     put_fault(alloc, &mut out, told)?;
     put_hint(alloc, &mut out, told)?;
-    put_near(alloc, &mut out, told.sort, told.keys)?;
+    put_others(alloc, &mut out, told)?;
     Ok(out)
 }
 
@@ -89,13 +91,13 @@ fn put_cut(alloc: Global, out: &mut Vec<u8>, path: &[Step]) -> Result<(), Memory
 }
 
 // What is wrong, and what stands there.
-fn put_fault(alloc: Global, out: &mut Vec<u8>, told: &Told<'_>) -> Result<(), Memory>
+fn put_fault(alloc: Global, out: &mut Vec<u8>, told: &Told<'_, '_>) -> Result<(), Memory>
     ensures { OnOk result (out.new.items ≡ out.old.items ++ fault_text told.now.fault (seen told.now)) }
 {
     match told.fault {
         JsonFault::NoForm => put_no_form(alloc, out, told, forms_of(told.sort)),
         JsonFault::NotWhole => put_standing(alloc, out, "no whole number; ", told.token),
-        JsonFault::OutOfRange => put_standing(alloc, out, "no time; ", told.token),
+        JsonFault::OutOfRange => put_no_sort(alloc, out, told),
         JsonFault::BadHex => put_standing(alloc, out, "no hexadecimal digits; ", told.token),
         JsonFault::Merkleized => put_bytes(out, b"no contract follows, but its hash"),
         JsonFault::BadState => put_bad_state(alloc, out, told),
@@ -103,7 +105,7 @@ fn put_fault(alloc: Global, out: &mut Vec<u8>, told: &Told<'_>) -> Result<(), Me
     }
 }
 
-fn put_bad_state(alloc: Global, out: &mut Vec<u8>, told: &Told<'_>) -> Result<(), Memory>
+fn put_bad_state(alloc: Global, out: &mut Vec<u8>, told: &Told<'_, '_>) -> Result<(), Memory>
     ensures { OnOk result (out.new.items ≡ out.old.items ++ bad_state_text told.now.sort (seen told.now)) }
 {
     match told.sort {
@@ -115,7 +117,7 @@ fn put_bad_state(alloc: Global, out: &mut Vec<u8>, told: &Told<'_>) -> Result<()
 fn put_repeated(
     alloc: Global,
     out: &mut Vec<u8>,
-    told: &Told<'_>,
+    told: &Told<'_, '_>,
     index: usize,
 ) -> Result<(), Memory>
     ensures { OnOk result (out.new.items ≡ out.old.items ++ repeated_text (seen told.now) index) }
@@ -169,7 +171,7 @@ fn put_beside(alloc: Global, out: &mut Vec<u8>, path: &[Step], index: usize) -> 
 fn put_no_form(
     alloc: Global,
     out: &mut Vec<u8>,
-    told: &Told<'_>,
+    told: &Told<'_, '_>,
     forms: &[Form],
 ) -> Result<(), Memory>
     ensures { OnOk result (out.new.items ≡ out.old.items ++ no_form_text forms.now (seen told.now)) }
@@ -180,7 +182,7 @@ fn put_no_form(
     }
 }
 
-fn put_no_sort(alloc: Global, out: &mut Vec<u8>, told: &Told<'_>) -> Result<(), Memory>
+fn put_no_sort(alloc: Global, out: &mut Vec<u8>, told: &Told<'_, '_>) -> Result<(), Memory>
     ensures { OnOk result (out.new.items ≡ out.old.items ++ no_form_text [] (seen told.now)) }
 {
     let text = no_sort_text(alloc, bare_sort_text(told.sort), told.token)?;
@@ -200,7 +202,7 @@ fn no_sort_line(alloc: Global, sort: &str, stands: &str) -> Result<String, Memor
     format!(in alloc; "no {sort}; here stands {stands}")
 }
 
-fn put_no_form_of(alloc: Global, out: &mut Vec<u8>, told: &Told<'_>) -> Result<(), Memory>
+fn put_no_form_of(alloc: Global, out: &mut Vec<u8>, told: &Told<'_, '_>) -> Result<(), Memory>
     ensures { OnOk result (out.new.items ≡ out.old.items ++ form_wanted_text (seen told.now)) }
 {
     let head = no_form_head(alloc, sort_text(told.sort))?;
@@ -262,7 +264,7 @@ fn standing_line(alloc: Global, what: &str, stands: &str) -> Result<String, Memo
 }
 
 // What to do about it, on a line of its own.
-fn put_hint(alloc: Global, out: &mut Vec<u8>, told: &Told<'_>) -> Result<(), Memory>
+fn put_hint(alloc: Global, out: &mut Vec<u8>, told: &Told<'_, '_>) -> Result<(), Memory>
     ensures { OnOk result (out.new.items ≡ out.old.items ++ hint_line (hint_text told.now.fault (seen told.now))) }
 {
     let hint = hint_text(alloc, told)?;
@@ -274,6 +276,65 @@ fn hint_line(alloc: Global, hint: &str) -> Result<String, Memory>
     ensures { IfOk result (λ line. string_bytes line ≡ hint_line hint.now) }
 {
     format!(in alloc; "\n  {hint}\n")
+}
+
+// What may have been meant.
+fn put_others(alloc: Global, out: &mut Vec<u8>, told: &Told<'_, '_>) -> Result<(), Memory>
+    ensures { OnOk result (out.new.items ≡ out.old.items
+        ++ (near_sought told.now.sort (sought (seen told.now).keys) ++ names_line told.now.sort (seen told.now).names)) }
+{
+    put_near(alloc, out, told.sort, told.keys)?;
+    put_names(alloc, out, told.sort, told.names)
+}
+
+// The names that there are.
+fn put_names(alloc: Global, out: &mut Vec<u8>, sort: Sort, names: &[&str]) -> Result<(), Memory>
+    ensures { OnOk result (out.new.items ≡ out.old.items ++ names_line sort (map (λ name. name.now) names.now)) }
+{
+    match sort {
+        Sort::OfScenario(ScenarioSort::NameOf(kind)) => {
+            put_names_of(alloc, out, kinds_text(kind), names)
+        }
+        _ => Ok(()),
+    }
+}
+
+fn put_names_of(alloc: Global, out: &mut Vec<u8>, kinds: &str, names: &[&str]) -> Result<(), Memory>
+    ensures { OnOk result (out.new.items ≡ out.old.items ++ names_text kinds.now (map (λ name. name.now) names.now)) }
+{
+    match names {
+        [] => put_no_names(alloc, out, kinds),
+        [first, rest @ ..] => put_some_names(alloc, out, kinds, first, rest),
+    }
+}
+
+fn put_no_names(alloc: Global, out: &mut Vec<u8>, kinds: &str) -> Result<(), Memory>
+    ensures { OnOk result (out.new.items ≡ out.old.items ++ names_text kinds.now []) }
+{
+    let line = format!(in alloc; "  there are no {kinds}\n")?;
+    put_bytes(out, line.as_bytes())
+}
+
+fn put_some_names(
+    alloc: Global,
+    out: &mut Vec<u8>,
+    kinds: &str,
+    first: &str,
+    rest: &[&str],
+) -> Result<(), Memory>
+    ensures { OnOk result (out.new.items ≡ out.old.items ++ names_text kinds.now (first.now ∷ map (λ name. name.now) rest.now)) }
+{
+    put_names_head(alloc, out, kinds)?;
+    put_key(alloc, out, first)?;
+    put_more_keys(alloc, out, rest)?;
+    put_bytes(out, b"\n")
+}
+
+fn put_names_head(alloc: Global, out: &mut Vec<u8>, kinds: &str) -> Result<(), Memory>
+    ensures { OnOk result (out.new.items ≡ out.old.items ++ (codes "  the " ++ (kinds.now ++ codes " are "))) }
+{
+    let head = format!(in alloc; "  the {kinds} are ")?;
+    put_bytes(out, head.as_bytes())
 }
 
 // The key that may have been meant.

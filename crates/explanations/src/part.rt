@@ -7,7 +7,7 @@ use text_spots::Spot;
 
 /// A part at which reading stops.
 #[derive(Clone, Copy)]
-pub struct Told<'a> {
+pub struct Told<'a, 'n> {
     /// The way to it, from the whole.
     pub path: &'a [Step],
     /// Where it begins in the text.
@@ -22,4 +22,6 @@ pub struct Told<'a> {
     pub keys: &'a [&'a str],
     /// Where the first begins, of an entry that is given again.
     pub first: Option<Spot>,
+    /// The names that there are, of a name that none of them is.
+    pub names: &'n [&'n str],
 }

@@ -61,8 +61,8 @@ fn put_some_keys(alloc: Global, out: &mut Vec<u8>, first: &str, rest: &[&str]) -
     put_more_keys(alloc, out, rest)
 }
 
-// Puts at most nine more, and that there are others.
-fn put_more_keys(alloc: Global, out: &mut Vec<u8>, keys: &[&str]) -> Result<(), Memory>
+/// Puts at most nine more, and that there are others.
+pub(crate) fn put_more_keys(alloc: Global, out: &mut Vec<u8>, keys: &[&str]) -> Result<(), Memory>
     ensures { OnOk result (out.new.items ≡ out.old.items ++ more_keys_text (map (λ key. key.now) keys.now)) }
 {
     put_each_key(alloc, out, first_nine(keys))?;
@@ -102,7 +102,8 @@ fn put_next_key(alloc: Global, out: &mut Vec<u8>, key: &str) -> Result<(), Memor
     put_key(alloc, out, key)
 }
 
-fn put_key(alloc: Global, out: &mut Vec<u8>, key: &str) -> Result<(), Memory>
+/// Puts a text as it stands in JSON.
+pub(crate) fn put_key(alloc: Global, out: &mut Vec<u8>, key: &str) -> Result<(), Memory>
     ensures { OnOk result (out.new.items ≡ out.old.items ++ text_shown key.now) }
 {
     let text = text_shown(alloc, key)?;

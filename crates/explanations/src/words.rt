@@ -2,7 +2,7 @@
 ghost use Rattle.std.specs.Prelude.{◌≡◌};
 ghost use Rattle.explanations.specs.Words as words;
 
-use json_forms::{Form, Sort};
+use json_forms::{Form, NamedSort, ScenarioSort, Sort};
 
 /// What a part is read as, with its article.
 pub(crate) fn sort_text(sort: Sort) -> &'static str
@@ -40,6 +40,9 @@ pub(crate) fn sort_text(sort: Sort) -> &'static str
         Sort::NumberOrText => "a number",
         Sort::Amount(_) => "a number above 0",
         Sort::Repeated(_) => "a second entry for one key",
+        Sort::Amounts => "a list of amounts",
+        Sort::AmountEntry => "an entry of amounts",
+        Sort::OfScenario(part) => scenario_sort_text(part),
     }
 }
 
@@ -79,6 +82,9 @@ pub(crate) fn bare_sort_text(sort: Sort) -> &'static str
         Sort::NumberOrText => "number",
         Sort::Amount(_) => "number above 0",
         Sort::Repeated(_) => "second entry for one key",
+        Sort::Amounts => "list of amounts",
+        Sort::AmountEntry => "entry of amounts",
+        Sort::OfScenario(part) => bare_scenario_sort_text(part),
     }
 }
 
@@ -134,6 +140,11 @@ pub(crate) fn sort_hint(sort: Sort) -> &'static str
             "a number is a whole number, or a text of its decimal digits, from -2^127 to 2^127 - 1",
         Sort::Amount(_) => "an account holds a number above 0",
         Sort::Repeated(_) => "each key stands once: add up what belongs together, or leave one out",
+        Sort::Amounts => "amounts stand in a list, also none or one",
+        Sort::AmountEntry => {
+            "an entry of amounts is a list of two: a token and how much of it there is"
+        }
+        Sort::OfScenario(part) => scenario_sort_hint(part),
     }
 }
 
@@ -181,5 +192,123 @@ pub(crate) fn form_text(form: Form) -> &'static str
         Form::DepositInput => "a deposit",
         Form::ChoiceInput => "a choice",
         Form::State(_) => "a state",
+        Form::Scenario => "a scenario",
+        Form::Funds => "an entry of genesis",
+        Form::NamedContract => "a named contract",
+        Form::NamedThread => "a thread",
+        Form::Plan => "a plan",
+        Form::Step => "a step",
+        Form::Steps => "a steps",
+        Form::Claim => "a claim",
+        Form::Round => "a round",
+        Form::Advance => "an advance",
+        Form::OneStep => "a step",
+    }
+}
+
+// What a part is read as that only a scenario has, with its article.
+fn scenario_sort_text(part: ScenarioSort) -> &'static str
+    ensures { result.now ≡ words.scenario_sort_text part }
+{
+    match part {
+        ScenarioSort::Scenario => "a scenario",
+        ScenarioSort::Genesis => "a genesis",
+        ScenarioSort::Funds => "an entry of genesis",
+        ScenarioSort::Contracts => "a list of contracts",
+        ScenarioSort::NamedContract => "a named contract",
+        ScenarioSort::Threads => "a list of threads",
+        ScenarioSort::NamedThread => "a thread",
+        ScenarioSort::Plans => "a list of plans",
+        ScenarioSort::Plan => "a plan",
+        ScenarioSort::PlanKeys => "a list of keys",
+        ScenarioSort::Intents => "a list of intents",
+        ScenarioSort::Intent => "an intent",
+        ScenarioSort::Steps => "a list of steps",
+        ScenarioSort::OneStep => "a step",
+        ScenarioSort::NewName(_) => "a new name",
+        ScenarioSort::NameOf(NamedSort::Contract) => "a contract of the scenario",
+        ScenarioSort::NameOf(NamedSort::Thread) => "a thread of the scenario",
+        ScenarioSort::NameOf(NamedSort::Plan) => "a plan of the scenario",
+        ScenarioSort::Count => "a number of transactions",
+        ScenarioSort::Workers => "a number of workers",
+        ScenarioSort::Calls => "a number of calls",
+        ScenarioSort::Truth => "a truth value",
+    }
+}
+
+// The same without it.
+fn bare_scenario_sort_text(part: ScenarioSort) -> &'static str
+    ensures { result.now ≡ words.bare_scenario_sort_text part }
+{
+    match part {
+        ScenarioSort::Scenario => "scenario",
+        ScenarioSort::Genesis => "genesis",
+        ScenarioSort::Funds => "entry of genesis",
+        ScenarioSort::Contracts => "list of contracts",
+        ScenarioSort::NamedContract => "named contract",
+        ScenarioSort::Threads => "list of threads",
+        ScenarioSort::NamedThread => "thread",
+        ScenarioSort::Plans => "list of plans",
+        ScenarioSort::Plan => "plan",
+        ScenarioSort::PlanKeys => "list of keys",
+        ScenarioSort::Intents => "list of intents",
+        ScenarioSort::Intent => "intent",
+        ScenarioSort::Steps => "list of steps",
+        ScenarioSort::OneStep => "step",
+        ScenarioSort::NewName(_) => "new name",
+        ScenarioSort::NameOf(NamedSort::Contract) => "contract of the scenario",
+        ScenarioSort::NameOf(NamedSort::Thread) => "thread of the scenario",
+        ScenarioSort::NameOf(NamedSort::Plan) => "plan of the scenario",
+        ScenarioSort::Count => "number of transactions",
+        ScenarioSort::Workers => "number of workers",
+        ScenarioSort::Calls => "number of calls",
+        ScenarioSort::Truth => "truth value",
+    }
+}
+
+// What such a part is.
+fn scenario_sort_hint(part: ScenarioSort) -> &'static str
+    ensures { result.now ≡ words.scenario_sort_hint part }
+{
+    match part {
+        ScenarioSort::Scenario =>
+            "a scenario has \"tick\", \"genesis\", \"contracts\", \"threads\" and \"plans\"",
+        ScenarioSort::Genesis =>
+            "a genesis is a list, also of none or one: what addresses have when the ledger begins",
+        ScenarioSort::Funds => "an entry of genesis has \"address\" and \"amount\"",
+        ScenarioSort::Contracts => "contracts stand in a list, also none or one",
+        ScenarioSort::NamedContract =>
+            "a named contract has \"name\", \"currency\" and \"contract\"",
+        ScenarioSort::Threads => "threads stand in a list, also none or one",
+        ScenarioSort::NamedThread =>
+            "a thread has \"name\", \"contract\", \"by\", \"accounts\" and \"minTime\"",
+        ScenarioSort::Plans => "plans stand in a list, also none or one",
+        ScenarioSort::Plan =>
+            "a plan has \"name\", \"keys\", \"change\" and \"intents\", and there are at most 63 plans",
+        ScenarioSort::PlanKeys => "keys are texts and stand in a list, also none or one",
+        ScenarioSort::Intents => "intents stand in a list, also none or one",
+        ScenarioSort::Intent =>
+            "an intent has \"step\", \"steps\", \"claim\", \"round\" or \"advance\"",
+        ScenarioSort::Steps => "steps stand in a list, also none or one",
+        ScenarioSort::OneStep => "a step has \"step\" and \"inputs\"",
+        ScenarioSort::NewName(_) => "each of a list has a name of its own",
+        ScenarioSort::NameOf(NamedSort::Contract) => "a contract is named as in \"contracts\"",
+        ScenarioSort::NameOf(NamedSort::Thread) => "a thread is named as in \"threads\"",
+        ScenarioSort::NameOf(NamedSort::Plan) => "a plan is named as in \"plans\"",
+        ScenarioSort::Count => "a round takes 0 to 18446744073709551615 transactions",
+        ScenarioSort::Workers => "1 to 16 workers check a round",
+        ScenarioSort::Calls => "a plan stops after 0 to 9223372036854775807 calls",
+        ScenarioSort::Truth => "a truth value is true or false, without quotation marks",
+    }
+}
+
+/// What has names.
+pub(crate) fn kinds_text(kind: NamedSort) -> &'static str
+    ensures { result.now ≡ words.kinds_text kind }
+{
+    match kind {
+        NamedSort::Contract => "contracts",
+        NamedSort::Thread => "threads",
+        NamedSort::Plan => "plans",
     }
 }

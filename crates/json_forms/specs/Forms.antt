@@ -1,9 +1,13 @@
 -- The forms of each sort that are objects, and their keys, in the order in which they are sought and read.
-use Rattle.std.specs.Prelude.{ℕ, List, [], ◌∷◌, map, codes}
+use Rattle.std.specs.Prelude.{ℕ, List, [], ◌∷◌, map, Option, Some, None, codes}
 use Rattle.json_forms.specs.declared.key.Key.{Key}
 use Rattle.json_forms.specs.declared.key.Key.TheVariants as keys
 use Rattle.json_forms.specs.declared.sort.Sort.{Sort}
 use Rattle.json_forms.specs.declared.sort.Sort.TheVariants as sorts
+use Rattle.json_forms.specs.declared.sort.Numbers.TheVariants as numbers
+use Rattle.json_forms.specs.declared.sort.ScenarioSort.{ScenarioSort}
+use Rattle.json_forms.specs.declared.sort.ScenarioSort.TheVariants as parts
+use Rattle.json_forms.specs.declared.sort.NamedSort.TheVariants as named
 use Rattle.json_forms.specs.declared.form.Form.{Form}
 use Rattle.json_forms.specs.declared.form.Form.TheVariants as forms
 
@@ -70,10 +74,43 @@ key_word keys.Accounts = codes "accounts"
 key_word keys.Choices = codes "choices"
 key_word keys.BoundValues = codes "boundValues"
 key_word keys.MinTime = codes "minTime"
+key_word keys.Tick = codes "tick"
+key_word keys.Genesis = codes "genesis"
+key_word keys.Amount = codes "amount"
+key_word keys.Contracts = codes "contracts"
+key_word keys.Name = codes "name"
+key_word keys.Currency = codes "currency"
+key_word keys.Contract = codes "contract"
+key_word keys.Threads = codes "threads"
+key_word keys.Plans = codes "plans"
+key_word keys.Keys = codes "keys"
+key_word keys.Change = codes "change"
+key_word keys.Intents = codes "intents"
+key_word keys.StopAfter = codes "stop_after"
+key_word keys.Step = codes "step"
+key_word keys.Inputs = codes "inputs"
+key_word keys.Pool = codes "pool"
+key_word keys.Steps = codes "steps"
+key_word keys.Claim = codes "claim"
+key_word keys.Role = codes "role"
+key_word keys.Round = codes "round"
+key_word keys.Workers = codes "workers"
+key_word keys.Advance = codes "advance"
 
 -- a key, and what its value is read as
 abbrev pub Field : Type 0
 Field = Key × Sort
+
+-- of a part that only a scenario has
+abbrev pub scenario_forms : ScenarioSort → List Form
+scenario_forms parts.Scenario = forms.Scenario ∷ []
+scenario_forms parts.Funds = forms.Funds ∷ []
+scenario_forms parts.NamedContract = forms.NamedContract ∷ []
+scenario_forms parts.NamedThread = forms.NamedThread ∷ []
+scenario_forms parts.Plan = forms.Plan ∷ []
+scenario_forms parts.Intent = forms.Step ∷ forms.Steps ∷ forms.Claim ∷ forms.Round ∷ forms.Advance ∷ []
+scenario_forms parts.OneStep = forms.OneStep ∷ []
+scenario_forms other = []
 
 abbrev pub forms_of : Sort → List Form
 forms_of sorts.Contract = forms.Pay ∷ forms.If ∷ forms.When ∷ forms.Let ∷ forms.Assert ∷ []
@@ -90,6 +127,7 @@ forms_of sorts.Transaction = forms.Transaction ∷ []
 forms_of sorts.Interval = forms.Interval ∷ []
 forms_of sorts.Input = forms.DepositInput ∷ forms.ChoiceInput ∷ []
 forms_of (sorts.State numbers) = forms.State numbers ∷ []
+forms_of (sorts.OfScenario part) = scenario_forms part
 forms_of other = []
 
 abbrev pub fields_of : Form → List Field
@@ -132,6 +170,24 @@ fields_of forms.Interval = (keys.From, sorts.Time) ∷ (keys.To, sorts.Time) ∷
 fields_of forms.DepositInput = (keys.InputFromParty, sorts.Party) ∷ (keys.ThatDeposits, sorts.Whole) ∷ (keys.OfToken, sorts.Token) ∷ (keys.IntoAccount, sorts.Party) ∷ []
 fields_of forms.ChoiceInput = (keys.ForChoiceId, sorts.ChoiceId) ∷ (keys.InputThatChoosesNum, sorts.Whole) ∷ []
 fields_of (forms.State numbers) = (keys.Accounts, sorts.Accounts numbers) ∷ (keys.Choices, sorts.Choices numbers) ∷ (keys.BoundValues, sorts.BoundValues numbers) ∷ (keys.MinTime, sorts.Time) ∷ []
+fields_of forms.Scenario = (keys.Tick, sorts.Time) ∷ (keys.Genesis, sorts.OfScenario parts.Genesis) ∷ (keys.Contracts, sorts.OfScenario parts.Contracts) ∷ (keys.Threads, sorts.OfScenario parts.Threads) ∷ (keys.Plans, sorts.OfScenario parts.Plans) ∷ []
+fields_of forms.Funds = (keys.Address, sorts.Text) ∷ (keys.Amount, sorts.Amounts) ∷ []
+fields_of forms.NamedContract = (keys.Name, sorts.OfScenario (parts.NewName named.Contract)) ∷ (keys.Currency, sorts.Hex) ∷ (keys.Contract, sorts.Contract) ∷ []
+fields_of forms.NamedThread = (keys.Name, sorts.OfScenario (parts.NewName named.Thread)) ∷ (keys.Contract, sorts.OfScenario (parts.NameOf named.Contract)) ∷ (keys.By, sorts.Text) ∷ (keys.Accounts, sorts.Accounts numbers.Whole) ∷ (keys.MinTime, sorts.Time) ∷ []
+fields_of forms.Plan = (keys.Name, sorts.OfScenario (parts.NewName named.Plan)) ∷ (keys.Keys, sorts.OfScenario parts.PlanKeys) ∷ (keys.Change, sorts.Text) ∷ (keys.Intents, sorts.OfScenario parts.Intents) ∷ []
+fields_of forms.Step = (keys.Step, sorts.OfScenario (parts.NameOf named.Thread)) ∷ (keys.Inputs, sorts.Inputs) ∷ (keys.From, sorts.Time) ∷ (keys.To, sorts.Time) ∷ []
+fields_of forms.Steps = (keys.Steps, sorts.OfScenario parts.Steps) ∷ (keys.From, sorts.Time) ∷ (keys.To, sorts.Time) ∷ []
+fields_of forms.Claim = (keys.Claim, sorts.OfScenario (parts.NameOf named.Contract)) ∷ (keys.Role, sorts.Text) ∷ (keys.From, sorts.Time) ∷ (keys.To, sorts.Time) ∷ []
+fields_of forms.Round = (keys.Round, sorts.OfScenario parts.Count) ∷ (keys.Workers, sorts.OfScenario parts.Workers) ∷ []
+fields_of forms.Advance = (keys.Advance, sorts.Time) ∷ []
+fields_of forms.OneStep = (keys.Step, sorts.OfScenario (parts.NameOf named.Thread)) ∷ (keys.Inputs, sorts.Inputs) ∷ []
+
+-- the key of a form that may lack: it is read last
+abbrev pub more_of : Form → Option Field
+more_of forms.Plan = Some (keys.StopAfter, sorts.OfScenario parts.Calls)
+more_of forms.Step = Some (keys.Pool, sorts.OfScenario parts.Truth)
+more_of forms.Steps = Some (keys.Pool, sorts.OfScenario parts.Truth)
+more_of other = None
 
 -- the words of a form's keys
 abbrev pub words_of : Form → List (List ℕ)

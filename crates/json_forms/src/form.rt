@@ -1,9 +1,9 @@
 //! The forms of each sort, and their fields.
 ghost use Rattle.std.specs.Prelude.{◌≡◌};
-ghost use Rattle.json_forms.specs.Forms.{fields_of, forms_of};
+ghost use Rattle.json_forms.specs.Forms.{fields_of, forms_of, more_of, scenario_forms};
 
 use crate::key::Key;
-use crate::sort::{Numbers, Sort};
+use crate::sort::{NamedSort, Numbers, ScenarioSort, Sort};
 
 /// A form of a sort that is an object: it has some keys, in order. A sort may also have words and numbers, which are none.
 #[derive(Clone, Copy, Debug)]
@@ -86,6 +86,28 @@ pub enum Form {
     ChoiceInput,
     /// A state.
     State(Numbers),
+    /// A scenario.
+    Scenario,
+    /// What an address has when the ledger begins.
+    Funds,
+    /// A contract and its name.
+    NamedContract,
+    /// A thread.
+    NamedThread,
+    /// A plan.
+    Plan,
+    /// A step as an intent.
+    Step,
+    /// Several steps as an intent.
+    Steps,
+    /// A claim as an intent.
+    Claim,
+    /// A round as an intent.
+    Round,
+    /// An advance as an intent.
+    Advance,
+    /// One of several steps.
+    OneStep,
 }
 
 /// The forms of a sort that are objects, in the order in which they are sought.
@@ -144,7 +166,32 @@ pub fn forms_of(sort: Sort) -> &'static [Form]
         | Sort::BoundEntry(_)
         | Sort::NumberOrText
         | Sort::Amount(_)
-        | Sort::Repeated(_) => &[],
+        | Sort::Repeated(_)
+        | Sort::Amounts
+        | Sort::AmountEntry => &[],
+        Sort::OfScenario(part) => scenario_forms(part),
+    }
+}
+
+// The forms of a part that only a scenario has.
+fn scenario_forms(part: ScenarioSort) -> &'static [Form]
+    ensures { result.now ≡ scenario_forms part }
+{
+    match part {
+        ScenarioSort::Scenario => &[Form::Scenario],
+        ScenarioSort::Funds => &[Form::Funds],
+        ScenarioSort::NamedContract => &[Form::NamedContract],
+        ScenarioSort::NamedThread => &[Form::NamedThread],
+        ScenarioSort::Plan => &[Form::Plan],
+        ScenarioSort::Intent => &[
+            Form::Step,
+            Form::Steps,
+            Form::Claim,
+            Form::Round,
+            Form::Advance,
+        ],
+        ScenarioSort::OneStep => &[Form::OneStep],
+        _ => &[],
     }
 }
 
@@ -262,5 +309,90 @@ pub fn fields_of(form: Form) -> &'static [(Key, Sort)]
             (Key::BoundValues, Sort::BoundValues(Numbers::OrTexts)),
             (Key::MinTime, Sort::Time),
         ],
+        Form::Scenario => &[
+            (Key::Tick, Sort::Time),
+            (Key::Genesis, Sort::OfScenario(ScenarioSort::Genesis)),
+            (Key::Contracts, Sort::OfScenario(ScenarioSort::Contracts)),
+            (Key::Threads, Sort::OfScenario(ScenarioSort::Threads)),
+            (Key::Plans, Sort::OfScenario(ScenarioSort::Plans)),
+        ],
+        Form::Funds => &[(Key::Address, Sort::Text), (Key::Amount, Sort::Amounts)],
+        Form::NamedContract => &[
+            (
+                Key::Name,
+                Sort::OfScenario(ScenarioSort::NewName(NamedSort::Contract)),
+            ),
+            (Key::Currency, Sort::Hex),
+            (Key::Contract, Sort::Contract),
+        ],
+        Form::NamedThread => &[
+            (
+                Key::Name,
+                Sort::OfScenario(ScenarioSort::NewName(NamedSort::Thread)),
+            ),
+            (
+                Key::Contract,
+                Sort::OfScenario(ScenarioSort::NameOf(NamedSort::Contract)),
+            ),
+            (Key::By, Sort::Text),
+            (Key::Accounts, Sort::Accounts(Numbers::Whole)),
+            (Key::MinTime, Sort::Time),
+        ],
+        Form::Plan => &[
+            (
+                Key::Name,
+                Sort::OfScenario(ScenarioSort::NewName(NamedSort::Plan)),
+            ),
+            (Key::Keys, Sort::OfScenario(ScenarioSort::PlanKeys)),
+            (Key::Change, Sort::Text),
+            (Key::Intents, Sort::OfScenario(ScenarioSort::Intents)),
+        ],
+        Form::Step => &[
+            (
+                Key::Step,
+                Sort::OfScenario(ScenarioSort::NameOf(NamedSort::Thread)),
+            ),
+            (Key::Inputs, Sort::Inputs),
+            (Key::From, Sort::Time),
+            (Key::To, Sort::Time),
+        ],
+        Form::Steps => &[
+            (Key::Steps, Sort::OfScenario(ScenarioSort::Steps)),
+            (Key::From, Sort::Time),
+            (Key::To, Sort::Time),
+        ],
+        Form::Claim => &[
+            (
+                Key::Claim,
+                Sort::OfScenario(ScenarioSort::NameOf(NamedSort::Contract)),
+            ),
+            (Key::Role, Sort::Text),
+            (Key::From, Sort::Time),
+            (Key::To, Sort::Time),
+        ],
+        Form::Round => &[
+            (Key::Round, Sort::OfScenario(ScenarioSort::Count)),
+            (Key::Workers, Sort::OfScenario(ScenarioSort::Workers)),
+        ],
+        Form::Advance => &[(Key::Advance, Sort::Time)],
+        Form::OneStep => &[
+            (
+                Key::Step,
+                Sort::OfScenario(ScenarioSort::NameOf(NamedSort::Thread)),
+            ),
+            (Key::Inputs, Sort::Inputs),
+        ],
+    }
+}
+
+/// The key of a form that an object may also lack: it is read behind the others.
+pub fn more_of(form: Form) -> Option<(Key, Sort)>
+    ensures { result ≡ more_of form }
+{
+    match form {
+        Form::Plan => Some((Key::StopAfter, Sort::OfScenario(ScenarioSort::Calls))),
+        Form::Step => Some((Key::Pool, Sort::OfScenario(ScenarioSort::Truth))),
+        Form::Steps => Some((Key::Pool, Sort::OfScenario(ScenarioSort::Truth))),
+        _ => None,
     }
 }

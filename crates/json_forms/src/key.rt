@@ -2,7 +2,7 @@
 ghost use Rattle.std.specs.Prelude.{◌≡◌};
 ghost use Rattle.json_forms.specs.Forms.{key_word};
 
-/// A key of a form of a contract, a transaction or a state.
+/// A key of a form of a contract, a transaction, a state or a scenario.
 #[derive(Clone, Copy, Debug)]
 pub enum Key {
     /// `pay`
@@ -129,6 +129,50 @@ pub enum Key {
     BoundValues,
     /// `minTime`
     MinTime,
+    /// `tick`
+    Tick,
+    /// `genesis`
+    Genesis,
+    /// `amount`
+    Amount,
+    /// `contracts`
+    Contracts,
+    /// `name`
+    Name,
+    /// `currency`
+    Currency,
+    /// `contract`
+    Contract,
+    /// `threads`
+    Threads,
+    /// `plans`
+    Plans,
+    /// `keys`
+    Keys,
+    /// `change`
+    Change,
+    /// `intents`
+    Intents,
+    /// `stop_after`
+    StopAfter,
+    /// `step`
+    Step,
+    /// `inputs`
+    Inputs,
+    /// `pool`
+    Pool,
+    /// `steps`
+    Steps,
+    /// `claim`
+    Claim,
+    /// `role`
+    Role,
+    /// `round`
+    Round,
+    /// `workers`
+    Workers,
+    /// `advance`
+    Advance,
 }
 
 /// The word of a key, as it stands in a text.
@@ -198,5 +242,27 @@ pub fn key_word(key: Key) -> &'static str
         Key::Choices => "choices",
         Key::BoundValues => "boundValues",
         Key::MinTime => "minTime",
+        Key::Tick => "tick",
+        Key::Genesis => "genesis",
+        Key::Amount => "amount",
+        Key::Contracts => "contracts",
+        Key::Name => "name",
+        Key::Currency => "currency",
+        Key::Contract => "contract",
+        Key::Threads => "threads",
+        Key::Plans => "plans",
+        Key::Keys => "keys",
+        Key::Change => "change",
+        Key::Intents => "intents",
+        Key::StopAfter => "stop_after",
+        Key::Step => "step",
+        Key::Inputs => "inputs",
+        Key::Pool => "pool",
+        Key::Steps => "steps",
+        Key::Claim => "claim",
+        Key::Role => "role",
+        Key::Round => "round",
+        Key::Workers => "workers",
+        Key::Advance => "advance",
     }
 }

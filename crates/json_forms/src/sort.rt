@@ -74,4 +74,66 @@ pub enum Sort {
     Amount(Numbers),
     /// An entry of a list, for which an earlier one stands there already: the index of the first, from 0.
     Repeated(usize),
+    /// A list of amounts of tokens.
+    Amounts,
+    /// A token and how much of it there is, a list of the two.
+    AmountEntry,
+    /// A part that only a scenario has.
+    OfScenario(ScenarioSort),
+}
+
+/// What a part of a scenario is read as that no contract and no state has.
+#[derive(Clone, Copy, Debug)]
+pub enum ScenarioSort {
+    /// A scenario.
+    Scenario,
+    /// A list of what addresses have when the ledger begins.
+    Genesis,
+    /// What an address has when the ledger begins.
+    Funds,
+    /// A list of contracts that have names.
+    Contracts,
+    /// A contract and its name.
+    NamedContract,
+    /// A list of threads.
+    Threads,
+    /// A thread.
+    NamedThread,
+    /// A list of plans.
+    Plans,
+    /// A plan of a party.
+    Plan,
+    /// A list of texts: the keys of a plan.
+    PlanKeys,
+    /// A list of intents.
+    Intents,
+    /// An intent.
+    Intent,
+    /// A list of steps that are made at once.
+    Steps,
+    /// One of several steps.
+    OneStep,
+    /// A name that no item before it has, in a list of these.
+    NewName(NamedSort),
+    /// The name of a contract of the scenario, or of a thread.
+    NameOf(NamedSort),
+    /// How many transactions a round takes: from 0 to 2^64 - 1.
+    Count,
+    /// How many workers check: from 1 to 16.
+    Workers,
+    /// After how many calls a plan stops: from 0 to 2^63 - 1.
+    Calls,
+    /// `true` or `false`.
+    Truth,
+}
+
+/// What has a name in a scenario.
+#[derive(Clone, Copy, Debug)]
+pub enum NamedSort {
+    /// Contracts.
+    Contract,
+    /// Threads.
+    Thread,
+    /// Plans.
+    Plan,
 }

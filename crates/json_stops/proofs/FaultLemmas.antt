@@ -9,8 +9,8 @@ use Rattle.names.specs.declared.party.Party.TheVariants as parties
 use Rattle.names.specs.declared.token.Token.{Token}
 use Rattle.names.specs.declared.account.Account.{Account}
 use Rattle.names.specs.declared.choice_id.ChoiceId.{ChoiceId}
-use Rattle.names.specs.Orders.{bytes_cmp, account_cmp, choice_id_cmp}
-use Rattle.names.specs.Totals.{bytes_total, account_total, choice_id_total}
+use Rattle.names.specs.Orders.{bytes_cmp, account_cmp, choice_id_cmp, token_cmp}
+use Rattle.names.specs.Totals.{bytes_total, account_total, choice_id_total, token_total}
 use Rattle.states.specs.States.{StateMaps}
 use Rattle.names.specs.declared.bound.Bound.{Bound}
 use Rattle.contract.specs.declared.input.Input.{Input}
@@ -27,8 +27,9 @@ use Rattle.json_read_contracts.specs.ReadsContract.{case}
 use Rattle.json_read_contracts.proofs.ContractSteps.{contract-step, case-step}
 use Rattle.json_read_inputs.specs.ReadsInput.{interval, input}
 use Rattle.json_read_inputs.specs.ReadsNumber.{number_or_text}
-use Rattle.json_read_inputs.specs.ReadsState.{account, account_row_by, choice_row_by, bound_row_by, rows}
+use Rattle.json_read_inputs.specs.ReadsState.{account, account_row_by, choice_row_by, bound_row_by, amount_row_by, amount_row, rows}
 use Rattle.json_forms.specs.declared.sort.Numbers.{Numbers}
+use Rattle.json_forms.specs.declared.sort.Numbers.TheVariants as numbers
 use Rattle.json_forms.specs.declared.sort.Sort.{Sort}
 use Rattle.json_forms.specs.declared.sort.Sort.TheVariants as sorts
 use Rattle.json_forms.specs.declared.form.Form.TheVariants as forms
@@ -162,6 +163,16 @@ module _ (ns : Numbers) where
   unfolding bound_row_by
   bound_key d r e = key_is (pair d) text (λ e k. kept k e) r (λ x k h. number_kept (number ns x) k r h) e
 
+-- an amount of a token, and its key
+amount_entry_fault : (d : Data) → fault_of (amount_row d) ≡ pair_fault sorts.Token (sorts.Amount numbers.Whole) (pair d)
+unfolding amount_row_by
+amount_entry_fault d =
+    pair_then sorts.Token (sorts.Amount numbers.Whole) (pair d) token (held numbers.Whole) (λ e. refl) (λ a e. amount_fault (number numbers.Whole e) (λ n. (a, n)))
+
+token_key : (d : Data) (r : Token × ℤ) → amount_row d ≡ Ok r → entry_key token d ≡ Ok r.0
+unfolding amount_row_by
+token_key d r e = key_is (pair d) token (λ e k. held numbers.Whole k e) r (λ x k h. amount_kept (number numbers.Whole x) k r h) e
+
 account_fault : (d : Data) → fault_of (account d) ≡ pair_fault sorts.Party sorts.Token (pair d)
 account_fault d = pair_then sorts.Party sorts.Token (pair d) party (λ a e. token e >>= λ t. Ok (made_account a t)) (λ e. refl) (λ a e. made_fault (token e) (made_account a))
 
@@ -201,3 +212,6 @@ fault_is (sorts.BoundEntry ns) d = bound_entry_fault ns d
 fault_is sorts.NumberOrText d = itself_fault (number_or_text d) d
 fault_is (sorts.Amount ns) d = itself_fault (amount ns d) d
 fault_is (sorts.Repeated first) d = refl
+fault_is sorts.Amounts d = rows_is token_total amount_row (entry_key token) sorts.AmountEntry (λ e. refl) token_key sorts.Amounts (λ ds. refl) (as_array d)
+fault_is sorts.AmountEntry d = amount_entry_fault d
+fault_is (sorts.OfScenario part) d = refl

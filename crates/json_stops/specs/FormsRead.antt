@@ -60,6 +60,8 @@ shape_of (sorts.Choices numbers) = ListOf (sorts.ChoiceEntry numbers)
 shape_of (sorts.ChoiceEntry numbers) = PairOf sorts.ChoiceId (number_sort numbers)
 shape_of (sorts.BoundValues numbers) = ListOf (sorts.BoundEntry numbers)
 shape_of (sorts.BoundEntry numbers) = PairOf sorts.Text (number_sort numbers)
+shape_of sorts.Amounts = ListOf sorts.AmountEntry
+shape_of sorts.AmountEntry = PairOf sorts.Token (sorts.Amount numbers.Whole)
 shape_of other = Itself
 
 -- a text or a number has no keys
@@ -152,4 +154,5 @@ fields_read (sorts.State numbers) d = only_form (has_two (codes "accounts") (cod
 fields_read sorts.NumberOrText d = no_keys (number_or_text d)
 fields_read (sorts.Amount numbers) d = no_keys (amount numbers d)
 fields_read (sorts.Repeated first) d = Err faults.BadState
+fields_read (sorts.OfScenario part) d = Err faults.NoForm
 fields_read other d = Ok []

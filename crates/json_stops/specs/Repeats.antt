@@ -3,10 +3,10 @@ use Rattle.std.specs.Prelude.{ℕ, ◌+◌, ◌==◌, cond, Option, Some, None, 
 use Rattle.std.specs.declared.cmp.Ordering.{Ordering}
 use Rattle.std.specs.Ordering.{is_eq}
 use Rattle.serde_json.specs.Data.{Data, Items, no_items, item}
-use Rattle.names.specs.Orders.{bytes_cmp, account_cmp, choice_id_cmp}
+use Rattle.names.specs.Orders.{bytes_cmp, account_cmp, choice_id_cmp, token_cmp}
 use Rattle.collections.specs.Answers.{◌>>=◌}
 use Rattle.json_read_names.specs.Parts.{Reading, pair, text}
-use Rattle.json_read_names.specs.ReadsNames.{choice_id}
+use Rattle.json_read_names.specs.ReadsNames.{choice_id, token}
 use Rattle.json_read_inputs.specs.ReadsState.{account}
 use Rattle.json_forms.specs.declared.sort.Sort.{Sort}
 use Rattle.json_forms.specs.declared.sort.Sort.TheVariants as sorts
@@ -50,6 +50,7 @@ abbrev pub repeat_in : Sort → Items → Option Repeat
 repeat_in (sorts.Accounts numbers) ds = repeat_from account_cmp (entry_key account) no_places 0 ds
 repeat_in (sorts.Choices numbers) ds = repeat_from choice_id_cmp (entry_key choice_id) no_places 0 ds
 repeat_in (sorts.BoundValues numbers) ds = repeat_from bytes_cmp (entry_key text) no_places 0 ds
+repeat_in sorts.Amounts ds = repeat_from token_cmp (entry_key token) no_places 0 ds
 repeat_in other ds = None
 
 -- the index of the earlier one, where the entry at an index is the one that repeats its key

@@ -3,17 +3,17 @@ use Rattle.std.specs.Prelude.{◌≡◌, ℕ, ◌+◌, List, [], ◌∷◌, Opti
 use Rattle.std.specs.List.{find}
 use Rattle.serde_json.specs.Data.{Data, Items, no_items, item}
 use Rattle.serde_json.specs.Find.{get, as_array}
-use Rattle.names.specs.Orders.{bytes_cmp, account_cmp, choice_id_cmp}
+use Rattle.names.specs.Orders.{bytes_cmp, account_cmp, choice_id_cmp, token_cmp}
 use Rattle.json_read_names.specs.Parts.{Reading, text, bytes, whole_number, time, list, pair}
 use Rattle.json_read_names.specs.ReadsNames.{party, token, choice_id, payee, bound}
 use Rattle.json_read_names.specs.declared.fault.JsonFault.{JsonFault}
-use Rattle.json_read_names.specs.declared.fault.JsonFault.TheVariants.{BadState}
+use Rattle.json_read_names.specs.declared.fault.JsonFault.TheVariants.{BadState, NoForm}
 use Rattle.json_read_values.specs.ReadsValue.{value, observation}
 use Rattle.json_read_values.specs.ReadsAction.{action}
 use Rattle.json_read_contracts.specs.ReadsContract.{contract, case}
 use Rattle.json_read_inputs.specs.ReadsInput.{transaction, interval, input}
 use Rattle.json_read_inputs.specs.ReadsNumber.{number_or_text}
-use Rattle.json_read_inputs.specs.ReadsState.{account, account_row_by, choice_row_by, bound_row_by, rows, state_by}
+use Rattle.json_read_inputs.specs.ReadsState.{account, account_row_by, choice_row_by, bound_row_by, amount_row, rows, state_by}
 use Rattle.json_forms.specs.declared.sort.Sort.{Sort}
 use Rattle.json_forms.specs.declared.sort.Sort.TheVariants as sorts
 use Rattle.json_forms.specs.Forms.{Field, key_word}
@@ -33,7 +33,7 @@ abbrev pub fault_of : {X : Type 0} → Reading X → Option JsonFault
 fault_of (Ok x) = None
 fault_of (Err f) = Some f
 
--- why a value isn't read as one of a sort
+-- why a value isn't read as one of a sort; what only a scenario has is read by none of these
 abbrev pub fault_as : Sort → Data → Option JsonFault
 fault_as sorts.Contract d = fault_of (contract d)
 fault_as sorts.Cases d = fault_of (list case d)
@@ -66,6 +66,9 @@ fault_as (sorts.BoundEntry numbers) d = fault_of (bound_row_by (number numbers) 
 fault_as sorts.NumberOrText d = fault_of (number_or_text d)
 fault_as (sorts.Amount numbers) d = fault_of (amount numbers d)
 fault_as (sorts.Repeated first) d = Some BadState
+fault_as sorts.Amounts d = fault_of (rows token_cmp amount_row d)
+fault_as sorts.AmountEntry d = fault_of (amount_row d)
+fault_as (sorts.OfScenario part) d = Some NoForm
 
 -- ---- parts
 

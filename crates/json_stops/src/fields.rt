@@ -41,6 +41,8 @@ pub(crate) fn shape_of(sort: Sort) -> Shape
         Sort::ChoiceEntry(numbers) => Shape::PairOf(Sort::ChoiceId, number_sort(numbers)),
         Sort::BoundValues(numbers) => Shape::ListOf(Sort::BoundEntry(numbers)),
         Sort::BoundEntry(numbers) => Shape::PairOf(Sort::Text, number_sort(numbers)),
+        Sort::Amounts => Shape::ListOf(Sort::AmountEntry),
+        Sort::AmountEntry => Shape::PairOf(Sort::Token, Sort::Amount(Numbers::Whole)),
         _ => Shape::Itself,
     }
 }
@@ -97,7 +99,10 @@ pub(crate) fn fields_read<J: JsonValue>(
         | Sort::Choices(_)
         | Sort::ChoiceEntry(_)
         | Sort::BoundValues(_)
-        | Sort::BoundEntry(_) => Ok(&[]),
+        | Sort::BoundEntry(_)
+        | Sort::Amounts
+        | Sort::AmountEntry => Ok(&[]),
+        Sort::OfScenario(_) => Err(JsonFault::NoForm),
     }
 }
 

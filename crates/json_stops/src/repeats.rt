@@ -4,7 +4,7 @@ ghost use Rattle.collections.specs.Answers.{Aside};
 ghost use Rattle.serde_json.specs.Data.{Data};
 ghost use Rattle.serde_json.specs.View.{items_of};
 ghost use Rattle.json_read_names.specs.Parts.{Reading, text};
-ghost use Rattle.json_read_names.specs.ReadsNames.{choice_id};
+ghost use Rattle.json_read_names.specs.ReadsNames.{choice_id, token};
 ghost use Rattle.json_read_inputs.specs.ReadsState.{account};
 ghost use Rattle.json_stops.specs.Repeats as spec;
 
@@ -14,7 +14,7 @@ use json_read_names::{
     JsonFault, choice_id_from_json, pair, party_from_json, read_text, token_from_json,
 };
 use json_tree::JsonValue;
-use names::{Account, ChoiceId};
+use names::{Account, ChoiceId, Token};
 use std::alloc::{AllocError, Global};
 use std::collections::BTreeMap;
 
@@ -30,6 +30,7 @@ pub(crate) fn repeat_in<J: JsonValue>(
         Sort::Accounts(_) => first_repeat::<J, Account>(alloc, items),
         Sort::Choices(_) => first_repeat::<J, ChoiceId>(alloc, items),
         Sort::BoundValues(_) => first_repeat::<J, Text>(alloc, items),
+        Sort::Amounts => first_repeat::<J, Token>(alloc, items),
         _ => Ok(None),
     }
 }
@@ -68,6 +69,14 @@ impl EntryKey for ChoiceId {
 
     fn key_from_json<J: JsonValue>(alloc: Global, json: &J) -> Result<ChoiceId, JsonFault> {
         choice_id_from_json(alloc, json)
+    }
+}
+
+impl EntryKey for Token {
+    ghost reading = { token };
+
+    fn key_from_json<J: JsonValue>(alloc: Global, json: &J) -> Result<Token, JsonFault> {
+        token_from_json(alloc, json)
     }
 }
 

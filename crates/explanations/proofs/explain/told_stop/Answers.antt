@@ -20,10 +20,11 @@ returns c =
       token = token_of found.1;
       keys = map (λ key. key.now) c.deref-5.result.now;
       first = c.in_ok-first.first;
+      names = map (λ name. name.now) c.args.names.now;
     } in
     IfOk-weaker c.told_lines.result _ _
-    (λ lines are. stop_told c.args.file.now c.args.text.now c.args.sort c.args.json.now c.args.part.now stop t lines.items c.deref-2.result.now c.requires.stops c.requires.utf8 c.in_ok-found.ensures
+    (λ lines are. stop_told c.args.file.now c.args.text.now c.args.json.now c.args.part.now stop t (map (λ name. name.now) c.args.names.now) lines.items c.deref-2.result.now c.requires c.in_ok-found.ensures
     (subst (λ path. IsFirst c.args.text.now c.args.json.now path stop.sort c.in_ok-first.first) c.deref-3.ensures.value c.in_ok-first.ensures)
     c.deref-4.ensures.value refl refl (c.deref-2.ensures.value ∙ c.in_ok-indexes.ensures ∙ ap (λ path. indexes_of path c.args.json.now) c.deref.ensures.value)
-    (ap (map (λ key. key.now)) c.deref-5.ensures.value ∙ c.in_ok-keys.ensures) are)
+    (ap (map (λ key. key.now)) c.deref-5.ensures.value ∙ c.in_ok-keys.ensures) refl are)
     c.told_lines.ensures

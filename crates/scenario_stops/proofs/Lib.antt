@@ -1,0 +1,5 @@
+mod ChainLemmas
+mod TurnLemmas
+mod FaultLemmas
+mod NameLemmas
+mod StopLemmas
