@@ -19,12 +19,12 @@ from rows import CRATES, Given, answered, lines_of
 
 ROOT = os.path.dirname(os.path.dirname(os.path.abspath(__file__)))
 PROGRAM = f"{ROOT}/crates/marlowe/out/marlowe"
-ROWS = [f"{CRATES}/rows_commands/data/explained_{what}.txt" for what in ("texts", "states")]
+ROWS = [f"{CRATES}/rows_commands/data/explained_{what}.txt" for what in ("texts", "states", "scenarios")]
 MOST_SHOWN, MOST_OF_PATH, LONGEST = 60, 400, 1_048_576
 
 PARTY, TOKEN = '{"address":"a"}', '{"currency_symbol":"","token_name":""}'
 CHOICE = '{"choice_name":"","choice_owner":%s}' % PARTY
-ENTRIES = {"accounts": f"[[{PARTY},{TOKEN}],1]", "choices": f"[{CHOICE},0]", "boundValues": '["",0]'}
+ENTRIES = {"amount": f"[{TOKEN},1]", "accounts": f"[[{PARTY},{TOKEN}],1]", "choices": f"[{CHOICE},0]", "boundValues": '["",0]'}
 
 
 def amount(json):
@@ -34,6 +34,18 @@ def amount(json):
 
 def repeated(json):
     raise readings.Fault("BadState")
+
+
+def truth(json):
+    readings.no_form(not isinstance(json, bool))
+
+
+def of_scenario(read):
+    """What reads a part of a scenario that has nothing yet."""
+    return lambda json: read(readings.Scenario(), json)
+
+
+NEW = '"no such name"'
 
 
 # Of each sort its reader, if it is sure, and a smallest text that it reads. (That an entry is a second one shows in its list alone.)
@@ -52,9 +64,20 @@ SORTS = {
     "list of bound values": (lambda json: readings.keyed(json, readings.text), "[]"),
     "entry of bound values": (lambda json: readings.keyed([json], readings.text), ENTRIES["boundValues"]),
     "number": (None, "0"), "number above 0": (amount, "1"), "second entry for one key": (repeated, None),
+    "scenario": (of_scenario(readings.Scenario.whole), '{"tick":0,"genesis":[],"contracts":[],"threads":[],"plans":[]}'),
+    "genesis": (readings.items, "[]"), "entry of genesis": (readings.funds, '{"address":"","amount":[]}'), "list of amounts": (readings.amount, "[]"),
+    "entry of amounts": (lambda json: readings.amount([json]), f"[{TOKEN},1]"), "list of contracts": (readings.items, "[]"),
+    "named contract": (of_scenario(readings.Scenario.contract), '{"name":%s,"currency":"","contract":"close"}' % NEW), "list of threads": (readings.items, "[]"),
+    "thread": (of_scenario(readings.Scenario.thread), None), "list of plans": (readings.items, "[]"),
+    "plan": (None, '{"name":%s,"keys":[],"change":"","intents":[]}' % NEW), "list of keys": (readings.items, "[]"), "list of intents": (readings.items, "[]"),
+    "intent": (of_scenario(readings.Scenario.intent), '{"advance":0}'), "list of steps": (readings.items, "[]"),
+    "step": (of_scenario(readings.Scenario.step_item), None), "new name": (None, NEW), "contract of the scenario": (None, None), "thread of the scenario": (None, None),
+    "number of transactions": (lambda json: readings.within(json, 0, readings.GREATEST_NUMBER), "0"), "number of workers": (readings.workers, "1"),
+    "number of calls": (lambda json: readings.within(json, 0, readings.GREATEST_TIME), "0"), "truth value": (truth, "false"),
     "hexadecimal digits": (readings.symbol, '""'), "contract follows": (readings.case, '{"case":{"notify_if":true},"then":"close"}'),
 }
-FIRST = re.compile(r"refused (contract|state|transaction)(?: (\d+))? (\w+)")
+FIRST = re.compile(r"refused (contract|state|transaction|scenario)(?: (\d+))? (\w+)")
+NAMES = re.compile(r"  (?:there are no \w+|the \w+ are (?P<names>\".*))")
 PLACE = re.compile(r"  (?P<file>.*?):(?P<line>\d+):(?P<column>\d+)(?: at (?P<path>[.\[]\S*))?: (?P<rest>.*)")
 WHY = re.compile(r"no (?:form of an? )?(?P<sort>[a-z ]+0?)(?:, but its hash|; (?P<stands>.*))")
 STEP = re.compile(r"\.(\w+)|\[(\d+)\]")
@@ -123,11 +146,21 @@ class Explained:
         see(self.why and self.why["sort"] in SORTS, f"no sort: {found['rest']}")
         self.reader, self.smallest = SORTS[self.why["sort"]]
         see(STEP.sub("", self.path) == "", f"no path: {self.path}")
-        self.smallest = self.smallest or ENTRIES[re.findall(r"\.(\w+)\[\d+\]$", self.path)[0]]
+        if self.why["sort"].endswith("of the scenario"):
+            self.see_names()
+        elif self.why["sort"] == "second entry for one key":
+            self.smallest = ENTRIES[re.findall(r"\.(\w+)\[\d+\]$", self.path)[0]]
         self.beginning = beginning
         self.part = part_of(text, beginning)
         for key, index in STEP.findall(self.path):
             self.part = self.part.behind(key, index)
+
+    def see_names(self):
+        """Sees which names are told to be there; the first of them is one that the part may be."""
+        names = NAMES.fullmatch(self.lines[-1])
+        see(names, f"no names: {self.lines}")
+        if names["names"] and not names["names"][1:].split('"')[0].endswith(".."):
+            self.smallest = json.dumps(json.JSONDecoder(strict=False).raw_decode(names["names"])[0])
 
     def see_place(self):
         told = int(self.found["line"]), int(self.found["column"])
@@ -171,7 +204,8 @@ class Explained:
         see(keys[0] == keys[1] or not isinstance(keys[0], str), f"the keys of {path} and {self.path} differ")
 
     def with_smallest(self):
-        return self.text[: self.part.begin] + self.smallest + self.text[self.part.end :]
+        """The text with a smallest part in the place of the one at fault; or None, where that may not be read either."""
+        return self.smallest and self.text[: self.part.begin] + self.smallest + self.text[self.part.end :]
 
     def mended(self):
         """The text with just that mended that the lines name: a key or a number; or None."""

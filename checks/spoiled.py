@@ -4,7 +4,7 @@
 Needs    (cd crates/marlowe && rt run -- --version); for --rows also (cd crates/rows_chain && rt run -- transactions/sums.txt)
 Usage    checks/spoiled.py [--seconds N] [--seed N] [--workers N] [--words WORD,..] [--program FILE] [--slow N] [--explain] [--count N] [--rows]
          for N seconds (60) with so many workers (1), each a process; a worker spoils the same texts in the same order again for the same seed;
-         --explain asks each refusal of run, table and analyse again with that flag, and --count N ends once so many texts were asked about;
+         --explain asks each refusal again with that flag, and --count N ends once so many texts were asked about;
          --words takes some of run, table, play and analyse in place of all; --program asks another program, which may take --slow N times as long;
          --rows spoils the rows of transactions in place of the texts
 Expect   how many texts there were of each command, were spoiled in each way and were answered in each kind, and `N spoiled texts, none at fault`;
@@ -308,7 +308,7 @@ def fault_explained(runner, word, line, answer):
         first, *lines = again.err.decode().split("\n")[:-1]
         found = explained.FIRST.fullmatch(first)
         if not found:
-            see(lines and all(it.startswith("  ") for it in lines), f"nothing is told of {first}")
+            see(bool(lines) == (word != "play") and all(it.startswith("  ") for it in lines), f"{len(lines)} lines are told of {first}")
         else:
             see_explained(runner, word, line, found, lines)
         return None
@@ -318,9 +318,9 @@ def fault_explained(runner, word, line, answer):
 
 def see_explained(runner, word, line, found, lines):
     """Sees that what is told of a text is so, and that reading goes on once a smallest part is in the place of the one at fault."""
-    place = 2 + ["contract", "state", "transaction"].index(found[1])
+    place = 2 + ["contract", "state", "transaction", "scenario"].index(found[1]) % 3
     told = explained.explained(text_of(line[place]), lines, found[3])
-    if told is None:
+    if told is None or told.with_smallest() is None:
         return
     file = f"{line[place]}.mended"
     with open(file, "wb") as it:
@@ -652,8 +652,6 @@ def main():
     words.add_argument("--explain", action="store_true")
     words.add_argument("--count", type=int, default=0)
     given = words.parse_args()
-    if given.explain:
-        given.words = [it for it in given.words if it != "play"]
     if not set(given.words) <= set(WORDS):
         words.error(f"--words takes some of {','.join(WORDS)}")
     program = ROWS if given.rows else given.program

@@ -1,5 +1,5 @@
 -- Why a contract has no table, and the line that says so.
-use Rattle.std.specs.Prelude.{◌≡◌, ℕ, ◌^◌, ◌<◌, ◌≤◌, List, Some, None, ◌⊎◌}
+use Rattle.std.specs.Prelude.{◌≡◌, ℕ, ◌^◌, ◌<◌, ◌≤◌, List, Option, Some, None, ◌⊎◌}
 use Rattle.contract.specs.Tree.{ContractTree}
 use Rattle.table.specs.Heights.{contract_height}
 use Rattle.lowering.specs.Sizes.{conts, others}
@@ -38,6 +38,11 @@ pub record IsExplanation (c : ContractTree) (text : List ℕ) : Type 0 where
   pub explanation : Explanation
   pub explains : Explains c explanation
   pub is : text ≡ line_of c explanation
+
+-- there is a text exactly where the contract is refused, and its nodes are counted
+abbrev pub TellsIfRefused : ContractTree → Option (List ℕ) → Type 0
+TellsIfRefused c None = IsUntold c
+TellsIfRefused c (Some text) = IsExplanation c text
 
 -- ---- laws
 

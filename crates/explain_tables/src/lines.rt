@@ -1,7 +1,7 @@
 //! The line that explains.
-ghost use Rattle.std.specs.Prelude.{◌≡◌, ◌++◌, IfOk, IfSome, OnOk, string_bytes};
+ghost use Rattle.std.specs.Prelude.{◌≡◌, ◌++◌, IfOk, OnOk, option_map};
 ghost use Rattle.contract.specs.Tree.{contract_tree};
-ghost use Rattle.explain_tables.specs.Explained.{IsExplanation, line_of};
+ghost use Rattle.explain_tables.specs.Explained.{TellsIfRefused, line_of};
 ghost use Rattle.explain_tables.specs.Lines.{deep_line, continuations_line, others_line};
 ghost use Rattle.places.specs.Places.{keys_of};
 ghost use Rattle.places.specs.Texts.{place_text};
@@ -16,32 +16,13 @@ use std::alloc::Global;
 use text_spots::put_path_shown;
 
 /// Why a contract has no table, as a line for people: where it is too deep, or how many nodes it has. It begins with two blanks and
-/// ends with a line feed. None where the contract has a table, where its nodes are 2^32 or more, or where memory was refused.
-pub fn explained(alloc: Global, contract: &Contract) -> Option<String>
-    ensures { IfSome result (λ text. IsExplanation (contract_tree contract.now) (string_bytes text)) }
+/// ends with a line feed. None where the contract has a table, or where its nodes are 2^32 or more.
+pub fn explained(alloc: Global, contract: &Contract) -> Result<Option<Vec<u8>>, Memory>
+    ensures { IfOk result (λ found. TellsIfRefused (contract_tree contract.now) (option_map (λ text. text.items) found)) }
 {
-    match explain(alloc, contract) {
-        Ok(Some(explanation)) => line_text(alloc, contract, &explanation),
-        _ => None,
-    }
-}
-
-// The line of an explanation as a text.
-fn line_text(alloc: Global, contract: &Contract, explanation: &Explanation) -> Option<String>
-    ensures { IfSome result (λ text. string_bytes text ≡ line_of (contract_tree contract.now) explanation.now) }
-{
-    match line(alloc, contract, explanation) {
-        Ok(bytes) => text_of(bytes),
-        Err(_) => None,
-    }
-}
-
-fn text_of(bytes: Vec<u8>) -> Option<String>
-    ensures { IfSome result (λ text. string_bytes text ≡ bytes.items) }
-{
-    match String::from_utf8(bytes) {
-        Ok(text) => Some(text),
-        Err(_) => None,
+    match explain(alloc, contract)? {
+        Some(explanation) => Ok(Some(line(alloc, contract, &explanation)?)),
+        None => Ok(None),
     }
 }
 

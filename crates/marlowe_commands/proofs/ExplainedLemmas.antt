@@ -7,7 +7,6 @@ use Rattle.clap.specs.Words.{Row, Text, one_of}
 use Rattle.marlowe_cli.specs.declared.task.Task.{Task}
 use Rattle.marlowe_cli.specs.declared.task.Task.TheVariants.{Run, Trace, Next, Table, Analyse, Play}
 use Rattle.marlowe_cli.specs.Asked.{IsAsked, IsFlag}
-use Rattle.refusal_reasons.specs.Reasons.{OrNone}
 use Rattle.marlowe_commands.specs.declared.printed.Printed.{Printed}
 use Rattle.marlowe_commands.specs.Streams.{Streams, streams_of, on_errors, with_lines, IsCut, IsExplained, IsOnOneStream, IsOnStreams, IsRefusal, IsTextOr, MayExplain}
 use Rattle.marlowe_commands.specs.Tasks.{AsksFor, IsTrace, LeavesOut, WantsNoExplanations, wants_explanations}
@@ -23,18 +22,16 @@ module _ (Prints : Streams → Type 0) (Explains : List ℕ → Type 0) where
   as_it_is streams prints = record { plain = streams; prints = prints; lines = []; explains = inl refl; is = with_none streams }
 
   -- a refusal with the lines behind it, or without them for want of memory
-  pub explained : (plain streams : Streams) (lines : List ℕ) → Prints plain → IsRefusal plain → OrNone Explains lines
+  pub told : (plain streams : Streams) (lines : List ℕ) → Prints plain → IsRefusal plain → Explains lines
       → (streams ≡ plain) ⊎ (streams ≡ with_lines lines plain) → IsExplained Prints Explains streams
-  explained plain streams lines prints refused told (inl same) = as_it_is streams (subst Prints (sym same) prints)
-  explained plain streams lines prints refused (inl none) (inr is) =
-      record { plain = plain; prints = prints; lines = lines; explains = inl none; is = is }
-  explained plain streams lines prints refused (inr told) (inr is) =
-      record { plain = plain; prints = prints; lines = lines; explains = inr (refused, told); is = is }
+  told plain streams lines prints refused tells (inl same) = as_it_is streams (subst Prints (sym same) prints)
+  told plain streams lines prints refused tells (inr is) =
+      record { plain = plain; prints = prints; lines = lines; explains = inr (refused, tells); is = is }
 
 -- .. whatever the lines are
 pub explained_anyhow : (Prints : Streams → Type 0) (plain streams : Streams) (lines : List ℕ) → Prints plain → IsRefusal plain
     → (streams ≡ plain) ⊎ (streams ≡ with_lines lines plain) → IsExplained Prints (λ lines. Unit {0}) streams
-explained_anyhow Prints plain streams lines prints refused told = explained Prints (λ lines. Unit {0}) plain streams lines prints refused (inr (tt {0})) told
+explained_anyhow Prints plain streams lines prints refused is = told Prints (λ lines. Unit {0}) plain streams lines prints refused (tt {0}) is
 
 -- whatever is promised of what is printed, so it is of what is printed alone
 pub may_explain : (explain : Bool) (Prints : Streams → Type 0) (streams : Streams) → Prints streams → MayExplain explain Prints streams
@@ -55,7 +52,7 @@ wants_none (Some (name, rows)) (Next task) (is, (contract, state, from, to, afte
 wants_none (Some (name, rows)) (Table task) (is, (contract, explain)) none = no_flag (one_of (codes "explain") rows) task.explain explain none
 wants_none (Some (name, rows)) (Analyse task) (is, (contract, state, json, runs, strict, texts, explain)) none =
     no_flag (one_of (codes "explain") rows) task.explain explain none
-wants_none (Some (name, rows)) (Play task) asked none = refl
+wants_none (Some (name, rows)) (Play task) (is, (scenario, one, explain)) none = no_flag (one_of (codes "explain") rows) task.explain explain none
 
 -- ---- what the words of a command line print
 

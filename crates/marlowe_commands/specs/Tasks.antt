@@ -70,14 +70,14 @@ abbrev pub AsksFor : Text → Option (Text × List Row) → Type 0
 AsksFor name None = ⊥
 AsksFor name (Some (asked, words)) = asked ≡ name
 
--- a task wants lines that explain a refusal; those of a play explain no refusal
+-- a task wants lines that explain a refusal
 abbrev pub wants_explanations : Task → Bool
 wants_explanations (Run task) = task.explain
 wants_explanations (Trace task) = task.explain
 wants_explanations (Next task) = task.explain
 wants_explanations (Table task) = task.explain
 wants_explanations (Analyse task) = task.explain
-wants_explanations (Play task) = false
+wants_explanations (Play task) = task.explain
 
 -- the words of a command line leave out the flag for explanations
 abbrev pub LeavesOut : Option Text → Type 0

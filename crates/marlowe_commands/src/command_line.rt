@@ -81,7 +81,10 @@ fn task_told<'a, T: Texts, R: AllocGlobal + Threads + Wait + Sync, W: Watch + Sy
             let explain = explain || task.explain;
             analysis_told(alloc, texts, task, explain)
         }
-        Task::Play(task) => play_told(rt, texts, watch, task),
+        Task::Play(task) => {
+            let explain = explain || task.explain;
+            play_told(rt, texts, watch, task, explain)
+        }
     }
 }
 

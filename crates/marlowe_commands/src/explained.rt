@@ -6,23 +6,30 @@ ghost use Rattle.marlowe_run.specs.Start.{state_reading};
 ghost use Rattle.marlowe_run.specs.TableText.{table_text};
 ghost use Rattle.marlowe_trace.specs.Traced.{trace_text};
 ghost use Rattle.marlowe_next.specs.Question.{reached};
-ghost use Rattle.refusal_reasons.specs.Reasons.{Tells, TellsOfTable};
+ghost use Rattle.refusal_reasons.specs.Reasons.{Tells, TellsOfTable, TellsScenario};
 ghost use Rattle.refusal_reasons.specs.declared.source.Behind.TheVariants as behind;
 ghost use Rattle.marlowe_commands.specs.Streams.{streams_of, IsCut, IsExplained, IsOnOneStream, IsTextOr, MayExplain};
 ghost use Rattle.marlowe_commands.specs.Tasks.{PrintsRun, PrintsTrace, PrintsNext, PrintsTable, PrintsAnalysis, over_of};
 
 use crate::printed::Printed;
-use crate::tasks::{analysis_printed, next_printed, run_printed, table_printed, trace_printed};
+use crate::tasks::{
+    analysis_printed, next_printed, play_printed, run_printed, table_printed, trace_printed,
+};
 use collections::Memory;
 use marlowe_analyse::Reader;
-use refusal_reasons::{Behind, Over, Source, Sources, reasons, table_reasons, text_if};
+use marlowe_play::{How, Watch};
+use refusal_reasons::{
+    Behind, Over, Source, Sources, reasons, scenario_reasons, table_reasons, text_if,
+};
 use std::alloc::Global;
+use std::sync::Wait;
+use std::thread::Threads;
 
 // The status of a refusal.
 const REFUSED: u8 = 1;
 
 /// What `run_printed` prints, with explanations.
-#[tactic(auto, using(crate::proofs::ExplainedLemmas::as_it_is, crate::proofs::ExplainedLemmas::explained))]
+#[tactic(auto, using(crate::proofs::ExplainedLemmas::as_it_is, crate::proofs::ExplainedLemmas::told))]
 pub fn run_explained(
     alloc: Global,
     contract: Source<'_>,
@@ -40,12 +47,14 @@ pub fn run_explained(
         return Ok(printed);
     }
     let behind = Behind::One(transaction);
-    let lines = reasons(alloc, contract, Some(state), texts, behind);
-    Ok(printed.with_lines(lines))
+    match reasons(alloc, contract, Some(state), texts, behind) {
+        Ok(lines) => Ok(printed.with_lines(lines)),
+        Err(_) => Ok(printed),
+    }
 }
 
 /// What `trace_printed` prints, with explanations.
-#[tactic(auto, using(crate::proofs::ExplainedLemmas::as_it_is, crate::proofs::ExplainedLemmas::explained))]
+#[tactic(auto, using(crate::proofs::ExplainedLemmas::as_it_is, crate::proofs::ExplainedLemmas::told))]
 pub fn trace_explained(
     alloc: Global,
     contract: Source<'_>,
@@ -70,12 +79,14 @@ pub fn trace_explained(
         return Ok(printed);
     }
     let behind = Behind::Many(transactions);
-    let lines = reasons(alloc, contract, state, asked.texts, behind);
-    Ok(printed.with_lines(lines))
+    match reasons(alloc, contract, state, asked.texts, behind) {
+        Ok(lines) => Ok(printed.with_lines(lines)),
+        Err(_) => Ok(printed),
+    }
 }
 
 /// What `next_printed` prints, with explanations.
-#[tactic(auto, using(crate::proofs::ExplainedLemmas::as_it_is, crate::proofs::ExplainedLemmas::explained))]
+#[tactic(auto, using(crate::proofs::ExplainedLemmas::as_it_is, crate::proofs::ExplainedLemmas::told))]
 pub fn next_explained(
     alloc: Global,
     contract: Source<'_>,
@@ -94,8 +105,10 @@ pub fn next_explained(
         return Ok(printed);
     }
     let behind = Behind::Next(after, over_of(asked));
-    let lines = reasons(alloc, contract, state, asked.texts, behind);
-    Ok(printed.with_lines(lines))
+    match reasons(alloc, contract, state, asked.texts, behind) {
+        Ok(lines) => Ok(printed.with_lines(lines)),
+        Err(_) => Ok(printed),
+    }
 }
 
 fn over_of(asked: marlowe_next::Asked) -> Over
@@ -108,7 +121,7 @@ fn over_of(asked: marlowe_next::Asked) -> Over
 }
 
 /// What `table_printed` prints, with explanations.
-#[tactic(auto, using(crate::proofs::ExplainedLemmas::as_it_is, crate::proofs::ExplainedLemmas::explained))]
+#[tactic(auto, using(crate::proofs::ExplainedLemmas::as_it_is, crate::proofs::ExplainedLemmas::told))]
 pub fn table_explained(alloc: Global, contract: Source<'_>) -> Result<Printed, Memory>
     ensures told { IfOk result (λ printed. IsExplained (PrintsTable (table_text contract.entry.text.now)) (TellsOfTable contract.entry)
         (streams_of printed)) }
@@ -118,12 +131,14 @@ pub fn table_explained(alloc: Global, contract: Source<'_>) -> Result<Printed, M
     if printed.status != REFUSED {
         return Ok(printed);
     }
-    let lines = table_reasons(alloc, contract);
-    Ok(printed.with_lines(lines))
+    match table_reasons(alloc, contract) {
+        Ok(lines) => Ok(printed.with_lines(lines)),
+        Err(_) => Ok(printed),
+    }
 }
 
 /// What `analysis_printed` prints, with explanations.
-#[tactic(auto, using(crate::proofs::ExplainedLemmas::as_it_is, crate::proofs::ExplainedLemmas::explained))]
+#[tactic(auto, using(crate::proofs::ExplainedLemmas::as_it_is, crate::proofs::ExplainedLemmas::told))]
 pub fn analysis_explained(
     alloc: Global,
     contract: Source<'_>,
@@ -141,6 +156,28 @@ pub fn analysis_explained(
     if printed.status != REFUSED {
         return Ok(printed);
     }
-    let lines = reasons(alloc, contract, state, texts, Behind::Nothing);
-    Ok(printed.with_lines(lines))
+    match reasons(alloc, contract, state, texts, Behind::Nothing) {
+        Ok(lines) => Ok(printed.with_lines(lines)),
+        Err(_) => Ok(printed),
+    }
+}
+
+/// What `play_printed` prints, with explanations of a scenario that isn't read.
+#[tactic(auto, using(crate::proofs::ExplainedLemmas::as_it_is, crate::proofs::ExplainedLemmas::told))]
+pub fn play_explained<R: AllocGlobal + Threads + Wait + Sync, W: Watch + Sync>(
+    rt: &R,
+    watch: &W,
+    scenario: Source<'_>,
+    how: How,
+) -> Result<Printed, Memory>
+    ensures { IfOk result (λ printed. IsExplained (IsTextOr 1) (TellsScenario scenario.entry) (streams_of printed)) }
+{
+    let printed = play_printed(rt, watch, scenario.text, how)?;
+    if printed.status != REFUSED {
+        return Ok(printed);
+    }
+    match scenario_reasons(rt.alloc(), scenario) {
+        Ok(lines) => Ok(printed.with_lines(lines)),
+        Err(_) => Ok(printed),
+    }
 }

@@ -15,7 +15,8 @@ mod told;
 
 pub use command_line::command;
 pub use explained::{
-    analysis_explained, next_explained, run_explained, table_explained, trace_explained,
+    analysis_explained, next_explained, play_explained, run_explained, table_explained,
+    trace_explained,
 };
 pub use marlowe_play::{How, NoWatch, PlayFault, Watch};
 pub use printed::Printed;

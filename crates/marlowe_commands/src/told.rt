@@ -4,7 +4,8 @@ ghost use Rattle.std.specs.Prelude.{◌⊎◌, IfOk};
 ghost use Rattle.marlowe_commands.specs.Streams.{streams_of, IsOnOneStream, IsCut, IsTextOr, MayExplain};
 
 use crate::explained::{
-    analysis_explained, next_explained, run_explained, table_explained, trace_explained,
+    analysis_explained, next_explained, play_explained, run_explained, table_explained,
+    trace_explained,
 };
 use crate::printed::Printed;
 use crate::stops::{Stop, text_if, text_of, texts_of};
@@ -199,18 +200,24 @@ fn reader_of(json: bool, no_runs: bool) -> Reader {
     }
 }
 
+#[tactic(auto, using(crate::proofs::ExplainedLemmas::may_explain))]
 pub fn play_told<'a, T: Texts, R: AllocGlobal + Threads + Wait + Sync, W: Watch + Sync>(
     rt: &R,
     texts: &T,
     watch: &W,
     task: PlayTask<'a>,
+    explain: bool,
 ) -> Result<Printed, Stop<'a>>
-    ensures { IfOk result (λ printed. IsTextOr 1 (streams_of printed)) }
+    ensures { IfOk result (λ printed. MayExplain explain (IsTextOr 1) (streams_of printed)) }
 {
     let scenario = text_of(rt.alloc(), texts, task.scenario)?;
     let how = How {
         one: task.one,
         explain: task.explain,
     };
+    if explain {
+        let scenario = source(task.scenario, &scenario);
+        return Ok(play_explained(rt, watch, scenario, how)?);
+    }
     Ok(play_printed(rt, watch, scenario.as_slice(), how)?)
 }

@@ -1,11 +1,12 @@
 -- The text that explains why a transaction is refused.
-use Rattle.std.specs.Prelude.{◌≡◌, ℕ, false, List, ◌++◌, slice_get, Some, Ok}
+use Rattle.std.specs.Prelude.{◌≡◌, ℕ, false, List, ◌++◌, slice_get, Option, Some, None, Ok, IsOk}
 use Rattle.contract.specs.declared.input.Input.{Input}
 use Rattle.contract.specs.declared.interval.Interval.{Interval}
 use Rattle.contract.specs.declared.transaction.Transaction.{Transaction}
 use Rattle.contract.specs.Tree.{ContractTree, contract_tree}
 use Rattle.states.specs.States.{StateMaps}
-use Rattle.semantics.specs.Walk.{Standing, standing}
+use Rattle.semantics.specs.Walk.{Standing, standing, answer_of}
+use Rattle.semantics.specs.Computed.{computed}
 use Rattle.semantics.specs.Transaction.{trimmed}
 use Rattle.analysis_spec.specs.declared.path.PathStep.{PathStep}
 use Rattle.trace.specs.declared.sequence.Left.{Left}
@@ -70,3 +71,11 @@ pub record IsExplanation (whole : ContractTree) (path : List PathStep) (a : Stan
   pub explanation : Explanation
   pub explains : Explains t.interval a.state a.contract t.inputs explanation
   pub says : Says t.interval a.state whole t.inputs (behind path explanation) text
+
+abbrev pub IsAccepted : Standing → Transaction → Type 0
+IsAccepted a t = IsOk (answer_of (computed t.interval a.state a.contract t.inputs))
+
+-- there is a text exactly where the transaction is refused
+abbrev pub TellsIfRefused : ContractTree → List PathStep → Standing → Transaction → Option (List ℕ) → Type 0
+TellsIfRefused whole path a t None = IsAccepted a t
+TellsIfRefused whole path a t (Some text) = IsExplanation whole path a t text

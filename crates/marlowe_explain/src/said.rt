@@ -1,9 +1,9 @@
 //! Explanations as lines.
-ghost use Rattle.std.specs.Prelude.{◌≡◌, [], IfOk, IfSome, string_bytes};
+ghost use Rattle.std.specs.Prelude.{◌≡◌, [], IfOk, option_map};
 ghost use Rattle.contract.specs.Tree.{contract_tree};
 ghost use Rattle.semantics.specs.Transaction.{trimmed};
 ghost use Rattle.semantics.specs.Walk.{standing};
-ghost use Rattle.marlowe_explain.specs.Explained.{IsExplanation, Says, TellsUnmatched, TellsUseless, behind};
+ghost use Rattle.marlowe_explain.specs.Explained.{Says, TellsIfRefused, TellsUnmatched, TellsUseless, behind};
 
 use crate::faults::{ambiguous_text, invalid_text, past_text, sum_text, value_text};
 use crate::paths::behind;
@@ -17,15 +17,15 @@ use std::alloc::{AllocError, Global};
 use trace::Left;
 
 /// Why a transaction on a contract and a state is refused, as lines for people: what the first fault is and where. Each ends with a
-/// line feed, and begins with two blanks. None where the transaction is accepted, or where memory was refused.
+/// line feed, and begins with two blanks. None where the transaction is accepted.
 pub fn explained(
     alloc: Global,
     contract: &Contract,
     state: &State,
     transaction: &Transaction,
-) -> Option<String>
-    ensures { IfSome result (λ text. IsExplanation (contract_tree contract.now) []
-        (standing state.now (contract_tree contract.now)) transaction.now (string_bytes text)) }
+) -> Result<Option<Vec<u8>>, Memory>
+    ensures { IfOk result (λ found. TellsIfRefused (contract_tree contract.now) []
+        (standing state.now (contract_tree contract.now)) transaction.now (option_map (λ text. text.items) found)) }
 {
     told(alloc, contract, &[], contract, state, transaction)
 }
@@ -37,9 +37,9 @@ pub fn explained_behind(
     whole: &Contract,
     left: &Left<'_>,
     transaction: &Transaction,
-) -> Option<String>
-    ensures { IfSome result (λ text. IsExplanation (contract_tree whole.now) left.now.path
-        (standing left.now.state (contract_tree left.now.contract.now)) transaction.now (string_bytes text)) }
+) -> Result<Option<Vec<u8>>, Memory>
+    ensures { IfOk result (λ found. TellsIfRefused (contract_tree whole.now) left.now.path
+        (standing left.now.state (contract_tree left.now.contract.now)) transaction.now (option_map (λ text. text.items) found)) }
 {
     let path = left.path.as_slice();
     told(alloc, whole, path, left.contract, &left.state, transaction)
@@ -53,17 +53,19 @@ fn told(
     contract: &Contract,
     state: &State,
     transaction: &Transaction,
-) -> Option<String>
-    ensures { IfSome result (λ text. IsExplanation (contract_tree whole.now) path.now
-        (standing state.now (contract_tree contract.now)) transaction.now (string_bytes text)) }
+) -> Result<Option<Vec<u8>>, Memory>
+    ensures { IfOk result (λ found. TellsIfRefused (contract_tree whole.now) path.now
+        (standing state.now (contract_tree contract.now)) transaction.now (option_map (λ text. text.items) found)) }
 {
     let interval = transaction.interval;
     let inputs = transaction.inputs.as_slice();
     match explain(alloc, contract, state, interval, inputs) {
         Ok(Some(explanation)) => {
-            said_text(alloc, whole, path, state, interval, inputs, explanation)
+            let text = said_behind(alloc, whole, path, state, interval, inputs, explanation)?;
+            Ok(Some(text))
         }
-        _ => None,
+        Ok(None) => Ok(None),
+        Err(_) => Err(AllocError),
     }
 }
 
@@ -83,34 +85,6 @@ fn said_behind(
     let there = behind(alloc, path, explanation)?;
     let said = said(alloc, whole, state, interval, inputs, &there);
     beside_dropped(there, said)
-}
-
-// The same as a text.
-fn said_text(
-    alloc: Global,
-    whole: &Contract,
-    path: &[PathStep],
-    state: &State,
-    interval: Interval,
-    inputs: &[Input],
-    explanation: Explanation<'_>,
-) -> Option<String>
-    ensures { IfSome result (λ text. Says interval state.now (contract_tree whole.now) inputs.now
-        (behind path.now explanation.entry) (string_bytes text)) }
-{
-    match said_behind(alloc, whole, path, state, interval, inputs, explanation) {
-        Ok(bytes) => text_of(bytes),
-        Err(_) => None,
-    }
-}
-
-fn text_of(bytes: Vec<u8>) -> Option<String>
-    ensures { IfSome result (λ text. string_bytes text ≡ bytes.items) }
-{
-    match String::from_utf8(bytes) {
-        Ok(text) => Some(text),
-        Err(_) => None,
-    }
 }
 
 // The interval with its start moved up to the minimum time.

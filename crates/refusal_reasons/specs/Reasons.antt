@@ -13,6 +13,8 @@ use Rattle.json_read_names.specs.ReadsText.{of_text}
 use Rattle.json_read_contracts.specs.ReadsContract.{contract}
 use Rattle.json_read_inputs.specs.ReadsInput.{transaction}
 use Rattle.json_read_transactions.specs.ReadsTransactions.{transactions_of}
+use Rattle.json_read_transactions.specs.declared.fault.ReadFault.{ReadFault}
+use Rattle.json_read_transactions.specs.declared.fault.ReadFault.TheVariants as read_faults
 use Rattle.json_forms.specs.declared.sort.Numbers.{Numbers}
 use Rattle.json_forms.specs.declared.sort.Numbers.TheVariants as numbers
 use Rattle.json_forms.specs.declared.sort.Sort.{Sort}
@@ -27,9 +29,9 @@ use Rattle.refusal_reasons.specs.declared.source.Over.{Over}
 use Rattle.refusal_reasons.specs.declared.source.Behind.{Behind}
 use Rattle.refusal_reasons.specs.declared.source.Behind.TheVariants.{Nothing, One, Many, Next}
 
--- there are lines of a kind, or none
-abbrev pub OrNone : (List ℕ → Type 0) → List ℕ → Type 0
-OrNone Are lines = (lines ≡ []) ⊎ Are lines
+-- the lines of a text, or none where there is no text
+abbrev pub IfAny : (Option (List ℕ) → Type 0) → List ℕ → Type 0
+IfAny Tells lines = Tells (Some lines) ⊎ (lines ≡ []) × Tells None
 
 -- ---- what is explained
 
@@ -37,13 +39,21 @@ OrNone Are lines = (lines ≡ []) ⊎ Are lines
 abbrev pub TellsText : List ℕ → List ℕ → Sort → List ℕ → Type 0
 TellsText path text sort lines = texts.Explains path text sort lines
 
+-- a scenario that isn't read
+abbrev pub TellsScenario : Source → List ℕ → Type 0
+TellsScenario s lines = texts.ExplainsScenario s.path.now s.text.now lines
+
 -- a transaction that is refused where the part of a contract at the end of a path stands so
 abbrev pub TellsTransaction : ContractTree → List PathStep → Standing → Transaction → List ℕ → Type 0
 TellsTransaction whole path a tx lines = transactions.IsExplanation whole path a tx lines
 
--- a contract that has no table
+-- a transaction, if it is refused
+abbrev pub TellsIfRefused : ContractTree → List PathStep → Standing → Transaction → List ℕ → Type 0
+TellsIfRefused whole path a tx lines = IfAny (transactions.TellsIfRefused whole path a tx) lines
+
+-- a contract, if it has no table
 abbrev pub TellsTable : ContractTree → List ℕ → Type 0
-TellsTable c lines = tables.IsExplanation c lines
+TellsTable c lines = IfAny (tables.TellsIfRefused c) lines
 
 -- ---- the first that isn't read
 
@@ -54,18 +64,18 @@ ReadFirst (Ok x) here behind lines = behind x lines
 
 -- ---- transactions one after another
 
--- behind others the transaction that is made for where they lead
-pub record TellsBehind (a : Standing) (before : List Transaction) (made : Standing → Transaction) (lines : List ℕ) : Type 0 where
+-- where others lead, this holds of the path there and of how the contract stands
+pub record LeadsWhere (a : Standing) (before : List Transaction) (Holds : List PathStep → Standing → Type 0) : Type 0 where
   pub there : Standing
   pub leads : left_by 0 a before ≡ Ok there
-  pub tells : TellsTransaction a.contract (leads_after [] a before) there (made there) lines
+  pub holds : Holds (leads_after [] a before) there
 
 -- one of them, behind those before it
 pub record TellsRefused (a : Standing) (txs : List Transaction) (lines : List ℕ) : Type 0 where
   pub index : ℕ
   pub refused : Transaction
   pub is_there : slice_get txs index ≡ Some refused
-  pub tells : TellsBehind a (take index txs) (λ there. refused) lines
+  pub tells : LeadsWhere a (take index txs) (λ path there. TellsTransaction a.contract path there refused lines)
 
 -- a transaction without inputs over an interval, which begins at the minimum time unless another start is asked for, and has its start alone
 -- unless an end is asked for
@@ -75,13 +85,14 @@ interval_of over now = let from = unwrap_or over.from now in record { from = fro
 abbrev pub empty_over : Over → Standing → Transaction
 empty_over over there = record { interval = interval_of over there.state.min_time; inputs = [] }
 
--- .. behind all, where an interval is asked about
-abbrev pub TellsOver : Standing → List Transaction → Option Over → List ℕ → Type 0
-TellsOver a txs None lines = ⊥
-TellsOver a txs (Some over) lines = TellsBehind a txs (empty_over over) lines
+-- .. where all have led, if an interval is asked about
+abbrev pub TellsOver : ContractTree → Option Over → List ℕ → List PathStep → Standing → Type 0
+TellsOver whole None lines path there = lines ≡ []
+TellsOver whole (Some over) lines path there = TellsIfRefused whole path there (empty_over over there) lines
 
+-- the one that is refused, or what is asked about where all have led
 abbrev pub TellsRead : Option Over → Standing → List Transaction → List ℕ → Type 0
-TellsRead over a txs lines = TellsRefused a txs lines ⊎ TellsOver a txs over lines
+TellsRead over a txs lines = TellsRefused a txs lines ⊎ LeadsWhere a txs (TellsOver a.contract over lines)
 
 -- a piece of a text, under its path
 pub record TellsPieceOf (path : List ℕ) (lines : List ℕ) : Type 0 where
@@ -100,13 +111,22 @@ pub record TellsPiece (sources : Sources) (lines : List ℕ) : Type 0 where
 -- a contract is read, then a state, if one is given, and then what the command has behind them
 abbrev pub TellsOne : Standing → Source → List ℕ → Type 0
 TellsOne a t lines =
-    ReadFirst (of_text transaction t.text.now) (TellsText t.path.now t.text.now sorts.Transaction) (TellsTransaction a.contract [] a) lines
+    ReadFirst (of_text transaction t.text.now) (TellsText t.path.now t.text.now sorts.Transaction) (TellsIfRefused a.contract [] a) lines
+
+-- of too many transactions there is nothing to tell
+abbrev pub TellsUnread : Sources → ReadFault → List ℕ → Type 0
+TellsUnread ts read_faults.TooMany lines = lines ≡ []
+TellsUnread ts fault lines = TellsPiece ts lines
+
+abbrev pub TellsThese : Option Over → Standing → Sources → List ℕ → Result (List Transaction) ReadFault → Type 0
+TellsThese over a ts lines (Ok txs) = TellsRead over a txs lines
+TellsThese over a ts lines (Err fault) = TellsUnread ts fault lines
 
 abbrev pub TellsMany : Option Over → Standing → Sources → List ℕ → Type 0
-TellsMany over a ts lines = ReadFirst (transactions_of (map (λ text. text.items) ts.texts.now)) (TellsPiece ts) (TellsRead over a) lines
+TellsMany over a ts lines = TellsThese over a ts lines (transactions_of (map (λ text. text.items) ts.texts.now))
 
 abbrev pub TellsNext : Standing → Behind → List ℕ → Type 0
-TellsNext a Nothing lines = ⊥
+TellsNext a Nothing lines = lines ≡ []
 TellsNext a (One t) lines = TellsOne a t lines
 TellsNext a (Many ts) lines = TellsMany None a ts lines
 TellsNext a (Next ts over) lines = TellsMany (Some over) a ts lines

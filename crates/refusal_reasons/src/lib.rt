@@ -1,6 +1,6 @@
 //! Why a command refuses, as lines for people: a second look at its texts, made only once something is refused. The first text that isn't
 //! read is explained; where all are read it is the transaction that is refused, or the contract that has no table. The lines stand behind
-//! the line of the refusal, each behind two blanks and ended by a line feed. Where memory is refused there are none.
+//! the line of the refusal, each behind two blanks and ended by a line feed.
 #![tactic(auto)]
 
 mod pieces;
@@ -11,3 +11,4 @@ mod texts;
 
 pub use second_look::{reasons, table_reasons};
 pub use source::{Behind, Over, Source, Sources, text_if};
+pub use texts::scenario_reasons;

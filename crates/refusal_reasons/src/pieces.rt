@@ -1,6 +1,6 @@
 //! The piece of a text that is one transaction of many.
 ghost use Rattle.std.specs.Prelude.{◌≡◌, Some, IfOk, IfSome, slice_get};
-ghost use Rattle.refusal_reasons.specs.Reasons.{OrNone, TellsPiece, TellsPieceOf};
+ghost use Rattle.refusal_reasons.specs.Reasons.{TellsPiece, TellsPieceOf};
 
 use crate::source::{Source, Sources};
 use crate::texts::text_lines;
@@ -37,7 +37,7 @@ pub(crate) fn piece_lines(
     sources: Sources<'_>,
     number: u64,
 ) -> Result<Vec<u8>, Memory>
-    ensures { IfOk result (λ lines. OrNone (TellsPiece sources.entry) lines.items) }
+    ensures { IfOk result (λ lines. TellsPiece sources.entry lines.items) }
 {
     let mut index = usize::try_from(number)
         .unwrap_or(usize::MAX)
@@ -50,7 +50,7 @@ pub(crate) fn piece_lines(
         }
         index -= count;
     }
-    Ok(Vec::new(alloc))
+    Err(AllocError)
 }
 
 fn path_at<'a>(paths: &[&'a str], at: usize) -> Option<&'a str>
@@ -71,13 +71,13 @@ fn source_lines(
     layout: Layout,
     index: usize,
 ) -> Result<Vec<u8>, Memory>
-    ensures { IfOk result (λ lines. OrNone (TellsPiece sources.entry) lines.items) }
+    ensures { IfOk result (λ lines. TellsPiece sources.entry lines.items) }
 {
     let Some(path) = path_at(sources.paths, at) else {
-        return Ok(Vec::new(alloc));
+        return Err(AllocError);
     };
     let Some(text) = sources.texts.get(at) else {
-        return Ok(Vec::new(alloc));
+        return Err(AllocError);
     };
     placed_lines(alloc, path, text.as_slice(), layout, index)
 }
@@ -110,7 +110,7 @@ fn placed_lines(
     layout: Layout,
     index: usize,
 ) -> Result<Vec<u8>, Memory>
-    ensures { IfOk result (λ lines. OrNone (TellsPieceOf path.now) lines.items) }
+    ensures { IfOk result (λ lines. TellsPieceOf path.now lines.items) }
 {
     match span_of(alloc, text, layout, index)? {
         Some(span) => {
@@ -136,7 +136,7 @@ fn span_of(
 }
 
 fn piece_text_lines(alloc: Global, path: &str, text: &[u8]) -> Result<Vec<u8>, Memory>
-    ensures { IfOk result (λ lines. OrNone (TellsPieceOf path.now) lines.items) }
+    ensures { IfOk result (λ lines. TellsPieceOf path.now lines.items) }
 {
     text_lines(alloc, Source { path, text }, Sort::Transaction)
 }

@@ -1,8 +1,8 @@
 //! The first text that isn't read, or what is refused once all are read.
-ghost use Rattle.std.specs.Prelude.{◌≡◌, [], IfOk, MatchResult};
+ghost use Rattle.std.specs.Prelude.{◌≡◌, [], IfOk, MatchOption};
 ghost use Rattle.contract.specs.Tree.{contract_tree};
 ghost use Rattle.semantics.specs.Walk.{standing};
-ghost use Rattle.refusal_reasons.specs.Reasons.{OrNone, Tells, TellsFrom, TellsNext, TellsOfTable, TellsOne, TellsState, TellsTable, TellsTransaction, numbers_of};
+ghost use Rattle.refusal_reasons.specs.Reasons.{Tells, TellsFrom, TellsIfRefused, TellsNext, TellsOfTable, TellsOne, TellsState, TellsTable, numbers_of};
 
 use crate::sequences::sequence_lines;
 use crate::source::{Behind, Source, text_if};
@@ -15,46 +15,16 @@ use marlowe_run::{beside_dropped, read_start};
 use std::alloc::{AllocError, Global};
 
 /// Why a command refuses that reads a contract and then a state, if one is given, whose numbers may be `texts`, and has this behind
-/// them.
+/// them. `Memory` where memory was refused; no lines only where nothing is refused, or of too many transactions.
+#[tactic(auto, using(crate::proofs::ReadingLemmas::behind_read, crate::proofs::ReadingLemmas::unread_here))]
 pub fn reasons(
     alloc: Global,
     contract: Source<'_>,
     state: Option<Source<'_>>,
     texts: bool,
     behind: Behind<'_>,
-) -> Vec<u8>
-    ensures { OrNone (Tells contract.entry state.entry texts behind.entry) result.items }
-{
-    or_none(alloc, from_contract(alloc, contract, state, texts, behind))
-}
-
-/// Why `table` refuses a contract.
-pub fn table_reasons(alloc: Global, contract: Source<'_>) -> Vec<u8>
-    ensures { OrNone (TellsOfTable contract.entry) result.items }
-{
-    or_none(alloc, table_lines(alloc, contract))
-}
-
-// Lines, or none for want of memory.
-fn or_none(alloc: Global, lines: Result<Vec<u8>, Memory>) -> Vec<u8>
-    ensures { MatchResult lines (λ lines. result.items ≡ lines.items) (λ _. result.items ≡ []) }
-{
-    match lines {
-        Ok(lines) => lines,
-        Err(_) => Vec::new(alloc),
-    }
-}
-
-// The contract is read first.
-#[tactic(auto, using(crate::proofs::ReadingLemmas::behind_read, crate::proofs::ReadingLemmas::unread_here))]
-fn from_contract(
-    alloc: Global,
-    contract: Source<'_>,
-    state: Option<Source<'_>>,
-    texts: bool,
-    behind: Behind<'_>,
 ) -> Result<Vec<u8>, Memory>
-    ensures { IfOk result (λ lines. OrNone (Tells contract.entry state.entry texts behind.entry) lines.items) }
+    ensures { IfOk result (λ lines. Tells contract.entry state.entry texts behind.entry lines.items) }
 {
     match read_contract(alloc, contract.text) {
         Ok(whole) => {
@@ -75,7 +45,7 @@ fn from_state(
     texts: bool,
     behind: Behind<'_>,
 ) -> Result<Vec<u8>, Memory>
-    ensures { IfOk result (λ lines. OrNone (TellsFrom state.entry texts behind.entry (contract_tree whole.now)) lines.items) }
+    ensures { IfOk result (λ lines. TellsFrom state.entry texts behind.entry (contract_tree whole.now) lines.items) }
 {
     match read_start(alloc, text_if(state), texts) {
         Ok(start) => {
@@ -89,11 +59,11 @@ fn from_state(
 
 // Why a state isn't read.
 fn state_lines(alloc: Global, state: Option<Source<'_>>, texts: bool) -> Result<Vec<u8>, Memory>
-    ensures { IfOk result (λ lines. OrNone (TellsState state.entry texts) lines.items) }
+    ensures { IfOk result (λ lines. TellsState state.entry texts lines.items) }
 {
     match state {
         Some(source) => text_lines(alloc, source, Sort::State(numbers_of(texts))),
-        None => Ok(Vec::new(alloc)),
+        None => Err(AllocError),
     }
 }
 
@@ -114,7 +84,7 @@ fn from_behind(
     start: &State,
     behind: Behind<'_>,
 ) -> Result<Vec<u8>, Memory>
-    ensures { IfOk result (λ lines. OrNone (TellsNext (standing start.now (contract_tree whole.now)) behind.entry) lines.items) }
+    ensures { IfOk result (λ lines. TellsNext (standing start.now (contract_tree whole.now)) behind.entry lines.items) }
 {
     match behind {
         Behind::Nothing => Ok(Vec::new(alloc)),
@@ -132,7 +102,7 @@ fn from_one(
     start: &State,
     source: Source<'_>,
 ) -> Result<Vec<u8>, Memory>
-    ensures { IfOk result (λ lines. OrNone (TellsOne (standing start.now (contract_tree whole.now)) source.entry) lines.items) }
+    ensures { IfOk result (λ lines. TellsOne (standing start.now (contract_tree whole.now)) source.entry lines.items) }
 {
     match read_transaction(alloc, source.text) {
         Ok(transaction) => {
@@ -144,26 +114,35 @@ fn from_one(
     }
 }
 
-/// Why a transaction is refused.
-pub(crate) fn transaction_lines(
+// Why a transaction is refused, if it is.
+#[tactic(auto, using(crate::proofs::ReadingLemmas::any_lines))]
+fn transaction_lines(
     alloc: Global,
     whole: &Contract,
     start: &State,
     transaction: &Transaction,
 ) -> Result<Vec<u8>, Memory>
-    ensures { IfOk result (λ lines. OrNone (TellsTransaction (contract_tree whole.now) []
-        (standing start.now (contract_tree whole.now)) transaction.now) lines.items) }
+    ensures { IfOk result (λ lines. TellsIfRefused (contract_tree whole.now) []
+        (standing start.now (contract_tree whole.now)) transaction.now lines.items) }
 {
-    match marlowe_explain::explained(alloc, whole, start, transaction) {
-        Some(text) => Ok(text.into_bytes()),
-        None => Ok(Vec::new(alloc)),
+    let found = marlowe_explain::explained(alloc, whole, start, transaction)?;
+    Ok(lines_if(alloc, found))
+}
+
+/// The lines that there are.
+pub(crate) fn lines_if(alloc: Global, found: Option<Vec<u8>>) -> Vec<u8>
+    ensures { MatchOption found (result.items ≡ []) (λ text. result.items ≡ text.items) }
+{
+    match found {
+        Some(text) => text,
+        None => Vec::new(alloc),
     }
 }
 
-// A contract that isn't read, or has no table.
+/// Why `table` refuses a contract, which isn't read or has no table.
 #[tactic(auto, using(crate::proofs::ReadingLemmas::behind_read, crate::proofs::ReadingLemmas::unread_here))]
-fn table_lines(alloc: Global, contract: Source<'_>) -> Result<Vec<u8>, Memory>
-    ensures { IfOk result (λ lines. OrNone (TellsOfTable contract.entry) lines.items) }
+pub fn table_reasons(alloc: Global, contract: Source<'_>) -> Result<Vec<u8>, Memory>
+    ensures { IfOk result (λ lines. TellsOfTable contract.entry lines.items) }
 {
     match read_contract(alloc, contract.text) {
         Ok(whole) => {
@@ -175,11 +154,10 @@ fn table_lines(alloc: Global, contract: Source<'_>) -> Result<Vec<u8>, Memory>
     }
 }
 
+#[tactic(auto, using(crate::proofs::ReadingLemmas::any_lines))]
 fn compile_lines(alloc: Global, whole: &Contract) -> Result<Vec<u8>, Memory>
-    ensures { IfOk result (λ lines. OrNone (TellsTable (contract_tree whole.now)) lines.items) }
+    ensures { IfOk result (λ lines. TellsTable (contract_tree whole.now) lines.items) }
 {
-    match explain_tables::explained(alloc, whole) {
-        Some(text) => Ok(text.into_bytes()),
-        None => Ok(Vec::new(alloc)),
-    }
+    let found = explain_tables::explained(alloc, whole)?;
+    Ok(lines_if(alloc, found))
 }

@@ -2,10 +2,10 @@
 ghost use Rattle.std.specs.Prelude.{◌≡◌, Some, IfOk, IfSome, slice_get};
 ghost use Rattle.contract.specs.Tree.{contract_tree};
 ghost use Rattle.semantics.specs.Walk.{standing};
-ghost use Rattle.refusal_reasons.specs.Reasons.{OrNone, TellsMany, TellsRead, TellsRefused, TellsTransaction, interval_of};
-ghost use Rattle.refusal_reasons.specs.ReasonsSupport.{TellsOverLeft};
+ghost use Rattle.refusal_reasons.specs.Reasons.{TellsIfRefused, TellsMany, TellsOver, TellsRead, TellsRefused, TellsTransaction, interval_of};
 
 use crate::pieces::piece_lines;
+use crate::second_look::lines_if;
 use crate::source::{Over, Sources};
 use collections::{Items, Memory};
 use contract::{Contract, Interval, SemFault, State, Transaction};
@@ -16,7 +16,7 @@ use std::alloc::{AllocError, Global};
 use trace::{Left, after};
 
 /// Why transactions of texts one after another are refused, or what may come behind them.
-#[tactic(auto, using(crate::proofs::ReadingLemmas::behind_read, crate::proofs::ReadingLemmas::unread_here))]
+#[tactic(auto, using(crate::proofs::SequenceLemmas::these_told, crate::proofs::SequenceLemmas::these_unread))]
 pub(crate) fn sequence_lines(
     alloc: Global,
     whole: &Contract,
@@ -24,7 +24,7 @@ pub(crate) fn sequence_lines(
     sources: Sources<'_>,
     over: Option<Over>,
 ) -> Result<Vec<u8>, Memory>
-    ensures { IfOk result (λ lines. OrNone (TellsMany over (standing start.now (contract_tree whole.now)) sources.entry) lines.items) }
+    ensures { IfOk result (λ lines. TellsMany over (standing start.now (contract_tree whole.now)) sources.entry lines.items) }
 {
     match read_transactions(alloc, sources.texts) {
         Ok(transactions) => {
@@ -46,7 +46,7 @@ fn read_lines(
     transactions: &[Transaction],
     over: Option<Over>,
 ) -> Result<Vec<u8>, Memory>
-    ensures { IfOk result (λ lines. OrNone (TellsRead over (standing start.now (contract_tree whole.now)) transactions.now) lines.items) }
+    ensures { IfOk result (λ lines. TellsRead over (standing start.now (contract_tree whole.now)) transactions.now lines.items) }
 {
     match after(alloc, whole, start, transactions) {
         Ok(left) => {
@@ -69,10 +69,10 @@ fn refused_lines(
     transactions: &[Transaction],
     index: usize,
 ) -> Result<Vec<u8>, Memory>
-    ensures { IfOk result (λ lines. OrNone (TellsRefused (standing start.now (contract_tree whole.now)) transactions.now) lines.items) }
+    ensures { IfOk result (λ lines. TellsRefused (standing start.now (contract_tree whole.now)) transactions.now lines.items) }
 {
     let Some(transaction) = transaction_at(transactions, index) else {
-        return Ok(Vec::new(alloc));
+        return Err(AllocError);
     };
     match after(alloc, whole, start, &transactions[..index]) {
         Ok(left) => {
@@ -100,7 +100,8 @@ fn over_lines(
     left: &Left<'_>,
     over: Option<Over>,
 ) -> Result<Vec<u8>, Memory>
-    ensures { IfOk result (λ lines. OrNone (TellsOverLeft (contract_tree whole.now) left.now over) lines.items) }
+    ensures { IfOk result (λ lines. TellsOver (contract_tree whole.now) over lines.items left.now.path
+        (standing left.now.state (contract_tree left.now.contract.now))) }
 {
     let Some(over) = over else {
         return Ok(Vec::new(alloc));
@@ -109,7 +110,7 @@ fn over_lines(
         interval: interval_of(over, &left.state),
         inputs: Items::new(alloc),
     };
-    let lines = left_lines(alloc, whole, left, &transaction);
+    let lines = lines_if_refused(alloc, whole, left, &transaction);
     beside_dropped(transaction, lines)
 }
 
@@ -121,18 +122,33 @@ fn interval_of(over: Over, state: &State) -> Interval
     Interval { from, to }
 }
 
-// A transaction where others have led.
+// Why a transaction is refused where others have led.
 fn left_lines(
     alloc: Global,
     whole: &Contract,
     left: &Left<'_>,
     transaction: &Transaction,
 ) -> Result<Vec<u8>, Memory>
-    ensures { IfOk result (λ lines. OrNone (TellsTransaction (contract_tree whole.now) left.now.path
-        (standing left.now.state (contract_tree left.now.contract.now)) transaction.now) lines.items) }
+    ensures { IfOk result (λ lines. TellsTransaction (contract_tree whole.now) left.now.path
+        (standing left.now.state (contract_tree left.now.contract.now)) transaction.now lines.items) }
 {
-    match explained_behind(alloc, whole, left, transaction) {
-        Some(text) => Ok(text.into_bytes()),
-        None => Ok(Vec::new(alloc)),
+    match explained_behind(alloc, whole, left, transaction)? {
+        Some(text) => Ok(text),
+        None => Err(AllocError),
     }
+}
+
+// .. if it is.
+#[tactic(auto, using(crate::proofs::ReadingLemmas::any_lines))]
+fn lines_if_refused(
+    alloc: Global,
+    whole: &Contract,
+    left: &Left<'_>,
+    transaction: &Transaction,
+) -> Result<Vec<u8>, Memory>
+    ensures { IfOk result (λ lines. TellsIfRefused (contract_tree whole.now) left.now.path
+        (standing left.now.state (contract_tree left.now.contract.now)) transaction.now lines.items) }
+{
+    let found = explained_behind(alloc, whole, left, transaction)?;
+    Ok(lines_if(alloc, found))
 }
