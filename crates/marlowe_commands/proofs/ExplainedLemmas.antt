@@ -1,5 +1,5 @@
 -- What is printed with explanations.
-use Rattle.std.proofs.Common.{◌≡◌, ◌∙◌, ◌⊎◌, ◌||◌, ℕ, Bool, true, false, List, [], Option, Some, None, inl, inr, refl, sym, ap, subst, codes, Result, Ok, Err, IfOk}
+use Rattle.std.proofs.Common.{◌≡◌, ◌∙◌, ◌⊎◌, ◌||◌, ℕ, Bool, true, false, List, [], Option, Some, None, inl, inr, refl, sym, ap, subst, codes, Result, Ok, Err, IfOk, MatchResult}
 use Rattle.std.proofs.lemmas.Bool.{true≢false}
 use Rattle.std.proofs.lemmas.List.{append-nil}
 use Rattle.std.proofs.Math.Dec.{eqb}
@@ -22,16 +22,26 @@ module _ (Prints : Streams → Type 0) (Explains : List ℕ → Type 0) where
   as_it_is streams prints = record { plain = streams; prints = prints; lines = []; explains = inl refl; is = with_none streams }
 
   -- a refusal with the lines behind it, or without them for want of memory
-  pub told : (plain streams : Streams) (lines : List ℕ) → Prints plain → IsRefusal plain → Explains lines
-      → (streams ≡ plain) ⊎ (streams ≡ with_lines lines plain) → IsExplained Prints Explains streams
-  told plain streams lines prints refused tells (inl same) = as_it_is streams (subst Prints (sym same) prints)
-  told plain streams lines prints refused tells (inr is) =
-      record { plain = plain; prints = prints; lines = lines; explains = inr (refused, tells); is = is }
+  pub explained : {T E : Type 0} (plain streams : Streams) (found : Result T E) (items : T → List ℕ) → Prints plain → IsRefusal plain
+      → IfOk found (λ text. Explains (items text))
+      → MatchResult found (λ text. (streams ≡ plain) ⊎ (streams ≡ with_lines (items text) plain)) (λ none. streams ≡ plain)
+      → IsExplained Prints Explains streams
+  explained plain streams (Ok text) items prints refused tells (inl same) = as_it_is streams (subst Prints (sym same) prints)
+  explained plain streams (Ok text) items prints refused tells (inr is) =
+      record { plain = plain; prints = prints; lines = items text; explains = inr (refused, tells); is = is }
+  explained plain streams (Err fault) items prints refused tells same = as_it_is streams (subst Prints (sym same) prints)
+
+-- .. whatever is there
+any : {T E : Type 0} (found : Result T E) → IfOk found (λ text. Unit {0})
+any (Ok text) = tt {0}
+any (Err fault) = tt {0}
 
 -- .. whatever the lines are
-pub explained_anyhow : (Prints : Streams → Type 0) (plain streams : Streams) (lines : List ℕ) → Prints plain → IsRefusal plain
-    → (streams ≡ plain) ⊎ (streams ≡ with_lines lines plain) → IsExplained Prints (λ lines. Unit {0}) streams
-explained_anyhow Prints plain streams lines prints refused is = told Prints (λ lines. Unit {0}) plain streams lines prints refused (tt {0}) is
+pub explained_anyhow : {T E : Type 0} (Prints : Streams → Type 0) (plain streams : Streams) (found : Result T E) (items : T → List ℕ) → Prints plain
+    → IsRefusal plain → MatchResult found (λ text. (streams ≡ plain) ⊎ (streams ≡ with_lines (items text) plain)) (λ none. streams ≡ plain)
+    → IsExplained Prints (λ lines. Unit {0}) streams
+explained_anyhow Prints plain streams found items prints refused is =
+    explained Prints (λ lines. Unit {0}) plain streams found items prints refused (any found) is
 
 -- whatever is promised of what is printed, so it is of what is printed alone
 pub may_explain : (explain : Bool) (Prints : Streams → Type 0) (streams : Streams) → Prints streams → MayExplain explain Prints streams

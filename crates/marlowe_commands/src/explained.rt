@@ -29,7 +29,7 @@ use std::thread::Threads;
 const REFUSED: u8 = 1;
 
 /// What `run_printed` prints, with explanations.
-#[tactic(auto, using(crate::proofs::ExplainedLemmas::as_it_is, crate::proofs::ExplainedLemmas::told))]
+#[tactic(auto, using(crate::proofs::ExplainedLemmas::as_it_is, crate::proofs::ExplainedLemmas::explained))]
 pub fn run_explained(
     alloc: Global,
     contract: Source<'_>,
@@ -47,14 +47,12 @@ pub fn run_explained(
         return Ok(printed);
     }
     let behind = Behind::One(transaction);
-    match reasons(alloc, contract, Some(state), texts, behind) {
-        Ok(lines) => Ok(printed.with_lines(lines)),
-        Err(_) => Ok(printed),
-    }
+    let lines = reasons(alloc, contract, Some(state), texts, behind);
+    Ok(printed.explained_by(lines))
 }
 
 /// What `trace_printed` prints, with explanations.
-#[tactic(auto, using(crate::proofs::ExplainedLemmas::as_it_is, crate::proofs::ExplainedLemmas::told))]
+#[tactic(auto, using(crate::proofs::ExplainedLemmas::as_it_is, crate::proofs::ExplainedLemmas::explained))]
 pub fn trace_explained(
     alloc: Global,
     contract: Source<'_>,
@@ -79,14 +77,12 @@ pub fn trace_explained(
         return Ok(printed);
     }
     let behind = Behind::Many(transactions);
-    match reasons(alloc, contract, state, asked.texts, behind) {
-        Ok(lines) => Ok(printed.with_lines(lines)),
-        Err(_) => Ok(printed),
-    }
+    let lines = reasons(alloc, contract, state, asked.texts, behind);
+    Ok(printed.explained_by(lines))
 }
 
 /// What `next_printed` prints, with explanations.
-#[tactic(auto, using(crate::proofs::ExplainedLemmas::as_it_is, crate::proofs::ExplainedLemmas::told))]
+#[tactic(auto, using(crate::proofs::ExplainedLemmas::as_it_is, crate::proofs::ExplainedLemmas::explained))]
 pub fn next_explained(
     alloc: Global,
     contract: Source<'_>,
@@ -105,10 +101,8 @@ pub fn next_explained(
         return Ok(printed);
     }
     let behind = Behind::Next(after, over_of(asked));
-    match reasons(alloc, contract, state, asked.texts, behind) {
-        Ok(lines) => Ok(printed.with_lines(lines)),
-        Err(_) => Ok(printed),
-    }
+    let lines = reasons(alloc, contract, state, asked.texts, behind);
+    Ok(printed.explained_by(lines))
 }
 
 fn over_of(asked: marlowe_next::Asked) -> Over
@@ -121,7 +115,7 @@ fn over_of(asked: marlowe_next::Asked) -> Over
 }
 
 /// What `table_printed` prints, with explanations.
-#[tactic(auto, using(crate::proofs::ExplainedLemmas::as_it_is, crate::proofs::ExplainedLemmas::told))]
+#[tactic(auto, using(crate::proofs::ExplainedLemmas::as_it_is, crate::proofs::ExplainedLemmas::explained))]
 pub fn table_explained(alloc: Global, contract: Source<'_>) -> Result<Printed, Memory>
     ensures told { IfOk result (λ printed. IsExplained (PrintsTable (table_text contract.entry.text.now)) (TellsOfTable contract.entry)
         (streams_of printed)) }
@@ -131,14 +125,12 @@ pub fn table_explained(alloc: Global, contract: Source<'_>) -> Result<Printed, M
     if printed.status != REFUSED {
         return Ok(printed);
     }
-    match table_reasons(alloc, contract) {
-        Ok(lines) => Ok(printed.with_lines(lines)),
-        Err(_) => Ok(printed),
-    }
+    let lines = table_reasons(alloc, contract);
+    Ok(printed.explained_by(lines))
 }
 
 /// What `analysis_printed` prints, with explanations.
-#[tactic(auto, using(crate::proofs::ExplainedLemmas::as_it_is, crate::proofs::ExplainedLemmas::told))]
+#[tactic(auto, using(crate::proofs::ExplainedLemmas::as_it_is, crate::proofs::ExplainedLemmas::explained))]
 pub fn analysis_explained(
     alloc: Global,
     contract: Source<'_>,
@@ -156,28 +148,25 @@ pub fn analysis_explained(
     if printed.status != REFUSED {
         return Ok(printed);
     }
-    match reasons(alloc, contract, state, texts, Behind::Nothing) {
-        Ok(lines) => Ok(printed.with_lines(lines)),
-        Err(_) => Ok(printed),
-    }
+    let lines = reasons(alloc, contract, state, texts, Behind::Nothing);
+    Ok(printed.explained_by(lines))
 }
 
 /// What `play_printed` prints, with explanations of a scenario that isn't read.
-#[tactic(auto, using(crate::proofs::ExplainedLemmas::as_it_is, crate::proofs::ExplainedLemmas::told))]
+#[tactic(auto, using(crate::proofs::ExplainedLemmas::as_it_is, crate::proofs::ExplainedLemmas::explained))]
 pub fn play_explained<R: AllocGlobal + Threads + Wait + Sync, W: Watch + Sync>(
     rt: &R,
     watch: &W,
     scenario: Source<'_>,
     how: How,
 ) -> Result<Printed, Memory>
-    ensures { IfOk result (λ printed. IsExplained (IsTextOr 1) (TellsScenario scenario.entry) (streams_of printed)) }
+    ensures told { IfOk result (λ printed. IsExplained (IsTextOr 1) (TellsScenario scenario.entry) (streams_of printed)) }
+    ensures stream { IfOk result (λ printed. MayExplain true (IsTextOr 1) (streams_of printed)) }
 {
     let printed = play_printed(rt, watch, scenario.text, how)?;
     if printed.status != REFUSED {
         return Ok(printed);
     }
-    match scenario_reasons(rt.alloc(), scenario) {
-        Ok(lines) => Ok(printed.with_lines(lines)),
-        Err(_) => Ok(printed),
-    }
+    let lines = scenario_reasons(rt.alloc(), scenario);
+    Ok(printed.explained_by(lines))
 }

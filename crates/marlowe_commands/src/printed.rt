@@ -1,5 +1,5 @@
 //! What is printed.
-ghost use Rattle.std.specs.Prelude.{◌≡◌, ◌⊎◌, [], ◌∷◌, ◌++◌, IfOk};
+ghost use Rattle.std.specs.Prelude.{◌≡◌, ◌⊎◌, [], ◌∷◌, ◌++◌, IfOk, MatchResult};
 ghost use Rattle.marlowe_commands.specs.Streams.{streams_of, cut_by, on_output, on_errors, with_lines};
 
 use collections::Memory;
@@ -72,6 +72,18 @@ impl Printed {
             output,
             errors,
             status,
+        }
+    }
+
+    /// The same with the lines that explain it, or without them where memory was refused.
+    pub(crate) fn explained_by(self, lines: Result<Vec<u8>, Memory>) -> Printed
+        ensures { MatchResult lines
+            (λ text. (streams_of result ≡ streams_of self) ⊎ (streams_of result ≡ with_lines text.items (streams_of self)))
+            (λ refused. streams_of result ≡ streams_of self) }
+    {
+        match lines {
+            Ok(text) => self.with_lines(text),
+            Err(_) => self,
         }
     }
 }

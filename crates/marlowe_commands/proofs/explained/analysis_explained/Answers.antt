@@ -10,12 +10,12 @@ pub returns-then-printed-ne-REFUSED-clause-told : goal.returns-then-printed-ne-R
 returns-then-printed-ne-REFUSED-clause-told c =
     as_it_is (PrintsAnalysis c.args.reader c.args.strict c.args.texts c.args.contract.text.now (option_map (λ source. source.text.now) c.args.state)) (Tells c.args.contract c.args.state c.args.texts behind.Nothing) (streams_of c.in_ok-printed.printed) (subst (λ s. PrintsAnalysis c.args.reader c.args.strict c.args.texts c.args.contract.text.now s (streams_of c.in_ok-printed.printed)) c.text_if.ensures c.in_ok-printed.ensures.told)
 
-pub returns-in-Ok-clause-told : goal.returns-in-Ok-clause-told
-returns-in-Ok-clause-told c =
-    told (PrintsAnalysis c.args.reader c.args.strict c.args.texts c.args.contract.text.now (option_map (λ source. source.text.now) c.args.state)) (Tells c.args.contract c.args.state c.args.texts behind.Nothing) (streams_of c.in_ok-printed.printed) (streams_of c.with_lines.result) c.in-Ok.lines.items
-    (subst (λ s. PrintsAnalysis c.args.reader c.args.strict c.args.texts c.args.contract.text.now s (streams_of c.in_ok-printed.printed)) c.text_if.ensures c.in_ok-printed.ensures.told) c.if-printed-ne-REFUSED.false c.in-Ok.ensures c.with_lines.ensures
+pub returns-clause-told : goal.returns-clause-told
+returns-clause-told c =
+    explained (PrintsAnalysis c.args.reader c.args.strict c.args.texts c.args.contract.text.now (option_map (λ source. source.text.now) c.args.state)) (Tells c.args.contract c.args.state c.args.texts behind.Nothing) (streams_of c.in_ok-printed.printed) (streams_of c.explained_by.result) c.reasons-lines.result (λ text. text.items)
+    (subst (λ s. PrintsAnalysis c.args.reader c.args.strict c.args.texts c.args.contract.text.now s (streams_of c.in_ok-printed.printed)) c.text_if.ensures c.in_ok-printed.ensures.told) c.if-printed-ne-REFUSED.false c.reasons-lines.ensures c.explained_by.ensures
 
-pub returns-in-Ok-clause-stream : goal.returns-in-Ok-clause-stream
-returns-in-Ok-clause-stream c =
-    explained_anyhow IsOnOneStream (streams_of c.in_ok-printed.printed) (streams_of c.with_lines.result) c.in-Ok.lines.items
-    c.in_ok-printed.ensures.stream c.if-printed-ne-REFUSED.false c.with_lines.ensures
+pub returns-clause-stream : goal.returns-clause-stream
+returns-clause-stream c =
+    explained_anyhow IsOnOneStream (streams_of c.in_ok-printed.printed) (streams_of c.explained_by.result) c.reasons-lines.result (λ text. text.items)
+    c.in_ok-printed.ensures.stream c.if-printed-ne-REFUSED.false c.explained_by.ensures

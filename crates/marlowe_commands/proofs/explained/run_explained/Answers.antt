@@ -6,15 +6,15 @@ use Rattle.refusal_reasons.specs.declared.source.Behind.TheVariants as behind
 use Rattle.marlowe_commands.specs.Streams.{streams_of, IsTextOr}
 use Rattle.marlowe_commands.specs.Tasks.{PrintsRun}
 use Rattle.marlowe_commands.proofs.explained.run_explained.Goals as goal
-use Rattle.marlowe_commands.proofs.ExplainedLemmas.{told, explained_anyhow}
+use Rattle.marlowe_commands.proofs.ExplainedLemmas.{explained, explained_anyhow}
 
-pub returns-in-Ok-clause-told : goal.returns-in-Ok-clause-told
-returns-in-Ok-clause-told c =
-    told (PrintsRun (run_by (state_reading c.args.texts) c.args.contract.text.now c.args.state.text.now c.args.transaction.text.now))
-    (Tells c.args.contract (Some c.args.state) c.args.texts (behind.One c.args.transaction)) (streams_of c.in_ok-printed.printed) (streams_of c.with_lines.result)
-    c.in-Ok.lines.items c.in_ok-printed.ensures.told c.if-printed-ne-REFUSED.false c.in-Ok.ensures c.with_lines.ensures
+pub returns-clause-told : goal.returns-clause-told
+returns-clause-told c =
+    explained (PrintsRun (run_by (state_reading c.args.texts) c.args.contract.text.now c.args.state.text.now c.args.transaction.text.now))
+    (Tells c.args.contract (Some c.args.state) c.args.texts (behind.One c.args.transaction)) (streams_of c.in_ok-printed.printed) (streams_of c.explained_by.result)
+    c.reasons-lines.result (λ text. text.items) c.in_ok-printed.ensures.told c.if-printed-ne-REFUSED.false c.reasons-lines.ensures c.explained_by.ensures
 
-pub returns-in-Ok-clause-stream : goal.returns-in-Ok-clause-stream
-returns-in-Ok-clause-stream c =
-    explained_anyhow (IsTextOr 1) (streams_of c.in_ok-printed.printed) (streams_of c.with_lines.result) c.in-Ok.lines.items
-    c.in_ok-printed.ensures.stream c.if-printed-ne-REFUSED.false c.with_lines.ensures
+pub returns-clause-stream : goal.returns-clause-stream
+returns-clause-stream c =
+    explained_anyhow (IsTextOr 1) (streams_of c.in_ok-printed.printed) (streams_of c.explained_by.result) c.reasons-lines.result (λ text. text.items)
+    c.in_ok-printed.ensures.stream c.if-printed-ne-REFUSED.false c.explained_by.ensures
