@@ -51,11 +51,13 @@ class Play:
             raise Refused(f"refused scenario {fault}") from None
         genesis = [ledger.Output(("key", funds["address"]), ledger.amount(funds["amount"])) for funds in self.scenario["genesis"]]
         self.chain, self.lines, self.starts = ledger.Chain(genesis, self.scenario["tick"]), [], []
+        self.notes = collections.defaultdict(list)
         self.answered = collections.Counter()
 
     def answer(self, seat, call):
         """Makes a call for a seat, and its line."""
         reply = self.chain.call(*call)
+        self.notes[len(self.lines)] += refusals(reply.text)
         self.lines.append(f"{len(self.lines)} {seat}.{self.answered[seat]} {reply.text}")
         self.answered[seat] += 1
         return reply
@@ -64,6 +66,27 @@ class Play:
         """All that is printed at the end."""
         threads = [f"thread {thread['name']} {self.steps(start)}" for thread, start in zip(self.scenario["threads"], self.starts)]
         return self.lines + threads + [f"entries {len(self.lines)}"]
+
+    def explained(self):
+        """The same with notes behind the entries, and with who holds what."""
+        lines = self.whole()
+        noted = [line for place, entry in enumerate(self.lines) for line in [entry] + ["    " + note for note in self.notes[place]]]
+        return noted + lines[len(self.lines):] + self.holdings()
+
+    def intent_text(self, intent):
+        if "claim" in intent:
+            return f"claim {ledger.compact(self.scenario['contracts'][intent['claim']]['name'])} {ledger.compact(intent['role'])}"
+        names = [ledger.compact(self.scenario["threads"][step["step"]]["name"]) for step in steps_of(intent)]
+        return " ".join(["steps" if "steps" in intent else "step"] + names)
+
+    def leave_out(self, intent, looks, fault):
+        """The note of an intent on which nothing was built, behind its last look."""
+        if "claim" in intent and fault == "NoThread":
+            cause = "nothing to claim"
+        else:
+            cause = f"not built: {fault}: {build_words(intent, looks, fault)}"
+        if "claim" in intent or steps_of(intent):
+            self.notes[len(self.lines) - 1].append(f"{self.intent_text(intent)}: {cause}")
 
     def steps(self, start):
         steps, end = self.chain.spine(start)
@@ -140,7 +163,8 @@ class Play:
                 looks.append(reply.look)
             try:
                 transaction = built(plan, intent, looks)
-            except ledger.Hindered:
+            except ledger.Hindered as fault:
+                self.leave_out(intent, looks, str(fault))
                 return
             reply = yield "enqueue" if pool else "submit", transaction
             if pool or not (reply.fault or "").startswith("NotUnspent"):
@@ -152,6 +176,51 @@ class Play:
             currency = bytes.fromhex(self.scenario["contracts"][intent["claim"]]["currency"])
             return [ledger.Ask(None, plan["keys"], [(currency, intent["role"])])]
         return [ledger.Ask(self.starts[step["step"]], plan["keys"], []) for step in steps_of(intent)]
+
+
+RULES = {
+    "NotUnspent": "rule 4: what input {} spends was spent before, or never was",
+    "OutsideInterval": "rule 6: the ledger's tick isn't in the interval",
+}
+BUILDS = {
+    "NoThread": "there is no thread to step, or no payout to claim",
+    "Semantics": "the contract refuses its inputs: {}",
+    "NotSigned": "an output is offered whose address isn't among the signers",
+    "NotAuthorised": "no offered output holds the token of {}",
+    "TooMany": "there are too many contracts, inputs or outputs for one transaction, or they hold too much",
+    "Repeated": "an output is offered twice, or a thread is stepped twice",
+}
+
+
+def build_words(intent, looks, fault):
+    name, _, of = fault.partition(" ")
+    if name == "NoFunds":
+        return f"the offered outputs lack {lacking(intent, looks, ledger.token(json.loads(of)))} {token_text(ledger.token(json.loads(of)))}"
+    if name == "NotAuthorised" and "address" in json.loads(of):
+        return f"{of} isn't among the signers"
+    return BUILDS[name].format(of)
+
+
+def lacking(intent, looks, of):
+    """What an intent deposits of a token, less what it is offered."""
+    wanted = ledger.added(*(ledger.deposits(step["inputs"]) for step in steps_of(intent)))
+    return wanted.get(of, 0) - ledger.added(*(output.amount for _, output in looks[0].keys)).get(of, 0)
+
+
+def rule_words(fault):
+    name, _, of = fault.partition(" ")
+    return RULES[name].format(of)
+
+
+def refusals(reply):
+    """The notes of a reply, which it has where something was refused."""
+    if reply == "advance backward":
+        return ["the tick is later already"]
+    if reply == "enqueue full":
+        return ["the pool has 1024 transactions, and takes no more"]
+    if reply.startswith("submit refused "):
+        return [rule_words(reply.removeprefix("submit refused "))]
+    return [f"ticket {place}: {rule_words(fault)}" for place, fault in re.findall("([0-9]+) refused ([A-Za-z]+(?: [0-9]+)?)", reply) if reply.startswith("round ")]
 
 
 def text_json(text):
@@ -177,12 +246,14 @@ def built(plan, intent, looks):
 
 
 def stopped(calls, limit):
-    """The first calls, so many as the limit says, or all where there is none."""
+    """The first calls, so many as the limit says, or all where there is none. After the last of them the party still builds on what it was shown."""
     reply, answered = None, 0
-    while limit is None or answered < limit:
+    while True:
         try:
             call = calls.send(reply)
         except StopIteration:
+            return
+        if answered == limit:
             return
         reply = yield call
         answered += 1
@@ -202,7 +273,7 @@ def played(text, explain=False):
     run_whole(play, 0, play.setup())
     for place, plan in enumerate(play.scenario["plans"]):
         run_whole(play, place + 1, play.plan(plan))
-    return play.whole() + (play.holdings() if explain else [])
+    return play.explained() if explain else play.whole()
 
 
 def run_whole(play, seat, calls):

@@ -8,6 +8,7 @@
 
 mod fault;
 mod lines;
+mod notes;
 mod playing;
 mod refusal_line;
 mod turns;

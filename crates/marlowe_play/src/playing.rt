@@ -14,7 +14,7 @@ use crate::lines::played_text;
 use crate::turns::{play_turns, seats_of, take_first, turns_of};
 use hub::{Hub, Opening, Seat, Session};
 use json_read_scenarios::read_scenario;
-use parties::{NoWatch, Watch};
+use parties::{LeftOut, NoWatch, Watch};
 use plans::Scenario;
 use play_setup::{Stage, first_chain, set_up};
 use std::alloc::Global;
@@ -27,7 +27,7 @@ use std::thread::Threads;
 pub struct How {
     /// The plans are played one after another, and else all at once.
     pub one: bool,
-    /// Behind the lines stands who holds what at the end.
+    /// Behind entries stands why something was refused or wasn't built, and behind the lines who holds what at the end.
     pub explain: bool,
 }
 
@@ -56,9 +56,10 @@ pub fn play<R: Threads + Wait + Sync>(
     play_watched(rt, alloc, text, how, &NoWatch)
 }
 
-/// The same, while somebody is told how far it is. Where it is to `explain`, lines behind these say who holds what at the end, token by
-/// token: each address, each payout that nobody has claimed, and the contract of each thread. Together that is what the ledger
-/// began with.
+/// The same, while somebody is told how far it is. Where it is to `explain`, lines of four blanks and a text stand behind entries: why
+/// something was refused, and behind a look on which nothing was built, what hindered the intent. And lines behind all others say who
+/// holds what at the end, token by token: each address, each payout that nobody has claimed, and the contract of each thread.
+/// Together that is what the ledger began with.
 pub fn play_watched<R: Threads + Wait + Sync, W: Watch + Sync>(
     rt: &R,
     alloc: Global,
@@ -96,14 +97,14 @@ fn play_on<R: Threads + Wait + Sync, J: Session + Send + Sync, W: Watch + Sync>(
     ensures played { IfOk result (λ lines. TellsAPlay scenario.now how.explain lines.items) }
 {
     let (hub, seats) = opening.open::<J>(alloc)?;
-    let (stage, seats) = play_all(rt, alloc, &hub, seats, scenario, how.one, watch)?;
+    let (stage, seats, left) = play_all(rt, alloc, &hub, seats, scenario, how.one, watch)?;
     let closed = hub.close(seats);
-    let text = played_text(alloc, closed.chain(), scenario, &stage, how.explain)?;
+    let text = played_text(alloc, closed.chain(), scenario, &stage, &left, how.explain)?;
     Ok(text)
 }
 
-// Sets the scenario up by the first seat, and has each plan played by a party with one of the others: what was set up, and all
-// seats, in order.
+// Sets the scenario up by the first seat, and has each plan played by a party with one of the others: what was set up, all
+// seats, in order, and what each plan left out.
 fn play_all<R: Threads + Wait + Sync, J: Session + Send + Sync, W: Watch + Sync>(
     rt: &R,
     alloc: Global,
@@ -112,19 +113,19 @@ fn play_all<R: Threads + Wait + Sync, J: Session + Send + Sync, W: Watch + Sync>
     scenario: &Scenario,
     one: bool,
     watch: &W,
-) -> Result<(Stage, Vec<Seat<J>>), PlayFault>
+) -> Result<(Stage, Vec<Seat<J>>, Vec<Vec<LeftOut>>), PlayFault>
     requires names { NamesWhatItHas scenario.now }
     requires seats { length seats.items ≡ length scenario.now.plans + 1 }
     requires numbers { AreNumbered 0 seats.items }
     requires answers { answered seats.items ≡ 0 }
     ensures told { IfErr result (λ fault. IsOfText fault → ⊥) }
     ensures contracts { IfOk result (λ r. r.0.contracts.items ≡ map object_of scenario.now.contracts) }
-    ensures seats { IfOk result (λ r. WerePlayed scenario.now r.0.starts.items r.1.items) }
+    ensures seats { IfOk result (λ r. WerePlayed scenario.now r.0.starts.items r.1.items (map (λ l. l.items) r.2.items)) }
 {
     let mut first = take_first(&mut seats);
     let stage = set_up(rt, alloc, hub, &mut first, watch, scenario)?;
     let turns = turns_of(alloc, hub, scenario, &stage.starts, seats)?;
     let ended = play_turns(rt, alloc, watch, turns, one)?;
-    let seats = seats_of(alloc, first, ended)?;
-    Ok((stage, seats))
+    let (seats, left) = seats_of(alloc, first, ended)?;
+    Ok((stage, seats, left))
 }
