@@ -2,16 +2,16 @@
 use Rattle.std.proofs.Common.{◌≡◌, ◌≤◌, ℤ, pos, ◌+ℤ◌, ◌-ℤ◌, ◌≤ℤ◌, ◌<ℤ◌, int_lt, Bool, true, false, cond, refl, sym, ap, ◌∙◌, subst, arith, Option, Some, None, IfSome}
 use Rattle.std.proofs.lemmas.Int.{ints}
 use Rattle.std.specs.Int.{int_min, int_max}
-use Rattle.linear.specs.Linear.{Linear, Valuation, number_at, IsBelow, IsUpTo}
+use Rattle.linear.specs.Linear.{Linear, Valuation, number, number_at, IsBelow, IsUpTo}
 use Rattle.linear.specs.Bounded.{IsShown, IsFromAll, IsUpToAll}
 use Rattle.linear.specs.Combined.{StandsFor, AreBelow}
 use Rattle.symbols.specs.Symbols.{Symbols, Knows, Gives}
 use Rattle.symbols.specs.Held.{GivesAny, Learns}
 use Rattle.symbols.specs.Either.{IsAtLeast}
-use Rattle.linear.proofs.NumberLaws.{true_lt, false_lt, lt_true}
+use Rattle.linear.proofs.NumberLaws.{true_lt, false_lt}
 use Rattle.linear.proofs.LinearLaws.{same_number}
 use Rattle.symbols.proofs.KnownLaws.{terms_more, knows_itself, gives_here}
-use Rattle.analysis_steps.specs.Amounts.{IsAbove, LearnsIf, amount_paid, GivesPaid, GivesAdded, GivesSum, GivesRest, IsFromSum, IsUpToSum}
+use Rattle.analysis_steps.specs.Amounts.{IsNothing, LearnsIf, amount_paid, GivesPaid, GivesAdded, GivesSum, GivesRest, IsFromSum, IsUpToSum}
 
 -- ---- numbers
 
@@ -125,6 +125,27 @@ paid_whole b d h k = by_test (int_lt (pos 0) d) refl
     by_test true e = min_is b d k
     by_test false e = same_least (pos 0) d h (false_lt (pos 0) d e)
 
+paid_none : (b d : ℤ) → d ≤ℤ pos 0 → amount_paid b d ≡ pos 0
+paid_none b d h = by_test (int_lt (pos 0) d) refl
+  where
+    by_test : (t : Bool) → int_lt (pos 0) d ≡ t → cond t (int_min b d) (pos 0) ≡ pos 0
+    by_test true e = absurd (never_both (pos 0) d (true_lt (pos 0) d e) h)
+    by_test false e = refl
+
+min_first : (a b : ℤ) → a ≤ℤ b → int_min a b ≡ a
+min_first a b h = by_test (int_lt b a) refl
+  where
+    by_test : (t : Bool) → int_lt b a ≡ t → cond t b a ≡ a
+    by_test true e = absurd (never_both b a (true_lt b a e) h)
+    by_test false e = refl
+
+paid_held : (b d : ℤ) → pos 0 ≤ℤ b → b ≤ℤ d → amount_paid b d ≡ b
+paid_held b d h k = by_test (int_lt (pos 0) d) refl
+  where
+    by_test : (t : Bool) → int_lt (pos 0) d ≡ t → cond t (int_min b d) (pos 0) ≡ b
+    by_test true e = min_first b d k
+    by_test false e = same_least (pos 0) b h (reach b d (pos 0) k (false_lt (pos 0) d e))
+
 -- ---- what is shown
 
 pub at_least_by : (k : Symbols) (l m d : Linear) → StandsFor (λ r. number_at r l -ℤ number_at r m) (AreBelow l m) d → IsShown k.ranges k.facts d → IsAtLeast k l m
@@ -176,6 +197,20 @@ pub paid_all : (k : Symbols) (balance due e : Linear) → IsShown k.ranges k.fac
 paid_all k balance due e shown covers is r closed valued x y h =
     gives_here k r e (amount_paid (number_at r balance) (number_at r due)) closed valued (subst (λ (l : Linear). IsBelow k.next l) (sym is) y)
     (paid_whole (number_at r balance) (number_at r due) (shown r valued.ranges valued.facts) (covers r valued) ∙ ap (number_at r) (sym is))
+
+pub paid_nothing : (k : Symbols) (balance due e : Linear) → IsNothing k due → e ≡ number (pos 0) → GivesPaid k k balance due e
+paid_nothing k balance due e h is r closed valued x y g =
+    gives_here k r e (amount_paid (number_at r balance) (number_at r due)) closed valued (subst (λ (l : Linear). IsBelow k.next l) (sym is) tt)
+    (paid_none (number_at r balance) (number_at r due) (h r valued) ∙ ap (number_at r) (sym is))
+
+pub paid_all_held : (k : Symbols) (balance due e : Linear) → IsAtLeast k due balance → e ≡ balance → GivesPaid k k balance due e
+paid_all_held k balance due e h is r closed valued x y g =
+    gives_here k r e (amount_paid (number_at r balance) (number_at r due)) closed valued (subst (λ (l : Linear). IsBelow k.next l) (sym is) x)
+    (paid_held (number_at r balance) (number_at r due) g (h r valued) ∙ ap (number_at r) (sym is))
+
+pub added_nothing : (k : Symbols) (due e : Linear) → IsNothing k due → e ≡ number (pos 0) → GivesAdded k k due e
+added_nothing k due e h is r closed valued x =
+    gives_here k r e (int_max (pos 0) (number_at r due)) closed valued (subst (λ (l : Linear). IsBelow k.next l) (sym is) tt) (max_none (number_at r due) (h r valued) ∙ ap (number_at r) (sym is))
 
 pub added_part : (k a b : Symbols) (due e : Linear) (bound most : Option ℤ) → IsUpToAll k.ranges k.facts (λ r. number_at r due) bound → ((n : ℤ) → IsUpTo bound n → IsUpTo most (int_max (pos 0) n))
     → GivesAny k a e (Some (pos 0)) most → LearnsIf true a b due e → GivesAdded k b due e

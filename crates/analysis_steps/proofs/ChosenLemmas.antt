@@ -1,14 +1,18 @@
 -- Numbers of a choice that no earlier case takes.
-use Rattle.std.proofs.Common.{◌≡◌, ℕ, zero, suc, ◌+◌, ◌<◌, ◌≤◌, ℤ, pos, negsuc, neg_ℤ, FitsSigned, ◌+ℤ◌, ◌-ℤ◌, ◌^◌, ◌≤ℤ◌, ◌<ℤ◌, int_le, Bool, true, false, cond, ◌&&◌, ◌||◌, List, [], ◌∷◌, length, get_or, take, drop, All, ◌⊎◌, inl, inr, refl, sym, ap, ◌∙◌, subst, arith, Option, Some, None, IfSome}
+use Rattle.std.proofs.Common.{◌≡◌, ℕ, zero, suc, ◌+◌, ◌<◌, ◌≤◌, ℤ, pos, negsuc, neg_ℤ, FitsSigned, ◌^◌, ◌≤ℤ◌, ◌<ℤ◌, int_le, Bool, true, false, cond, ◌&&◌, ◌||◌, List, [], ◌∷◌, ◌++◌, length, get_or, take, drop, All, ◌⊎◌, inl, inr, refl, sym, ap, ◌∙◌, subst, append_assoc, arith, Option, Some, None, IfSome}
 use Rattle.std.proofs.lemmas.Int.{ints}
 use Rattle.std.proofs.lemmas.List.Elements.{All-nil, All-cons, All-weaker, All-drop, All-more, recursion_from_All}
-use Rattle.std.proofs.lemmas.List.{take_all}
+use Rattle.std.proofs.lemmas.List.{take_all, take_more}
 use Rattle.std.specs.Int.{w128, int_min, int_max}
 use Rattle.std.specs.List.{list_any, AllByRecursion}
-use Rattle.std.specs.Ordering.{eq_by_cmp}
+use Rattle.std.specs.Ordering.{eq_by_cmp, bool_cmp}
+use Rattle.std.specs.declared.cmp.Ordering.TheVariants.{Equal}
 use Rattle.std.specs.FinMap.Entries.{find}
 use Rattle.std.specs.FinMap.{get, insert, get-insert}
+use Rattle.claims.specs.declared.claim.Claim.{Claim}
+use Rattle.claims.specs.Claims.{takes, owner, IsLane}
 use Rattle.names.specs.declared.bound.Bound.{Bound}
+use Rattle.names.specs.Equal.{same_choice_id}
 use Rattle.names.specs.declared.choice_id.ChoiceId.{ChoiceId}
 use Rattle.names.specs.Orders.{choice_id_cmp}
 use Rattle.names.specs.Totals.{choice_id_total}
@@ -21,14 +25,14 @@ use Rattle.states.specs.States.{StateMaps}
 use Rattle.semantics.specs.Applying.{in_bound, matches}
 use Rattle.linear.specs.Linear.{Linear, Valuation, number_at}
 use Rattle.symbols.specs.Held.{GivesAny}
-use Rattle.linear.proofs.NumberLaws.{both, true_le, false_le, le_true}
+use Rattle.linear.proofs.NumberLaws.{both, true_le}
 use Rattle.analysis_walk.specs.Limits.{Scope, any_runs, written_runs, Allowed}
 use Rattle.analysis_walk.specs.Covered.{NoneTakes}
 use Rattle.analysis_walk.specs.Conclusions.{ChoosesSo}
 use Rattle.analysis_walk.specs.Knowledge.{actions_behind, actions_before}
 use Rattle.analysis_values.specs.Known.{View, Known, IsSeen, IsDescribed, known}
 use Rattle.analysis_values.proofs.KnownLaws.{fits_between}
-use Rattle.analysis_steps.specs.Chosen.{IsIn, HasActions, IsFromTo, IsWithin, IsHull, IsPassed, IsEndOf, IsChosen}
+use Rattle.analysis_steps.specs.Chosen.{IsIn, HasActions, IsFromTo, IsWithin, IsHull, IsHullOfClaims, IsPassed, IsEndOf, IsChosen, Owns, IsUnclaimed, ClaimsOutside, claim_of, claims_of, is_lane}
 use Rattle.analysis_steps.proofs.AmountLemmas.{min_left, min_right, max_left, max_right}
 use Rattle.analysis_steps.proofs.ConcludedLemmas.{entry_at, entry_allowed}
 use Rattle.analysis_steps.proofs.MovedLemmas.{described_on}
@@ -103,6 +107,104 @@ ends_at ks ls n e = (n, e)
 pub and_right : (a b : Bool) → a ≡ true → a && b ≡ false → b ≡ false
 and_right true b e h = h
 and_right false b e h = absurd (cc)
+
+-- ---- claims
+
+lane_one : (a b : Bool) → is_lane a ≡ true → is_lane b ≡ true → bool_cmp a b ≡ Equal
+lane_one true true h k = refl
+lane_one true false h k = absurd (cc)
+lane_one false b h k = absurd (cc)
+
+lane_whole : (a b : Bool) → bool_cmp a b ≡ Equal → is_lane a ≡ is_lane b
+lane_whole true true h = refl
+lane_whole true false h = absurd (cc)
+lane_whole false true h = absurd (cc)
+lane_whole false false h = refl
+
+pub one_lane : IsLane bool_cmp is_lane
+one_lane = record { one = lane_one; whole = lane_whole }
+
+claims_push : (m : ℕ) (bs : List Bound) (b : Bound) → claims_of m (bs ++ b ∷ []) ≡ claims_of m bs ++ claim_of m b ∷ []
+claims_push m [] b = refl
+claims_push m (c ∷ bs) b = ap (λ z. claim_of m c ∷ z) (claims_push m bs b)
+
+pub claims_bound : (m : ℕ) (bs : List Bound) (i : ℕ) (d : Bound) (first before after : List (Claim Bool)) → i < length bs → after ≡ before ++ claim_of m (get_or bs i d) ∷ []
+    → before ≡ first ++ claims_of m (take i bs) → after ≡ first ++ claims_of m (take (i + 1) bs)
+claims_bound m bs i d first before after h a q =
+    a ∙ (ap (λ z. z ++ claim_of m (get_or bs i d) ∷ []) q
+    ∙ (append_assoc first (claims_of m (take i bs)) (claim_of m (get_or bs i d) ∷ [])
+    ∙ (ap (λ z. first ++ z) (sym (claims_push m (take i bs) (get_or bs i d))) ∙ ap (λ z. first ++ claims_of m z) (sym (take_more bs i d h)))))
+
+pub claims_all : (m : ℕ) (bs : List Bound) (i : ℕ) (first before : List (Claim Bool)) → length bs ≤ i → before ≡ first ++ claims_of m (take i bs) → before ≡ first ++ claims_of m bs
+claims_all m bs i first before h q = q ∙ ap (λ z. first ++ claims_of m z) (take_all i bs h)
+
+-- what nobody has of the first claims is had as by the others alone
+behind : (n : ℤ) (cs ds : List (Claim Bool)) → IsUnclaimed n cs → owner is_lane n (cs ++ ds) ≡ owner is_lane n ds
+behind n [] ds h = refl
+behind n (c ∷ cs) ds h = by_test (takes is_lane n c) (behind n cs ds) h
+  where
+    by_test : (t : Bool) → (IsUnclaimed n cs → owner is_lane n (cs ++ ds) ≡ owner is_lane n ds) → cond t (Some c.by) (owner is_lane n cs) ≡ None
+        → cond t (Some c.by) (owner is_lane n (cs ++ ds)) ≡ owner is_lane n ds
+    by_test true go f = absurd (cc)
+    by_test false go f = go f
+
+outside : (n : ℤ) (m : ℕ) (bs : List Bound) → list_any (in_bound n) bs ≡ false → IsUnclaimed n (claims_of m bs)
+outside n m [] h = refl
+outside n m (b ∷ bs) h =
+    let q = or_neither (in_bound n b) (list_any (in_bound n) bs) h in
+    ap (λ t. cond t (Some m) (owner is_lane n (claims_of m bs))) q.0 ∙ outside n m bs q.1
+
+inside : (n : ℤ) (m : ℕ) (bs : List Bound) → list_any (in_bound n) bs ≡ true → owner is_lane n (claims_of m bs) ≡ Some m
+inside n m [] h = absurd (cc)
+inside n m (b ∷ bs) h = by_test (in_bound n b) (inside n m bs) h
+  where
+    by_test : (t : Bool) → (list_any (in_bound n) bs ≡ true → owner is_lane n (claims_of m bs) ≡ Some m) → t || list_any (in_bound n) bs ≡ true → cond t (Some m) (owner is_lane n (claims_of m bs)) ≡ Some m
+    by_test true go f = refl
+    by_test false go f = go f
+
+pub unclaimed_on : (id of : ChoiceId) (bs : List Bound) (old new : List (Claim Bool)) → same_choice_id id of ≡ true → new ≡ old ++ claims_of 0 bs → ClaimsOutside id of bs old new
+unclaimed_on id of bs old new e q n h k =
+    ap (owner is_lane n) q ∙ behind n old (claims_of 0 bs) k ∙ outside n 0 bs (and_right (same_choice_id id of) (list_any (in_bound n) bs) e h)
+
+pub owned_by_bounds : (n : ℤ) (bs : List Bound) (old new : List (Claim Bool)) → new ≡ old ++ claims_of 1 bs → IsUnclaimed n old → list_any (in_bound n) bs ≡ true → owner is_lane n new ≡ Some 1
+owned_by_bounds n bs old new q k h = ap (owner is_lane n) q ∙ behind n old (claims_of 1 bs) k ∙ inside n 1 bs h
+
+pub not_owned : (n : ℤ) (o : Option Bound) (c : Claim Bool) → (c.by ≡ 1 → ⊥) → IsWithin o n ⊎ Owns n c → IsWithin o n
+not_owned n o c h (inl k) = k
+not_owned n o c h (inr k) = absurd (h k.0)
+
+pub owned : (n : ℤ) (o : Option Bound) (c : Claim Bool) (b : Bound) → b.from ≡ c.from → b.to ≡ c.to → IsWithin o n ⊎ Owns n c → IsWithin o n ⊎ (in_bound n b ≡ true)
+owned n o c b e f (inl k) = inl k
+owned n o c b e f (inr k) = inr (ap (λ x. int_le x n && int_le n b.to) e ∙ ap (λ y. int_le c.from n && int_le n y) f ∙ of_lane c.lane (int_le c.from n && int_le n c.to) k.1)
+  where
+    of_lane : (a t : Bool) → a && t ≡ true → t ≡ true
+    of_lane true t g = g
+    of_lane false t g = absurd (cc)
+
+-- the range has a number, where the claim has it for the bounds
+abbrev Keeps : ℤ → Option Bound → Claim Bool → Type 0
+Keeps n o c = Owns n c → IsWithin o n
+
+-- .. of each claim before a place
+abbrev pub IsClaimedBefore : List (Claim Bool) → ℕ → Option Bound → Type 0
+IsClaimedBefore cs m o = (n : ℤ) → All (Keeps n o) (take m cs)
+
+pub claimed_none : (cs : List (Claim Bool)) → IsClaimedBefore cs 0 None
+claimed_none cs n = All-nil (Keeps n None)
+
+pub claimed_on : (cs : List (Claim Bool)) (m : ℕ) (d : Claim Bool) (o p : Option Bound) → m < length cs → IsClaimedBefore cs m o → ((n : ℤ) → IsWithin o n ⊎ Owns n (get_or cs m d) → IsWithin p n) → IsClaimedBefore cs (m + 1) p
+claimed_on cs m d o p l h w n = All-more (Keeps n p) cs m d l (All-weaker (Keeps n o) (Keeps n p) (λ c f e. w n (inl (f e))) (take m cs) (h n)) (λ e. w n (inr e))
+
+any_claimed : (n : ℤ) (o : Option Bound) (cs : List (Claim Bool)) → AllByRecursion (Keeps n o) cs → owner is_lane n cs ≡ Some 1 → IsWithin o n
+any_claimed n o [] h k = absurd (cc)
+any_claimed n o (c ∷ cs) h k = by_test (takes is_lane n c) refl (any_claimed n o cs h.1) k
+  where
+    by_test : (t : Bool) → takes is_lane n c ≡ t → (owner is_lane n cs ≡ Some 1 → IsWithin o n) → cond t (Some c.by) (owner is_lane n cs) ≡ Some 1 → IsWithin o n
+    by_test true e go f = let q : c.by ≡ 1 = cc in h.0 (q, e)
+    by_test false e go f = go f
+
+pub claimed_all : (cs : List (Claim Bool)) (m : ℕ) (o : Option Bound) → length cs ≤ m → IsClaimedBefore cs m o → IsHullOfClaims cs o
+claimed_all cs m o l h n = any_claimed n o cs (recursion_from_All (Keeps n o) cs (subst (All (Keeps n o)) (take_all m cs l) (h n)))
 
 -- ---- cases
 

@@ -10,6 +10,10 @@ use Rattle.symbols.specs.Either.{IsAtLeast}
 abbrev pub IsAbove : Symbols → Linear → Type 0
 IsAbove k l = (r : Valuation) → IsValued r k → pos 0 <ℤ number_at r l
 
+-- .. at most 0
+abbrev pub IsNothing : Symbols → Linear → Type 0
+IsNothing k l = (r : Valuation) → IsValued r k → number_at r l ≤ℤ pos 0
+
 -- more is known where one expression is at most another, if that is asked
 abbrev pub LearnsIf : Bool → Symbols → Symbols → Linear → Linear → Type 0
 LearnsIf asked k m l n = (r : Valuation) → IsClosed k → IsValued r k → IsBelow k.next l → IsBelow k.next n → (asked ≡ true → number_at r l ≤ℤ number_at r n) → Knows k r m

@@ -5,7 +5,7 @@ ghost use Rattle.std.specs.Option.{IfSome};
 ghost use Rattle.linear.specs.Linear.{Linear as Expression, IsUpTo};
 ghost use Rattle.linear.specs.Bounded.{IsShown};
 ghost use Rattle.symbols.specs.Either.{IsAtLeast};
-ghost use Rattle.analysis_steps.specs.Amounts.{IsAbove, LearnsIf, HasAllDue, GivesPaid, GivesAdded, GivesSum, GivesRest, IsFromSum, IsUpToSum};
+ghost use Rattle.analysis_steps.specs.Amounts.{IsAbove, IsNothing, LearnsIf, HasAllDue, GivesPaid, GivesAdded, GivesSum, GivesRest, IsFromSum, IsUpToSum};
 
 use analysis_values::Known;
 use collections::{Memory, TryClone};
@@ -47,8 +47,35 @@ pub(crate) fn learn_if(known: &mut Known, asked: bool, l: &Linear, m: &Linear) -
     }
 }
 
-// What is paid where that may be less than is due: a new symbol.
+// Whether an expression is shown to be at most 0.
+fn is_nothing(known: &Known, l: &Linear) -> bool
+    ensures { result ≡ true → IsNothing known.now.symbols l.now }
+{
+    match known.greatest(l) {
+        Some(bound) => bound <= 0,
+        None => false,
+    }
+}
+
+// What is paid where that may be less than is due: nothing where 0 or less is due, all that the account has where no less is due,
+// and else a new symbol.
 fn part(known: &mut Known, balance: &Linear, due: &Linear) -> Result<Linear, Memory>
+    ensures symbols { IfOk result (λ e. GivesPaid known.old.symbols known.new.symbols balance.now due.now e) }
+    ensures view { known.new.view ≡ known.old.view }
+{
+    if is_nothing(known, due) {
+        return Ok(Linear::number(due.memory(), 0));
+    }
+    let all = is_at_least(known, due, balance)?;
+    if all {
+        let same = balance.try_clone()?;
+        return Ok(same);
+    }
+    new_part(known, balance, due)
+}
+
+// What is paid where nothing says how much: a new symbol.
+fn new_part(known: &mut Known, balance: &Linear, due: &Linear) -> Result<Linear, Memory>
     ensures symbols { IfOk result (λ e. GivesPaid known.old.symbols known.new.symbols balance.now due.now e) }
     ensures view { known.new.view ≡ known.old.view }
 {
@@ -88,8 +115,19 @@ fn natural_bound(bound: Option<i128>) -> Option<i128>
     }
 }
 
-// What a deposit adds where that may be 0: a new symbol.
+// What a deposit adds where that may be 0: nothing where 0 or less is due, and else a new symbol.
 fn part_added(known: &mut Known, due: &Linear) -> Result<Linear, Memory>
+    ensures symbols { IfOk result (λ e. GivesAdded known.old.symbols known.new.symbols due.now e) }
+    ensures view { known.new.view ≡ known.old.view }
+{
+    if is_nothing(known, due) {
+        return Ok(Linear::number(due.memory(), 0));
+    }
+    new_added(known, due)
+}
+
+// What a deposit adds where nothing says how much: a new symbol.
+fn new_added(known: &mut Known, due: &Linear) -> Result<Linear, Memory>
     ensures symbols { IfOk result (λ e. GivesAdded known.old.symbols known.new.symbols due.now e) }
     ensures view { known.new.view ≡ known.old.view }
 {

@@ -1,5 +1,5 @@
 //! Choices.
-ghost use Rattle.std.specs.Prelude.{◌≡◌, ℤ, ◌≤ℤ◌, true, false, ◌&&◌, All, ◌⊎◌, IfOk};
+ghost use Rattle.std.specs.Prelude.{◌≡◌, ℤ, ◌≤ℤ◌, true, false, ◌&&◌, ◌++◌, All, ◌⊎◌, IfOk, OnOk};
 ghost use Rattle.std.specs.Int.{int_min, int_max};
 ghost use Rattle.std.specs.List.{list_any};
 ghost use Rattle.names.specs.Equal.{same_choice_id};
@@ -7,10 +7,11 @@ ghost use Rattle.semantics.specs.Applying.{in_bound};
 ghost use Rattle.analysis_walk.specs.Conclusions.{ChoosesSo};
 ghost use Rattle.analysis_walk.specs.Knowledge.{actions_before};
 ghost use Rattle.analysis_values.specs.Known.{IsDescribed};
-ghost use Rattle.analysis_steps.specs.Chosen.{IsFromTo, IsWithin, IsHull, IsPassed, IsEndOf, IsChosen};
+ghost use Rattle.analysis_steps.specs.Chosen.{IsFromTo, IsWithin, IsHull, IsHullOfClaims, IsPassed, IsEndOf, IsChosen, Owns, IsUnclaimed, ClaimsPassed, ClaimsOutside, claim_of, claims_of};
 
 use analysis_values::Known;
 use analysis_walk::Conclusion;
+use claims::{Claim, first_come};
 use collections::{Items, Memory, Same};
 use contract::{Action, Case};
 use names::{Bound, ChoiceId};
@@ -91,10 +92,97 @@ fn narrowed_by(bounds: &[Bound], range: Bound) -> Bound
     left
 }
 
+// A claim of the numbers within a bound: by 0, the earlier cases, or by 1, the bounds of the choice.
+fn claim_of(bound: Bound, by: usize) -> Claim<bool>
+    ensures { result ≡ claim_of by bound }
+{
+    Claim {
+        lane: true,
+        from: bound.from,
+        to: bound.to,
+        by,
+    }
+}
+
+// Puts a claim of each bound behind others.
+fn put_bounds(claims: &mut Vec<Claim<bool>>, bounds: &[Bound], by: usize) -> Result<(), Memory>
+    ensures { OnOk result (claims.new.items ≡ claims.old.items ++ claims_of by bounds.now) }
+{
+    for bound in bounds {
+        let claim = claim_of(*bound, by);
+        claims.push(claim)?;
+    }
+    Ok(())
+}
+
 fn same_choice(id: &ChoiceId, of: &ChoiceId) -> bool
     ensures { result ≡ same_choice_id id.now of.now }
 {
     id.same(of)
+}
+
+// .. of each bound of a case of the choice.
+fn put_case(claims: &mut Vec<Claim<bool>>, case: &Case, id: &ChoiceId) -> Result<(), Memory>
+    ensures { OnOk result (ClaimsPassed id.now case.now claims.old.items claims.new.items) }
+{
+    match &case.action {
+        Action::Choice(of, bounds) => put_choice(claims, of, bounds.as_slice(), id),
+        _ => Ok(()),
+    }
+}
+
+fn put_choice(
+    claims: &mut Vec<Claim<bool>>,
+    of: &ChoiceId,
+    bounds: &[Bound],
+    id: &ChoiceId,
+) -> Result<(), Memory>
+    ensures { OnOk result (ClaimsOutside id.now of.now bounds.now claims.old.items claims.new.items) }
+{
+    let same = same_choice(id, of);
+    if same {
+        put_bounds(claims, bounds, 0)
+    } else {
+        Ok(())
+    }
+}
+
+// What the last of the earlier cases claim of a choice.
+fn claims_of_cases(alloc: Global, cases: &[Case], id: &ChoiceId) -> Result<Vec<Claim<bool>>, Memory>
+    ensures { IfOk result (λ claims. (n : ℤ) → All (IsPassed id.now n) cases.now → IsUnclaimed n claims.items) }
+{
+    let mut claims = Vec::new(alloc);
+    for case in cases {
+        put_case(&mut claims, case, id)?;
+    }
+    Ok(claims)
+}
+
+// A range, and the numbers of a claim, where the bounds have it.
+fn wider_by(range: Option<Bound>, claim: Claim<bool>) -> Option<Bound>
+    ensures { (n : ℤ) → IsWithin range n ⊎ Owns n claim → IsWithin result n }
+{
+    if claim.by != 1 {
+        return range;
+    }
+    wider(
+        range,
+        Bound {
+            from: claim.from,
+            to: claim.to,
+        },
+    )
+}
+
+// The range of all numbers that the bounds have.
+fn hull_of_claims(claims: &[Claim<bool>]) -> Option<Bound>
+    ensures { IsHullOfClaims claims.now result }
+{
+    let mut range: Option<Bound> = None;
+    for claim in claims {
+        range = wider_by(range, *claim);
+    }
+    range
 }
 
 // A range without the numbers at its ends that a case of a choice takes.
@@ -130,13 +218,20 @@ fn narrowed(cases: &[Case], id: &ChoiceId, range: Bound) -> Bound
     left
 }
 
-// The range of the numbers within bounds that the last of the earlier cases don't take; none where there is none.
-fn range_left(earlier: &[Case], id: &ChoiceId, bounds: &[Bound]) -> Option<Bound>
-    ensures { (n : ℤ) → All (IsPassed id.now n) earlier.now → list_any (in_bound n) bounds.now ≡ true → IsWithin result n }
+// The range of the numbers within bounds that these cases don't take; none where there is none. The cases claim first what they
+// take, and the range is that of what is left for the bounds, wherever the ends lie.
+fn range_by_claims(
+    alloc: Global,
+    cases: &[Case],
+    id: &ChoiceId,
+    bounds: &[Bound],
+) -> Result<Option<Bound>, Memory>
+    ensures { IfOk result (λ o. (n : ℤ) → All (IsPassed id.now n) cases.now → list_any (in_bound n) bounds.now ≡ true → IsWithin o n) }
 {
-    let range = hull(bounds)?;
-    let left = narrowed(last_of(earlier), id, range);
-    unless_empty(left)
+    let mut claims = claims_of_cases(alloc, cases, id)?;
+    put_bounds(&mut claims, bounds, 1)?;
+    let found = first_come(alloc, &claims)?;
+    Ok(hull_of_claims(&found))
 }
 
 // A range that holds a number.
@@ -147,6 +242,61 @@ fn unless_empty(range: Bound) -> Option<Bound>
         None
     } else {
         Some(range)
+    }
+}
+
+// Whether an end of a range lies within one of some bounds.
+fn has_an_end(bounds: &[Bound], range: Bound) -> bool {
+    for bound in bounds {
+        let first = bound.from <= range.from && range.from <= bound.to;
+        let last = bound.from <= range.to && range.to <= bound.to;
+        if first || last {
+            return true;
+        }
+    }
+    false
+}
+
+// Whether one of these cases of a choice takes an end of a range.
+fn is_end_taken(cases: &[Case], id: &ChoiceId, range: Bound) -> bool {
+    for case in cases {
+        if let Action::Choice(of, bounds) = &case.action {
+            if has_an_end(bounds.as_slice(), range) && same_choice(id, of) {
+                return true;
+            }
+        }
+    }
+    false
+}
+
+// Whether a range without numbers at its ends is known to be the range of all that is left of bounds: where nothing is left, and of
+// a single bound where no case takes an end.
+fn is_all(cases: &[Case], id: &ChoiceId, bounds: &[Bound], left: Bound) -> bool {
+    if left.from > left.to {
+        return true;
+    }
+    bounds.len() < 2 && !is_end_taken(cases, id, left)
+}
+
+// The range of the numbers within bounds that the last of the earlier cases don't take; none where there is none.
+fn range_left(
+    alloc: Global,
+    earlier: &[Case],
+    id: &ChoiceId,
+    bounds: &[Bound],
+) -> Result<Option<Bound>, Memory>
+    ensures { IfOk result (λ o. (n : ℤ) → All (IsPassed id.now n) earlier.now → list_any (in_bound n) bounds.now ≡ true → IsWithin o n) }
+{
+    let cases = last_of(earlier);
+    match hull(bounds) {
+        None => Ok(None),
+        Some(range) => {
+            let left = narrowed(cases, id, range);
+            if is_all(cases, id, bounds, left) {
+                return Ok(unless_empty(left));
+            }
+            range_by_claims(alloc, cases, id, bounds)
+        }
     }
 }
 
@@ -184,7 +334,8 @@ pub fn choose(
     ensures { IfOk result (ChoosesSo IsDescribed known (actions_before earlier.now) id.now bounds.now) }
 {
     let kinds = Items::new(alloc);
-    match range_left(earlier, id, bounds.as_slice()) {
+    let range = range_left(alloc, earlier, id, bounds.as_slice())?;
+    match range {
         None => Ok(Conclusion { kinds, known: None }),
         Some(range) => {
             let chosen = chosen_from(known, id, range)?;

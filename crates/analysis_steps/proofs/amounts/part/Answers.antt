@@ -1,7 +1,9 @@
-use Rattle.analysis_steps.proofs.AmountLemmas.{paid_part}
+use Rattle.analysis_steps.proofs.AmountLemmas.{paid_nothing, paid_all_held}
 use Rattle.analysis_steps.proofs.amounts.part.Goals as goal
 
-pub returns-clause-symbols : goal.returns-clause-symbols
-returns-clause-symbols c =
-    paid_part c.args.known.now.symbols c.fresh.new.self.symbols c.learn_if.new.known.symbols c.learn_if-2.new.known.symbols c.args.balance.now c.args.due.now c.in_ok-paid.paid c.shows-natural.result c.greatest-most.result
-    c.shows-natural.ensures c.greatest-most.ensures c.in_ok-paid.ensures.symbols c.in_ok-learn_if.ensures.symbols c.in_ok-learn_if-2.ensures.symbols
+pub returns-then-is_nothing-clause-symbols : goal.returns-then-is_nothing-clause-symbols
+returns-then-is_nothing-clause-symbols c = paid_nothing c.args.known.now.symbols c.args.balance.now c.args.due.now c.number.result (c.is_nothing.ensures c.if-is_nothing.true) c.number.ensures
+
+pub returns-then-all-clause-symbols : goal.returns-then-all-clause-symbols
+returns-then-all-clause-symbols c =
+    paid_all_held c.args.known.now.symbols c.args.balance.now c.args.due.now c.in_ok-same.same (c.in_ok-all.ensures c.if-all.true) c.in_ok-same.ensures

@@ -1,7 +1,5 @@
-use Rattle.analysis_steps.proofs.AmountLemmas.{added_part}
+use Rattle.analysis_steps.proofs.AmountLemmas.{added_nothing}
 use Rattle.analysis_steps.proofs.amounts.part_added.Goals as goal
 
-pub returns-clause-symbols : goal.returns-clause-symbols
-returns-clause-symbols c =
-    added_part c.args.known.now.symbols c.fresh.new.self.symbols c.learn_if.new.known.symbols c.args.due.now c.in_ok-added.added c.greatest.result c.natural_bound-most.result
-    c.greatest.ensures c.natural_bound-most.ensures c.in_ok-added.ensures.symbols c.in_ok-learn_if.ensures.symbols
+pub returns-then-is_nothing-clause-symbols : goal.returns-then-is_nothing-clause-symbols
+returns-then-is_nothing-clause-symbols c = added_nothing c.args.known.now.symbols c.args.due.now c.number.result (c.is_nothing.ensures c.if-is_nothing.true) c.number.ensures

@@ -13,7 +13,7 @@ returns-in-None c =
     let id = c.args.id.now in
     subst (λ kinds. ChoosesSo IsDescribed c.args.known es id c.args.bounds.now (record { kinds = kinds; known = None })) (sym c.new-kinds.ensures)
     (subst (λ (bounds : List Bound). ChoosesSo IsDescribed c.args.known es id bounds (record { kinds = []; known = None })) c.as_slice.ensures
-    (chooses_none ks es id c.as_slice.result.now (has_actions ks) c.args.known c.in-None.ensures))
+    (chooses_none ks es id c.as_slice.result.now (has_actions ks) c.args.known (rw c.in-None.is at c.in_ok-range.ensures)))
 
 pub returns-in_ok-chosen-in-Some : goal.returns-in_ok-chosen-in-Some
 returns-in_ok-chosen-in-Some c =
@@ -23,4 +23,4 @@ returns-in_ok-chosen-in-Some c =
     let m = c.in_ok-chosen-in-Some.chosen in
     subst (λ kinds. ChoosesSo IsDescribed c.args.known es id c.args.bounds.now (record { kinds = kinds; known = Some m })) (sym c.new-kinds.ensures)
     (subst (λ (bounds : List Bound). ChoosesSo IsDescribed c.args.known es id bounds (record { kinds = []; known = Some m })) c.as_slice.ensures
-    (chooses_so ks es id c.as_slice.result.now (has_actions ks) c.args.known m c.in-Some.range c.in-Some.ensures c.in_ok-chosen-in-Some.ensures))
+    (chooses_so ks es id c.as_slice.result.now (has_actions ks) c.args.known m c.in-Some.range (rw c.in-Some.is at c.in_ok-range.ensures) c.in_ok-chosen-in-Some.ensures))
