@@ -7,3 +7,4 @@ pub mod EitherLemmas
 pub mod QuotientLemmas
 pub mod WithinLemmas
 pub mod ProductLemmas
+pub mod PartLemmas

@@ -5,5 +5,6 @@ pub mod Results
 pub mod Either
 pub mod Within
 pub mod Products
+pub mod Parts
 pub mod Quotients
 pub mod Branches

@@ -19,6 +19,7 @@ mod named;
 mod newest;
 mod operations;
 mod over;
+mod parts;
 mod products;
 mod quotients;
 mod symbols;

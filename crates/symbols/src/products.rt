@@ -82,8 +82,8 @@ fn is_opposite(greatest: Option<i128>) -> bool
     }
 }
 
-// Learns that an expression is no less than a multiple of another.
-fn learn_from(
+/// Learns that an expression is no less than a multiple of another.
+pub(crate) fn learn_from(
     symbols: &mut Symbols,
     expression: &Linear,
     factor: &Linear,
@@ -111,8 +111,8 @@ fn learn_more(
     }
 }
 
-// Learns that an expression is no more than a multiple of another.
-fn learn_up_to(
+/// Learns that an expression is no more than a multiple of another.
+pub(crate) fn learn_up_to(
     symbols: &mut Symbols,
     expression: &Linear,
     factor: &Linear,

@@ -16,6 +16,7 @@ use crate::join::joined_facts;
 use crate::named::Named;
 use crate::newest::{MOST_LISTED, first_since, make_room};
 use crate::operations::{found, put_operation};
+use crate::parts::product_of_parts;
 use crate::products::learn_product;
 use crate::quotients::{learn_down, learn_quotient, number_quotient};
 use crate::within::{put_range, put_results};
@@ -414,8 +415,8 @@ impl Symbols {
         }
     }
 
-    // The range of an expression.
-    fn range_of(&self, expression: &Linear) -> Bounds
+    /// The range of an expression.
+    pub(crate) fn range_of(&self, expression: &Linear) -> Bounds
         ensures least { IsFromAll self.now.ranges self.now.facts (λ r. number_at r expression.now) result.least }
         ensures greatest { IsUpToAll self.now.ranges self.now.facts (λ r. number_at r expression.now) result.greatest }
     {
@@ -425,9 +426,22 @@ impl Symbols {
         }
     }
 
-    /// The product of two expressions: a multiple where one is a number, and else a symbol, in the range that the
-    /// ranges of both give. The same product has the same symbol, where it is among the `MOST_LISTED` newest.
+    /// The product of two expressions: a multiple where one is a number, and else the sum of the products of their parts, where
+    /// these are few: of a percentage and of what is left of 100 the shares come to the whole. The product of two symbols is a
+    /// symbol, in the range that the ranges of both give. The same product has the same symbol, where it is among the `MOST_LISTED`
+    /// newest.
     pub fn product(&mut self, first: &Linear, second: &Linear) -> Result<Linear, Memory>
+        ensures { IfOk result (λ e. GivesResult false self.old self.new first.now second.now e) }
+    {
+        product_of_parts(self, first, second)
+    }
+
+    // .. a multiple where one is a number, and else a symbol.
+    pub(crate) fn plain_product(
+        &mut self,
+        first: &Linear,
+        second: &Linear,
+    ) -> Result<Linear, Memory>
         ensures { IfOk result (λ e. GivesResult false self.old self.new first.now second.now e) }
     {
         let left = first.is_number();
@@ -442,7 +456,11 @@ impl Symbols {
     }
 
     // The symbol of a product, in the range that the ranges of both give, of which it is known how it lies to multiples of both.
-    fn numbered_product(&mut self, first: &Linear, second: &Linear) -> Result<Linear, Memory>
+    pub(crate) fn numbered_product(
+        &mut self,
+        first: &Linear,
+        second: &Linear,
+    ) -> Result<Linear, Memory>
         ensures { IfOk result (λ e. GivesResult false self.old self.new first.now second.now e) }
     {
         let count = self.count();

@@ -4,7 +4,7 @@ use Rattle.std.proofs.lemmas.Int.{to_z-of_z}
 use Rattle.symbols.specs.Results.{GivesResult, GivesMultiple}
 use Rattle.std.proofs.lemmas.Result.{IfOk-weaker}
 use Rattle.symbols.proofs.ResultLemmas.{product_left, product_right}
-use Rattle.symbols.proofs.symbols.Symbols.product.Goals as goal
+use Rattle.symbols.proofs.symbols.Symbols.plain_product.Goals as goal
 
 pub returns-then-left : goal.returns-then-left
 returns-then-left c =
