@@ -1,0 +1,2 @@
+mod NotesLemmas
+mod WorkedLemmas

@@ -1,0 +1,4 @@
+pub mod Notes
+pub mod Lacking
+pub mod Intents
+pub mod Rows
