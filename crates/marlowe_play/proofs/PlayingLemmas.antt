@@ -1,9 +1,9 @@
 -- What is printed of a scenario that was read, and who played it.
-use Rattle.std.proofs.Common.{◌≡◌, ℕ, ℤ, Bool, suc, ◌+◌, ◌<◌, List, [], ◌∷◌, ◌++◌, length, map, drop, get_or, refl, sym, ◌∙◌, ap, ap₂, subst, arith, Result, Ok, Err}
+use Rattle.std.proofs.Common.{◌≡◌, ℕ, ℤ, Bool, true, suc, ◌+◌, ◌<◌, List, [], ◌∷◌, ◌++◌, length, map, drop, get_or, refl, sym, ◌∙◌, ap, ap₂, subst, arith, Result, Ok, Err}
 use Rattle.std.proofs.lemmas.Slice.Zip.{AllZip-long}
 use Rattle.std.proofs.lemmas.List.{length-map}
 use Rattle.std.proofs.lemmas.Option.{get_or_from_slice_get}
-use Rattle.std.specs.Prelude.{slice_get, Some, IfOk}
+use Rattle.std.specs.Prelude.{slice_get, Some, IfOk, Vec, Global}
 use Rattle.std.specs.List.{All, AllZip}
 use Rattle.json_read_names.specs.Parts.{Reading}
 use Rattle.plans.specs.declared.plan.Plan.{Plan}
@@ -16,11 +16,12 @@ use Rattle.ledger_spec.specs.Legal.{IsLegal}
 use Rattle.ledger_spec.specs.Replay.{Course}
 use Rattle.hub.specs.declared.answer.Answer.{Answer}
 use Rattle.hub.specs.Seats.{SeatRecord, AreHeard, AreNumbered, answered}
-use Rattle.parties.specs.Plays.{PlayedPlan, AreOfPlan, added}
-use Rattle.play_lines.specs.PlayLines.{ThreadLine, played_lines}
+use Rattle.parties.specs.declared.left_out.LeftOut.{LeftOut}
+use Rattle.parties.specs.Plays.{PlayedPlan, AreOfPlan, IsLeftOut, added}
+use Rattle.play_lines.specs.PlayLines.{ThreadLine}
 use Rattle.play_setup.specs.SetUp.{Begun, Begins, IsSetUp, object_of, course, currencies, key_output, plan_on, start_output}
-use Rattle.marlowe_play.specs.Played.{IsThreadLine, IsTold, PlaysPlan, TellsAPlay, IsPlayed}
-use Rattle.marlowe_play.specs.PlayedSupport.{AreLines, HasPlayed, WerePlayed}
+use Rattle.marlowe_play.specs.Played.{AreLeftOut, Asked, IsThreadLine, IsTold, PlaysPlan, TellsAPlay, IsPlayed, plainly, well_by}
+use Rattle.marlowe_play.specs.PlayedSupport.{AreLines, HasPlayed, HasEnded, WerePlayed}
 
 -- ---- answers
 
@@ -95,17 +96,49 @@ less_one m n k is long = omega (arith, is, long)
 pub rest_length : (all rest : List SeatRecord) (first : SeatRecord) (n : ℕ) → all ≡ first ∷ rest → length all ≡ n + 1 → length rest ≡ n
 rest_length all rest first n are long = less_one (length rest) n (length all) (ap (λ (l : List SeatRecord). length l) are) long
 
+zip_weaker : {A B : Type 0} (P Q : A → B → Type 0) (xs : List A) (ys : List B) → ((x : A) (y : B) → P x y → Q x y) → AllZip P xs ys → AllZip Q xs ys
+zip_weaker P Q [] [] more h = tt
+zip_weaker P Q [] (y ∷ ys) more h = absurd h
+zip_weaker P Q (x ∷ xs) [] more h = absurd h
+zip_weaker P Q (x ∷ xs) (y ∷ ys) more h = (more x y h.0, zip_weaker P Q xs ys more h.1)
+
+-- what was left out, of each plan by its seat
+were_left : {T E F : Type 0} (plan : T → PlayedPlan) (seat : T → SeatRecord) (now : E → SeatRecord) (done : E → Result (Vec LeftOut Global) F) (named : Plan ℕ ℕ → PlayedPlan) (ts : List T) (es : List E) (ps : List (Plan ℕ ℕ)) (vs : List (Vec LeftOut Global)) →
+    map plan ts ≡ map named ps → answered (map seat ts) ≡ 0 → AllZip (λ (t : T) (e : E). HasEnded (plan t) (seat t) (now e) (done e)) ts es →
+    map (λ (v : Vec LeftOut Global). let r : Result (Vec LeftOut Global) F = Ok v in r) vs ≡ map done es → AreLeftOut named ps (map now es) (map (λ (v : Vec LeftOut Global). v.items) vs)
+were_left plan seat now done named [] [] [] [] plans none zip left = tt
+were_left plan seat now done named [] [] [] (v ∷ vs) plans none zip left = absurd (cc)
+were_left plan seat now done named [] [] (p ∷ ps) vs plans none zip left = absurd (cc)
+were_left plan seat now done named [] (e ∷ es) ps vs plans none zip left = absurd zip
+were_left plan seat now done named (t ∷ ts) [] ps vs plans none zip left = absurd zip
+were_left plan seat now done named (t ∷ ts) (e ∷ es) [] vs plans none zip left = absurd (cc)
+were_left plan seat now done named (t ∷ ts) (e ∷ es) (p ∷ ps) [] plans none zip left = absurd (cc)
+were_left {T} {E} {F} plan seat now done named (t ∷ ts) (e ∷ es) (p ∷ ps) (v ∷ vs) plans none zip left =
+    let first : plan t ≡ named p = ap (λ (l : List PlayedPlan). get_or l 0 (plan t)) plans in
+    let told : Result (Vec LeftOut Global) F = Ok v in
+    let is : told ≡ done e = ap (λ (l : List (Result (Vec LeftOut Global) F)). get_or l 0 (done e)) left in
+    let nothing : (seat t).answers ≡ [] = none_of (seat t).answers (answered (map seat ts)) none in
+    let whole : added (seat t) (now e) ≡ (now e).answers = ap (λ (l : List Answer). drop (length l) (now e).answers) nothing in
+    let here = subst (λ (r : Result (Vec LeftOut Global) F). IfOk r (λ (w : Vec LeftOut Global). All (IsLeftOut (plan t) (added (seat t) (now e))) w.items)) (sym is) zip.0.1 in
+    let of_seat = subst (λ (l : List Answer). All (IsLeftOut (plan t) l) v.items) whole here in (
+      subst (λ (q : PlayedPlan). All (IsLeftOut q (now e).answers) v.items) first of_seat,
+      were_left plan seat now done named ts es ps vs (ap (λ (l : List PlayedPlan). drop 1 l) plans) (rest_none (length (seat t).answers) (answered (map seat ts)) none) zip.1 (ap (λ (l : List (Result (Vec LeftOut Global) F)). drop 1 l) left),
+    )
+
 -- all seats: the first set the scenario up, and the others played its plans
-pub were_played : {T E : Type 0} (plan : T → PlayedPlan) (seat : T → SeatRecord) (now : E → SeatRecord) (s : Scenario) (all rest : List SeatRecord) (before first : SeatRecord) (outputs : List OutputRef) (ts : List T) (es : List E) (seats : List SeatRecord) →
+pub were_played : {T E F : Type 0} (plan : T → PlayedPlan) (seat : T → SeatRecord) (now : E → SeatRecord) (done : E → Result (Vec LeftOut Global) F) (s : Scenario) (all rest : List SeatRecord) (before first : SeatRecord) (outputs : List OutputRef) (ts : List T) (es : List E) (seats : List SeatRecord) (vs : List (Vec LeftOut Global)) →
     all ≡ before ∷ rest → AreNumbered 0 all → answered all ≡ 0 →
     (begun : List Begun) × IsSetUp s begun first.answers × (outputs ≡ map start_output begun) × (first.number ≡ before.number) →
     map plan ts ≡ map (plan_on (currencies s.contracts) outputs) s.plans → map seat ts ≡ rest →
-    AllZip (λ (t : T) (e : E). HasPlayed (plan t) (seat t) (now e)) ts es → seats ≡ first ∷ map now es → WerePlayed s outputs seats
-were_played plan seat now s all rest before first outputs ts es seats are numbers none up plans sat zip is =
+    AllZip (λ (t : T) (e : E). HasEnded (plan t) (seat t) (now e) (done e)) ts es → seats ≡ first ∷ map now es →
+    map (λ (v : Vec LeftOut Global). let r : Result (Vec LeftOut Global) F = Ok v in r) vs ≡ map done es → WerePlayed s outputs seats (map (λ (v : Vec LeftOut Global). v.items) vs)
+were_played {T} {E} plan seat now done s all rest before first outputs ts es seats vs are numbers none up plans sat zip is left =
     let numbered : AreNumbered 0 (before ∷ map seat ts) = subst (AreNumbered 0) (are ∙ ap (λ (l : List SeatRecord). before ∷ l) (sym sat)) numbers in
     let nothing : answered (before ∷ map seat ts) ≡ 0 = sym (ap answered (are ∙ ap (λ (l : List SeatRecord). before ∷ l) (sym sat))) ∙ none in
     let names : map plan ts ≡ map (plan_on (currencies s.contracts) (map start_output up.0)) s.plans = plans ∙ ap (λ (os : List OutputRef). map (plan_on (currencies s.contracts) os) s.plans) up.2 in
-    let both = played_zip plan seat now s up.0 (0 + 1) ts es s.plans names numbered.1 (rest_none (length before.answers) (answered (map seat ts)) nothing) zip in
+    let new = rest_none (length before.answers) (answered (map seat ts)) nothing in
+    let went = zip_weaker (λ (t : T) (e : E). HasEnded (plan t) (seat t) (now e) (done e)) (λ (t : T) (e : E). HasPlayed (plan t) (seat t) (now e)) ts es (λ t e h. h.0) zip in
+    let both = played_zip plan seat now s up.0 (0 + 1) ts es s.plans names numbered.1 new went in
     record {
       first = first;
       parties = map now es;
@@ -115,14 +148,15 @@ were_played plan seat now s all rest before first outputs ts es seats are number
       outputs_are = up.2;
       set_up = up.1;
       played = both.1;
+      left_out = were_left plan seat now done (plan_on (currencies s.contracts) (map start_output up.0)) ts es s.plans vs names new zip left;
     }
 
 one_more : (m n k : ℕ) → k ≡ m → n ≡ suc k → n ≡ m + 1
 one_more m n k same is = omega (arith, same, is)
 
 -- there is a seat for each plan, and the first
-pub how_many : (s : Scenario) (outputs : List OutputRef) (seats : List SeatRecord) → WerePlayed s outputs seats → length seats ≡ length s.plans + 1
-how_many s outputs seats w = one_more (length s.plans) (length seats) (length w.parties) (AllZip-long (PlaysPlan s w.begun) s.plans w.parties w.played) (ap (λ (l : List SeatRecord). length l) w.seats_are)
+pub how_many : (s : Scenario) (outputs : List OutputRef) (seats : List SeatRecord) (left : List (List LeftOut)) → WerePlayed s outputs seats left → length seats ≡ length s.plans + 1
+how_many s outputs seats left w = one_more (length s.plans) (length seats) (length w.parties) (AllZip-long (PlaysPlan s w.begun) s.plans w.parties w.played) (ap (λ (l : List SeatRecord). length l) w.seats_are)
 
 -- ---- lines of threads
 
@@ -150,8 +184,8 @@ lines_begun c objects (b ∷ bs) (l ∷ ls) begin h =
     )
 
 -- of a scenario that was played
-pub lines_played : (s : Scenario) (c : Course) (objects : List Published) (outputs : List OutputRef) (seats : List SeatRecord) (ls : List ThreadLine) (w : WerePlayed s outputs seats) → objects ≡ map object_of s.contracts → AreLines c objects s.threads outputs ls → AllZip (λ (b : Begun) (l : ThreadLine). IsThreadLine c b.thread.name b.object (start_output b) l) w.begun ls
-lines_played s c objects outputs seats ls w are h =
+pub lines_played : (s : Scenario) (c : Course) (objects : List Published) (outputs : List OutputRef) (seats : List SeatRecord) (left : List (List LeftOut)) (ls : List ThreadLine) (w : WerePlayed s outputs seats left) → objects ≡ map object_of s.contracts → AreLines c objects s.threads outputs ls → AllZip (λ (b : Begun) (l : ThreadLine). IsThreadLine c b.thread.name b.object (start_output b) l) w.begun ls
+lines_played s c objects outputs seats left ls w are h =
     let threads = subst (λ (ts : List NamedThread). AreLines c objects ts outputs ls) (sym w.set_up.threads) h in
     let starts = subst (λ (os : List OutputRef). AreLines c objects (map (λ (b : Begun). b.thread) w.begun) os ls) w.outputs_are threads in
     lines_begun c objects w.begun ls (subst (λ (ps : List Published). All (Begins ps) w.begun) (sym are) w.set_up.begin) starts
@@ -161,14 +195,14 @@ pub starts_length : (s : Scenario) (begun : List Begun) (outputs : List OutputRe
 starts_length s begun outputs answers up are =
     ap (λ (l : List OutputRef). length l) are ∙ (length-map begun start_output ∙ (sym (length-map begun (λ (b : Begun). b.thread)) ∙ ap (λ (l : List NamedThread). length l) up.threads))
 
-pub how_many_starts : (s : Scenario) (outputs : List OutputRef) (seats : List SeatRecord) → WerePlayed s outputs seats → length outputs ≡ length s.threads
-how_many_starts s outputs seats w = starts_length s w.begun outputs w.first.answers w.set_up w.outputs_are
+pub how_many_starts : (s : Scenario) (outputs : List OutputRef) (seats : List SeatRecord) (left : List (List LeftOut)) → WerePlayed s outputs seats left → length outputs ≡ length s.threads
+how_many_starts s outputs seats left w = starts_length s w.begun outputs w.first.answers w.set_up w.outputs_are
 
 -- ---- what is printed
 
 -- the lines of what all seats were told
-pub told_of : (s : Scenario) (explain : Bool) (c : Course) (objects : List Published) (outputs : List OutputRef) (seats : List SeatRecord) (threads : List ThreadLine) (text : List ℕ) → objects ≡ map object_of s.contracts → c.genesis ≡ map key_output s.genesis → c.first_tick ≡ s.tick → IsLegal c → AreHeard c.entries seats → length c.entries ≡ answered seats → WerePlayed s outputs seats → AreLines c objects s.threads outputs threads → IsTold explain s.threads c outputs (played_lines c.entries threads) text → TellsAPlay s explain text
-told_of s explain c objects outputs seats threads text are first at legal heard whole w lines is =
+pub told_of : (s : Scenario) (a : Asked) (c : Course) (objects : List Published) (outputs : List OutputRef) (seats : List SeatRecord) (left : List (List LeftOut)) (threads : List ThreadLine) (text : List ℕ) (well : Bool) → objects ≡ map object_of s.contracts → c.genesis ≡ map key_output s.genesis → c.first_tick ≡ s.tick → IsLegal c → AreHeard c.entries seats → length c.entries ≡ answered seats → WerePlayed s outputs seats left → AreLines c objects s.threads outputs threads → IsTold a.explain s c outputs left threads text → well ≡ well_by a.strict a.staying s left c.entries threads → TellsAPlay s a text well
+told_of s a c objects outputs seats left threads text well are first at legal heard whole w lines is so =
     let same : c ≡ course (map key_output s.genesis) s.tick c.entries = ap₂ (λ (os : List Output) (t : ℤ). course os t c.entries) first at in
     record {
       entries = c.entries;
@@ -180,11 +214,19 @@ told_of s explain c objects outputs seats threads text are first at legal heard 
       begun = w.begun;
       set_up = w.set_up;
       played = w.played;
+      left = left;
+      left_out = w.left_out;
       threads = threads;
-      each = subst (λ (k : Course). AllZip (λ (b : Begun) (l : ThreadLine). IsThreadLine k b.thread.name b.object (start_output b) l) w.begun threads) same (lines_played s c objects outputs seats threads w are lines);
-      lines = subst (λ (k : Course). IsTold explain s.threads k (map start_output w.begun) (played_lines c.entries threads) text) same (subst (λ (os : List OutputRef). IsTold explain s.threads c os (played_lines c.entries threads) text) w.outputs_are is);
+      each = subst (λ (k : Course). AllZip (λ (b : Begun) (l : ThreadLine). IsThreadLine k b.thread.name b.object (start_output b) l) w.begun threads) same (lines_played s c objects outputs seats left threads w are lines);
+      lines = subst (λ (k : Course). IsTold a.explain s k (map start_output w.begun) left threads text) same (subst (λ (os : List OutputRef). IsTold a.explain s c os left threads text) w.outputs_are is);
+      well_is = so;
     }
 
 -- of a text that is a scenario
-pub was_told : (reading : Reading Scenario) (s : Scenario) (explain : Bool) (text : List ℕ) → reading ≡ Ok s → TellsAPlay s explain text → IsPlayed reading explain text
-was_told reading s explain text is told = subst (λ (r : Reading Scenario). IsPlayed r explain text) (sym is) told
+pub was_told : (reading : Reading Scenario) (s : Scenario) (a : Asked) (text : List ℕ) (well : Bool) → reading ≡ Ok s → TellsAPlay s a text well → IsPlayed reading a text well
+was_told reading s a text well is told = subst (λ (r : Reading Scenario). IsPlayed r a text well) (sym is) told
+
+-- where it isn't asked, it went well
+pub plain_well : (reading : Reading Scenario) (explain : Bool) (text : List ℕ) (well : Bool) → IsPlayed reading (plainly explain) text well → IsPlayed reading (plainly explain) text true
+plain_well (Ok s) explain text well told = subst (λ (w : Bool). IsPlayed (Ok s) (plainly explain) text w) told.well_is told
+plain_well (Err fault) explain text well told = told

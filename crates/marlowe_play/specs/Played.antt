@@ -1,9 +1,8 @@
 -- What is printed of a play that came to its end.
-use Rattle.std.specs.Prelude.{◌≡◌, ℕ, ◌-◌, Bool, true, false, ◌&&◌, List, ◌∷◌, ◌++◌, map, length, slice_get, Option, Some, None, Ok, Err}
-use Rattle.std.specs.List.{AllZip}
+use Rattle.std.specs.Prelude.{◌≡◌, ℕ, ◌-◌, Bool, true, false, ◌&&◌, if◌then◌else◌, List, [], ◌∷◌, ◌++◌, map, length, slice_get, Option, Some, None, Ok, Err}
+use Rattle.std.specs.List.{All, AllZip}
 use Rattle.json_read_names.specs.Parts.{Reading}
 use Rattle.plans.specs.declared.plan.Plan.{Plan}
-use Rattle.plans.specs.declared.scenario.NamedThread.{NamedThread}
 use Rattle.plans.specs.declared.scenario.Scenario.{Scenario as ScenarioRead}
 use Rattle.table.specs.Along.{has_cont}
 use Rattle.table.specs.Flat.{cont_tree, is_close}
@@ -15,12 +14,16 @@ use Rattle.ledger_spec.specs.Legal.{IsLegal}
 use Rattle.ledger_spec.specs.Records.{AreSteps}
 use Rattle.ledger_spec.specs.Replay.{Course, past_of, published, published_at, world}
 use Rattle.hub.specs.Seats.{SeatRecord, AreHeard, answered}
-use Rattle.parties.specs.Plays.{AreOfPlan}
+use Rattle.parties.specs.declared.left_out.LeftOut.{LeftOut}
+use Rattle.parties.specs.Plays.{PlayedPlan, AreOfPlan, IsLeftOut}
 use Rattle.play_lines.specs.PlayLines.{ThreadLine, played_lines}
+use Rattle.play_notes.specs.Notes.{noted_lines}
 use Rattle.play_holdings.specs.declared.holding.Holding.{Holding}
 use Rattle.play_holdings.specs.HoldingLines.{holding_lines}
 use Rattle.chain_holdings.specs.After.{AreHoldings, AreWhatThereWas}
 use Rattle.play_setup.specs.SetUp.{Begun, IsSetUp, course, currencies, key_output, plan_on, start_output}
+use Rattle.marlowe_play.specs.Notes.{intents_told, notes_with}
+use Rattle.marlowe_play.specs.Strict.{went_well}
 
 -- a seat's answers are of a plan, whose threads and contracts are named as the setup made them
 abbrev pub PlaysPlan : ScenarioRead → List Begun → Plan ℕ ℕ → SeatRecord → Type 0
@@ -37,22 +40,50 @@ pub record IsThreadLine (c : Course) (name : List ℕ) (object : Published) (sta
   pub are : AreSteps (published_at (published c.entries)) (past_of (world c)) start records
   pub line_is : line ≡ record { name = name; steps = length records; closed = leaves_close object (slice_get records (length records - 1)) }
 
--- a text that is explained: behind its lines stands who holds what after the history, which together, token by token, is what the ledger began with
-pub record IsExplained (ts : List NamedThread) (c : Course) (starts : List OutputRef) (lines text : List ℕ) : Type 0 where
+-- what was left out of these plans, of each by its seat: by intents of the plan and looks of the seat
+abbrev pub AreLeftOut : (Plan ℕ ℕ → PlayedPlan) → List (Plan ℕ ℕ) → List SeatRecord → List (List LeftOut) → Type 0
+AreLeftOut named [] [] [] = Unit {0}
+AreLeftOut named (plan ∷ plans) (seat ∷ seats) (left ∷ lefts) = All (IsLeftOut (named plan) seat.answers) left × AreLeftOut named plans seats lefts
+AreLeftOut named _ _ _ = ⊥
+
+-- a text that is explained: behind its entries stands why something was refused and what hindered intents that were left out; and behind its lines who holds
+-- what after the history, which together, token by token, is what the ledger began with
+pub record IsExplained (s : ScenarioRead) (c : Course) (starts : List OutputRef) (left : List (List LeftOut)) (threads : List ThreadLine) (text : List ℕ) : Type 0 where
   pub holdings : List Holding
   pub after : AreHoldings c starts holdings
   pub together : AreWhatThereWas c holdings
-  pub text_is : text ≡ lines ++ holding_lines ts holdings
+  pub text_is : text ≡ noted_lines (notes_with s left c.entries) c.entries threads ++ (intents_told s left c.entries ++ holding_lines s.threads holdings)
 
 -- the lines alone, or explained
-abbrev pub IsTold : Bool → List NamedThread → Course → List OutputRef → List ℕ → List ℕ → Type 0
-IsTold false ts c starts lines text = text ≡ lines
-IsTold true ts c starts lines text = IsExplained ts c starts lines text
+abbrev pub IsTold : Bool → ScenarioRead → Course → List OutputRef → List (List LeftOut) → List ThreadLine → List ℕ → Type 0
+IsTold false s c starts left threads text = text ≡ played_lines c.entries threads
+IsTold true s c starts left threads text = IsExplained s c starts left threads text
 
--- A PLAY TOLD: the text is the lines of a legal history over the scenario's first outputs and its tick, explained if it is to be. Its entries are those
+-- whether it went well, if that was asked for, with the names of the threads that are expected to stay open
+abbrev pub well_by : Bool → List (List ℕ) → ScenarioRead → List (List LeftOut) → List Entry → List ThreadLine → Bool
+well_by strict staying s left entries threads = if strict then went_well staying s left entries threads else true
+
+-- what is asked of a play: to explain it, and to say whether it went well, where these threads are expected to stay open
+pub record Asked : Type 0 where
+  pub explain : Bool
+  pub strict : Bool
+  pub staying : List (List ℕ)
+
+abbrev pub asked : Bool → Bool → List (List ℕ) → Asked
+asked explain strict staying = record { explain = explain; strict = strict; staying = staying }
+
+-- the lines alone, or explained
+abbrev pub plainly : Bool → Asked
+plainly explain = asked explain false []
+
+-- .. and whether it went well
+abbrev pub strictly : Bool → List (List ℕ) → Asked
+strictly explain staying = asked explain true staying
+
+-- A PLAY TOLD: the text is the lines of a legal history over the scenario's first outputs and its tick, explained if it is to be; and whether it went well. Its entries are those
 -- that its seats were told of and no others: the first seat set the scenario up, and behind it each plan has one that made its calls. The threads are
 -- those that were started, in order
-pub record TellsAPlay (s : ScenarioRead) (explain : Bool) (text : List ℕ) : Type 0 where
+pub record TellsAPlay (s : ScenarioRead) (asked : Asked) (text : List ℕ) (well : Bool) : Type 0 where
   pub entries : List Entry
   pub legal : IsLegal (course (map key_output s.genesis) s.tick entries)
   pub first : SeatRecord
@@ -62,12 +93,15 @@ pub record TellsAPlay (s : ScenarioRead) (explain : Bool) (text : List ℕ) : Ty
   pub begun : List Begun
   pub set_up : IsSetUp s begun first.answers
   pub played : AllZip (PlaysPlan s begun) s.plans parties
+  pub left : List (List LeftOut)
+  pub left_out : AreLeftOut (plan_on (currencies s.contracts) (map start_output begun)) s.plans parties left
   pub threads : List ThreadLine
   pub each : AllZip (λ (b : Begun) (line : ThreadLine).
       IsThreadLine (course (map key_output s.genesis) s.tick entries) b.thread.name b.object (start_output b) line) begun threads
-  pub lines : IsTold explain s.threads (course (map key_output s.genesis) s.tick entries) (map start_output begun) (played_lines entries threads) text
+  pub lines : IsTold asked.explain s (course (map key_output s.genesis) s.tick entries) (map start_output begun) left threads text
+  pub well_is : well ≡ well_by asked.strict asked.staying s left entries threads
 
 -- what is printed of a scenario tells a play of it; of a text that is none, nothing is
-abbrev pub IsPlayed : Reading ScenarioRead → Bool → List ℕ → Type 0
-IsPlayed (Ok s) explain text = TellsAPlay s explain text
-IsPlayed (Err fault) explain text = ⊥
+abbrev pub IsPlayed : Reading ScenarioRead → Asked → List ℕ → Bool → Type 0
+IsPlayed (Ok s) asked text well = TellsAPlay s asked text well
+IsPlayed (Err fault) asked text well = ⊥

@@ -1,65 +1,106 @@
 //! What is printed of a play: its history, what became of each thread, and who holds what.
-ghost use Rattle.std.specs.Prelude.{◌≡◌, ◌<◌, ◌-◌, length, map, slice_get, IfOk, List};
+ghost use Rattle.std.specs.Prelude.{◌≡◌, ◌<◌, ◌-◌, length, map, slice_get, string_bytes, IfOk, List};
 ghost use Rattle.std.specs.List.{All};
 ghost use Rattle.plans.specs.declared.scenario.NamedThread.{NamedThread};
-ghost use Rattle.play_lines.specs.PlayLines.{ThreadLine as Told, played_lines};
+ghost use Rattle.play_lines.specs.PlayLines.{ThreadLine as Told};
 ghost use Rattle.play_setup.specs.SetUp.{key_output};
-ghost use Rattle.marlowe_play.specs.Played.{IsThreadLine, IsExplained, IsTold, leaves_close};
+ghost use Rattle.marlowe_play.specs.Played.{IsThreadLine, IsExplained, IsTold, leaves_close, well_by};
 ghost use Rattle.marlowe_play.specs.PlayedSupport.{AreLines};
 
+use crate::notes::told_of;
+use crate::strict::well;
 use chain_holdings::holdings_after;
 use collections::{Memory, Text};
 use eutxo_types::OutputRef;
 use hub::{Chain, StepRecord};
+use parties::LeftOut;
 use plans::{NamedThread, Scenario};
+use play_endings::noted_lines;
 use play_holdings::holding_lines;
 use play_lines::{ThreadLine, played_lines};
 use play_setup::{Stage, key_outputs};
 use roles::Published;
 use std::alloc::Global;
 
-// Puts the lines at the end of a text that say who holds what after the play.
-fn with_ending(
+// The lines with what is told behind entries, and behind them how intents ended and who holds what.
+fn explained_text(
     alloc: Global,
-    mut text: Vec<u8>,
     chain: &Chain,
     scenario: &Scenario,
     starts: &[OutputRef],
+    left: &[Vec<LeftOut>],
+    lines: &[ThreadLine<'_>],
 ) -> Result<Vec<u8>, Memory>
     requires genesis { chain.now.genesis ≡ map key_output scenario.now.genesis }
     requires tick { chain.now.first_tick ≡ scenario.now.tick }
-    ensures { IfOk result (λ told. IsExplained scenario.now.threads chain.now starts.now text.items told.items) }
+    ensures { IfOk result (λ text. IsExplained scenario.now chain.now starts.now (map (λ l. l.items) left.now) lines.now text.items) }
 {
     let first = key_outputs(alloc, scenario.genesis.as_slice())?;
     let holdings = holdings_after(alloc, chain, &first, scenario.tick, starts)?;
     let ending = holding_lines(alloc, scenario.threads.as_slice(), &holdings)?;
+    let told = told_of(alloc, scenario, left, chain.entries())?;
+    let mut text = noted_lines(alloc, &told.notes, chain.entries(), lines)?;
+    text.extend_from_slice(told.lines.as_bytes())?;
     text.extend_from_slice(ending.as_bytes())?;
     Ok(text)
 }
 
-// The whole text, explained if it is to be. Each line ends in a line feed.
+// The lines alone, or explained.
+fn text_of(
+    alloc: Global,
+    chain: &Chain,
+    scenario: &Scenario,
+    starts: &[OutputRef],
+    left: &[Vec<LeftOut>],
+    lines: &[ThreadLine<'_>],
+    explain: bool,
+) -> Result<Vec<u8>, Memory>
+    requires genesis { chain.now.genesis ≡ map key_output scenario.now.genesis }
+    requires tick { chain.now.first_tick ≡ scenario.now.tick }
+    ensures { IfOk result (λ text.
+        IsTold explain scenario.now chain.now starts.now (map (λ l. l.items) left.now) lines.now text.items) }
+{
+    if explain {
+        explained_text(alloc, chain, scenario, starts, left, lines)
+    } else {
+        played_lines(alloc, chain.entries(), lines)
+    }
+}
+
+// The whole text, explained if it is to be, and whether all went well, if that is asked, where these threads are expected to stay open.
+// Each line ends in a line feed.
 pub(crate) fn played_text(
     alloc: Global,
     chain: &Chain,
     scenario: &Scenario,
     stage: &Stage,
+    left: &[Vec<LeftOut>],
     explain: bool,
-) -> Result<Vec<u8>, Memory>
+    strict: bool,
+    staying: &[String],
+) -> Result<(Vec<u8>, bool), Memory>
     requires contracts { All (λ (t : NamedThread). t.contract < length stage.now.contracts.items) scenario.now.threads }
     requires starts { length stage.now.starts.items ≡ length scenario.now.threads }
     requires genesis { chain.now.genesis ≡ map key_output scenario.now.genesis }
     requires tick { chain.now.first_tick ≡ scenario.now.tick }
-    ensures { IfOk result (λ text. (lines : List Told)
-        × IsTold explain scenario.now.threads chain.now stage.now.starts.items (played_lines chain.now.entries lines) text.items
+    ensures { IfOk result (λ played. (lines : List Told)
+        × IsTold explain scenario.now chain.now stage.now.starts.items (map (λ l. l.items) left.now) lines played.0.items
+        × (played.1 ≡ well_by strict (map (λ s. string_bytes s) staying.now) scenario.now (map (λ l. l.items) left.now) chain.now.entries lines)
         × AreLines chain.now stage.now.contracts.items scenario.now.threads stage.now.starts.items lines) }
 {
     let threads = scenario.threads.as_slice();
     let lines = lines_of(alloc, chain, threads, &stage.contracts, &stage.starts)?;
-    let text = played_lines(alloc, chain.entries(), &lines)?;
-    if explain {
-        return with_ending(alloc, text, chain, scenario, &stage.starts);
-    }
-    Ok(text)
+    let text = text_of(alloc, chain, scenario, &stage.starts, left, &lines, explain)?;
+    let well = well(
+        alloc,
+        scenario,
+        left,
+        chain.entries(),
+        &lines,
+        strict,
+        staying,
+    )?;
+    Ok((text, well))
 }
 
 // The lines of threads with these start outputs.

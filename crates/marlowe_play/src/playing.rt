@@ -1,11 +1,11 @@
 //! A scenario, from text to text.
-ghost use Rattle.std.specs.Prelude.{◌≡◌, ◌+◌, false, length, map, IfErr, IfOk};
+ghost use Rattle.std.specs.Prelude.{◌≡◌, ◌+◌, false, true, length, map, string_bytes, IfErr, IfOk};
 ghost use Rattle.hub.specs.Seats.{AreNumbered, answered};
 ghost use Rattle.json_read_names.specs.ReadsText.{of_text};
 ghost use Rattle.json_read_scenarios.specs.Named.{NamesWhatItHas};
 ghost use Rattle.json_read_scenarios.specs.ReadsScenario as reads;
 ghost use Rattle.marlowe_play.specs.Faults.{IsOfText, IsRefused};
-ghost use Rattle.marlowe_play.specs.Played.{IsPlayed, TellsAPlay};
+ghost use Rattle.marlowe_play.specs.Played.{IsPlayed, TellsAPlay, asked, plainly, strictly};
 ghost use Rattle.marlowe_play.specs.PlayedSupport.{WerePlayed};
 ghost use Rattle.play_setup.specs.SetUp.{key_output, object_of};
 
@@ -14,7 +14,7 @@ use crate::lines::played_text;
 use crate::turns::{play_turns, seats_of, take_first, turns_of};
 use hub::{Hub, Opening, Seat, Session};
 use json_read_scenarios::read_scenario;
-use parties::{NoWatch, Watch};
+use parties::{LeftOut, NoWatch, Watch};
 use plans::Scenario;
 use play_setup::{Stage, first_chain, set_up};
 use std::alloc::Global;
@@ -27,7 +27,8 @@ use std::thread::Threads;
 pub struct How {
     /// The plans are played one after another, and else all at once.
     pub one: bool,
-    /// Behind the lines stands who holds what at the end.
+    /// Behind entries stands what steps did and why something was refused or wasn't built, and behind the lines how intents ended and who
+    /// holds what.
     pub explain: bool,
 }
 
@@ -47,7 +48,7 @@ pub fn play<R: Threads + Wait + Sync>(
     one: bool,
 ) -> Result<Vec<u8>, PlayFault>
     ensures unread { IsRefused (of_text reads.scenario text.now) result }
-    ensures played { IfOk result (λ lines. IsPlayed (of_text reads.scenario text.now) false lines.items) }
+    ensures played { IfOk result (λ lines. IsPlayed (of_text reads.scenario text.now) (plainly false) lines.items true) }
 {
     let how = How {
         one,
@@ -56,9 +57,10 @@ pub fn play<R: Threads + Wait + Sync>(
     play_watched(rt, alloc, text, how, &NoWatch)
 }
 
-/// The same, while somebody is told how far it is. Where it is to `explain`, lines behind these say who holds what at the end, token by
-/// token: each address, each payout that nobody has claimed, and the contract of each thread. Together that is what the ledger
-/// began with.
+/// The same, while somebody is told how far it is. Where it is to `explain`, lines of four blanks and a text stand behind entries: what
+/// the steps did that it accepted, why something was refused, and behind a look on which nothing was built, what hindered the intent.
+/// Behind the number of entries each intent of each plan has a line that says how it ended. And lines behind all others say who holds what at the end, token by token: each address, each payout that nobody has claimed, and the contract of each thread.
+/// Together that is what the ledger began with.
 pub fn play_watched<R: Threads + Wait + Sync, W: Watch + Sync>(
     rt: &R,
     alloc: Global,
@@ -67,7 +69,42 @@ pub fn play_watched<R: Threads + Wait + Sync, W: Watch + Sync>(
     watch: &W,
 ) -> Result<Vec<u8>, PlayFault>
     ensures unread { IsRefused (of_text reads.scenario text.now) result }
-    ensures played { IfOk result (λ lines. IsPlayed (of_text reads.scenario text.now) how.explain lines.items) }
+    ensures played { IfOk result (λ lines. IsPlayed (of_text reads.scenario text.now) (plainly how.explain) lines.items true) }
+{
+    let (lines, _well) = play_asked(rt, alloc, text, how, false, &[], watch)?;
+    Ok(lines)
+}
+
+/// The same, and whether all went well: each intent of each plan is done, and each thread is closed, but for those with these names,
+/// which are expected to stay open. A name that no thread has asks for nothing.
+pub fn play_strictly<R: Threads + Wait + Sync, W: Watch + Sync>(
+    rt: &R,
+    alloc: Global,
+    text: &[u8],
+    how: How,
+    staying: &[String],
+    watch: &W,
+) -> Result<(Vec<u8>, bool), PlayFault>
+    ensures unread { IsRefused (of_text reads.scenario text.now) result }
+    ensures played { IfOk result (λ r. IsPlayed (of_text reads.scenario text.now)
+        (strictly how.explain (map (λ s. string_bytes s) staying.now)) r.0.items r.1) }
+{
+    play_asked(rt, alloc, text, how, true, staying, watch)
+}
+
+// Plays a scenario, and says whether all went well, if that is asked.
+fn play_asked<R: Threads + Wait + Sync, W: Watch + Sync>(
+    rt: &R,
+    alloc: Global,
+    text: &[u8],
+    how: How,
+    strict: bool,
+    staying: &[String],
+    watch: &W,
+) -> Result<(Vec<u8>, bool), PlayFault>
+    ensures unread { IsRefused (of_text reads.scenario text.now) result }
+    ensures played { IfOk result (λ r. IsPlayed (of_text reads.scenario text.now)
+        (asked how.explain strict (map (λ s. string_bytes s) staying.now)) r.0.items r.1) }
 {
     let scenario = match read_scenario(alloc, text) {
         Ok(scenario) => scenario,
@@ -75,7 +112,7 @@ pub fn play_watched<R: Threads + Wait + Sync, W: Watch + Sync>(
     };
     let chain = first_chain(alloc, scenario.genesis.as_slice(), scenario.tick)?;
     let opening = Opening::new(chain, scenario.plans.len() as u64 + 1);
-    play_on::<R, Brand, W>(rt, alloc, opening, &scenario, how, watch)
+    play_on::<R, Brand, W>(rt, alloc, opening, &scenario, how, strict, staying, watch)
 }
 
 // Plays a scenario on its ledger, which has begun.
@@ -85,25 +122,37 @@ fn play_on<R: Threads + Wait + Sync, J: Session + Send + Sync, W: Watch + Sync>(
     opening: Opening,
     scenario: &Scenario,
     how: How,
+    strict: bool,
+    staying: &[String],
     watch: &W,
-) -> Result<Vec<u8>, PlayFault>
+) -> Result<(Vec<u8>, bool), PlayFault>
     requires session { opening ≡ J.session }
     requires genesis { opening.genesis ≡ map key_output scenario.now.genesis }
     requires tick { opening.first_tick ≡ scenario.now.tick }
     requires seats { opening.seats ≡ length scenario.now.plans + 1 }
     requires names { NamesWhatItHas scenario.now }
     ensures told { IfErr result (λ fault. IsOfText fault → ⊥) }
-    ensures played { IfOk result (λ lines. TellsAPlay scenario.now how.explain lines.items) }
+    ensures played { IfOk result (λ r. TellsAPlay scenario.now
+        (asked how.explain strict (map (λ s. string_bytes s) staying.now)) r.0.items r.1) }
 {
     let (hub, seats) = opening.open::<J>(alloc)?;
-    let (stage, seats) = play_all(rt, alloc, &hub, seats, scenario, how.one, watch)?;
+    let (stage, seats, left) = play_all(rt, alloc, &hub, seats, scenario, how.one, watch)?;
     let closed = hub.close(seats);
-    let text = played_text(alloc, closed.chain(), scenario, &stage, how.explain)?;
-    Ok(text)
+    let played = played_text(
+        alloc,
+        closed.chain(),
+        scenario,
+        &stage,
+        &left,
+        how.explain,
+        strict,
+        staying,
+    )?;
+    Ok(played)
 }
 
-// Sets the scenario up by the first seat, and has each plan played by a party with one of the others: what was set up, and all
-// seats, in order.
+// Sets the scenario up by the first seat, and has each plan played by a party with one of the others: what was set up, all
+// seats, in order, and what each plan left out.
 fn play_all<R: Threads + Wait + Sync, J: Session + Send + Sync, W: Watch + Sync>(
     rt: &R,
     alloc: Global,
@@ -112,19 +161,19 @@ fn play_all<R: Threads + Wait + Sync, J: Session + Send + Sync, W: Watch + Sync>
     scenario: &Scenario,
     one: bool,
     watch: &W,
-) -> Result<(Stage, Vec<Seat<J>>), PlayFault>
+) -> Result<(Stage, Vec<Seat<J>>, Vec<Vec<LeftOut>>), PlayFault>
     requires names { NamesWhatItHas scenario.now }
     requires seats { length seats.items ≡ length scenario.now.plans + 1 }
     requires numbers { AreNumbered 0 seats.items }
     requires answers { answered seats.items ≡ 0 }
     ensures told { IfErr result (λ fault. IsOfText fault → ⊥) }
     ensures contracts { IfOk result (λ r. r.0.contracts.items ≡ map object_of scenario.now.contracts) }
-    ensures seats { IfOk result (λ r. WerePlayed scenario.now r.0.starts.items r.1.items) }
+    ensures seats { IfOk result (λ r. WerePlayed scenario.now r.0.starts.items r.1.items (map (λ l. l.items) r.2.items)) }
 {
     let mut first = take_first(&mut seats);
     let stage = set_up(rt, alloc, hub, &mut first, watch, scenario)?;
     let turns = turns_of(alloc, hub, scenario, &stage.starts, seats)?;
     let ended = play_turns(rt, alloc, watch, turns, one)?;
-    let seats = seats_of(alloc, first, ended)?;
-    Ok((stage, seats))
+    let (seats, left) = seats_of(alloc, first, ended)?;
+    Ok((stage, seats, left))
 }

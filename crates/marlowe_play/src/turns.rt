@@ -1,14 +1,14 @@
 //! Parties with their seats, and how they play.
-ghost use Rattle.std.specs.Prelude.{◌≡◌, ◌<◌, ◌∷◌, length, map, IfOk};
+ghost use Rattle.std.specs.Prelude.{◌≡◌, ◌<◌, ◌∷◌, length, map, Ok, IfOk};
 ghost use Rattle.std.specs.List.{All, AllZip};
 ghost use Rattle.json_read_scenarios.specs.Named.{PlanNames};
-ghost use Rattle.marlowe_play.specs.PlayedSupport.{HasPlayed};
+ghost use Rattle.marlowe_play.specs.PlayedSupport.{HasEnded};
 ghost use Rattle.play_setup.specs.SetUp.{currencies, plan_on};
 
 use collections::Memory;
 use eutxo_types::OutputRef;
 use hub::{Hub, Seat, SeatAtHub, Session};
-use parties::{Party, Watch};
+use parties::{LeftOut, Party, Watch};
 use plans::Scenario;
 use play_setup::plan_on;
 use std::alloc::Global;
@@ -23,8 +23,8 @@ pub(crate) struct Turn<'h, J: Session> {
     pub(crate) place: SeatAtHub<'h, J>,
 }
 
-// A seat that comes back, and whether its party was refused memory.
-pub(crate) type Ended<J> = (Seat<J>, Result<(), Memory>);
+// A seat that comes back, and what its party left out, unless it was refused memory.
+pub(crate) type Ended<J> = (Seat<J>, Result<Vec<LeftOut>, Memory>);
 
 // A turn for each plan, with the seat at its place.
 pub(crate) fn turns_of<'h, J: Session>(
@@ -69,12 +69,12 @@ fn played<R: Threads + Wait + Sync, J: Session, W: Watch>(
     watch: &W,
     turn: Turn<'_, J>,
 ) -> Ended<J>
-    ensures { HasPlayed turn.entry.party.plan turn.entry.place.seat result.0 }
+    ensures { HasEnded turn.entry.party.plan turn.entry.place.seat result.0 result.1 }
 {
     let Turn { party, place } = turn;
     let SeatAtHub { hub, mut seat } = place;
     match party.run_watched(rt, alloc, hub, &mut seat, watch) {
-        Ok(_) => (seat, Ok(())),
+        Ok((_, left)) => (seat, Ok(left)),
         Err(refused) => (seat, Err(refused)),
     }
 }
@@ -88,13 +88,13 @@ fn at_once<R: Threads + Wait + Sync, J: Session + Send + Sync, W: Watch + Sync>(
     turns: Vec<Turn<'_, J>>,
 ) -> Result<Vec<Ended<J>>, Memory>
     ensures { IfOk result (λ ended.
-        AllZip (λ turn end. HasPlayed turn.party.plan turn.place.seat end.0) turns.entry.items ended.items) }
+        AllZip (λ turn end. HasEnded turn.party.plan turn.place.seat end.0 end.1) turns.entry.items ended.items) }
 {
     thread::map_vec(
         rt,
         turns,
         &|turn: Turn<'_, J>| -> Ended<J>
-            ensures { HasPlayed turn.entry.party.plan turn.entry.place.seat result.0 }
+            ensures { HasEnded turn.entry.party.plan turn.entry.place.seat result.0 result.1 }
         { played(rt, alloc, watch, turn) },
     )
 }
@@ -107,7 +107,7 @@ fn in_turn<R: Threads + Wait + Sync, J: Session, W: Watch>(
     turns: Vec<Turn<'_, J>>,
 ) -> Result<Vec<Ended<J>>, Memory>
     ensures { IfOk result (λ ended.
-        AllZip (λ turn end. HasPlayed turn.party.plan turn.place.seat end.0) turns.entry.items ended.items) }
+        AllZip (λ turn end. HasEnded turn.party.plan turn.place.seat end.0 end.1) turns.entry.items ended.items) }
 {
     let mut ended = Vec::new(alloc);
     for turn in turns {
@@ -125,7 +125,7 @@ pub(crate) fn play_turns<R: Threads + Wait + Sync, J: Session + Send + Sync, W: 
     one: bool,
 ) -> Result<Vec<Ended<J>>, Memory>
     ensures { IfOk result (λ ended.
-        AllZip (λ turn end. HasPlayed turn.party.plan turn.place.seat end.0) turns.entry.items ended.items) }
+        AllZip (λ turn end. HasEnded turn.party.plan turn.place.seat end.0 end.1) turns.entry.items ended.items) }
 {
     if one {
         in_turn(rt, alloc, watch, turns)
@@ -134,19 +134,21 @@ pub(crate) fn play_turns<R: Threads + Wait + Sync, J: Session + Send + Sync, W: 
     }
 }
 
-// The seats behind a first one, unless a party was refused memory.
+// The seats behind a first one, and what the parties left out, unless one was refused memory.
 pub(crate) fn seats_of<J: Session>(
     alloc: Global,
     first: Seat<J>,
     ended: Vec<Ended<J>>,
-) -> Result<Vec<Seat<J>>, Memory>
-    ensures { IfOk result (λ seats. seats.items ≡ first ∷ map (λ end. end.0) ended.items) }
+) -> Result<(Vec<Seat<J>>, Vec<Vec<LeftOut>>), Memory>
+    ensures seats { IfOk result (λ r. r.0.items ≡ first ∷ map (λ end. end.0) ended.items) }
+    ensures left { IfOk result (λ r. map (λ left. Ok left) r.1.items ≡ map (λ end. end.1) ended.items) }
 {
     let mut seats = Vec::new(alloc);
+    let mut all = Vec::new(alloc);
     seats.push(first)?;
-    for (seat, done) in ended {
-        done?;
+    for (seat, left) in ended {
+        all.push(left?)?;
         seats.push(seat)?;
     }
-    Ok(seats)
+    Ok((seats, all))
 }

@@ -11,5 +11,5 @@ returns-clause-seats g c =
     let s : Scenario = c.args.scenario.now in
     let outputs : List OutputRef = c.in_ok-stage.stage.starts.items in
     let plans = c.in_ok-turns.ensures.plans ∙ ap (λ (os : List OutputRef). map (plan_on (currencies s.contracts) os) s.plans) c.deref.ensures.value in
-    were_played (λ turn. turn.party.plan) (λ turn. turn.place.seat) (λ end. end.0) s c.args.seats.items c.take_first-first.new.items.items c.take_first-first.result c.set_up.new.seat outputs c.in_ok-turns.turns.items c.in_ok-ended.ended.items c.in_ok-seats.seats.items
-    c.take_first-first.ensures c.requires.numbers c.requires.answers c.in_ok-stage.ensures.threads plans c.in_ok-turns.ensures.seats c.in_ok-ended.ensures c.in_ok-seats.ensures
+    were_played (λ turn. turn.party.plan) (λ turn. turn.place.seat) (λ end. end.0) (λ end. end.1) s c.args.seats.items c.take_first-first.new.items.items c.take_first-first.result c.set_up.new.seat outputs c.in_ok-turns.turns.items c.in_ok-ended.ended.items c.in_ok-seats.seats.items c.in_ok-seats.left.items
+    c.take_first-first.ensures c.requires.numbers c.requires.answers c.in_ok-stage.ensures.threads plans c.in_ok-turns.ensures.seats c.in_ok-ended.ensures c.in_ok-seats.ensures.seats c.in_ok-seats.ensures.left

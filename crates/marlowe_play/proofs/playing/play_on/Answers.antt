@@ -1,4 +1,4 @@
-use Rattle.std.proofs.Common.{◌≡◌, ◌∙◌, ℕ, ◌<◌, List, length, sym, ap, subst}
+use Rattle.std.proofs.Common.{◌≡◌, ◌∙◌, ℕ, ◌<◌, List, length, map, string_bytes, sym, ap, subst}
 use Rattle.std.proofs.lemmas.List.{length-map}
 use Rattle.std.specs.List.{All}
 use Rattle.eutxo_types.specs.declared.output_ref.OutputRef.{OutputRef}
@@ -7,9 +7,8 @@ use Rattle.plans.specs.declared.scenario.NamedThread.{NamedThread}
 use Rattle.plans.specs.declared.scenario.Scenario.{Scenario}
 use Rattle.hub.specs.Session.{Opened}
 use Rattle.ledger_spec.specs.Replay.{Course}
-use Rattle.play_lines.specs.PlayLines.{played_lines}
 use Rattle.play_setup.specs.SetUp.{object_of}
-use Rattle.marlowe_play.specs.Played.{IsTold}
+use Rattle.marlowe_play.specs.Played.{IsTold, asked, well_by}
 use Rattle.marlowe_play.specs.PlayedSupport.{AreLines}
 use Rattle.marlowe_play.proofs.PlayingLemmas.{how_many, told_of}
 use Rattle.marlowe_play.proofs.playing.play_on.Goals as goal
@@ -17,7 +16,7 @@ use Rattle.marlowe_play.proofs.playing.play_on.Goals as goal
 -- all seats are back
 pub close-closed-requires-clause-all : goal.close-closed-requires-clause-all
 close-closed-requires-clause-all g c =
-    how_many c.args.scenario.now c.in_ok-stage.stage.starts.items c.in_ok-stage.seats.items c.in_ok-stage.ensures.seats ∙ (sym c.requires.seats ∙ ap (λ (o : Opened). o.seats) c.requires.session)
+    how_many c.args.scenario.now c.in_ok-stage.stage.starts.items c.in_ok-stage.seats.items (map (λ l. l.items) c.in_ok-stage.left.items) c.in_ok-stage.ensures.seats ∙ (sym c.requires.seats ∙ ap (λ (o : Opened). o.seats) c.requires.session)
 
 -- each thread names a contract that was published
 pub played_text-requires-clause-contracts : goal.played_text-requires-clause-contracts
@@ -46,7 +45,10 @@ returns-clause-played g c =
     let start = c.close-closed.ensures.start in
     let first = start.0 ∙ (ap (λ (o : Opened). o.genesis) (sym c.requires.session) ∙ c.requires.genesis) in
     let at = start.1 ∙ (ap (λ (o : Opened). o.first_tick) (sym c.requires.session) ∙ c.requires.tick) in
-    let told = c.in_ok-text.ensures in
-    let is = subst (λ (k : Course). IsTold c.args.how.explain s.threads k outputs (played_lines k.entries told.0) c.in_ok-text.text.items) c.chain.ensures told.1 in
-    let threads = subst (λ (k : Course). AreLines k objects s.threads outputs told.0) c.chain.ensures told.2 in
-    told_of s c.args.how.explain closed objects outputs seats told.0 c.in_ok-text.text.items c.in_ok-stage.ensures.contracts first at c.close-closed.ensures.legal c.close-closed.ensures.heard c.close-closed.ensures.count c.in_ok-stage.ensures.seats threads is
+    let told = c.in_ok-played.ensures in
+    let names = map (λ s. string_bytes s) c.args.staying.now in
+    let left = map (λ l. l.items) c.in_ok-stage.left.items in
+    let is = subst (λ (k : Course). IsTold c.args.how.explain s k outputs left told.0 c.in_ok-played.played.0.items) c.chain.ensures told.1 in
+    let well = subst (λ (k : Course). c.in_ok-played.played.1 ≡ well_by c.args.strict names s left k.entries told.0) c.chain.ensures told.2 in
+    let threads = subst (λ (k : Course). AreLines k objects s.threads outputs told.0) c.chain.ensures told.3 in
+    told_of s (asked c.args.how.explain c.args.strict names) closed objects outputs seats left told.0 c.in_ok-played.played.0.items c.in_ok-played.played.1 c.in_ok-stage.ensures.contracts first at c.close-closed.ensures.legal c.close-closed.ensures.heard c.close-closed.ensures.count c.in_ok-stage.ensures.seats threads is well

@@ -5,6 +5,7 @@ use denote.Param.Send.{sendable, param_send, arg_send}
 use Rattle.std.proofs.result.Result.TheSendSync as result
 use Rattle.std.proofs.alloc.AllocError.TheSendSync as refused
 use Rattle.hub.proofs.Crossing.{seats_are_sent}
+use Rattle.parties.proofs.left_out.LeftOut.TheSendSync as left
 use Rattle.marlowe_play.proofs.Crossing.{turns_are_sent}
 use Rattle.marlowe_play.proofs.PlayingLemmas.{ok_both, zip_from}
 use Rattle.marlowe_play.proofs.turns.at_once.Goals as goal
@@ -15,7 +16,7 @@ map_vec-requires-send-J g c κs within = param_send 1 _ (arg_send _ no _ (turns_
 
 -- and their seats come back
 pub map_vec-requires-send-X : goal.map_vec-requires-send-X
-map_vec-requires-send-X g c κs within = search (seats_are_sent, result.the_send, refused.the_send, sendable) depth 60 fits 20000
+map_vec-requires-send-X g c κs within = search (seats_are_sent, left.the_field_send, result.the_send, refused.the_send, sendable) depth 60 fits 20000
 
 -- each seat comes back from its turn
 pub returns : goal.returns
