@@ -23,6 +23,8 @@ ROWS = [f"{CRATES}/rows_commands/data/explained_{what}.txt" for what in ("texts"
 MOST_SHOWN, MOST_OF_PATH, LONGEST = 60, 400, 1_048_576
 
 PARTY, TOKEN = '{"address":"a"}', '{"currency_symbol":"","token_name":""}'
+# One that no text has, so that it is no second amount of a token.
+OTHER_TOKEN = '{"currency_symbol":"6d656e646564","token_name":"mended"}'
 CHOICE = '{"choice_name":"","choice_owner":%s}' % PARTY
 ENTRIES = {"amount": f"[{TOKEN},1]", "accounts": f"[[{PARTY},{TOKEN}],1]", "choices": f"[{CHOICE},0]", "boundValues": '["",0]'}
 
@@ -66,7 +68,7 @@ SORTS = {
     "number": (None, "0"), "number above 0": (amount, "1"), "second entry for one key": (repeated, None),
     "scenario": (of_scenario(readings.Scenario.whole), '{"tick":0,"genesis":[],"contracts":[],"threads":[],"plans":[]}'),
     "genesis": (readings.items, "[]"), "entry of genesis": (readings.funds, '{"address":"","amount":[]}'), "list of amounts": (readings.amount, "[]"),
-    "entry of amounts": (lambda json: readings.amount([json]), f"[{TOKEN},1]"), "list of contracts": (readings.items, "[]"),
+    "entry of amounts": (lambda json: readings.amount([json]), f"[{OTHER_TOKEN},1]"), "list of contracts": (readings.items, "[]"),
     "named contract": (of_scenario(readings.Scenario.contract), '{"name":%s,"currency":"","contract":"close"}' % NEW), "list of threads": (readings.items, "[]"),
     "thread": (of_scenario(readings.Scenario.thread), None), "list of plans": (readings.items, "[]"),
     "plan": (None, '{"name":%s,"keys":[],"change":"","intents":[]}' % NEW), "list of keys": (readings.items, "[]"), "list of intents": (readings.items, "[]"),
@@ -159,7 +161,8 @@ class Explained:
         """Sees which names are told to be there; the first of them is one that the part may be."""
         names = NAMES.fullmatch(self.lines[-1])
         see(names, f"no names: {self.lines}")
-        if names["names"] and not names["names"][1:].split('"')[0].endswith(".."):
+        # (one that is cut at its end has no second quotation mark)
+        if (names["names"] or "").split(", ")[0].endswith('"'):
             self.smallest = json.dumps(json.JSONDecoder(strict=False).raw_decode(names["names"])[0])
 
     def see_place(self):
