@@ -11,6 +11,7 @@ use Rattle.json.specs.Lex.{tokens}
 use Rattle.json.specs.Json as json
 use Rattle.serde_json.specs.Data.{Num, unsigned, negative, float, Data, null, boolean, number, string, array, object, Items, no_items, item, Members, no_members, member, put}
 use Rattle.serde_json.specs.Find.{get_member}
+use Rattle.json_tree.specs.View.{read_within}
 use Rattle.serde_json.specs.Read.{read, max_depth, is_integer, float_of, number_from, number_of, of_json, of_items, of_members}
 use Rattle.collections.specs.Answers.{◌>>=◌}
 use Rattle.json_read_names.specs.Parts.{Reading, needed, whole_number, time, member_at, reading_at}
@@ -119,8 +120,12 @@ mutual
       let first = then-some (λ d. of_members ms (put k d before)) (of_json j) after h in
       of_members-in-range ms (put k first.0 before) after (put-in-range k first.0 before (of_json-in-range j first.0 first.1) r) first.2
 
+pub read-within-in-range : (n : ℕ) (text : List ℕ) (d : Data) → read_within n text ≡ Some d → InRange d
+read-within-in-range n text d h =
+    let j = then-some of_json (option_and_then (λ p. json.if_last p.0 p.1) (json.value n (tokens text))) d h in of_json-in-range j.0 d j.2
+
 pub read-in-range : (text : List ℕ) (d : Data) → read text ≡ Some d → InRange d
-read-in-range text d h = let j = then-some of_json (option_and_then (λ p. json.if_last p.0 p.1) (json.value max_depth (tokens text))) d h in of_json-in-range j.0 d j.2
+read-in-range text d h = read-within-in-range max_depth text d h
 
 -- ---- members and numbers of a value in range
 

@@ -17,7 +17,9 @@ use Rattle.json_read_names.specs.Forms.{has_two, contract_form, case_form, actio
 use Rattle.collections.specs.Answers.{◌>>=◌}
 use Rattle.json_read_names.specs.Parts.{ByKey, reading_at, both_readings, nowhere, text, whole_number, time, all_items, list}
 use Rattle.json_read_names.specs.ReadsNames.{party, payee, token, choice_id, bound}
-use Rattle.json_read_names.specs.ReadsText.{json_of, json_or_not, of_text}
+use Rattle.json_tree.specs.View.{read_within}
+use Rattle.json_read_names.specs.ReadsText.{json_of, json_or_not, json_within, of_text, of_text_within}
+use Rattle.json_read_names.proofs.TextLaws.{json_within-127}
 use Rattle.json_read_names.specs.declared.fault.JsonFault.TheVariants.{NoForm, NotJson, TooLong}
 use Rattle.json_read_names.specs.declared.forms.ContractForm.{ContractForm}
 use Rattle.json_read_names.specs.declared.forms.ContractForm.TheVariants as contract_forms
@@ -30,7 +32,7 @@ use Rattle.json_read_values.specs.ReadsValue.{value, observation}
 use Rattle.json_read_contracts.specs.ReadsContract.{contract, contract_by, contract_in, case, case_by, cases, all_cases, cases_in}
 use Rattle.json_write_contracts.specs.WrittenNames.{number_fits, time_fits}
 use Rattle.json_write_contracts.specs.WrittenContract.{bound_fits, action_fits, case_fits, cases_fit, contract_fits}
-use Rattle.contract_json.proofs.Ranges.{InRange, ItemsInRange, MembersInRange, bind_ok, ok-same, at-fits, whole-fits, time-fits, read-in-range}
+use Rattle.contract_json.proofs.Ranges.{InRange, ItemsInRange, MembersInRange, bind_ok, ok-same, at-fits, whole-fits, time-fits, read-in-range, read-within-in-range}
 use Rattle.contract_json.proofs.ReadValuesFit.{VF, OF, value-read-fits, observation-read-fits, both-ok, either}
 
 abbrev NF : ℤ → Type 0
@@ -213,3 +215,30 @@ pub read-contract-fits : (t : List ℕ) (c : Contract) → of_text contract t �
 read-contract-fits t c h = let d = bind_ok (json_of t) contract c h in contract-read-fits d.0 c (json_of-in-range t d.0 d.1) d.2
 
 pub ruleset contracts_read_fit = read-contract-fits
+
+-- ---- texts of any depth
+
+from_some-within : (n : ℕ) (text : List ℕ) (d : Data) → json_or_not (read_within n text) ≡ Ok d → InRange d
+from_some-within n text d h =
+    elim (read_within n text) as (λ o. read_within n text ≡ o → json_or_not o ≡ Ok d → InRange d) [
+      | None ↦ λ _ is. cc
+      | Some e ↦ λ reads is. subst InRange (ok-same e d is) (read-within-in-range n text e reads)
+    ] refl h
+
+json_within-in-range : (n : ℕ) (text : List ℕ) (d : Data) → json_within n text ≡ Ok d → InRange d
+unfolding json_within
+json_within-in-range n text d h =
+    elim (nat_lt 1048576 (length text)) as (λ b. cond b (Err TooLong) (cond (is_utf8 text) (json_or_not (read_within n text)) (Err NotJson)) ≡ Ok d → InRange d) [
+      | true ↦ λ is. cc
+      | false ↦ elim (is_utf8 text) as (λ b. cond b (json_or_not (read_within n text)) (Err NotJson) ≡ Ok d → InRange d) [ true ↦ λ is. from_some-within n text d is | false ↦ λ is. cc ]
+    ] h
+
+pub read-within-fits : (n : ℕ) (t : List ℕ) (c : Contract) → of_text_within n contract t ≡ Ok c → CF c
+read-within-fits n t c h = let d = bind_ok (json_within n t) contract c h in contract-read-fits d.0 c (json_within-in-range n t d.0 d.1) d.2
+
+pub ruleset deep_contracts_fit = read-within-fits
+
+pub of-127 : (text : List ℕ) → of_text_within 127 contract text ≡ of_text contract text
+of-127 text = ap (λ r. r >>= contract) (json_within-127 text)
+
+pub ruleset at_127 = of-127

@@ -23,10 +23,12 @@ pub use json_read_values::{
 };
 pub use json_tree::JsonValue;
 pub use json_write_contracts::WriteFault;
-pub use laws::what_is_read_can_be_written;
+pub use laws::{
+    contracts_within_127, what_is_read_can_be_written, what_is_read_within_can_be_written,
+};
 pub use put_json::{PutJson, fitting_to_json, to_json};
 pub use read_back::state_is_read_back;
 pub use texts::{
-    read_contract, read_input, read_state, read_state_with_texts, read_transaction, write_contract,
-    write_outcome,
+    read_contract, read_contract_within, read_input, read_state, read_state_with_texts,
+    read_transaction, write_contract, write_outcome,
 };

@@ -5,7 +5,7 @@ ghost use Rattle.serde_json.specs.Data.{depth};
 ghost use Rattle.serde_json.specs.Read.{max_depth};
 ghost use Rattle.serde_json.specs.Written.{compact_text};
 ghost use Rattle.contract.specs.Tree.{contract_tree};
-ghost use Rattle.json_read_names.specs.ReadsText.{of_text};
+ghost use Rattle.json_read_names.specs.ReadsText.{of_text, of_text_within};
 ghost use Rattle.json_read_contracts.specs.ReadsContract as contract_reads;
 ghost use Rattle.json_read_inputs.specs.ReadsInput as input_reads;
 ghost use Rattle.json_read_inputs.specs.ReadsState as state_reads;
@@ -23,7 +23,7 @@ use json_read_contracts::contract_from_json;
 use json_read_inputs::{
     input_from_json, state_from_json, state_with_texts_from_json, transaction_from_json,
 };
-use json_read_names::{JsonFault, json_of};
+use json_read_names::{JsonFault, json_of, json_within};
 use json_write_contracts::WriteFault;
 use std::alloc::Global;
 
@@ -33,6 +33,16 @@ pub fn read_contract(alloc: Global, text: &[u8]) -> Result<Contract, JsonFault>
 {
     let mut scratch = Scratch::new(alloc);
     let json = json_of(alloc, text, &mut scratch)?;
+    contract_from_json(alloc, &json)
+}
+
+/// Reads the text of a contract whose lists and objects nest no deeper than `depth`: `read_contract` has 127. Each level takes stack, as
+/// the text is read and as the contract is dropped.
+pub fn read_contract_within(alloc: Global, text: &[u8], depth: usize) -> Result<Contract, JsonFault>
+    ensures reading { Aside JsonFault.Memory result (of_text_within depth contract_reads.contract text.now) }
+{
+    let mut scratch = Scratch::new(alloc);
+    let json = json_within(alloc, text, &mut scratch, depth)?;
     contract_from_json(alloc, &json)
 }
 

@@ -20,4 +20,4 @@ pub use name_forms::{
     bound_from_json, choice_id_from_json, party_from_json, payee_from_json, token_from_json,
 };
 pub use numbers::{read_time, read_whole};
-pub use texts::json_of;
+pub use texts::{json_of, json_within};

@@ -2,11 +2,11 @@
 ghost use Rattle.std.specs.Prelude.{Ok};
 ghost use Rattle.collections.specs.Answers.{AsideBy};
 ghost use Rattle.json_tree.specs.View.{view};
-ghost use Rattle.json_read_names.specs.ReadsText.{json_of};
+ghost use Rattle.json_read_names.specs.ReadsText.{json_of, json_within};
 
 use crate::fault::JsonFault;
 use json::Scratch;
-use json_tree::{Json, Refusal, from_slice};
+use json_tree::{Json, Refusal, from_slice, from_slice_within};
 use std::alloc::Global;
 
 // The longest text that is read, in bytes.
@@ -26,6 +26,26 @@ pub fn json_of<'a>(
         return Err(JsonFault::TooLong);
     }
     match from_slice(alloc, text, scratch) {
+        Ok(json) => Ok(json),
+        Err(Refusal::NotJson) => Err(JsonFault::NotJson),
+        Err(Refusal::Memory) => Err(JsonFault::Memory),
+    }
+}
+
+/// The same, where lists and objects nest no deeper than `depth`: `json_of` has 127.
+#[tactic(auto, using(crate::proofs::TextLaws::deep_text_steps))]
+pub fn json_within<'a>(
+    alloc: Global,
+    text: &'a [u8],
+    scratch: &'a mut Scratch,
+    depth: usize,
+) -> Result<Json<'a>, JsonFault>
+    ensures { AsideBy JsonFault.Memory view result (json_within depth text.now) }
+{
+    if text.len() > MAX_LEN {
+        return Err(JsonFault::TooLong);
+    }
+    match from_slice_within(alloc, text, scratch, depth) {
         Ok(json) => Ok(json),
         Err(Refusal::NotJson) => Err(JsonFault::NotJson),
         Err(Refusal::Memory) => Err(JsonFault::Memory),

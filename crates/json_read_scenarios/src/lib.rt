@@ -14,4 +14,4 @@ mod scenarios;
 mod threads;
 
 pub use intent_forms::{IntentForm, intent_form};
-pub use scenarios::{read_scenario, scenario_from_json};
+pub use scenarios::{read_scenario, read_scenario_within, scenario_from_json};

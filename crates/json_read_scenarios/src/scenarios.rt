@@ -1,7 +1,7 @@
 //! Scenarios as JSON values and as texts.
 ghost use Rattle.std.specs.Prelude.{IfOk};
 ghost use Rattle.collections.specs.Answers.{Aside};
-ghost use Rattle.json_read_names.specs.ReadsText.{of_text};
+ghost use Rattle.json_read_names.specs.ReadsText.{of_text, of_text_within};
 ghost use Rattle.json_read_scenarios.specs.Named.{NamesWhatItHas};
 ghost use Rattle.json_read_scenarios.specs.ReadsScenario as reads;
 
@@ -12,7 +12,7 @@ use crate::name_list::named_at;
 use crate::plan_forms::plans_at;
 use crate::threads::threads_at;
 use json::Scratch;
-use json_read_names::{JsonFault, has_three, has_two, json_of};
+use json_read_names::{JsonFault, has_three, has_two, json_of, json_within};
 use json_tree::JsonValue;
 use plans::Scenario;
 use std::alloc::Global;
@@ -50,5 +50,16 @@ pub fn read_scenario(alloc: Global, text: &[u8]) -> Result<Scenario, JsonFault>
 {
     let mut scratch = Scratch::new(alloc);
     let json = json_of(alloc, text, &mut scratch)?;
+    scenario_from_json(alloc, &json)
+}
+
+/// Reads the text of a scenario whose lists and objects nest no deeper than `depth`: `read_scenario` has 127. A contract of it begins three
+/// levels down. Each level takes stack, as the text is read and as the contract is dropped.
+pub fn read_scenario_within(alloc: Global, text: &[u8], depth: usize) -> Result<Scenario, JsonFault>
+    ensures reading { Aside JsonFault.Memory result (of_text_within depth reads.scenario text.now) }
+    ensures names { IfOk result NamesWhatItHas }
+{
+    let mut scratch = Scratch::new(alloc);
+    let json = json_within(alloc, text, &mut scratch, depth)?;
     scenario_from_json(alloc, &json)
 }

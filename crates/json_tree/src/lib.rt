@@ -10,5 +10,5 @@ mod tree;
 
 pub use json_value::JsonValue;
 pub use owned::value_of_text;
-pub use read::{Refusal, from_slice};
+pub use read::{Refusal, from_slice, from_slice_within};
 pub use tree::Json;

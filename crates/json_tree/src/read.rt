@@ -60,8 +60,9 @@ pub fn from_slice<'a>(
     from_slice_within(alloc, bytes, scratch, MAX_DEPTH)
 }
 
-/// The tree of a text that nests no deeper than `depth`.
-pub(crate) fn from_slice_within<'a>(
+/// The tree of a text whose lists and objects nest no deeper than `depth`: `from_slice` has 127. Each level takes stack as it is read, and
+/// as the tree is dropped.
+pub fn from_slice_within<'a>(
     alloc: Global,
     bytes: &'a [u8],
     scratch: &'a mut Scratch,
