@@ -64,7 +64,7 @@ branch_below [] i d n l h = absurd (omega arith)
 branch_below (b ∷ bs) zero d n l h = (h.0, h.1, h.2, h.3, tt)
 branch_below (b ∷ bs) (suc i) d n l h = branch_below bs i d n (omega arith) h.4
 
-branch_holds : (bs : List Branched) (i : ℕ) (d : Branched) (r : Valuation) → i < length bs → AreBranches r (branches_of bs) → AreBranches r (branch_of (get_or bs i d) ∷ [])
+pub branch_holds : (bs : List Branched) (i : ℕ) (d : Branched) (r : Valuation) → i < length bs → AreBranches r (branches_of bs) → AreBranches r (branch_of (get_or bs i d) ∷ [])
 branch_holds [] i d r l h = absurd (omega arith)
 branch_holds (b ∷ bs) zero d r l h = (h.0, tt)
 branch_holds (b ∷ bs) (suc i) d r l h = branch_holds bs i d r (omega arith) h.1

@@ -8,3 +8,4 @@ pub mod QuotientLemmas
 pub mod WithinLemmas
 pub mod ProductLemmas
 pub mod PartLemmas
+pub mod CaseLemmas

@@ -8,3 +8,4 @@ pub mod Products
 pub mod Parts
 pub mod Quotients
 pub mod Branches
+pub mod Cases

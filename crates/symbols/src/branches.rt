@@ -67,8 +67,8 @@ fn rules_out_all(here: &Symbols, apart: &[Linear]) -> Result<bool, Memory>
     Ok(true)
 }
 
-// Whether a branch's number is an expression, and what it asks holds in a case.
-fn is_taken(
+/// Whether a branch's number is an expression, and what it asks holds in a case.
+pub(crate) fn is_taken(
     branch: &Branched,
     here: &Symbols,
     learned: usize,

@@ -13,6 +13,7 @@
 mod apart;
 mod branched;
 mod branches;
+mod cases;
 mod either;
 mod join;
 mod named;

@@ -8,10 +8,12 @@ ghost use Rattle.symbols.specs.Results.{IsNamed, GivesResult, GivesInRange, Give
 ghost use Rattle.std.specs.Option.{IfSome};
 ghost use Rattle.symbols.specs.Branches.{KeepsBranch};
 ghost use Rattle.symbols.specs.Within.{IsWithin};
+ghost use Rattle.symbols.specs.Cases.{IsNatural, KnowsFact};
 ghost use Rattle.symbols.specs.Held.{symbols_of, branches_of, GivesAny, RangesGiveAny, Learns, RangesLearn, Assumes, Distinguishes, IsSharpened, KnowsWithin};
 
 use crate::apart::sharpened;
 use crate::branched::{Branched, SharedBranch};
+use crate::cases::shows_by_cases;
 use crate::join::joined_facts;
 use crate::named::Named;
 use crate::newest::{MOST_LISTED, first_since, make_room};
@@ -200,6 +202,26 @@ impl Symbols {
     {
         let from = self.first_fact_since(learned);
         follows_newest(&self.bounds, self.facts.as_slice(), from, expression)
+    }
+
+    /// Whether an expression that isn't shown so to be at least 0 is in each of several cases: where a symbol of it is one of two
+    /// numbers by a comparison that isn't decided. At most two comparisons tell the cases apart.
+    pub fn shows_by_cases(&self, expression: &Linear) -> Result<bool, Memory>
+        ensures { IfOk result (λ yes. yes ≡ true → IsNatural self.now expression.now) }
+    {
+        shows_by_cases(self, expression)
+    }
+
+    // What is known where a fact is at least 0 as well, by which no range is made narrower.
+    pub(crate) fn with_fact(&self, fact: &Linear) -> Result<Symbols, Memory>
+        ensures { IfOk result (KnowsFact self.now fact.now) }
+    {
+        let mut facts = self.facts.try_clone()?;
+        let more = fact.try_clone()?;
+        facts.push(more)?;
+        let bounds = self.bounds.try_clone()?;
+        let copy = self.copy_with(bounds, facts, self.learned.saturating_add(1))?;
+        Ok(copy)
     }
 
     /// The greatest number that an expression is shown not to be below, if there is one; looks as far as `shows`.
