@@ -10,7 +10,7 @@ Expect   `N files and M commands as written, L links lead somewhere, W names are
          of it. A path in backquotes leads somewhere, from the top, from the page, from `crates` or from a crate's folder; where the section
          has named crates before, from one of these. Of `crate::item` the crate has the item, and each other word in backquotes of CONTRIBUTING
          comes up in some file. README's table has the layers of crates.txt, and docs/layers.md names each crate. The
-         toolchain's line is that of `rt version`, where `rt` is there.
+         toolchain's line is that of `rt version`, where `rt` is there. No sentence has more than 30 words, tables and what is in backquotes aside.
 Else     a line for each fault, and status 1."""
 import functools
 import itertools
@@ -177,6 +177,25 @@ def faults_of_names(counts):
                     yield f"{page.relative_to(TOP)}: `{word}`: nothing has this name"
 
 
+# ---- sentences
+
+MOST_WORDS = 30
+
+
+def sentences(text):
+    """The sentences of a page, without its tables, its headings, its blocks and what is in backquotes. A colon or a semicolon ends one."""
+    plain = re.sub(r"\]\([^)]*\)", "]", re.sub(r"`[^`]*`", "`", re.sub(r"^ *```.*?^ *```|^ *\|[^\n]*|^#[^\n]*|^ *<[^\n]*|^    [^\n]*", "\n", text, flags=re.M | re.S)))
+    for part in re.split(r"\n\s*\n|\n(?=\s*(?:[-*]|\d+\.)\s)", plain):
+        yield from re.split(r"(?<=[.!?:;])\s+", " ".join(part.split()))
+
+
+def faults_of_sentences():
+    for page in pages():
+        for sentence in sentences(page.read_text()):
+            if len(re.findall(r"[A-Za-z0-9][\w',-]*", sentence)) > MOST_WORDS:
+                yield f"{page.relative_to(TOP)}: over {MOST_WORDS} words: {sentence}"
+
+
 # ---- layers
 
 def layers():
@@ -211,7 +230,7 @@ def faults_of_toolchain():
 
 def main():
     counts = {"files": set(), "commands": set(), "links": 0, "names": 0}
-    faults = [*faults_of_tutorial(counts), *faults_of_links(counts), *faults_of_names(counts), *faults_of_layers(), *faults_of_toolchain()]
+    faults = [*faults_of_tutorial(counts), *faults_of_links(counts), *faults_of_names(counts), *faults_of_sentences(), *faults_of_layers(), *faults_of_toolchain()]
     for fault in faults:
         print(fault)
     if not faults:
