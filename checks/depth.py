@@ -4,10 +4,10 @@
 A text of each sort nests as deep as is asked: operations on values and observations, on either side, and each form of contract that has another one
 inside. It is as long as a text may be, at most. What is answered isn't compared, only that the program answers: a status from 0 to 4, and no signal.
 
-Needs    a program `marlowe`: (cd crates/marlowe && rt run -- --version), or one that tools/marlowe compiled without proofs, which takes fifteen times as
+Needs    a program `marlowe`: (cd crates/marlowe && rt run -- --version), or one that tools/marlowe compiled without proofs, which takes about twice as
          much stack
 Usage    checks/depth.py [PROGRAM] [--levels N] [--stack KIB] [--sort NAME] [--least]
-         N is 4,000, and KIB 8,192; with --sort one sort alone; with --least also the least stack that does, of 64 KiB, 128 KiB, ..
+         N is 800, and KIB 8,192; with --sort one sort alone; with --least also the least stack that does, of 64 KiB, 128 KiB, ..
 Expect   a line for each sort and command, with the status and the seconds, then `all answered` and status 0; a few minutes
 Else     `no answer` behind each that ended by a signal, and status 1
 """
@@ -134,7 +134,7 @@ def least(program, words, folder, status):
 def main():
     parser = argparse.ArgumentParser(description=__doc__, formatter_class=argparse.RawDescriptionHelpFormatter)
     parser.add_argument("program", nargs="?", default=os.path.join(TOP, "crates/marlowe/out/marlowe"))
-    parser.add_argument("--levels", type=int, default=4000)
+    parser.add_argument("--levels", type=int, default=800)
     parser.add_argument("--stack", type=int, default=8192)
     parser.add_argument("--sort")
     parser.add_argument("--least", action="store_true")
