@@ -1,6 +1,8 @@
 -- Pieces behind pieces.
 use Rattle.std.proofs.Common.{◌≡◌, ℕ, ◌+◌, ◌-◌, ◌<◌, ◌≤◌, arith, List, [], ◌∷◌, ◌++◌, map, take, drop, length, refl, sym, ap, ◌∙◌, append_assoc}
 use Rattle.std.specs.Prelude.{flat_map, codes}
+use Rattle.std.specs.Borrow.{Bor}
+use Rattle.serde_json.specs.Data.{string}
 use Rattle.std.proofs.Math.ListN.{get_or}
 use Rattle.std.proofs.lemmas.List.{take_more, take_all, take-map, flat_map_more, length-map}
 use Rattle.std.proofs.lemmas.List.Folds.{flat_map-map}
@@ -44,3 +46,8 @@ more_keys text keys a b c e f =
 pub at_some : (path : List Step) → 1 ≤ length path → codes " at " ++ path_shown (path_text path) ≡ at_text path
 at_some [] l = absurd (omega arith)
 at_some (step ∷ path) l = refl
+
+-- the first ten words
+pub ten_words : (words firsts : List (Bor (List ℕ))) → firsts ≡ take 10 words → map (λ word. string word.now) firsts ≡ map string (take 10 (map (λ word. word.now) words))
+ten_words words firsts e =
+    ap (map (λ word. string word.now)) e ∙ sym (map-map string (λ (word : Bor (List ℕ)). word.now) (take 10 words)) ∙ ap (map string) (sym (take-map (λ (word : Bor (List ℕ)). word.now) 10 words))

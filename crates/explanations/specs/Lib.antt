@@ -1,6 +1,7 @@
 pub mod Words
 pub mod Told
 pub mod Lines
+pub mod Members
 pub mod TextLines
 pub mod Indexes
 pub mod Explained

@@ -204,18 +204,22 @@ abbrev pub near_line : Option (List ℕ) → List ℕ
 near_line None = []
 near_line (Some key) = codes "  nearest to it is " ++ (text_shown key ++ 10 ∷ [])
 
-abbrev pub near_of : List (List ℕ) → Form → Option Field → List ℕ
-near_of keys form None = []
-near_of keys form (Some field) = near_line (nearest form (key_word field.0) keys)
+abbrev pub near_of : List (List ℕ) → Form → Option Field → Option (List ℕ)
+near_of keys form None = None
+near_of keys form (Some field) = nearest form (key_word field.0) keys
 
-abbrev pub near_text : List (List ℕ) → Option Form → List ℕ
-near_text keys None = []
-near_text keys (Some form) = near_of keys form (lacking keys form)
+abbrev pub near_in : List (List ℕ) → Option Form → Option (List ℕ)
+near_in keys None = None
+near_in keys (Some form) = near_of keys form (lacking keys form)
+
+-- the key that may have been meant for the one that lacks
+abbrev pub near_key : Sort → List (List ℕ) → Option (List ℕ)
+near_key sort keys = near_in keys (meant keys sort)
 
 -- ---- all lines
 
 abbrev pub near_sought : Sort → List (List ℕ) → List ℕ
-near_sought sort keys = near_text keys (meant keys sort)
+near_sought sort keys = near_line (near_key sort keys)
 
 -- the names that there are, ten at most
 abbrev pub names_text : List ℕ → List (List ℕ) → List ℕ

@@ -5,12 +5,15 @@ use Rattle.json_read_names.specs.declared.fault.JsonFault.TheVariants as faults
 use Rattle.json_forms.specs.declared.key.Key.TheVariants as keys
 use Rattle.json_forms.specs.declared.sort.Numbers.TheVariants as numbers
 use Rattle.json_forms.specs.declared.sort.Sort.TheVariants as sorts
+use Rattle.json_forms.specs.declared.sort.NamedSort.TheVariants as named
+use Rattle.json_forms.specs.declared.sort.ScenarioSort.TheVariants as parts
 use Rattle.json_stops.specs.declared.stop.Step.TheVariants as steps
 use Rattle.explanations.specs.Told.{Told}
 use Rattle.text_spots.specs.Spots.{mark}
 use Rattle.explanations.specs.declared.broken.NoJson.TheVariants as no_json
 use Rattle.explanations.specs.Lines.{lines_of}
-use Rattle.explanations.specs.TextLines.{no_json_lines, too_long_line}
+use Rattle.explanations.specs.Members.{members_of}
+use Rattle.explanations.specs.TextLines.{no_json_lines, no_json_members, too_long_line, too_long_members}
 
 abbrev pub AreLines : Told → List ℕ → Type 0
 AreLines t lines = lines_of (codes "contract.json") t ≡ lines
@@ -97,6 +100,62 @@ BadStatesAreTold =
 -- a text that ends too early, one that begins with a mark, and one that is too long
 abbrev pub BrokenTextsAreTold : Type 0
 BrokenTextsAreTold =
-    (no_json_lines (codes "contract.json") (codes "{\n ") no_json.Syntax 3 ≡ codes "  contract.json:2:2: no JSON; here stands the end of the text\n")
-    × (no_json_lines (codes "contract.json") mark no_json.Mark 0 ≡ codes "  contract.json:1:1: a byte order mark stands before the text\n")
+    (no_json_lines 127 (codes "contract.json") (codes "{\n ") no_json.Syntax 3 ≡ codes "  contract.json:2:2: no JSON; here stands the end of the text\n")
+    × (no_json_lines 127 (codes "contract.json") mark no_json.Mark 0 ≡ codes "  contract.json:1:1: a byte order mark stands before the text\n")
+    × (no_json_lines 127 (codes "contract.json") (codes "[[[ ") no_json.TooDeep 3
+    ≡ codes "  contract.json:1:4: nested deeper than 127\n  wait less often in a row, or run what is left as a contract of its own\n")
     × (too_long_line (codes "contract.json") 1048577 ≡ codes "  contract.json: 1048577 bytes, and 1048576 are read\n")
+
+-- ---- members for tools
+
+abbrev pub AreMembers : Told → List ℕ → Type 0
+AreMembers t members = members_of (codes "contract.json") t ≡ members
+
+abbrev pub MisspelledKeysAreMembers : Type 0
+MisspelledKeysAreMembers =
+    AreMembers misspelled
+    (codes
+    "\"file\":\"contract.json\",\"line\":12,\"column\":8,\"place\":[\"when\",0,\"then\"],\"wanted\":\"a contract\",\"stands\":\"an object\",\"keys\":[\"pay\",\"token\",\"from_acount\",\"to\",\"then\"],\"hint\":\"a pay wants \\\"from_account\\\"\",\"nearest\":\"from_acount\"")
+
+-- the token as the lines show it
+abbrev pub QuotedNumbersAreMembers : Type 0
+QuotedNumbersAreMembers =
+    AreMembers quoted_time
+    (codes
+    "\"file\":\"contract.json\",\"line\":1,\"column\":22,\"place\":[\"timeout\"],\"wanted\":\"a time\",\"stands\":\"\\\"100\\\"\",\"hint\":\"a number stands without quotation marks\"")
+
+-- where the first entry stands
+abbrev pub RepeatedEntriesAreMembers : Type 0
+RepeatedEntriesAreMembers =
+    AreMembers bound_twice
+    (codes
+    "\"file\":\"contract.json\",\"line\":4,\"column\":5,\"place\":[\"boundValues\",2],\"wanted\":\"an entry with a key of its own\",\"stands\":\"a list\",\"hint\":\"each key stands once: add up what belongs together, or leave one out\",\"first\":{\"line\":2,\"column\":5}")
+
+-- the names that there are
+abbrev pub unknown_thread : Told
+unknown_thread =
+    record {
+      path = steps.Key keys.Plans ∷ steps.Item 0 ∷ steps.Key keys.Intents ∷ steps.Item 1 ∷ steps.Key keys.Step ∷ [];
+      spot = record { line = 7; column = 30 };
+      sort = sorts.OfScenario (parts.NameOf named.Thread);
+      fault = faults.NoForm;
+      token = Token.string (codes "eskrow");
+      keys = [];
+      first = None;
+      names = codes "escrow" ∷ codes "swap" ∷ [];
+    }
+
+abbrev pub NamesAreMembers : Type 0
+NamesAreMembers =
+    AreMembers unknown_thread
+    (codes
+    "\"file\":\"contract.json\",\"line\":7,\"column\":30,\"place\":[\"plans\",0,\"intents\",1,\"step\"],\"wanted\":\"a thread of the scenario\",\"stands\":\"\\\"eskrow\\\"\",\"hint\":\"a thread is named as in \\\"threads\\\"\",\"names\":[\"escrow\",\"swap\"]")
+
+abbrev pub BrokenTextsAreMembers : Type 0
+BrokenTextsAreMembers =
+    (no_json_members 127 (codes "contract.json") (codes "{\n ") no_json.Syntax 3
+    ≡ codes "\"file\":\"contract.json\",\"line\":2,\"column\":2,\"reason\":\"no JSON; here stands the end of the text\"")
+    × (no_json_members 400 (codes "contract.json") (codes "[[[ ") no_json.TooDeep 3
+    ≡ codes
+    "\"file\":\"contract.json\",\"line\":1,\"column\":4,\"reason\":\"nested deeper than 400\",\"hint\":\"wait less often in a row, or run what is left as a contract of its own\"")
+    × (too_long_members (codes "contract.json") 1048577 ≡ codes "\"file\":\"contract.json\",\"length\":1048577")

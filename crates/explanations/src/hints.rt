@@ -1,11 +1,12 @@
 //! What to do about a fault.
-ghost use Rattle.std.specs.Prelude.{◌≡◌, ◌++◌, find, not, chars, IfOk, codes, decimal, encode_utf8, map, string_bytes};
+ghost use Rattle.std.specs.Prelude.{◌≡◌, ◌++◌, find, not, chars, IfOk, codes, decimal, encode_utf8, map, option_map, string_bytes};
 ghost use Rattle.std.specs.List.{list_all};
 ghost use Rattle.json.specs.Reads.{token_of};
 ghost use Rattle.text_spots.specs.Shown.{is_among};
 ghost use Rattle.json_forms.specs.Forms.{Field};
 ghost use Rattle.json_forms.specs.Lacking.{is_there};
 ghost use Rattle.explanations.specs.Lines.{are_digits, bad_state_hint, hex_hint, is_digit, hint_text, is_digits, is_hex, is_of_contracts, is_of_numbers, lacking_text, letter_text, no_form_hint, sought, sought_text, text_shown, wants_text};
+ghost use Rattle.explanations.specs.Lines as spec;
 ghost use Rattle.explanations.specs.Told.{seen};
 
 use crate::part::Told;
@@ -13,7 +14,9 @@ use crate::pieces::text_shown;
 use crate::words::{form_text, sort_hint};
 use collections::Memory;
 use json::Token;
-use json_forms::{Form, Key, Numbers, ScenarioSort, Sort, key_word, lacking_key, meant_form};
+use json_forms::{
+    Form, Key, Numbers, ScenarioSort, Sort, key_word, lacking_key, meant_form, nearest_key,
+};
 use json_read_names::JsonFault;
 use std::alloc::Global;
 
@@ -113,6 +116,31 @@ fn wants_text(alloc: Global, form: &str, key: &str) -> Result<String, Memory>
     ensures { IfOk result (λ text. string_bytes text ≡ form.now ++ (codes " wants \"" ++ (key.now ++ codes "\""))) }
 {
     format!(in alloc; "{form} wants \"{key}\"")
+}
+
+/// The key that may have been meant for the one that lacks.
+pub(crate) fn near_key<'k, 'a>(sort: Sort, keys: &'k [&'a str]) -> Option<&'a str>
+    ensures { option_map (λ key. key.now) result ≡ spec.near_key sort (sought (map (λ key. key.now) keys.now)) }
+{
+    near_sought(sort, sought(keys))
+}
+
+fn near_sought<'k, 'a>(sort: Sort, keys: &'k [&'a str]) -> Option<&'a str>
+    ensures { option_map (λ key. key.now) result ≡ spec.near_key sort (map (λ key. key.now) keys.now) }
+{
+    match meant_form(keys, sort) {
+        Some(form) => near_of(form, keys, lacking_key(keys, form)),
+        None => None,
+    }
+}
+
+fn near_of<'k, 'a>(form: Form, keys: &'k [&'a str], field: Option<(Key, Sort)>) -> Option<&'a str>
+    ensures { option_map (λ key. key.now) result ≡ spec.near_of (map (λ key. key.now) keys.now) form field }
+{
+    match field {
+        Some((key, _)) => nearest_key(form, key, keys),
+        None => None,
+    }
 }
 
 // ---- tests

@@ -1,5 +1,5 @@
 //! Worked rows of the definitions, the contract of a function that does nothing.
-ghost use Rattle.explanations.specs.Rows.{MisspelledKeysAreTold, WordsAreTold, NumbersAreTold, BadStatesAreTold, BrokenTextsAreTold};
+ghost use Rattle.explanations.specs.Rows.{MisspelledKeysAreTold, WordsAreTold, NumbersAreTold, BadStatesAreTold, BrokenTextsAreTold, MisspelledKeysAreMembers, QuotedNumbersAreMembers, RepeatedEntriesAreMembers, NamesAreMembers, BrokenTextsAreMembers};
 
 /// Worked rows, each computed on the definitions.
 pub fn worked_lines()
@@ -8,4 +8,13 @@ pub fn worked_lines()
     ensures numbers { NumbersAreTold }
     ensures bad_states { BadStatesAreTold }
     ensures broken { BrokenTextsAreTold }
+{}
+
+/// Worked rows of the members for tools.
+pub fn worked_members()
+    ensures misspelled { MisspelledKeysAreMembers }
+    ensures quoted { QuotedNumbersAreMembers }
+    ensures repeated { RepeatedEntriesAreMembers }
+    ensures names { NamesAreMembers }
+    ensures broken { BrokenTextsAreMembers }
 {}

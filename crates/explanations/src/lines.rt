@@ -1,11 +1,11 @@
 //! The lines of a part at which reading stops.
-ghost use Rattle.std.specs.Prelude.{◌≡◌, ◌∷◌, ◌++◌, [], Some, IfOk, OnOk, codes, decimal, map, string_bytes};
+ghost use Rattle.std.specs.Prelude.{◌≡◌, ◌∷◌, ◌++◌, [], Some, IfOk, OnOk, codes, decimal, map, option_map, string_bytes};
 ghost use Rattle.json.specs.Reads.{token_of};
 ghost use Rattle.text_spots.specs.Shown.{path_shown};
 ghost use Rattle.explanations.specs.Lines.{at_text, bad_state_text, beside, fault_text, first_spot_text, form_wanted_text, hint_line, hint_text, keys_or_token, lines_of, names_line, names_text, near_line, near_sought, no_form_text, path_text, repeated_text, sought, spot_text, stands_text, where_text};
 ghost use Rattle.explanations.specs.Told.{seen};
 
-use crate::hints::{hint_text, sought};
+use crate::hints::{hint_text, near_key};
 use crate::part::Told;
 use crate::pieces::{
     beside, path_text, put_bytes, put_key, put_keys, put_more_keys, text_shown, token_text,
@@ -13,7 +13,7 @@ use crate::pieces::{
 use crate::words::{bare_sort_text, kinds_text, sort_text};
 use collections::Memory;
 use json::Token;
-use json_forms::{Form, ScenarioSort, Sort, forms_of, lacking_key, meant_form, nearest_key};
+use json_forms::{Form, ScenarioSort, Sort, forms_of};
 use json_read_names::JsonFault;
 use json_stops::Step;
 use std::alloc::Global;
@@ -341,24 +341,13 @@ fn put_names_head(alloc: Global, out: &mut Vec<u8>, kinds: &str) -> Result<(), M
 fn put_near(alloc: Global, out: &mut Vec<u8>, sort: Sort, keys: &[&str]) -> Result<(), Memory>
     ensures { OnOk result (out.new.items ≡ out.old.items ++ near_sought sort (sought (map (λ key. key.now) keys.now))) }
 {
-    put_near_sought(alloc, out, sort, sought(keys))
+    put_near_key(alloc, out, near_key(sort, keys))
 }
 
-fn put_near_sought(
-    alloc: Global,
-    out: &mut Vec<u8>,
-    sort: Sort,
-    keys: &[&str],
-) -> Result<(), Memory>
-    ensures { OnOk result (out.new.items ≡ out.old.items ++ near_sought sort (map (λ key. key.now) keys.now)) }
+fn put_near_key(alloc: Global, out: &mut Vec<u8>, key: Option<&str>) -> Result<(), Memory>
+    ensures { OnOk result (out.new.items ≡ out.old.items ++ near_line (option_map (λ key. key.now) key.entry)) }
 {
-    let Some(form) = meant_form(keys, sort) else {
-        return Ok(());
-    };
-    let Some((key, _)) = lacking_key(keys, form) else {
-        return Ok(());
-    };
-    match nearest_key(form, key, keys) {
+    match key {
         Some(near) => put_near_line(alloc, out, near),
         None => Ok(()),
     }

@@ -1,0 +1,34 @@
+-- Members of a JSON object, without the braces around them.
+use Rattle.std.specs.Prelude.{ℕ, pos, List, [], ◌++◌, map, Option, Some, None, codes}
+use Rattle.serde_json.specs.Data.{Data, string, array}
+use Rattle.serde_json.specs.View.{items_of}
+use Rattle.serde_json.specs.Written.{compact_text}
+use Rattle.json_write_contracts.specs.WrittenNames.{number_json}
+
+-- a member of a key and the text of its value
+abbrev pub member_text : List ℕ → List ℕ → List ℕ
+member_text key value = codes "\"" ++ (key ++ (codes "\":" ++ value))
+
+-- one that comes behind another
+abbrev pub next_text : List ℕ → List ℕ → List ℕ
+next_text key value = codes "," ++ member_text key value
+
+-- the same of a value
+abbrev pub first_member : List ℕ → Data → List ℕ
+first_member key d = member_text key (compact_text d)
+
+abbrev pub next_member : List ℕ → Data → List ℕ
+next_member key d = next_text key (compact_text d)
+
+-- one that is there, or none
+abbrev pub member_if : List ℕ → Option Data → List ℕ
+member_if key None = []
+member_if key (Some d) = next_member key d
+
+-- ---- values
+
+abbrev pub count_json : ℕ → Data
+count_json n = number_json (pos n)
+
+abbrev pub words_json : List (List ℕ) → Data
+words_json words = array (items_of (map string words))
