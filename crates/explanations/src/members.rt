@@ -139,12 +139,7 @@ fn put_stands(alloc: Global, out: &mut Vec<u8>, token: Token<'_>) -> Result<(), 
 }
 
 // The first ten keys of an object.
-fn put_keys(
-    alloc: Global,
-    out: &mut Vec<u8>,
-    token: Token<'_>,
-    keys: &[&str],
-) -> Result<(), Memory>
+fn put_keys(alloc: Global, out: &mut Vec<u8>, token: Token<'_>, keys: &[&str]) -> Result<(), Memory>
     ensures { OnOk result (out.new.items ≡ out.old.items ++ spec.keys_member (token_of token.entry) (map (λ key. key.now) keys.now)) }
 {
     match token {

@@ -160,12 +160,7 @@ fn put_reason(
 }
 
 // Why, in words.
-fn reason_words(
-    alloc: Global,
-    depth: usize,
-    reason: NoJson,
-    rest: &[u8],
-) -> Result<String, Memory>
+fn reason_words(alloc: Global, depth: usize, reason: NoJson, rest: &[u8]) -> Result<String, Memory>
     ensures { IfOk result (λ words. string_bytes words ≡ spec.reason_words depth reason rest.now) }
 {
     match reason {

@@ -13,6 +13,7 @@ use Rattle.trace.specs.declared.sequence.Left.{Left}
 use Rattle.explain_transactions.specs.declared.explanation.Explanation.{Explanation}
 use Rattle.explain_transactions.specs.declared.explanation.Explanation.TheVariants as why
 use Rattle.explain_transactions.specs.Explained.{Explains}
+use Rattle.marlowe_run.specs.Run.{within_127}
 use Rattle.marlowe_next.specs.declared.asked.Asked.{Asked}
 use Rattle.marlowe_next.specs.Answer.{IsAnswer}
 use Rattle.json_members.specs.declared.spelling.Spelling.{Spelling}
@@ -20,7 +21,7 @@ use Rattle.marlowe_explain.specs.Spelled.{is_for_tools, invalid_told, past_told,
 
 -- what can be done over an interval is asked, for people or for tools
 abbrev pub asks_over : Spelling → Interval → Asked
-asks_over w j = record { from = Some j.from; to = Some j.to; texts = false; json = is_for_tools w }
+asks_over w j = record { from = Some j.from; to = Some j.to; readable = within_127 false; json = is_for_tools w }
 
 -- a text tells what the part of a contract takes over an interval that is left at the end of a path
 abbrev pub IsNext : Spelling → Interval → ContractTree → Left → List ℕ → Type 0

@@ -14,6 +14,7 @@ use collections::Memory;
 use contract::{Contract, Input, Interval};
 use json_members::Spelling;
 use marlowe_next::{Asked, next_there};
+use marlowe_run::Readable;
 use std::alloc::{AllocError, Global};
 use trace::Left;
 
@@ -39,7 +40,10 @@ fn asks_over(spelling: Spelling, interval: Interval) -> Asked
     Asked {
         from: Some(interval.from),
         to: Some(interval.to),
-        texts: false,
+        readable: Readable {
+            depth: 127,
+            text_numbers: false,
+        },
         json: is_for_tools(spelling),
     }
 }
