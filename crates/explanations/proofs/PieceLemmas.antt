@@ -47,7 +47,13 @@ pub at_some : (path : List Step) → 1 ≤ length path → codes " at " ++ path_
 at_some [] l = absurd (omega arith)
 at_some (step ∷ path) l = refl
 
--- the first ten words
-pub ten_words : (words firsts : List (Bor (List ℕ))) → firsts ≡ take 10 words → map (λ word. string word.now) firsts ≡ map string (take 10 (map (λ word. word.now) words))
+-- words as values
+words_seen : (words : List (Bor (List ℕ))) → map (λ (word : Bor (List ℕ)). string word.now) words ≡ map string (map (λ (word : Bor (List ℕ)). word.now) words)
+words_seen [] = refl
+words_seen (word ∷ words) = ap (λ ds. string word.now ∷ ds) (words_seen words)
+
+-- the first ten
+pub ten_words : (words firsts : List (Bor (List ℕ))) → firsts ≡ take 10 words
+    → map (λ (word : Bor (List ℕ)). string word.now) firsts ≡ map string (take 10 (map (λ (word : Bor (List ℕ)). word.now) words))
 ten_words words firsts e =
-    ap (map (λ word. string word.now)) e ∙ sym (map-map string (λ (word : Bor (List ℕ)). word.now) (take 10 words)) ∙ ap (map string) (sym (take-map (λ (word : Bor (List ℕ)). word.now) 10 words))
+    ap (map (λ (word : Bor (List ℕ)). string word.now)) e ∙ words_seen (take 10 words) ∙ ap (map string) (sym (take-map (λ (word : Bor (List ℕ)). word.now) 10 words))

@@ -1,5 +1,5 @@
 //! Members behind a text.
-ghost use Rattle.std.specs.Prelude.{◌≡◌, ◌++◌, OnOk};
+ghost use Rattle.std.specs.Prelude.{◌≡◌, ◌++◌, OnOk, codes};
 ghost use Rattle.serde_json.specs.Written.{compact_text};
 ghost use Rattle.json_members.specs.Members.{member_text, next_text};
 
@@ -41,11 +41,24 @@ pub fn put_next_text(out: &mut Vec<u8>, key: &str, value: &[u8]) -> Result<(), M
     put_member(out, key, value)
 }
 
+// In steps of two pieces each, which need no proof of their own.
 fn put_member(out: &mut Vec<u8>, key: &str, value: &[u8]) -> Result<(), Memory>
     ensures { OnOk result (out.new.items ≡ out.old.items ++ member_text key.now value.now) }
 {
     put_bytes(out, b"\"")?;
+    put_key_and_value(out, key, value)
+}
+
+fn put_key_and_value(out: &mut Vec<u8>, key: &str, value: &[u8]) -> Result<(), Memory>
+    ensures { OnOk result (out.new.items ≡ out.old.items ++ (key.now ++ (codes "\":" ++ value.now))) }
+{
     put_bytes(out, key.as_bytes())?;
+    put_value(out, value)
+}
+
+fn put_value(out: &mut Vec<u8>, value: &[u8]) -> Result<(), Memory>
+    ensures { OnOk result (out.new.items ≡ out.old.items ++ (codes "\":" ++ value.now)) }
+{
     put_bytes(out, b"\":")?;
     put_bytes(out, value)
 }

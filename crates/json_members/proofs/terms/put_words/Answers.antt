@@ -5,8 +5,6 @@ use Rattle.json_write_contracts.proofs.AddsLaws.{wrote}
 use Rattle.json_write_contracts.proofs.ListedLaws.{listed-at, closed}
 use Rattle.json_members.proofs.terms.put_words.Goals as goal
 
-written : Bor (List ℕ) → Data
-
 pub loop-text-preserved : goal.loop-text-preserved
 loop-text-preserved c =
     listed-at _ (λ word. string word.now) c.args.words.now c.loop-text.text-index c.begin_array.new.self c.loop-text.out c.word.new.out c.loop-text-test.true c.loop-text.invariant c.in_ok-word.ensures.put
