@@ -17,9 +17,9 @@ use Rattle.json_stops.specs.Stops.{Place, StopsAt, fault_of, fault_as}
 use Rattle.scenario_stops.specs.Stops.{StopsIn}
 use Rattle.json_stops.specs.declared.stop.Step.{Step}
 use Rattle.json_stops.specs.declared.stop.Stop.{Stop}
-use Rattle.explanations.specs.Told.{Told}
+use Rattle.told_parts.specs.Told.{Told}
 use Rattle.explanations.specs.declared.how.How.{How}
-use Rattle.explanations.specs.Lines.{beside}
+use Rattle.told_parts.specs.Lines.{beside}
 use Rattle.explanations.specs.Indexes.{indexes_of, keys_in}
 use Rattle.explanations.specs.Explained.{IsFirst, IsToldAt, IsToldBy, IsToldScenario, names_there, spelled, StandsAt, token_behind, told_at}
 use Rattle.explanations.specs.ExplainedSupport.{Begins, place_of}

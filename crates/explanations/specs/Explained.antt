@@ -20,12 +20,12 @@ use Rattle.json_forms.specs.declared.sort.ScenarioSort.TheVariants as parts
 use Rattle.json_stops.specs.Stops.{Place, StopsAt, fault_of, fault_as}
 use Rattle.scenario_stops.specs.Stops.{StopsIn, names_in}
 use Rattle.explanations.specs.declared.broken.NoJson.{NoJson}
-use Rattle.explanations.specs.Told.{Told}
+use Rattle.told_parts.specs.Told.{Told}
 use Rattle.json_members.specs.declared.spelling.Spelling.{Spelling}
 use Rattle.json_members.specs.declared.spelling.Spelling.TheVariants as spellings
 use Rattle.explanations.specs.declared.how.How.{How}
-use Rattle.explanations.specs.Lines.{beside, lines_of}
-use Rattle.explanations.specs.Members.{members_of}
+use Rattle.told_parts.specs.Lines.{beside, lines_of}
+use Rattle.told_parts.specs.Members.{members_of}
 use Rattle.explanations.specs.TextLines.{IsReason, no_json_lines, no_json_members, too_long_line, too_long_members}
 use Rattle.explanations.specs.Indexes.{indexes_of, keys_in}
 

@@ -8,8 +8,8 @@ use Rattle.explanations.specs.declared.broken.NoJson.{NoJson}
 use Rattle.explanations.specs.declared.broken.NoJson.TheVariants as no_json
 use Rattle.serde_json.specs.Data.{string}
 use Rattle.json_members.specs.Members.{first_member, next_member, count_json}
-use Rattle.explanations.specs.Lines.{piece_shown, spot_text}
-use Rattle.explanations.specs.Members.{spot_members}
+use Rattle.told_parts.specs.Lines.{piece_shown, spot_text}
+use Rattle.told_parts.specs.Members.{spot_members}
 
 -- what stands there
 abbrev pub rest_text : List ℕ → List ℕ

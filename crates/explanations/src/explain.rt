@@ -6,15 +6,11 @@ ghost use Rattle.json_tree.specs.View.{view};
 ghost use Rattle.json_read_scenarios.specs.ReadsScenario.{scenario};
 ghost use Rattle.json_stops.specs.Stops.{fault_as, fault_of};
 ghost use Rattle.explanations.specs.Explained.{Explains, ExplainsScenario, FaultIsTold, IsFirst, IsToldAt, IsToldBy, IsToldScenario, names_there, spelled};
-ghost use Rattle.explanations.specs.Told.{seen};
+ghost use Rattle.told_parts.specs.Told.{seen};
 ghost use Rattle.explanations.specs.ExplainedSupport.{Begins, place_of};
 
 use crate::how::How;
 use crate::indexes::{indexes_of, keys_in};
-use crate::lines::told_lines;
-use crate::members::told_members;
-use crate::part::Told;
-use crate::pieces::beside;
 use crate::standing::sure_offset;
 use crate::text_lines::{no_json_told, too_long_told};
 use collections::Memory;
@@ -28,6 +24,7 @@ use part_tokens::beginning_of;
 use scenario_stops::names_in;
 use std::alloc::{AllocError, Global};
 use text_spots::{Spot, spot_at};
+use told_parts::{Told, beside, told_lines, told_members};
 
 /// Why the text of a file isn't read as one of a sort: a contract, a transaction, a state. It is written as `how` says, in lines or
 /// members. `file` is the name that is told. Where the text is read there are no bytes. `Memory` where memory was refused.

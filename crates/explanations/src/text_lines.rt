@@ -1,20 +1,18 @@
 //! What is told of a text that is no JSON, or too long.
 ghost use Rattle.std.specs.Prelude.{◌≡◌, ◌++◌, ◌<◌, ◌≤◌, drop, length, IfOk, OnOk, Some, codes, decimal, string_bytes};
 ghost use Rattle.std.specs.Str.Lossy.{utf8_lossy};
-ghost use Rattle.explanations.specs.Lines.{piece_shown};
+ghost use Rattle.told_parts.specs.Lines.{piece_shown};
 ghost use Rattle.explanations.specs.TextLines as spec;
 ghost use Rattle.explanations.specs.TextLines.{IsReason, has_mark, rest_text};
 ghost use Rattle.explanations.specs.Explained.{IsToldNoJson, no_json_spelled, too_long_spelled};
 
 use crate::broken::{NoJson, first_break};
 use crate::how::How;
-use crate::lines::put_spot;
-use crate::members;
-use crate::pieces::put_bytes;
 use collections::Memory;
 use json_members::{Count, Spelling, put_first, put_next};
 use std::alloc::Global;
 use text_spots::{spot_at, text_shown};
+use told_parts::{put_spot, put_spot_members};
 
 /// What is told of a text that is too long.
 pub(crate) fn too_long_told(
@@ -127,7 +125,7 @@ fn reason_members(
 {
     let words = reason_words(alloc, depth, reason, behind(text, offset))?;
     let mut out = Vec::new(alloc);
-    members::put_spot(alloc, &mut out, file, spot_at(text, offset))?;
+    put_spot_members(alloc, &mut out, file, spot_at(text, offset))?;
     put_next(alloc, &mut out, "reason", &words.as_str())?;
     put_hint_member(alloc, &mut out, reason)?;
     Ok(out)
@@ -219,4 +217,11 @@ fn shown_text(alloc: Global, rest: &[u8]) -> Result<String, Memory>
 {
     let text = String::from_utf8_lossy(alloc, rest)?;
     text_shown(alloc, text.as_str())
+}
+
+fn put_bytes(out: &mut Vec<u8>, bytes: &[u8]) -> Result<(), Memory>
+    ensures { OnOk result (out.new.items ≡ out.old.items ++ bytes.now) }
+{
+    out.extend_from_slice(bytes)?;
+    Ok(())
 }

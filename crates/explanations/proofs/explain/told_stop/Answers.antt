@@ -1,7 +1,7 @@
 use Rattle.std.proofs.Common.{ap, refl, map, subst, ◌∙◌}
 use Rattle.std.proofs.lemmas.Result.{IfOk-weaker}
 use Rattle.json.specs.Reads.{token_of}
-use Rattle.explanations.specs.Told.{Told}
+use Rattle.told_parts.specs.Told.{Told}
 use Rattle.explanations.specs.Indexes.{indexes_of}
 use Rattle.explanations.specs.Explained.{IsFirst}
 use Rattle.explanations.proofs.ExplainLemmas.{stop_told}

@@ -1,6 +1,0 @@
-use Rattle.explanations.proofs.Worked.{misspelled_keys_are_members, quoted_numbers_are_members, repeated_entries_are_members, names_are_members, broken_texts_are_members}
-use Rattle.explanations.proofs.laws.worked_members.Goals as goal
-
-pub returns : goal.returns
-returns c =
-    record { misspelled = misspelled_keys_are_members; quoted = quoted_numbers_are_members; repeated = repeated_entries_are_members; names = names_are_members; broken = broken_texts_are_members }
