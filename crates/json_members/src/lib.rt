@@ -6,7 +6,7 @@ mod members;
 mod spelling;
 mod terms;
 
-pub use laws::worked_members;
+pub use laws::{members_are_an_object, worked_members};
 pub use members::{put_first, put_next, put_next_text};
 pub use spelling::Spelling;
 pub use terms::{Count, Words};

@@ -1,17 +1,18 @@
 -- The members of a JSON object, for tools: from what is told, as the lines are.
-use Rattle.std.specs.Prelude.{ℕ, pos, List, [], ◌++◌, map, take, Option, Some, None, codes}
-use Rattle.serde_json.specs.Data.{Data, string, array}
+use Rattle.std.specs.Prelude.{◌≡◌, ℕ, pos, List, [], ◌∷◌, ◌++◌, map, take, Option, Some, None, codes}
+use Rattle.serde_json.specs.Data.{Data, string, array, object}
+use Rattle.serde_json.specs.Written.{compact_text}
 use Rattle.serde_json.specs.View.{items_of}
 use Rattle.json.specs.Token.{Token}
 use Rattle.text_spots.specs.declared.spots.Spot.{Spot}
-use Rattle.json_write_contracts.specs.WrittenNames.{number_json}
+use Rattle.json_write_contracts.specs.WrittenNames.{number_json, two}
 use Rattle.json_forms.specs.declared.sort.Sort.{Sort}
 use Rattle.json_forms.specs.declared.sort.Sort.TheVariants as sorts
 use Rattle.json_forms.specs.declared.sort.ScenarioSort.TheVariants as parts
 use Rattle.json_forms.specs.Forms.{key_word}
 use Rattle.json_stops.specs.declared.stop.Step.{Step}
 use Rattle.json_stops.specs.declared.stop.Step.TheVariants as steps
-use Rattle.json_members.specs.Members.{first_member, next_member, next_text, count_json, words_json}
+use Rattle.json_members.specs.Members.{Member, members_from, first_member, next_member, next_text, count_json, words_json}
 use Rattle.told_parts.specs.Words.{sort_text}
 use Rattle.told_parts.specs.Told.{Told}
 use Rattle.told_parts.specs.Lines.{token_text, hint_text, near_key, sought}
@@ -67,15 +68,56 @@ abbrev pub first_spot_member : Option Spot → List ℕ
 first_spot_member None = []
 first_spot_member (Some spot) = next_text (codes "first") (spot_object spot)
 
--- the first ten names that there are, of a name that none of them is
-abbrev pub names_member : Sort → List (List ℕ) → List ℕ
-names_member (sorts.OfScenario (parts.NameOf kind)) names = next_member (codes "names") (words_json (take 10 names))
-names_member sort names = []
+-- the names that there are, of a name that none of them is
+abbrev pub names_told : Sort → List (List ℕ) → Option (List (List ℕ))
+names_told (sorts.OfScenario (parts.NameOf kind)) names = Some names
+names_told sort names = None
+
+-- the first ten
+abbrev pub names_member : Option (List (List ℕ)) → List ℕ
+names_member None = []
+names_member (Some names) = next_member (codes "names") (words_json (take 10 names))
 
 abbrev pub other_members : Told → List ℕ
-other_members t = first_spot_member t.first ++ names_member t.sort t.names
+other_members t = first_spot_member t.first ++ names_member (names_told t.sort t.names)
 
 -- ---- all members
 
 abbrev pub members_of : List ℕ → Told → List ℕ
 members_of file t = where_members file t ++ (what_members t ++ (hint_members t ++ other_members t))
+
+-- ---- the same as a JSON value
+
+-- what is there, before the rest
+abbrev pub keys_before : Token → List (List ℕ) → List Member → List Member
+keys_before Token.begin_object keys rest = (codes "keys", words_json (take 10 keys)) ∷ rest
+keys_before token keys rest = rest
+
+abbrev pub near_before : Option (List ℕ) → List Member → List Member
+near_before None rest = rest
+near_before (Some key) rest = (codes "nearest", string key) ∷ rest
+
+abbrev pub spot_json : Spot → Data
+spot_json spot = two (codes "line") (count_json spot.line) (codes "column") (count_json spot.column)
+
+abbrev pub first_before : Option Spot → List Member → List Member
+first_before None rest = rest
+first_before (Some spot) rest = (codes "first", spot_json spot) ∷ rest
+
+abbrev pub names_last : Option (List (List ℕ)) → List Member
+names_last None = []
+names_last (Some names) = (codes "names", words_json (take 10 names)) ∷ []
+
+abbrev pub behind_stands : Told → List Member
+behind_stands t =
+    keys_before t.token t.keys
+    ((codes "hint", string (hint_text t.fault t)) ∷ near_before (near_key t.sort (sought t.keys)) (first_before t.first (names_last (names_told t.sort t.names))))
+
+abbrev pub record_of : List ℕ → Told → List Member
+record_of file t =
+    (codes "file", string file) ∷ (codes "line", count_json t.spot.line) ∷ (codes "column", count_json t.spot.column) ∷ (codes "place", path_json t.path)
+    ∷ (codes "wanted", string (wanted_text t.sort)) ∷ (codes "stands", string (token_text t.token)) ∷ behind_stands t
+
+-- in braces the members are the compact text of one JSON object
+abbrev pub ToldIsAnObject : Type 0
+ToldIsAnObject = (file : List ℕ) (t : Told) → codes "{" ++ (members_of file t ++ codes "}") ≡ compact_text (object (members_from (record_of file t)))

@@ -10,7 +10,7 @@ mod part;
 mod pieces;
 mod words;
 
-pub use laws::{worked_lines, worked_members};
+pub use laws::{told_parts_are_objects, worked_lines, worked_members};
 pub use lines::{put_spot, told_lines};
 pub use members::{put_spot_members, told_members};
 pub use part::Told;

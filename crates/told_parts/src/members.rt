@@ -238,7 +238,7 @@ fn spot_object(alloc: Global, spot: Spot) -> Result<Vec<u8>, Memory>
 
 // The first ten names that there are.
 fn put_names(alloc: Global, out: &mut Vec<u8>, sort: Sort, names: &[&str]) -> Result<(), Memory>
-    ensures { OnOk result (out.new.items ≡ out.old.items ++ spec.names_member sort (map (λ name. name.now) names.now)) }
+    ensures { OnOk result (out.new.items ≡ out.old.items ++ spec.names_member (spec.names_told sort (map (λ name. name.now) names.now))) }
 {
     match sort {
         Sort::OfScenario(ScenarioSort::NameOf(_)) => put_ten(alloc, out, "names", names),
