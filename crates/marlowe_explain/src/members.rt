@@ -1,8 +1,9 @@
 //! Members of a JSON object for tools.
-ghost use Rattle.std.specs.Prelude.{◌≡◌, ◌-◌, length, take, IfOk, OnOk, OnErr};
-ghost use Rattle.std.specs.Prelude.{◌++◌};
+ghost use Rattle.std.specs.Prelude.{◌≡◌, ◌++◌, ◌-◌, codes, length, take, IfOk, OnOk, OnErr};
 ghost use Rattle.contract.specs.Tree.{contract_tree};
 ghost use Rattle.json_write_contracts.specs.Tokens.{Keeps, Puts};
+ghost use Rattle.json_write_contracts.specs.WrittenNames.{party_json, token_json};
+ghost use Rattle.json_members.specs.Members.{next_member};
 ghost use Rattle.places.specs.Texts.{place_json};
 ghost use Rattle.marlowe_explain.specs.Members as spec;
 
@@ -71,8 +72,7 @@ pub(crate) fn sum_members(
 {
     let mut out = reason(alloc, "sum_leaves")?;
     put_place(alloc, &mut out, contract, place)?;
-    put_next(alloc, &mut out, "party", owner)?;
-    put_next(alloc, &mut out, "token", token)?;
+    put_account(alloc, &mut out, owner, token)?;
     Ok(out)
 }
 
@@ -89,8 +89,7 @@ pub(crate) fn unmatched_members(
 {
     let mut out = reason(alloc, "no_match")?;
     put_next(alloc, &mut out, "input", &Count(index))?;
-    put_place(alloc, &mut out, contract, place)?;
-    put_answer(&mut out, next)?;
+    put_standing(alloc, &mut out, contract, place, next)?;
     Ok(out)
 }
 
@@ -104,8 +103,7 @@ pub(crate) fn useless_members(
     ensures { IfOk result (λ text. text.items ≡ spec.useless_members (contract_tree contract.now) place.now next.now) }
 {
     let mut out = reason(alloc, "useless")?;
-    put_place(alloc, &mut out, contract, place)?;
-    put_answer(&mut out, next)?;
+    put_standing(alloc, &mut out, contract, place, next)?;
     Ok(out)
 }
 
@@ -141,6 +139,30 @@ impl<'a> Term for Place<'a> {
     fn put(&self, _alloc: Global, out: &mut Writer) -> Result<(), Memory> {
         put_place_json(out, self.0)
     }
+}
+
+// The owner and the token of an account.
+fn put_account(alloc: Global, out: &mut Vec<u8>, owner: &Party, token: &Token) -> Result<(), Memory>
+    ensures { OnOk result (out.new.items ≡ out.old.items
+        ++ (next_member (codes "party") (party_json owner.now) ++ next_member (codes "token") (token_json token.now))) }
+{
+    put_next(alloc, out, "party", owner)?;
+    put_next(alloc, out, "token", token)
+}
+
+// Where the contract stands, and what can be done next.
+fn put_standing(
+    alloc: Global,
+    out: &mut Vec<u8>,
+    contract: &Contract,
+    place: &[PathStep],
+    next: &[u8],
+) -> Result<(), Memory>
+    ensures { OnOk result (out.new.items ≡ out.old.items
+        ++ (spec.place_member (contract_tree contract.now) place.now ++ spec.next_answer next.now)) }
+{
+    put_place(alloc, out, contract, place)?;
+    put_answer(out, next)
 }
 
 fn put_answer(out: &mut Vec<u8>, line: &[u8]) -> Result<(), Memory>
