@@ -13,10 +13,6 @@ use table_lines::table_lines;
 
 /// Compiles a contract, as a JSON text of at most 1,048,576 bytes, and gives the text of its table: a line for each node,
 /// and one for the root. Refused is a text that is no contract, and a contract that `compile` refuses.
-<<<<<<< HEAD
-#[tactic(auto, using(crate::proofs::WithinLaws::tables_127))]
-=======
->>>>>>> 041d5859048378586448b9daf90d461594142b4a
 pub fn table_text(alloc: Global, contract: &[u8]) -> Result<Vec<u8>, TableFault>
     ensures { AsideBy TableFault.Memory (λ text. text.items) result (table_text contract.now) }
 {
