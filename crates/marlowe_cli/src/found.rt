@@ -89,7 +89,7 @@ pub fn depth(found: &ArgMatches<'_>) -> Result<usize, NoTask>
 fn depth_within(depth: i64) -> Result<usize, NoTask>
     ensures { IfOk result (λ n. (pos n ≡ depth) × (127 ≤ n) × (n ≤ 800)) }
 {
-    if 127 <= depth && depth <= 4_000 {
+    if 127 <= depth && depth <= 800 {
         Ok(depth as usize)
     } else {
         Err(NoTask::Missing)

@@ -56,7 +56,7 @@ pub fn time<'a>(alloc: Global, name: &'a str, help: &'a str) -> Arg<'a>
 pub fn depth_option<'a>(alloc: Global, name: &'a str, help: &'a str) -> Arg<'a>
     ensures { IsArgument (number 127 800 name.entry.now) result }
 {
-    option(alloc, name, "N", help).value_parser(value_parser!(i64).range(127..=4_000))
+    option(alloc, name, "N", help).value_parser(value_parser!(i64).range(127..=800))
 }
 
 /// An option that may be given again and again, each time with one value.
