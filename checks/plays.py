@@ -26,6 +26,7 @@ import sys
 import tempfile
 
 sys.path.insert(0, os.path.dirname(os.path.abspath(__file__)))
+import interpreter
 import ledger
 import random_scenarios
 import readings
@@ -51,13 +52,14 @@ class Play:
             raise Refused(f"refused scenario {fault}") from None
         genesis = [ledger.Output(("key", funds["address"]), ledger.amount(funds["amount"])) for funds in self.scenario["genesis"]]
         self.chain, self.lines, self.starts = ledger.Chain(genesis, self.scenario["tick"]), [], []
-        self.notes = collections.defaultdict(list)
+        self.refusals, self.taken, self.intents_told = [], {}, [Told(plan) for plan in self.scenario["plans"]]
         self.answered = collections.Counter()
 
     def answer(self, seat, call):
         """Makes a call for a seat, and its line."""
         reply = self.chain.call(*call)
-        self.notes[len(self.lines)] += refusals(reply.text)
+        self.refusals.append(refusals(reply.text))
+        self.taken.update((int(ticket), (len(self.lines), verdict == "accepted")) for ticket, verdict in tickets(reply.text))
         self.lines.append(f"{len(self.lines)} {seat}.{self.answered[seat]} {reply.text}")
         self.answered[seat] += 1
         return reply
@@ -68,25 +70,64 @@ class Play:
         return self.lines + threads + [f"entries {len(self.lines)}"]
 
     def explained(self):
-        """The same with notes behind the entries, and with who holds what."""
+        """The same with what is told behind the entries, how each intent ended, and who holds what."""
+        notes = collections.defaultdict(list, enumerate(self.refusals))
+        for told in self.intents_told:
+            for place, line in told.unbuilt:
+                notes[place] = notes[place] + [line]
+            for ending, lines in told.steps:
+                place = self.done_at(ending)
+                if place is not None:
+                    notes[place] = notes[place] + lines
         lines = self.whole()
-        noted = [line for place, entry in enumerate(self.lines) for line in [entry] + ["    " + note for note in self.notes[place]]]
-        return noted + lines[len(self.lines):] + self.holdings()
+        noted = [line for place, entry in enumerate(self.lines) for line in [entry] + ["    " + note for note in notes[place]]]
+        return noted + lines[len(self.lines):] + self.endings() + self.holdings()
+
+    def done_at(self, ending):
+        """The place of the entry at which something was done: of what was pooled that of the round."""
+        if isinstance(ending, int):
+            place, accepted = self.taken.get(ending, (None, False))
+            return place if accepted else None
+        return int(ending.removeprefix("done at "))
+
+    def endings(self):
+        return [f"plan {ledger.compact(plan['name'])} {self.intent_text(intent)}: {self.ending(told.ended(place))}"
+                for plan, told in zip(self.scenario["plans"], self.intents_told) for place, intent in enumerate(plan["intents"])]
+
+    def ending(self, ending):
+        """The ending of an intent: a ticket for what was pooled."""
+        if isinstance(ending, str):
+            return ending
+        if ending not in self.taken:
+            return f"in the pool, ticket {ending}"
+        place, accepted = self.taken[ending]
+        return f"done at {place}" if accepted else f"refused in round at {place}, ticket {ending}"
+
+    def thread_text(self, place):
+        return ledger.compact(self.scenario["threads"][place]["name"])
 
     def intent_text(self, intent):
+        if "round" in intent:
+            return f"round {intent['round']}"
+        if "advance" in intent:
+            return f"advance {intent['advance']}"
         if "claim" in intent:
             return f"claim {ledger.compact(self.scenario['contracts'][intent['claim']]['name'])} {ledger.compact(intent['role'])}"
-        names = [ledger.compact(self.scenario["threads"][step["step"]]["name"]) for step in steps_of(intent)]
-        return " ".join(["steps" if "steps" in intent else "step"] + names)
+        return " ".join(["steps" if "steps" in intent else "step"] + [self.thread_text(step["step"]) for step in steps_of(intent)])
 
-    def leave_out(self, intent, looks, fault):
-        """The note of an intent on which nothing was built, behind its last look."""
+    def unbuilt(self, intent, looks, fault):
+        """What hindered an intent, in words."""
         if "claim" in intent and fault == "NoThread":
-            cause = "nothing to claim"
-        else:
-            cause = f"not built: {fault}: {build_words(intent, looks, fault)}"
-        if "claim" in intent or steps_of(intent):
-            self.notes[len(self.lines) - 1].append(f"{self.intent_text(intent)}: {cause}")
+            return f"{self.intent_text(intent)}: nothing to claim"
+        return f"{self.intent_text(intent)}: not built: {fault}: {build_words(intent, looks, fault)}"
+
+    def stepped(self, intent, looks):
+        """What the steps of an intent did, by its looks."""
+        if "claim" in intent:
+            return []
+        interval = {"from": intent["from"], "to": intent["to"]}
+        return [f"step {self.thread_text(step['step'])}: {line}" for look, step in zip(looks, steps_of(intent))
+                for line in step_lines(look, interval, step["inputs"])]
 
     def steps(self, start):
         steps, end = self.chain.spine(start)
@@ -137,38 +178,54 @@ class Play:
         contract = self.scenario["contracts"][place]
         return self.chain.published[ledger.script_id(contract["contract"], bytes.fromhex(contract["currency"]))]
 
-    def plan(self, plan):
+    def plan(self, plan, told):
         """The calls of a plan's seat, up to where it stops."""
-        return stopped(self.intents(plan), plan["stop_after"])
+        return stopped(self.intents(plan, told), plan["stop_after"])
 
-    def intents(self, plan):
-        for intent in plan["intents"]:
-            yield from self.intent(plan, intent)
+    def intents(self, plan, told):
+        for place, intent in enumerate(plan["intents"]):
+            told.endings[place] = yield from self.intent(plan, intent, told)
 
-    def intent(self, plan, intent):
+    def intent(self, plan, intent, told=None):
+        """Makes the calls of an intent: how it ended. Where nobody is told, what hindered it is dropped."""
+        told = told or Told(plan)
         if "round" in intent:
             yield "round", intent["round"]
-        elif "advance" in intent:
-            yield "advance", intent["advance"]
-        else:
-            yield from self.tried(plan, intent)
+            return self.at("done")
+        if "advance" in intent:
+            reply = yield "advance", intent["advance"]
+            return self.at(reply.text.removeprefix("advance ").replace("advanced", "done"))
+        return (yield from self.tried(plan, intent, told))
 
-    def tried(self, plan, intent):
-        """Looks at all that is asked for, builds and submits, again where an output was spent meanwhile; or enqueues, once."""
+    def at(self, word):
+        """What happened at the last entry."""
+        return f"{word} at {len(self.lines) - 1}"
+
+    def tried(self, plan, intent, told):
+        """Looks at all that is asked for, builds and submits, again where an output was spent meanwhile; or enqueues, once. How it ended."""
         pool = intent.get("pool", False)
         for _ in range(1 + AGAIN):
-            looks = []
+            looks, last = [], None
             for ask in self.asks(plan, intent):
                 reply = yield "look", ask
                 looks.append(reply.look)
+                last = len(self.lines) - 1
             try:
                 transaction = built(plan, intent, looks)
             except ledger.Hindered as fault:
-                self.leave_out(intent, looks, str(fault))
-                return
+                if looks:
+                    told.unbuilt.append((last, self.unbuilt(intent, looks, str(fault))))
+                return "nothing to claim" if "claim" in intent and str(fault) == "NoThread" else "not built"
             reply = yield "enqueue" if pool else "submit", transaction
-            if pool or not (reply.fault or "").startswith("NotUnspent"):
-                return
+            if reply.text == "enqueue full":
+                return self.at("pool full")
+            if pool or not reply.fault:
+                ending = int(reply.text.removeprefix("enqueue ticket ")) if pool else self.at("done")
+                told.steps.append((ending, self.stepped(intent, looks)))
+                return ending
+            if not reply.fault.startswith("NotUnspent"):
+                return self.at("refused")
+        return self.at("given up")
 
     def asks(self, plan, intent):
         """What an intent asks to be shown: several steps ask for each of their threads."""
@@ -176,6 +233,17 @@ class Play:
             currency = bytes.fromhex(self.scenario["contracts"][intent["claim"]]["currency"])
             return [ledger.Ask(None, plan["keys"], [(currency, intent["role"])])]
         return [ledger.Ask(self.starts[step["step"]], plan["keys"], []) for step in steps_of(intent)]
+
+
+class Told:
+    """What is told of a plan: how its intents ended, what hindered some of them, behind which entry, and what its steps did."""
+
+    def __init__(self, plan):
+        self.plan, self.endings, self.unbuilt, self.steps = plan, {}, [], []
+
+    def ended(self, place):
+        """A plan that stopped builds no more; only of steps of no thread the builder is asked."""
+        return self.endings.get(place, "not built" if self.plan["intents"][place].get("steps") == [] else "stopped")
 
 
 RULES = {
@@ -212,15 +280,50 @@ def rule_words(fault):
     return RULES[name].format(of)
 
 
+def tickets(reply):
+    """The tickets that a round took, each with its verdict."""
+    return re.findall("([0-9]+) (accepted|refused [A-Za-z]+(?: [0-9]+)?)", reply.removeprefix("round ")) if reply.startswith("round ") else []
+
+
 def refusals(reply):
-    """The notes of a reply, which it has where something was refused."""
+    """What is told of a reply: of each refusal the rule, in words."""
     if reply == "advance backward":
         return ["the tick is later already"]
     if reply == "enqueue full":
         return ["the pool has 1024 transactions, and takes no more"]
     if reply.startswith("submit refused "):
         return [rule_words(reply.removeprefix("submit refused "))]
-    return [f"ticket {place}: {rule_words(fault)}" for place, fault in re.findall("([0-9]+) refused ([A-Za-z]+(?: [0-9]+)?)", reply) if reply.startswith("round ")]
+    return [f"ticket {ticket}: {rule_words(verdict.removeprefix('refused '))}" for ticket, verdict in tickets(reply) if verdict != "accepted"]
+
+
+def step_lines(look, interval, inputs):
+    """What a step did: its payments, its warnings, and what its contract waits for then."""
+    run, left = ledger.run_of(look.thread, interval, inputs)
+    told = [f"pays {number} {token_text((of[0], of[1].encode()))} from {ledger.compact(interpreter.party_json(source))}"
+            f" to {ledger.compact(interpreter.payee_json(target))}" for source, target, of, number in run.payments]
+    told += [f"warns {warning['warning']}" for warning in run.warnings]
+    if left == "close":
+        return told + ["closed"]
+    state = interpreter.state_json(run, int)
+    at = max(look.tick, state["minTime"])
+    for case in left["when"]:
+        told += waited(interpreter.Transaction(state, {"from": at, "to": at}), case["case"])
+    return told + [f"waits until {left['timeout'] - 1}"]
+
+
+def waited(machine, action):
+    """What a case waits for, as a list of one line or none."""
+    try:
+        if "deposits" in action:
+            who = f"by {ledger.compact(action['party'])} into {ledger.compact(action['into_account'])}"
+            return [f"waits for deposit {machine.value(action['deposits'])} {token_text(ledger.token(action['of_token']))} {who}"]
+        if "for_choice" in action:
+            choice = action["for_choice"]
+            bounds = ", ".join(str(each["from"]) if each["from"] == each["to"] else f"{each['from']} to {each['to']}" for each in action["choose_between"])
+            return [f"waits for choose {ledger.compact(choice['choice_name'])} of {ledger.compact(choice['choice_owner'])}: {bounds}"]
+        return ["waits for notify"] if machine.holds(action["notify_if"]) else []
+    except interpreter.Refused as fault:
+        return [f"waits for deposit {who}: {fault}" if "deposits" in action else f"waits for notify: {fault}"]
 
 
 def text_json(text):
@@ -268,11 +371,11 @@ def next_call(calls, reply):
 
 
 def played(text, explain=False):
-    """The lines of a play whose plans take turns, each whole, on one thread, and who holds what at its end."""
+    """The lines of a play whose plans take turns, each whole, on one thread; explained, with what stands behind them and at the end."""
     play = Play(text)
     run_whole(play, 0, play.setup())
     for place, plan in enumerate(play.scenario["plans"]):
-        run_whole(play, place + 1, play.plan(plan))
+        run_whole(play, place + 1, play.plan(plan, play.intents_told[place]))
     return play.explained() if explain else play.whole()
 
 
@@ -299,8 +402,8 @@ class Seats:
 
     def begin_plans(self):
         if len(self.calls) == 1 and self.next[0] is None:
-            for plan in self.play.scenario["plans"]:
-                self.add(self.play.plan(plan))
+            for plan, told in zip(self.play.scenario["plans"], self.play.intents_told):
+                self.add(self.play.plan(plan, told))
 
     def answer(self, seat):
         """Makes a seat's next call. Whether it has one."""

@@ -1,0 +1,121 @@
+//! A line for each intent.
+ghost use Rattle.std.specs.Prelude.{◌≡◌, ◌++◌, IfOk, OnOk, option_copied, slice_get, string_bytes};
+ghost use Rattle.play_endings.specs.EndingLines as told;
+ghost use Rattle.play_endings.specs.EndingLines.{ending_text, ending_line, line_of, ending_lines};
+
+use crate::ending::{Ended, Ending};
+use collections::{Memory, Text};
+use json_write_contracts::term_text;
+use plans::{Intent, NamedContract, NamedThread};
+use play_notes::intent_text;
+use std::alloc::Global;
+use std::fmt::Write;
+
+pub(crate) fn intent_at(
+    intents: &[Intent<usize, usize>],
+    place: usize,
+) -> Option<&Intent<usize, usize>>
+    ensures { option_copied result ≡ slice_get intents.now place }
+{
+    intents.get(place)
+}
+
+fn ending_text(alloc: Global, ending: Ending) -> Result<String, Memory>
+    ensures { IfOk result (λ text. string_bytes text ≡ ending_text ending) }
+{
+    match ending {
+        Ending::Done(place) => format!(in alloc; "done at {place}"),
+        Ending::NotBuilt => format!(in alloc; "not built"),
+        Ending::NothingToClaim => format!(in alloc; "nothing to claim"),
+        Ending::Refused(place) => format!(in alloc; "refused at {place}"),
+        Ending::GivenUp(place) => format!(in alloc; "given up at {place}"),
+        Ending::PoolFull(place) => format!(in alloc; "pool full at {place}"),
+        Ending::RefusedInRound(place, ticket) => {
+            format!(in alloc; "refused in round at {place}, ticket {ticket}")
+        }
+        Ending::Pooled(ticket) => format!(in alloc; "in the pool, ticket {ticket}"),
+        Ending::Backward(place) => format!(in alloc; "backward at {place}"),
+        Ending::Stopped => format!(in alloc; "stopped"),
+    }
+}
+
+fn put_ending(
+    alloc: Global,
+    out: &mut String,
+    plan: &str,
+    threads: &[NamedThread],
+    contracts: &[NamedContract],
+    intent: &Intent<usize, usize>,
+    ending: Ending,
+) -> Result<(), Memory>
+    ensures { OnOk result (string_bytes out.new ≡ string_bytes out.old
+        ++ ending_line plan.now threads.now contracts.now intent.now ending) }
+{
+    let intent_words = intent_text(alloc, threads, contracts, intent)?;
+    let ending_words = ending_text(alloc, ending)?;
+    write!(out, "plan {plan} {intent_words}: {ending_words}\n")
+}
+
+// Puts the line of an intent, if there is one.
+fn put_line(
+    alloc: Global,
+    out: &mut String,
+    plan: &str,
+    threads: &[NamedThread],
+    contracts: &[NamedContract],
+    intent: Option<&Intent<usize, usize>>,
+    ending: Ending,
+) -> Result<(), Memory>
+    ensures { OnOk result (string_bytes out.new ≡ string_bytes out.old
+        ++ line_of plan.now threads.now contracts.now (option_copied intent.entry) ending) }
+{
+    match intent {
+        Some(intent) => put_ending(alloc, out, plan, threads, contracts, intent, ending),
+        None => Ok(()),
+    }
+}
+
+fn put_lines(
+    alloc: Global,
+    out: &mut String,
+    plan: &str,
+    threads: &[NamedThread],
+    contracts: &[NamedContract],
+    intents: &[Intent<usize, usize>],
+    ended: &[Ended<'_, '_>],
+) -> Result<(), Memory>
+    ensures { OnOk result (string_bytes out.new ≡ string_bytes out.old
+        ++ ending_lines plan.now threads.now contracts.now intents.now 0 ended.now) }
+{
+    for (place, one) in ended.iter().enumerate() {
+        let intent = intent_at(intents, place);
+        put_line(alloc, out, plan, threads, contracts, intent, one.ending)?;
+    }
+    Ok(())
+}
+
+/// Puts a line for each intent of a plan at the end of a text: the plan's name, the intent, which names threads and contracts by their
+/// places in these lists, and how it ended. Answers `Memory` only where a growth was refused.
+pub fn put_endings(
+    alloc: Global,
+    out: &mut String,
+    name: &Text,
+    threads: &[NamedThread],
+    contracts: &[NamedContract],
+    intents: &[Intent<usize, usize>],
+    ended: &[Ended<'_, '_>],
+) -> Result<(), Memory>
+    ensures { OnOk result (string_bytes out.new ≡ string_bytes out.old
+        ++ told.plan_lines name.now threads.now contracts.now intents.now ended.now) }
+{
+    let plan = term_text(alloc, name)?;
+    put_lines(
+        alloc,
+        out,
+        plan.as_str(),
+        threads,
+        contracts,
+        intents,
+        ended,
+    )
+}
