@@ -202,7 +202,7 @@ how_many_starts s outputs seats left w = starts_length s w.begun outputs w.first
 -- ---- what is printed
 
 -- the lines of what all seats were told
-pub told_of : (s : Scenario) (a : Wanted) (c : Course) (objects : List Published) (outputs : List OutputRef) (seats : List SeatRecord) (left : List (List LeftOut)) (threads : List ThreadLine) (text : List ℕ) (well : Bool) → objects ≡ map object_of s.contracts → c.genesis ≡ map key_output s.genesis → c.first_tick ≡ s.tick → IsLegal c → AreHeard c.entries seats → length c.entries ≡ answered seats → WerePlayed s outputs seats left → AreLines c objects s.threads outputs threads → IsTold a.explain s c outputs left threads text → well ≡ well_by a s left c.entries threads → TellsAPlay s a text well
+pub told_of : (s : Scenario) (a : Wanted) (c : Course) (objects : List Published) (outputs : List OutputRef) (seats : List SeatRecord) (left : List (List LeftOut)) (threads : List ThreadLine) (text : List ℕ) (well : Bool) → objects ≡ map object_of s.contracts → c.genesis ≡ map key_output s.genesis → c.first_tick ≡ s.tick → IsLegal c → AreHeard c.entries seats → length c.entries ≡ answered seats → WerePlayed s outputs seats left → AreLines c objects s.threads outputs threads → IsTold a.face s c outputs left threads text → well ≡ well_by a s left c.entries threads → TellsAPlay s a text well
 told_of s a c objects outputs seats left threads text well are first at legal heard whole w lines is so =
     let same : c ≡ course (map key_output s.genesis) s.tick c.entries = ap₂ (λ (os : List Output) (t : ℤ). course os t c.entries) first at in
     record {
@@ -219,7 +219,7 @@ told_of s a c objects outputs seats left threads text well are first at legal he
       left_out = w.left_out;
       threads = threads;
       each = subst (λ (k : Course). AllZip (λ (b : Begun) (l : ThreadLine). IsThreadLine k b.thread.name b.object (start_output b) l) w.begun threads) same (lines_played s c objects outputs seats left threads w are lines);
-      lines = subst (λ (k : Course). IsTold a.explain s k (map start_output w.begun) left threads text) same (subst (λ (os : List OutputRef). IsTold a.explain s c os left threads text) w.outputs_are is);
+      lines = subst (λ (k : Course). IsTold a.face s k (map start_output w.begun) left threads text) same (subst (λ (os : List OutputRef). IsTold a.face s c os left threads text) w.outputs_are is);
       well_is = so;
     }
 

@@ -4,47 +4,50 @@ ghost use Rattle.std.specs.List.{All};
 ghost use Rattle.plans.specs.declared.scenario.NamedThread.{NamedThread};
 ghost use Rattle.play_lines.specs.PlayLines.{ThreadLine as Told};
 ghost use Rattle.play_setup.specs.SetUp.{key_output};
-ghost use Rattle.marlowe_play.specs.Played.{IsThreadLine, IsExplained, IsTold, leaves_close, wanted, well_by};
+ghost use Rattle.marlowe_play.specs.Played.{IsThreadLine, IsTold, TellsAll, leaves_close, wanted, well_by};
 ghost use Rattle.marlowe_play.specs.PlayedSupport.{AreLines};
 
-use crate::playing::{Asked, Played};
+use crate::asked::{Asked, Face, Played};
 use chain_holdings::holdings_after;
 use collections::{Memory, Text};
 use eutxo_types::OutputRef;
 use hub::{Chain, StepRecord};
 use parties::LeftOut;
 use plans::{NamedThread, Scenario};
-use plans_told::{noted_lines, told_of, went_well};
-use play_holdings::holding_lines;
+use plans_told::{Spelling, all_told, went_well};
 use play_lines::{ThreadLine, played_lines};
 use play_setup::{Stage, key_outputs};
 use roles::Published;
 use std::alloc::Global;
 
-// The lines with what is told behind entries, and behind them how intents ended and who holds what.
-fn explained_text(
+// All that is told of a play, and who holds what.
+fn told_text(
     alloc: Global,
     chain: &Chain,
     scenario: &Scenario,
     starts: &[OutputRef],
     left: &[Vec<LeftOut>],
     lines: &[ThreadLine<'_>],
+    spelling: Spelling,
 ) -> Result<Vec<u8>, Memory>
     requires genesis { chain.now.genesis ≡ map key_output scenario.now.genesis }
     requires tick { chain.now.first_tick ≡ scenario.now.tick }
-    ensures { IfOk result (λ text. IsExplained scenario.now chain.now starts.now (map (λ l. l.items) left.now) lines.now text.items) }
+    ensures { IfOk result (λ text. TellsAll spelling scenario.now chain.now starts.now (map (λ l. l.items) left.now) lines.now text.items) }
 {
     let first = key_outputs(alloc, scenario.genesis.as_slice())?;
     let holdings = holdings_after(alloc, chain, &first, scenario.tick, starts)?;
-    let ending = holding_lines(alloc, scenario.threads.as_slice(), &holdings)?;
-    let told = told_of(alloc, scenario, left, chain.entries())?;
-    let mut text = noted_lines(alloc, &told.notes, chain.entries(), lines)?;
-    text.extend_from_slice(told.lines.as_bytes())?;
-    text.extend_from_slice(ending.as_bytes())?;
-    Ok(text)
+    all_told(
+        alloc,
+        spelling,
+        scenario,
+        left,
+        chain.entries(),
+        lines,
+        &holdings,
+    )
 }
 
-// The lines alone, or explained.
+// What is printed, as it is to be.
 fn text_of(
     alloc: Global,
     chain: &Chain,
@@ -52,17 +55,25 @@ fn text_of(
     starts: &[OutputRef],
     left: &[Vec<LeftOut>],
     lines: &[ThreadLine<'_>],
-    explain: bool,
+    face: Face,
 ) -> Result<Vec<u8>, Memory>
     requires genesis { chain.now.genesis ≡ map key_output scenario.now.genesis }
     requires tick { chain.now.first_tick ≡ scenario.now.tick }
     ensures { IfOk result (λ text.
-        IsTold explain scenario.now chain.now starts.now (map (λ l. l.items) left.now) lines.now text.items) }
+        IsTold face scenario.now chain.now starts.now (map (λ l. l.items) left.now) lines.now text.items) }
 {
-    if explain {
-        explained_text(alloc, chain, scenario, starts, left, lines)
-    } else {
-        played_lines(alloc, chain.entries(), lines)
+    match face {
+        Face::Plain => played_lines(alloc, chain.entries(), lines),
+        Face::Explained => told_text(alloc, chain, scenario, starts, left, lines, Spelling::Lines),
+        Face::Objects => told_text(
+            alloc,
+            chain,
+            scenario,
+            starts,
+            left,
+            lines,
+            Spelling::Objects,
+        ),
     }
 }
 
@@ -75,17 +86,24 @@ fn well_by(
     lines: &[ThreadLine<'_>],
     asked: Asked<'_>,
 ) -> Result<bool, Memory>
-    ensures { IfOk result (λ well. well ≡ well_by (wanted asked.explain asked.strict (map (λ s. string_bytes s) asked.open.now))
+    ensures { IfOk result (λ well. well ≡ well_by (wanted asked.face asked.strict (map (λ s. string_bytes s) asked.kept_open.now))
         scenario.now (map (λ l. l.items) left.now) chain.now.entries lines.now) }
 {
     if asked.strict {
-        went_well(alloc, scenario, left, chain.entries(), lines, asked.open)
+        went_well(
+            alloc,
+            scenario,
+            left,
+            chain.entries(),
+            lines,
+            asked.kept_open,
+        )
     } else {
         Ok(true)
     }
 }
 
-// The whole text, explained if it is to be, and whether all went well, if that was asked. Each line ends in a line feed.
+// The whole text, as it is to be, and whether all went well, if that was asked. Each line ends in a line feed.
 pub(crate) fn played_text(
     alloc: Global,
     chain: &Chain,
@@ -99,15 +117,15 @@ pub(crate) fn played_text(
     requires genesis { chain.now.genesis ≡ map key_output scenario.now.genesis }
     requires tick { chain.now.first_tick ≡ scenario.now.tick }
     ensures { IfOk result (λ played. (lines : List Told)
-        × IsTold asked.explain scenario.now chain.now stage.now.starts.items (map (λ l. l.items) left.now) lines played.text.items
-        × (played.well ≡ well_by (wanted asked.explain asked.strict (map (λ s. string_bytes s) asked.open.now))
-            scenario.now (map (λ l. l.items) left.now) chain.now.entries lines)
+        × IsTold asked.face scenario.now chain.now stage.now.starts.items (map (λ l. l.items) left.now) lines played.text.items
+        × (played.well ≡ well_by (wanted asked.face asked.strict (map (λ s. string_bytes s) asked.kept_open.now))
+        scenario.now (map (λ l. l.items) left.now) chain.now.entries lines)
         × AreLines chain.now stage.now.contracts.items scenario.now.threads stage.now.starts.items lines) }
 {
     let threads = scenario.threads.as_slice();
     let lines = lines_of(alloc, chain, threads, &stage.contracts, &stage.starts)?;
     let starts = stage.starts.as_slice();
-    let text = text_of(alloc, chain, scenario, starts, left, &lines, asked.explain)?;
+    let text = text_of(alloc, chain, scenario, starts, left, &lines, asked.face)?;
     let well = well_by(alloc, chain, scenario, left, &lines, asked)?;
     Ok(Played { text, well })
 }

@@ -5,10 +5,11 @@ ghost use Rattle.json_read_names.specs.ReadsText.{of_text, of_text_within};
 ghost use Rattle.json_read_scenarios.specs.Named.{NamesWhatItHas};
 ghost use Rattle.json_read_scenarios.specs.ReadsScenario as reads;
 ghost use Rattle.marlowe_play.specs.Faults.{IsOfText, IsRefused};
-ghost use Rattle.marlowe_play.specs.Played.{IsAnswered, IsPlayed, TellsAPlay, wanted};
+ghost use Rattle.marlowe_play.specs.Played.{IsAnswered, IsPlayed, TellsAPlay, face_of, wanted};
 ghost use Rattle.marlowe_play.specs.PlayedSupport.{WerePlayed};
 ghost use Rattle.play_setup.specs.SetUp.{key_output, object_of};
 
+use crate::asked::{Asked, Face, Played};
 use crate::fault::PlayFault;
 use crate::lines::played_text;
 use crate::turns::{play_turns, seats_of, take_first, turns_of};
@@ -32,36 +33,16 @@ pub struct How {
     pub explain: bool,
 }
 
-/// What is asked of a play.
-#[derive(Clone, Copy, Debug)]
-pub struct Asked<'a> {
-    /// The plans are played one after another, and else all at once.
-    pub one: bool,
-    /// It is explained, as `How` has it.
-    pub explain: bool,
-    /// How deep lists and objects of the scenario's text may nest.
-    pub depth: usize,
-    /// Whether all went well is asked: each intent of each plan is done, and each thread is closed.
-    pub strict: bool,
-    /// The names of threads that may stay open all the same. A name that no thread has asks for nothing.
-    pub open: &'a [String],
-}
-
-/// What is answered of a play.
-#[derive(Drop)]
-pub struct Played {
-    /// What is printed.
-    pub text: Vec<u8>,
-    /// Whether all went well; where that wasn't asked, it did.
-    pub well: bool,
-}
-
-impl Played {
-    /// The status of a program that plays: 3 where not all went well, and else 0.
-    pub fn status(&self) -> u8
-        ensures { result ≡ (if self.now.well then 0 else 3) }
+impl How {
+    // What is told.
+    fn face(&self) -> Face
+        ensures { result ≡ face_of self.now.explain }
     {
-        if self.well { 0 } else { 3 }
+        if self.explain {
+            Face::Explained
+        } else {
+            Face::Plain
+        }
     }
 }
 
@@ -111,10 +92,10 @@ pub fn play_watched<R: Threads + Wait + Sync, W: Watch + Sync>(
     };
     let asked = Asked {
         one: how.one,
-        explain: how.explain,
+        face: how.face(),
         depth: 127,
         strict: false,
-        open: &[],
+        kept_open: &[],
     };
     let played = play_scenario(rt, alloc, &scenario, asked, watch)?;
     Ok(played.text)
@@ -131,7 +112,7 @@ pub fn play_asked<R: Threads + Wait + Sync, W: Watch + Sync>(
 ) -> Result<Played, PlayFault>
     ensures unread { IsRefused (of_text_within asked.depth reads.scenario text.now) result }
     ensures played { IfOk result (λ p. IsAnswered (of_text_within asked.depth reads.scenario text.now)
-        (wanted asked.explain asked.strict (map (λ s. string_bytes s) asked.open.now)) p.text.items p.well) }
+        (wanted asked.face asked.strict (map (λ s. string_bytes s) asked.kept_open.now)) p.text.items p.well) }
 {
     let scenario = match read_scenario_within(alloc, text, asked.depth) {
         Ok(scenario) => scenario,
@@ -151,7 +132,7 @@ fn play_scenario<R: Threads + Wait + Sync, W: Watch + Sync>(
     requires names { NamesWhatItHas scenario.now }
     ensures told { IfErr result (λ fault. IsOfText fault → ⊥) }
     ensures played { IfOk result (λ p. TellsAPlay scenario.now
-        (wanted asked.explain asked.strict (map (λ s. string_bytes s) asked.open.now)) p.text.items p.well) }
+        (wanted asked.face asked.strict (map (λ s. string_bytes s) asked.kept_open.now)) p.text.items p.well) }
 {
     let chain = first_chain(alloc, scenario.genesis.as_slice(), scenario.tick)?;
     let opening = Opening::new(chain, scenario.plans.len() as u64 + 1);
@@ -174,7 +155,7 @@ fn play_on<R: Threads + Wait + Sync, J: Session + Send + Sync, W: Watch + Sync>(
     requires names { NamesWhatItHas scenario.now }
     ensures told { IfErr result (λ fault. IsOfText fault → ⊥) }
     ensures played { IfOk result (λ p. TellsAPlay scenario.now
-        (wanted asked.explain asked.strict (map (λ s. string_bytes s) asked.open.now)) p.text.items p.well) }
+        (wanted asked.face asked.strict (map (λ s. string_bytes s) asked.kept_open.now)) p.text.items p.well) }
 {
     let (hub, seats) = opening.open::<J>(alloc)?;
     let (stage, seats, left) = play_all(rt, alloc, &hub, seats, scenario, asked.one, watch)?;

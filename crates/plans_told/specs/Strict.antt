@@ -30,9 +30,9 @@ is_among name [] = false
 is_among name (n ∷ ns) = bytes_eq name n || is_among name ns
 
 abbrev pub closed_but : List (List ℕ) → List ThreadLine → Bool
-closed_but open [] = true
-closed_but open (t ∷ ts) = (t.closed || is_among t.name open) && closed_but open ts
+closed_but kept [] = true
+closed_but kept (t ∷ ts) = (t.closed || is_among t.name kept) && closed_but kept ts
 
 -- WELL: each intent of each plan is done, and each thread is closed, but for those that may stay open
 abbrev pub went_well : List (List ℕ) → ScenarioRead → List (List LeftOut) → List Entry → List ThreadLine → Bool
-went_well open s lefts es threads = intents_done s lefts es && closed_but open threads
+went_well kept s lefts es threads = intents_done s lefts es && closed_but kept threads

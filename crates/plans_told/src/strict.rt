@@ -64,11 +64,11 @@ fn is_among(name: &str, names: &[String]) -> bool
 }
 
 // Whether each of these threads is closed, but for those with these names.
-fn closed_but(open: &[String], lines: &[ThreadLine<'_>]) -> bool
-    ensures { result ≡ closed_but (map (λ s. string_bytes s) open.now) lines.now }
+fn closed_but(kept_open: &[String], lines: &[ThreadLine<'_>]) -> bool
+    ensures { result ≡ closed_but (map (λ s. string_bytes s) kept_open.now) lines.now }
 {
     for line in lines {
-        if !line.closed && !is_among(line.name.as_str(), open) {
+        if !line.closed && !is_among(line.name.as_str(), kept_open) {
             return false;
         }
     }
@@ -84,12 +84,12 @@ pub fn went_well(
     left: &[Vec<LeftOut>],
     entries: &[Entry],
     lines: &[ThreadLine<'_>],
-    open: &[String],
+    kept_open: &[String],
 ) -> Result<bool, Memory>
     ensures { IfOk result (λ well. well
-        ≡ strict.went_well (map (λ s. string_bytes s) open.now) scenario.now (map (λ l. l.items) left.now) entries.now lines.now) }
+        ≡ strict.went_well (map (λ s. string_bytes s) kept_open.now) scenario.now (map (λ l. l.items) left.now) entries.now lines.now) }
 {
     let taken = taken_in(alloc, entries)?;
     let done = plans_done(alloc, scenario, entries, &taken, left)?;
-    Ok(done && closed_but(open, lines))
+    Ok(done && closed_but(kept_open, lines))
 }

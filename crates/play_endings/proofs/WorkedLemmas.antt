@@ -14,4 +14,4 @@ refusals_end_it call look = (refl, refl)
 
 pub endings_are_told : EndingsAreTold
 unfolding digits
-endings_are_told = (refl, refl)
+endings_are_told = (refl, refl, refl)

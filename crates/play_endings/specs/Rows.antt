@@ -14,7 +14,7 @@ use Rattle.play_endings.specs.declared.ending.Ending.{Ending}
 use Rattle.play_endings.specs.declared.ending.Ending.TheVariants as ends
 use Rattle.play_endings.specs.declared.ending.LeftIntent.{LeftIntent}
 use Rattle.play_endings.specs.Endings.{EndedAt, endings, entries_of, handed, taken_in}
-use Rattle.play_endings.specs.EndingLines.{ending_line}
+use Rattle.play_endings.specs.EndingLines.{ending_line, ending_object}
 
 abbrev pub answered : Call → ℕ → Reply → Entry
 answered call seat reply = record { seat = seat; number = 0; call = call; reply = reply }
@@ -69,3 +69,5 @@ abbrev pub EndingsAreTold : Type 0
 EndingsAreTold =
     (ending_line (codes "\"ann\"") [] [] (intents.Advance (pos 3)) (ends.Backward 5) ≡ codes "plan \"ann\" advance 3: backward at 5\n")
     × (ending_line (codes "\"ann\"") [] [] (intents.Round 2 1) (ends.RefusedInRound 8 1) ≡ codes "plan \"ann\" round 2: refused in round at 8, ticket 1\n")
+    × (ending_object (codes "\"ann\"") [] [] 4 (intents.Round 2 1) (ends.RefusedInRound 8 1)
+    ≡ codes "{\"plan\":\"ann\",\"place\":4,\"intent\":{\"round\":2},\"ended\":\"refused in round\",\"entry\":8,\"ticket\":1}\n")

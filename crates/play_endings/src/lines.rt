@@ -1,15 +1,17 @@
 //! A line for each intent.
 ghost use Rattle.std.specs.Prelude.{◌≡◌, ◌++◌, IfOk, OnOk, option_copied, slice_get, string_bytes};
 ghost use Rattle.play_endings.specs.EndingLines as told;
-ghost use Rattle.play_endings.specs.EndingLines.{ending_text, ending_line, line_of, ending_lines};
+ghost use Rattle.play_endings.specs.EndingLines.{ending_text, at_entry, ending_members, ending_line, ending_object, ending_by, line_of, ending_lines};
 
 use crate::ending::{Ended, Ending};
 use collections::{Memory, Text};
 use json_write_contracts::term_text;
 use plans::{Intent, NamedContract, NamedThread};
 use play_notes::intent_text;
+use play_objects::intent_members;
 use std::alloc::Global;
 use std::fmt::Write;
+use step_notes::Spelling;
 
 pub(crate) fn intent_at(
     intents: &[Intent<usize, usize>],
@@ -39,7 +41,40 @@ fn ending_text(alloc: Global, ending: Ending) -> Result<String, Memory>
     }
 }
 
-fn put_ending(
+// How an intent ended at an entry.
+fn at_entry(alloc: Global, word: &str, place: usize) -> Result<String, Memory>
+    ensures { IfOk result (λ text. string_bytes text ≡ at_entry word.now place) }
+{
+    format!(in alloc; "\"ended\":\"{word}\",\"entry\":{place}")
+}
+
+fn in_round(alloc: Global, place: usize, ticket: u64) -> Result<String, Memory>
+    ensures { IfOk result (λ text. string_bytes text ≡ ending_members (Ending.RefusedInRound place ticket)) }
+{
+    let ended = at_entry(alloc, "refused in round", place)?;
+    format!(in alloc; "{ended},\"ticket\":{ticket}")
+}
+
+fn ending_members(alloc: Global, ending: Ending) -> Result<String, Memory>
+    ensures { IfOk result (λ text. string_bytes text ≡ ending_members ending) }
+{
+    match ending {
+        Ending::Done(place) => at_entry(alloc, "done", place),
+        Ending::NotBuilt => String::from_str(alloc, "\"ended\":\"not built\""),
+        Ending::NothingToClaim => String::from_str(alloc, "\"ended\":\"nothing to claim\""),
+        Ending::Refused(place) => at_entry(alloc, "refused", place),
+        Ending::GivenUp(place) => at_entry(alloc, "given up", place),
+        Ending::PoolFull(place) => at_entry(alloc, "pool full", place),
+        Ending::RefusedInRound(place, ticket) => in_round(alloc, place, ticket),
+        Ending::Pooled(ticket) => {
+            format!(in alloc; "\"ended\":\"in the pool\",\"ticket\":{ticket}")
+        }
+        Ending::Backward(place) => at_entry(alloc, "backward", place),
+        Ending::Stopped => String::from_str(alloc, "\"ended\":\"stopped\""),
+    }
+}
+
+fn put_words(
     alloc: Global,
     out: &mut String,
     plan: &str,
@@ -56,21 +91,68 @@ fn put_ending(
     write!(out, "plan {plan} {intent_words}: {ending_words}\n")
 }
 
-// Puts the line of an intent, if there is one.
-fn put_line(
+fn put_object(
     alloc: Global,
     out: &mut String,
     plan: &str,
     threads: &[NamedThread],
     contracts: &[NamedContract],
+    place: usize,
+    intent: &Intent<usize, usize>,
+    ending: Ending,
+) -> Result<(), Memory>
+    ensures { OnOk result (string_bytes out.new ≡ string_bytes out.old
+        ++ ending_object plan.now threads.now contracts.now place intent.now ending) }
+{
+    let members = intent_members(alloc, threads, contracts, intent)?;
+    let ended = ending_members(alloc, ending)?;
+    write!(
+        out,
+        "{{\"plan\":{plan},\"place\":{place},\"intent\":{{{members}}},{ended}}}\n"
+    )
+}
+
+fn put_ending(
+    alloc: Global,
+    out: &mut String,
+    spelling: Spelling,
+    plan: &str,
+    threads: &[NamedThread],
+    contracts: &[NamedContract],
+    place: usize,
+    intent: &Intent<usize, usize>,
+    ending: Ending,
+) -> Result<(), Memory>
+    ensures { OnOk result (string_bytes out.new ≡ string_bytes out.old
+        ++ ending_by spelling plan.now threads.now contracts.now place intent.now ending) }
+{
+    match spelling {
+        Spelling::Lines => put_words(alloc, out, plan, threads, contracts, intent, ending),
+        Spelling::Objects => {
+            put_object(alloc, out, plan, threads, contracts, place, intent, ending)
+        }
+    }
+}
+
+// Puts the line of an intent, if there is one.
+fn put_line(
+    alloc: Global,
+    out: &mut String,
+    spelling: Spelling,
+    plan: &str,
+    threads: &[NamedThread],
+    contracts: &[NamedContract],
+    place: usize,
     intent: Option<&Intent<usize, usize>>,
     ending: Ending,
 ) -> Result<(), Memory>
     ensures { OnOk result (string_bytes out.new ≡ string_bytes out.old
-        ++ line_of plan.now threads.now contracts.now (option_copied intent.entry) ending) }
+        ++ line_of spelling plan.now threads.now contracts.now place (option_copied intent.entry) ending) }
 {
     match intent {
-        Some(intent) => put_ending(alloc, out, plan, threads, contracts, intent, ending),
+        Some(intent) => put_ending(
+            alloc, out, spelling, plan, threads, contracts, place, intent, ending,
+        ),
         None => Ok(()),
     }
 }
@@ -78,6 +160,7 @@ fn put_line(
 fn put_lines(
     alloc: Global,
     out: &mut String,
+    spelling: Spelling,
     plan: &str,
     threads: &[NamedThread],
     contracts: &[NamedContract],
@@ -85,20 +168,23 @@ fn put_lines(
     ended: &[Ended<'_, '_>],
 ) -> Result<(), Memory>
     ensures { OnOk result (string_bytes out.new ≡ string_bytes out.old
-        ++ ending_lines plan.now threads.now contracts.now intents.now 0 ended.now) }
+        ++ ending_lines spelling plan.now threads.now contracts.now intents.now 0 ended.now) }
 {
     for (place, one) in ended.iter().enumerate() {
         let intent = intent_at(intents, place);
-        put_line(alloc, out, plan, threads, contracts, intent, one.ending)?;
+        put_line(
+            alloc, out, spelling, plan, threads, contracts, place, intent, one.ending,
+        )?;
     }
     Ok(())
 }
 
-/// Puts a line for each intent of a plan at the end of a text: the plan's name, the intent, which names threads and contracts by their
-/// places in these lists, and how it ended. Answers `Memory` only where a growth was refused.
+/// Puts a line or an object for each intent of a plan at the end of a text: the plan's name, the intent, which names threads and contracts
+/// by their places in these lists, and how it ended. Answers `Memory` only where a growth was refused.
 pub fn put_endings(
     alloc: Global,
     out: &mut String,
+    spelling: Spelling,
     name: &Text,
     threads: &[NamedThread],
     contracts: &[NamedContract],
@@ -106,12 +192,13 @@ pub fn put_endings(
     ended: &[Ended<'_, '_>],
 ) -> Result<(), Memory>
     ensures { OnOk result (string_bytes out.new ≡ string_bytes out.old
-        ++ told.plan_lines name.now threads.now contracts.now intents.now ended.now) }
+        ++ told.plan_lines spelling name.now threads.now contracts.now intents.now ended.now) }
 {
     let plan = term_text(alloc, name)?;
     put_lines(
         alloc,
         out,
+        spelling,
         plan.as_str(),
         threads,
         contracts,

@@ -12,28 +12,30 @@ use ledger::{Reply, ThreadOutput};
 use plans::{Intent, NamedThread};
 use play_notes::{put_behind, thread_name};
 use std::alloc::Global;
-use step_notes::{Step, step_text};
+use step_notes::{Spelling, Step, step_text};
 
 // Of a thread that a look showed.
 fn thread_text(
     alloc: Global,
+    spelling: Spelling,
     head: &str,
     inputs: &[Input],
     interval: Interval,
     tick: i64,
     shown: &Option<ThreadOutput>,
 ) -> Result<String, Memory>
-    ensures { IfOk result (λ text. string_bytes text ≡ thread_text head.now inputs.now interval tick shown.now) }
+    ensures { IfOk result (λ text. string_bytes text ≡ thread_text spelling head.now inputs.now interval tick shown.now) }
 {
     match shown {
         Some(shown) => {
             let step = Step {
-                shown,
+                table: &shown.published.get().table,
+                datum: &shown.datum,
                 inputs,
                 interval,
                 tick,
             };
-            step_text(alloc, head, &step)
+            step_text(alloc, spelling, head, &step)
         }
         None => Ok(String::new(alloc)),
     }
@@ -42,40 +44,62 @@ fn thread_text(
 // Of what a look showed.
 fn shown_text(
     alloc: Global,
+    spelling: Spelling,
     head: &str,
     inputs: &[Input],
     interval: Interval,
     reply: &Reply,
 ) -> Result<String, Memory>
-    ensures { IfOk result (λ text. string_bytes text ≡ shown_text head.now inputs.now interval reply.now) }
+    ensures { IfOk result (λ text. string_bytes text ≡ shown_text spelling head.now inputs.now interval reply.now) }
 {
     match reply {
-        Reply::Look(look) => thread_text(alloc, head, inputs, interval, look.tick, &look.thread),
+        Reply::Look(look) => thread_text(
+            alloc,
+            spelling,
+            head,
+            inputs,
+            interval,
+            look.tick,
+            &look.thread,
+        ),
         _ => Ok(String::new(alloc)),
     }
 }
 
-fn step_head(alloc: Global, threads: &[NamedThread], thread: usize) -> Result<String, Memory>
-    ensures { IfOk result (λ text. string_bytes text ≡ step_head threads.now thread) }
+// How what is told of a step begins.
+fn step_head(
+    alloc: Global,
+    spelling: Spelling,
+    threads: &[NamedThread],
+    thread: usize,
+    place: usize,
+) -> Result<String, Memory>
+    ensures { IfOk result (λ text. string_bytes text ≡ step_head spelling threads.now thread place) }
 {
     let name = thread_name(alloc, threads, thread)?;
-    format!(in alloc; "    step {name}: ")
+    match spelling {
+        Spelling::Lines => format!(in alloc; "    step {name}: "),
+        Spelling::Objects => format!(in alloc; "{{\"step\":{name},\"entry\":{place},"),
+    }
 }
 
 // Of a step whose look is the first of these entries.
 fn first_text(
     alloc: Global,
+    spelling: Spelling,
     threads: &[NamedThread],
     thread: usize,
     inputs: &[Input],
     interval: Interval,
+    place: usize,
     turn: &[Placed<'_>],
 ) -> Result<String, Memory>
-    ensures { IfOk result (λ text. string_bytes text ≡ first_text threads.now thread inputs.now interval turn.now) }
+    ensures { IfOk result (λ text. string_bytes text ≡ first_text spelling threads.now thread inputs.now interval place turn.now) }
 {
-    let head = step_head(alloc, threads, thread)?;
+    let head = step_head(alloc, spelling, threads, thread, place)?;
+    let head = head.as_str();
     match turn {
-        [look, ..] => shown_text(alloc, head.as_str(), inputs, interval, &look.entry.reply),
+        [look, ..] => shown_text(alloc, spelling, head, inputs, interval, &look.entry.reply),
         [] => Ok(String::new(alloc)),
     }
 }
@@ -83,17 +107,22 @@ fn first_text(
 // Of steps whose looks are the first of these entries.
 fn steps_texts(
     alloc: Global,
+    spelling: Spelling,
     threads: &[NamedThread],
     steps: &[(usize, Items<Input>)],
     interval: Interval,
+    place: usize,
     turn: &[Placed<'_>],
 ) -> Result<String, Memory>
-    ensures { IfOk result (λ text. string_bytes text ≡ steps_texts threads.now interval steps.now turn.now) }
+    ensures { IfOk result (λ text. string_bytes text ≡ steps_texts spelling threads.now interval place steps.now turn.now) }
 {
     let mut out = String::new(alloc);
     let mut rest = turn;
     for step in steps {
-        let text = first_text(alloc, threads, step.0, step.1.as_slice(), interval, rest)?;
+        let inputs = step.1.as_slice();
+        let text = first_text(
+            alloc, spelling, threads, step.0, inputs, interval, place, rest,
+        )?;
         out.push_str(text.as_str())?;
         rest = behind_first(rest);
     }
@@ -109,14 +138,16 @@ fn behind_first<'p, 'e>(turn: &'p [Placed<'e>]) -> &'p [Placed<'e>]
     }
 }
 
-// Of an intent that is done.
+// Of an intent that is done at a place.
 fn done_text(
     alloc: Global,
+    spelling: Spelling,
     threads: &[NamedThread],
     intent: &Intent<usize, usize>,
+    place: usize,
     turn: &[Placed<'_>],
 ) -> Result<String, Memory>
-    ensures { IfOk result (λ text. string_bytes text ≡ done_text threads.now intent.now turn.now) }
+    ensures { IfOk result (λ text. string_bytes text ≡ done_text spelling threads.now intent.now place turn.now) }
 {
     match intent {
         Intent::Step {
@@ -124,12 +155,20 @@ fn done_text(
             inputs,
             interval,
             ..
-        } => first_text(alloc, threads, *thread, inputs.as_slice(), *interval, turn),
+        } => {
+            let inputs = inputs.as_slice();
+            first_text(
+                alloc, spelling, threads, *thread, inputs, *interval, place, turn,
+            )
+        }
         Intent::Steps {
             steps,
             interval,
             ..
-        } => steps_texts(alloc, threads, steps.as_slice(), *interval, turn),
+        } => {
+            let steps = steps.as_slice();
+            steps_texts(alloc, spelling, threads, steps, *interval, place, turn)
+        }
         _ => Ok(String::new(alloc)),
     }
 }
@@ -137,16 +176,17 @@ fn done_text(
 fn put_text(
     alloc: Global,
     notes: &mut Vec<String>,
+    spelling: Spelling,
     threads: &[NamedThread],
     intent: &Intent<usize, usize>,
     ended: &Ended<'_, '_>,
 ) -> Result<(), Memory>
     ensures { OnOk result (map (λ s. string_bytes s) notes.new.items
-        ≡ put_text threads.now intent.now ended.now.turn ended.now.ending (map (λ s. string_bytes s) notes.old.items)) }
+        ≡ put_text spelling threads.now intent.now ended.now.turn ended.now.ending (map (λ s. string_bytes s) notes.old.items)) }
 {
     match ended.ending {
         Ending::Done(place) => {
-            let text = done_text(alloc, threads, intent, ended.turn)?;
+            let text = done_text(alloc, spelling, threads, intent, place, ended.turn)?;
             put_behind(notes, place, text.as_str())
         }
         _ => Ok(()),
@@ -157,15 +197,16 @@ fn put_text(
 fn put_done(
     alloc: Global,
     notes: &mut Vec<String>,
+    spelling: Spelling,
     threads: &[NamedThread],
     intent: Option<&Intent<usize, usize>>,
     ended: &Ended<'_, '_>,
 ) -> Result<(), Memory>
     ensures { OnOk result (map (λ s. string_bytes s) notes.new.items
-        ≡ put_done threads.now (option_copied intent.entry) ended.now (map (λ s. string_bytes s) notes.old.items)) }
+        ≡ put_done spelling threads.now (option_copied intent.entry) ended.now (map (λ s. string_bytes s) notes.old.items)) }
 {
     match intent {
-        Some(intent) => put_text(alloc, notes, threads, intent, ended),
+        Some(intent) => put_text(alloc, notes, spelling, threads, intent, ended),
         None => Ok(()),
     }
 }
@@ -175,15 +216,17 @@ fn put_done(
 pub fn put_steps(
     alloc: Global,
     notes: &mut Vec<String>,
+    spelling: Spelling,
     threads: &[NamedThread],
     intents: &[Intent<usize, usize>],
     ended: &[Ended<'_, '_>],
 ) -> Result<(), Memory>
     ensures { OnOk result (map (λ s. string_bytes s) notes.new.items
-        ≡ put_ended threads.now intents.now 0 ended.now (map (λ s. string_bytes s) notes.old.items)) }
+        ≡ put_ended spelling threads.now intents.now 0 ended.now (map (λ s. string_bytes s) notes.old.items)) }
 {
     for (place, one) in ended.iter().enumerate() {
-        put_done(alloc, notes, threads, intent_at(intents, place), one)?;
+        let intent = intent_at(intents, place);
+        put_done(alloc, notes, spelling, threads, intent, one)?;
     }
     Ok(())
 }

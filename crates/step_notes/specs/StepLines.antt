@@ -1,6 +1,5 @@
--- What is told of an accepted step.
-use Rattle.std.specs.Prelude.{ℕ, ℤ, pos, Bool, true, false, List, [], ◌∷◌, ◌++◌, ◌==◌, if◌then◌else◌, Option, Some, None, Result, Ok, Err, codes}
-use Rattle.std.specs.Int.{int_max}
+-- What is told of an accepted step, in lines for people.
+use Rattle.std.specs.Prelude.{ℕ, ℤ, Bool, true, false, List, [], ◌∷◌, ◌++◌, ◌==◌, if◌then◌else◌, Option, Some, None, Result, Ok, Err, codes}
 use Rattle.std.specs.Fmt.{signed_decimal}
 use Rattle.serde_json.specs.Data.{string}
 use Rattle.serde_json.specs.Written.{compact_text}
@@ -17,14 +16,9 @@ use Rattle.contract.specs.Tree.{ActionTree, deposit, choice, notify, ContractTre
 use Rattle.states.specs.States.{StateMaps}
 use Rattle.evaluation.specs.Evaluation.{number_within, truth_within}
 use Rattle.evaluation.specs.Path.{waits_for}
-use Rattle.semantics.specs.Walk.{Standing, answer_of}
-use Rattle.semantics.specs.Computed.{computed}
 use Rattle.next_inputs.specs.Opening.{waits_until}
 use Rattle.analysis_spec.specs.Promises.{kind_of}
 use Rattle.places.specs.Texts.{kind_name}
-use Rattle.table.specs.Along.{has_cont}
-use Rattle.table.specs.Flat.{cont_tree}
-use Rattle.ledger.specs.declared.look.ThreadOutput.{ThreadOutput}
 use Rattle.next_lines.specs.Lines.{party_text, money_text, bound_text, payment_text}
 
 -- ---- what it did
@@ -98,28 +92,10 @@ waiting_lines i s c = case_lines i s (waits_for c) ++ until_line (waits_until c)
 
 -- ---- all lines
 
--- the tick alone, or the minimum time where that is later
-abbrev pub moment : ℤ → StateMaps → Interval
-moment tick s = record { from = int_max tick s.min_time; to = int_max tick s.min_time }
-
-abbrev pub outcome_lines : ℤ → List Payment → List Warning → StateMaps → ContractTree → List ℕ
-outcome_lines tick payments warnings s c = payment_lines payments ++ (warning_lines warnings ++ waiting_lines (moment tick s) s c)
-
-abbrev pub left_lines : ℤ → List Payment → List Warning → Result Standing SemFault → List ℕ
-left_lines tick payments warnings (Ok a) = outcome_lines tick payments warnings a.state a.contract
-left_lines tick payments warnings (Err fault) = []
-
--- of a step with these inputs, over this interval, from the thread that a look showed: what the transaction function gives
-abbrev pub step_lines : ℤ → Interval → ThreadOutput → List Input → List ℕ
-step_lines tick i t xs =
-    if has_cont t.published.table t.datum.cont then (
-    let w = computed i t.datum.state (cont_tree t.published.table t.datum.cont.0) xs in left_lines tick w.payments w.warnings (answer_of w)
-    ) else []
+abbrev pub outcome_lines : List Payment → List Warning → Interval → StateMaps → ContractTree → List ℕ
+outcome_lines payments warnings i s c = payment_lines payments ++ (warning_lines warnings ++ waiting_lines i s c)
 
 -- each line of a text behind a head; whether a line starts here
 abbrev pub headed : List ℕ → Bool → List ℕ → List ℕ
 headed head starts [] = []
 headed head starts (c ∷ cs) = (if starts then head else []) ++ c ∷ headed head (c == 10) cs
-
-abbrev pub step_text : List ℕ → ℤ → Interval → ThreadOutput → List Input → List ℕ
-step_text head tick i t xs = headed head true (step_lines tick i t xs)

@@ -1,26 +1,30 @@
 //! Steps.
 ghost use Rattle.std.specs.Prelude.{◌≡◌, ◌++◌, IfOk, OnOk, string_bytes};
 ghost use Rattle.table.specs.Flat.{Has, a_cont, cont_tree};
-ghost use Rattle.step_notes.specs.StepLines as told;
-ghost use Rattle.step_notes.specs.StepLines.{payment_line, payment_lines, warning_line, warning_lines, moment, step_lines};
+ghost use Rattle.step_notes.specs.StepLines.{payment_line, payment_lines, warning_line, warning_lines, outcome_lines};
+ghost use Rattle.step_notes.specs.Steps as told;
+ghost use Rattle.step_notes.specs.Steps.{moment};
 
 use crate::cases::put_waiting;
 use crate::indent::headed;
+use crate::objects::outcome_object;
+use crate::spelling::Spelling;
 use crate::words::payment_text;
 use collections::Memory;
 use contract::{Input, Interval, Outcome, Payment, SemFault, State, Warning};
-use ledger::ThreadOutput;
-use machine::compute;
+use machine::{Datum, compute};
 use places::warning_name;
 use std::alloc::{AllocError, Global};
 use std::fmt::Write;
 use table::{Cont, Table};
 
-/// A step of a thread, by what its builder was shown and what it brought.
+/// A step, by what its builder was shown and what it brought.
 #[derive(Clone, Copy)]
 pub struct Step<'a> {
-    /// The thread as a look showed it.
-    pub shown: &'a ThreadOutput,
+    /// The table of the contract.
+    pub table: &'a Table,
+    /// The datum from which the step went.
+    pub datum: &'a Datum,
     /// The inputs that the step gave to the contract, in order.
     pub inputs: &'a [Input],
     /// The times at which its transaction could be accepted, in POSIX milliseconds.
@@ -69,57 +73,74 @@ fn moment(tick: i64, state: &State) -> Interval
     Interval { from: at, to: at }
 }
 
-// What is told of what a step left.
+// The lines of what a step left.
 fn outcome_text(
     alloc: Global,
     table: &Table,
     outcome: &Outcome<Cont>,
-    tick: i64,
+    interval: Interval,
 ) -> Result<String, Memory>
     requires { Has table.now (a_cont outcome.now.place.0) }
-    ensures { IfOk result (λ text. string_bytes text ≡ told.outcome_lines tick outcome.now.payments outcome.now.warnings
+    ensures { IfOk result (λ text. string_bytes text ≡ outcome_lines outcome.now.payments outcome.now.warnings interval
         outcome.now.state (cont_tree table.now outcome.now.place.0)) }
 {
     let mut out = String::new(alloc);
     put_payments(alloc, &mut out, outcome.payments.as_slice())?;
     put_warnings(&mut out, outcome.warnings.as_slice())?;
     let state = &outcome.state;
-    put_waiting(
-        alloc,
-        &mut out,
-        table,
-        outcome.place,
-        state,
-        moment(tick, state),
-    )?;
+    put_waiting(alloc, &mut out, table, outcome.place, state, interval)?;
     Ok(out)
 }
 
-// What is told of a step that is computed.
-fn lines_of(alloc: Global, step: &Step<'_>) -> Result<String, Memory>
-    ensures { IfOk result (λ text. string_bytes text
-        ≡ step_lines step.now.tick step.now.interval step.now.shown.now step.now.inputs.now) }
+// What is told of what a step left.
+fn spelled(
+    alloc: Global,
+    spelling: Spelling,
+    head: &str,
+    table: &Table,
+    outcome: &Outcome<Cont>,
+    tick: i64,
+) -> Result<String, Memory>
+    requires { Has table.now (a_cont outcome.now.place.0) }
+    ensures { IfOk result (λ text. string_bytes text ≡ told.outcome_text spelling head.now (moment tick outcome.now.state)
+        outcome.now.payments outcome.now.warnings outcome.now.state (cont_tree table.now outcome.now.place.0)) }
 {
-    let datum = &step.shown.datum;
-    let table = &step.shown.published.get().table;
-    // touch: turns lead to a number
-    table.turns_lead();
-    if !table.contains(datum.cont) {
-        return Ok(String::new(alloc));
-    }
-    match compute(alloc, table, datum, step.interval, step.inputs) {
-        Ok(outcome) => outcome_text(alloc, table, &outcome, step.tick),
-        Err(SemFault::Memory) => Err(AllocError),
-        Err(_) => Ok(String::new(alloc)),
+    let interval = moment(tick, &outcome.state);
+    match spelling {
+        Spelling::Lines => {
+            let lines = outcome_text(alloc, table, outcome, interval)?;
+            headed(alloc, head, lines.as_str())
+        }
+        Spelling::Objects => outcome_object(alloc, head, table, outcome, interval),
     }
 }
 
 /// What an accepted step paid, in order, what it warned of, what its contract waits for now and until when, or that it is closed: a line
-/// each, behind a head. The amounts of deposits are those over the step's tick. Answers `Memory` only where a growth was refused.
-pub fn step_text(alloc: Global, head: &str, step: &Step<'_>) -> Result<String, Memory>
+/// each behind a head; or the members of an object that a head begins, to its end and a line feed. The amounts of deposits are those over
+/// the step's tick. Where the table doesn't have the datum's contract, or the transaction function refuses the step, nothing is told.
+/// Answers `Memory` only where a growth was refused.
+pub fn step_text(
+    alloc: Global,
+    spelling: Spelling,
+    head: &str,
+    step: &Step<'_>,
+) -> Result<String, Memory>
     ensures { IfOk result (λ text. string_bytes text
-        ≡ told.step_text head.now step.now.tick step.now.interval step.now.shown.now step.now.inputs.now) }
+        ≡ told.step_text spelling head.now step.now.tick step.now.interval step.now.table.now step.now.datum.now step.now.inputs.now) }
 {
-    let lines = lines_of(alloc, step)?;
-    headed(alloc, head, lines.as_str())
+    let Step {
+        table,
+        datum,
+        inputs,
+        interval,
+        tick,
+    } = *step;
+    if !table.contains(datum.cont) {
+        return Ok(String::new(alloc));
+    }
+    match compute(alloc, table, datum, interval, inputs) {
+        Ok(outcome) => spelled(alloc, spelling, head, table, &outcome, tick),
+        Err(SemFault::Memory) => Err(AllocError),
+        Err(_) => Ok(String::new(alloc)),
+    }
 }

@@ -49,12 +49,12 @@ returns-clause-played g c =
     let first = start.0 ∙ (ap (λ (o : Opened). o.genesis) (sym c.requires.session) ∙ c.requires.genesis) in
     let at = start.1 ∙ (ap (λ (o : Opened). o.first_tick) (sym c.requires.session) ∙ c.requires.tick) in
     let told = c.in_ok-played.ensures in
-    let w = wanted c.args.asked.explain c.args.asked.strict (map (λ s. string_bytes s) c.args.asked.open.now) in
+    let w = wanted c.args.asked.face c.args.asked.strict (map (λ s. string_bytes s) c.args.asked.kept_open.now) in
     let left = map (λ l. l.items) c.in_ok-stage.left.items in
     let p = c.in_ok-played.played in
-    let of_left = subst (λ (ls : List (Vec LeftOut Global)). IsTold c.args.asked.explain s c.chain.result.now outputs (map (λ l. l.items) ls) told.0 p.text.items) c.deref.ensures.value told.1 in
+    let of_left = subst (λ (ls : List (Vec LeftOut Global)). IsTold c.args.asked.face s c.chain.result.now outputs (map (λ l. l.items) ls) told.0 p.text.items) c.deref.ensures.value told.1 in
     let well_left = subst (λ (ls : List (Vec LeftOut Global)). p.well ≡ well_by w s (map (λ l. l.items) ls) c.chain.result.now.entries told.0) c.deref.ensures.value told.2 in
-    let is = subst (λ (k : Course). IsTold c.args.asked.explain s k outputs left told.0 p.text.items) c.chain.ensures of_left in
+    let is = subst (λ (k : Course). IsTold c.args.asked.face s k outputs left told.0 p.text.items) c.chain.ensures of_left in
     let well = subst (λ (k : Course). p.well ≡ well_by w s left k.entries told.0) c.chain.ensures well_left in
     let threads = subst (λ (k : Course). AreLines k objects s.threads outputs told.0) c.chain.ensures told.3 in
     told_of s w closed objects outputs seats left told.0 p.text.items p.well c.in_ok-stage.ensures.contracts first at c.close-closed.ensures.legal c.close-closed.ensures.heard c.close-closed.ensures.count c.in_ok-stage.ensures.seats threads is well

@@ -1,5 +1,5 @@
 use Rattle.std.proofs.Common.{false, []}
-use Rattle.marlowe_play.specs.Played.{wanted}
+use Rattle.marlowe_play.specs.Played.{face_of, wanted}
 use Rattle.marlowe_play.proofs.PlayingLemmas.{was_told}
 use Rattle.marlowe_play.proofs.playing.play_watched.Goals as goal
 
@@ -7,4 +7,4 @@ use Rattle.marlowe_play.proofs.playing.play_watched.Goals as goal
 pub returns-clause-played : goal.returns-clause-played
 returns-clause-played g c =
     let p = c.in_ok-played.played in
-    (p.well, was_told _ c.in-Ok.scenario (wanted c.args.how.explain false []) p.text.items p.well c.in-Ok.ensures.reading c.in_ok-played.ensures.played)
+    (p.well, was_told _ c.in-Ok.scenario (wanted (face_of c.args.how.explain) false []) p.text.items p.well c.in-Ok.ensures.reading c.in_ok-played.ensures.played)

@@ -6,7 +6,7 @@ abbrev pub invariant-loop-place : goal.invariant-loop-place
 invariant-loop-place l =
     let rest = drop l.place (map (λ v. v.items) l.left) in
     let all = map (λ v. v.items) l.left in
-    (put_plans l.scenario l.entries l.taken l.place rest (map (λ s. string_bytes s) l.told.notes.items)
-    ≡ put_plans l.scenario l.entries l.taken 0 all (map (λ s. string_bytes s) l.fn.told.notes.items))
-    × (string_bytes l.told.lines ++ plans_told l.scenario l.entries l.taken l.place rest
-    ≡ string_bytes l.fn.told.lines ++ plans_told l.scenario l.entries l.taken 0 all)
+    (put_plans l.spelling l.scenario l.entries l.taken l.place rest (map (λ s. string_bytes s) l.told.notes.items)
+    ≡ put_plans l.spelling l.scenario l.entries l.taken 0 all (map (λ s. string_bytes s) l.fn.told.notes.items))
+    × (string_bytes l.told.lines ++ plans_told l.spelling l.scenario l.entries l.taken l.place rest
+    ≡ string_bytes l.fn.told.lines ++ plans_told l.spelling l.scenario l.entries l.taken 0 all)
