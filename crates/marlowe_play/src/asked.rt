@@ -24,7 +24,7 @@ pub struct Asked<'a> {
     /// Whether all went well is asked: each intent of each plan is done, and each thread is closed.
     pub strict: bool,
     /// The names of threads that may stay open all the same. A name that no thread has asks for nothing.
-    pub kept_open: &'a [String],
+    pub kept_open: &'a [&'a str],
 }
 
 /// What is answered of a play.

@@ -1,5 +1,5 @@
 //! What is printed of a play: its history, what became of each thread, and who holds what.
-ghost use Rattle.std.specs.Prelude.{◌≡◌, ◌<◌, ◌-◌, length, map, slice_get, string_bytes, IfOk, List};
+ghost use Rattle.std.specs.Prelude.{◌≡◌, ◌<◌, ◌-◌, length, map, slice_get, IfOk, List};
 ghost use Rattle.std.specs.List.{All};
 ghost use Rattle.plans.specs.declared.scenario.NamedThread.{NamedThread};
 ghost use Rattle.play_lines.specs.PlayLines.{ThreadLine as Told};
@@ -86,7 +86,7 @@ fn well_by(
     lines: &[ThreadLine<'_>],
     asked: Asked<'_>,
 ) -> Result<bool, Memory>
-    ensures { IfOk result (λ well. well ≡ well_by (wanted asked.face asked.strict (map (λ s. string_bytes s) asked.kept_open.now))
+    ensures { IfOk result (λ well. well ≡ well_by (wanted asked.face asked.strict (map (λ s. s.now) asked.kept_open.now))
         scenario.now (map (λ l. l.items) left.now) chain.now.entries lines.now) }
 {
     if asked.strict {
@@ -118,7 +118,7 @@ pub(crate) fn played_text(
     requires tick { chain.now.first_tick ≡ scenario.now.tick }
     ensures { IfOk result (λ played. (lines : List Told)
         × IsTold asked.face scenario.now chain.now stage.now.starts.items (map (λ l. l.items) left.now) lines played.text.items
-        × (played.well ≡ well_by (wanted asked.face asked.strict (map (λ s. string_bytes s) asked.kept_open.now))
+        × (played.well ≡ well_by (wanted asked.face asked.strict (map (λ s. s.now) asked.kept_open.now))
         scenario.now (map (λ l. l.items) left.now) chain.now.entries lines)
         × AreLines chain.now stage.now.contracts.items scenario.now.threads stage.now.starts.items lines) }
 {

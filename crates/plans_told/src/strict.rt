@@ -1,5 +1,5 @@
 //! Whether all went well.
-ghost use Rattle.std.specs.Prelude.{◌≡◌, ◌<◌, ◌^◌, map, slice_get, string_bytes, IfOk, option_copied};
+ghost use Rattle.std.specs.Prelude.{◌≡◌, ◌<◌, ◌^◌, map, slice_get, IfOk, option_copied};
 ghost use Rattle.plans_told.specs.Strict as strict;
 ghost use Rattle.plans_told.specs.Strict.{is_among, closed_but, plan_done, plans_done, went_well};
 
@@ -52,11 +52,11 @@ fn plans_done(
     Ok(true)
 }
 
-fn is_among(name: &str, names: &[String]) -> bool
-    ensures { result ≡ is_among name.now (map (λ s. string_bytes s) names.now) }
+fn is_among(name: &str, names: &[&str]) -> bool
+    ensures { result ≡ is_among name.now (map (λ s. s.now) names.now) }
 {
     for other in names {
-        if name == other.as_str() {
+        if name == *other {
             return true;
         }
     }
@@ -64,8 +64,8 @@ fn is_among(name: &str, names: &[String]) -> bool
 }
 
 // Whether each of these threads is closed, but for those with these names.
-fn closed_but(kept_open: &[String], lines: &[ThreadLine<'_>]) -> bool
-    ensures { result ≡ closed_but (map (λ s. string_bytes s) kept_open.now) lines.now }
+fn closed_but(kept_open: &[&str], lines: &[ThreadLine<'_>]) -> bool
+    ensures { result ≡ closed_but (map (λ s. s.now) kept_open.now) lines.now }
 {
     for line in lines {
         if !line.closed && !is_among(line.name.as_str(), kept_open) {
@@ -84,10 +84,10 @@ pub fn went_well(
     left: &[Vec<LeftOut>],
     entries: &[Entry],
     lines: &[ThreadLine<'_>],
-    kept_open: &[String],
+    kept_open: &[&str],
 ) -> Result<bool, Memory>
     ensures { IfOk result (λ well. well
-        ≡ strict.went_well (map (λ s. string_bytes s) kept_open.now) scenario.now (map (λ l. l.items) left.now) entries.now lines.now) }
+        ≡ strict.went_well (map (λ s. s.now) kept_open.now) scenario.now (map (λ l. l.items) left.now) entries.now lines.now) }
 {
     let taken = taken_in(alloc, entries)?;
     let done = plans_done(alloc, scenario, entries, &taken, left)?;

@@ -1,4 +1,4 @@
-use Rattle.std.proofs.Common.{◌≡◌, ◌∙◌, ℕ, ◌<◌, List, length, map, string_bytes, sym, ap, subst}
+use Rattle.std.proofs.Common.{◌≡◌, ◌∙◌, ℕ, ◌<◌, List, length, map, sym, ap, subst}
 use Rattle.std.proofs.lemmas.List.{length-map}
 use Rattle.std.specs.Prelude.{Vec}
 use Rattle.std.specs.Global.{Global}
@@ -49,7 +49,7 @@ returns-clause-played g c =
     let first = start.0 ∙ (ap (λ (o : Opened). o.genesis) (sym c.requires.session) ∙ c.requires.genesis) in
     let at = start.1 ∙ (ap (λ (o : Opened). o.first_tick) (sym c.requires.session) ∙ c.requires.tick) in
     let told = c.in_ok-played.ensures in
-    let w = wanted c.args.asked.face c.args.asked.strict (map (λ s. string_bytes s) c.args.asked.kept_open.now) in
+    let w = wanted c.args.asked.face c.args.asked.strict (map (λ s. s.now) c.args.asked.kept_open.now) in
     let left = map (λ l. l.items) c.in_ok-stage.left.items in
     let p = c.in_ok-played.played in
     let of_left = subst (λ (ls : List (Vec LeftOut Global)). IsTold c.args.asked.face s c.chain.result.now outputs (map (λ l. l.items) ls) told.0 p.text.items) c.deref.ensures.value told.1 in
