@@ -5,6 +5,8 @@ Needs    readings.py, ledger.py and random_scenarios.py beside it, and for `--co
          (cd crates/marlowe && rt run -- --version)
 Usage    plays.py SCENARIO                      prints what `marlowe play --one SCENARIO` has to print
          plays.py --explain SCENARIO            the same of `marlowe play --one --explain SCENARIO`
+         plays.py --json SCENARIO               the same of `marlowe play --one --json SCENARIO`
+         plays.py --strict SCENARIO [NAME ..]   `well` or `not well`, as `marlowe play --one --strict` has status 0 or 3; threads with these names may stay open
          plays.py --replay SCENARIO PRINTED     makes the calls of a printed play again, in its order
          plays.py --compare N SEED PROGRAM      compares the program on N random scenarios, played on one thread and on many
          plays.py --race N SEED PROGRAM         has the program play N times, with ten plans of a hundred steps each that race for twenty threads
@@ -52,13 +54,13 @@ class Play:
             raise Refused(f"refused scenario {fault}") from None
         genesis = [ledger.Output(("key", funds["address"]), ledger.amount(funds["amount"])) for funds in self.scenario["genesis"]]
         self.chain, self.lines, self.starts = ledger.Chain(genesis, self.scenario["tick"]), [], []
-        self.refusals, self.taken, self.intents_told = [], {}, [Told(plan) for plan in self.scenario["plans"]]
+        self.replies, self.taken, self.intents_told = [], {}, [Told(plan) for plan in self.scenario["plans"]]
         self.answered = collections.Counter()
 
     def answer(self, seat, call):
         """Makes a call for a seat, and its line."""
         reply = self.chain.call(*call)
-        self.refusals.append(refusals(reply.text))
+        self.replies.append((seat, self.answered[seat], reply.text))
         self.taken.update((int(ticket), (len(self.lines), verdict == "accepted")) for ticket, verdict in tickets(reply.text))
         self.lines.append(f"{len(self.lines)} {seat}.{self.answered[seat]} {reply.text}")
         self.answered[seat] += 1
@@ -71,17 +73,41 @@ class Play:
 
     def explained(self):
         """The same with what is told behind the entries, how each intent ended, and who holds what."""
-        notes = collections.defaultdict(list, enumerate(self.refusals))
-        for told in self.intents_told:
-            for place, line in told.unbuilt:
-                notes[place] = notes[place] + [line]
-            for ending, lines in told.steps:
-                place = self.done_at(ending)
-                if place is not None:
-                    notes[place] = notes[place] + lines
+        notes = self.noted([refusals(reply) for _, _, reply in self.replies], self.unbuilt_lines, self.step_lines)
         lines = self.whole()
         noted = [line for place, entry in enumerate(self.lines) for line in [entry] + ["    " + note for note in notes[place]]]
         return noted + lines[len(self.lines):] + self.endings() + self.holdings()
+
+    def objects(self):
+        """The same, an object a line."""
+        entries = [[{"entry": place, "seat": seat, "number": number, **reply_members(reply)}] for place, (seat, number, reply) in enumerate(self.replies)]
+        told = [each for notes in self.noted(entries, self.unbuilt_objects, self.step_objects) for each in notes]
+        for thread, start in zip(self.scenario["threads"], self.starts):
+            steps, end = self.chain.spine(start)
+            told.append({"thread": thread["name"], "steps": steps, "closed": not end})
+        told.append({"entries": len(self.lines)})
+        for plan, each in zip(self.scenario["plans"], self.intents_told):
+            told += [{"plan": plan["name"], "place": place, "intent": self.intent_members(intent), **ending_members(self.ending(each.ended(place)))}
+                     for place, intent in enumerate(plan["intents"])]
+        told += [{**self.holder_members(holder), "token": ledger.token_json(of), "amount": interpreter.wide(number)} for holder, of, number in self.held()]
+        return [json.dumps(each, separators=(",", ":"), ensure_ascii=False) for each in told]
+
+    def is_well(self, kept_open=()):
+        """Whether each intent is done and each thread closed, but for those that may stay open."""
+        done = all(self.ending(told.ended(place)).startswith("done at ")
+                   for plan, told in zip(self.scenario["plans"], self.intents_told) for place in range(len(plan["intents"])))
+        return done and all(thread["name"] in kept_open or not self.chain.spine(start)[1] for thread, start in zip(self.scenario["threads"], self.starts))
+
+    def noted(self, notes, unbuilt, stepped):
+        """What is told behind each entry: these notes, then of each plan what was left out, and what its steps did."""
+        for told in self.intents_told:
+            for place, intent, looks, fault in told.unbuilt:
+                notes[place] = notes[place] + unbuilt(place, intent, looks, fault)
+            for ending, intent, looks in told.steps:
+                place = self.done_at(ending)
+                if place is not None:
+                    notes[place] = notes[place] + stepped(place, intent, looks)
+        return notes
 
     def done_at(self, ending):
         """The place of the entry at which something was done: of what was pooled that of the round."""
@@ -115,32 +141,56 @@ class Play:
             return f"claim {ledger.compact(self.scenario['contracts'][intent['claim']]['name'])} {ledger.compact(intent['role'])}"
         return " ".join(["steps" if "steps" in intent else "step"] + [self.thread_text(step["step"]) for step in steps_of(intent)])
 
-    def unbuilt(self, intent, looks, fault):
+    def intent_members(self, intent):
+        if "round" in intent:
+            return {"round": intent["round"]}
+        if "advance" in intent:
+            return {"advance": intent["advance"]}
+        if "claim" in intent:
+            return {"claim": self.scenario["contracts"][intent["claim"]]["name"], "role": intent["role"]}
+        names = [self.scenario["threads"][step["step"]]["name"] for step in steps_of(intent)]
+        return {"steps": names} if "steps" in intent else {"step": names[0]}
+
+    def unbuilt_lines(self, place, intent, looks, fault):
         """What hindered an intent, in words."""
         if "claim" in intent and fault == "NoThread":
-            return f"{self.intent_text(intent)}: nothing to claim"
-        return f"{self.intent_text(intent)}: not built: {fault}: {build_words(intent, looks, fault)}"
+            return [f"{self.intent_text(intent)}: nothing to claim"]
+        return [f"{self.intent_text(intent)}: not built: {fault}: {build_words(intent, looks, fault)}"]
+
+    def unbuilt_objects(self, place, intent, looks, fault):
+        if "claim" in intent and fault == "NoThread":
+            why = {"why": "nothing to claim"}
+        else:
+            why = {"fault": fault, "why": build_words(intent, looks, fault)}
+        return [{"left_out": self.intent_members(intent), "entry": place, **why}]
+
+    def step_lines(self, place, intent, looks):
+        """What the steps of an intent did, by its looks."""
+        return [f"step {self.thread_text(step['step'])}: {line}" for look, step in self.stepped(intent, looks)
+                for line in step_lines(look, interval_of(intent), step["inputs"])]
+
+    def step_objects(self, place, intent, looks):
+        return [{"step": self.scenario["threads"][step["step"]]["name"], "entry": place, **step_members(look, interval_of(intent), step["inputs"])}
+                for look, step in self.stepped(intent, looks)]
 
     def stepped(self, intent, looks):
-        """What the steps of an intent did, by its looks."""
-        if "claim" in intent:
-            return []
-        interval = {"from": intent["from"], "to": intent["to"]}
-        return [f"step {self.thread_text(step['step'])}: {line}" for look, step in zip(looks, steps_of(intent))
-                for line in step_lines(look, interval, step["inputs"])]
+        return [] if "claim" in intent else zip(looks, steps_of(intent))
 
     def steps(self, start):
         steps, end = self.chain.spine(start)
         return f"steps {steps} {'open' if end else 'closed'}"
 
     def holdings(self):
-        """Who holds what at the end, a line for each holder and token: of a contract the first thread that a look shows there."""
+        return [f"{self.told(holder)} {token_text(of)} {number}" for holder, of, number in self.held()]
+
+    def held(self):
+        """Who holds what at the end: of a contract the first thread that a look shows there."""
         ends = [self.chain.spine(start)[1] for start in self.starts]
         held = collections.Counter()
         for reference, output in self.chain.unspent.items():
             for of, number in output.amount.items():
                 held[self.holder(ends, reference, output.lock), of] += number
-        return [f"{self.told(holder)} {token_text(of)} {number}" for (holder, of), number in sorted(held.items()) if number > 0]
+        return [(holder, of, number) for (holder, of), number in sorted(held.items()) if number > 0]
 
     def holder(self, ends, reference, lock):
         if lock[0] == "key":
@@ -156,6 +206,14 @@ class Play:
         if kind == 1:
             return f'unclaimed "{first.hex()}" {text_json(second)}'
         return f"in thread {ledger.compact(self.scenario['threads'][first]['name'])}"
+
+    def holder_members(self, holder):
+        kind, first, second = holder
+        if kind == 0:
+            return {"holds": first.decode()}
+        if kind == 1:
+            return {"unclaimed": first.hex(), "role": second.decode()}
+        return {"in_thread": self.scenario["threads"][first]["name"]}
 
     # The calls of a seat, one after the other; each is sent its reply.
 
@@ -214,14 +272,14 @@ class Play:
                 transaction = built(plan, intent, looks)
             except ledger.Hindered as fault:
                 if looks:
-                    told.unbuilt.append((last, self.unbuilt(intent, looks, str(fault))))
+                    told.unbuilt.append((last, intent, looks, str(fault)))
                 return "nothing to claim" if "claim" in intent and str(fault) == "NoThread" else "not built"
             reply = yield "enqueue" if pool else "submit", transaction
             if reply.text == "enqueue full":
                 return self.at("pool full")
             if pool or not reply.fault:
                 ending = int(reply.text.removeprefix("enqueue ticket ")) if pool else self.at("done")
-                told.steps.append((ending, self.stepped(intent, looks)))
+                told.steps.append((ending, intent, looks))
                 return ending
             if not reply.fault.startswith("NotUnspent"):
                 return self.at("refused")
@@ -244,6 +302,37 @@ class Told:
     def ended(self, place):
         """A plan that stopped builds no more; only of steps of no thread the builder is asked."""
         return self.endings.get(place, "not built" if self.plan["intents"][place].get("steps") == [] else "stopped")
+
+
+def ending_members(ending):
+    """How an intent ended, as members of an object."""
+    found = re.fullmatch("(.+?)(?: at ([0-9]+))?(?:, ticket ([0-9]+))?", ending)
+    numbers = {"entry": found[2], "ticket": found[3]}
+    return {"ended": found[1], **{key: int(number) for key, number in numbers.items() if number}}
+
+
+def refusal_members(fault):
+    return {"reply": "refused", "fault": fault, "why": rule_words(fault)}
+
+
+def ticket_object(ticket, verdict):
+    return {"ticket": int(ticket), **({"reply": "accepted"} if verdict == "accepted" else refusal_members(verdict.removeprefix("refused ")))}
+
+
+def reply_members(reply):
+    """A call and its reply, as members of an object."""
+    call, _, told = reply.partition(" ")
+    if call == "look":
+        return {"call": call, "reply": "shown", "tick": int(told.removeprefix("tick "))}
+    if call == "round":
+        return {"call": call, "reply": "taken", "tickets": [ticket_object(ticket, verdict) for ticket, verdict in tickets(reply)]}
+    if told.startswith("ticket "):
+        return {"call": call, "reply": "pooled", "ticket": int(told.removeprefix("ticket "))}
+    if call == "submit" and told != "accepted":
+        return {"call": call, **refusal_members(told.removeprefix("refused "))}
+    if told.startswith("refused "):
+        return {"call": call, "reply": "refused", "fault": told.removeprefix("refused ")}
+    return {"call": call, "reply": told, **({"why": refusals(reply)[0]} if told in ("full", "backward") else {})}
 
 
 RULES = {
@@ -294,6 +383,49 @@ def refusals(reply):
     if reply.startswith("submit refused "):
         return [rule_words(reply.removeprefix("submit refused "))]
     return [f"ticket {ticket}: {rule_words(verdict.removeprefix('refused '))}" for ticket, verdict in tickets(reply) if verdict != "accepted"]
+
+
+def interval_of(intent):
+    return {"from": intent["from"], "to": intent["to"]}
+
+
+def sorted_json(form):
+    """A form whose objects have their keys in the order of their bytes."""
+    return json.loads(ledger.compact(form))
+
+
+def step_members(look, interval, inputs):
+    """What a step did, as members of an object."""
+    run, left = ledger.run_of(look.thread, interval, inputs)
+    outcome = sorted_json(interpreter.outcome_of(run, left))
+    told = {"payments": outcome["payments"], "warnings": outcome["warnings"], "waits_for": [], "waits_until": None}
+    if left != "close":
+        state = interpreter.state_json(run, int)
+        at = max(look.tick, state["minTime"])
+        machine = interpreter.Transaction(state, {"from": at, "to": at})
+        told["waits_for"] = [waited_object(machine, case["case"]) for case in left["when"]]
+        told["waits_until"] = left["timeout"] - 1
+    return told
+
+
+def or_null(number, value):
+    """A number or a truth, or None where a number leaves 128 bits."""
+    try:
+        return number(value)
+    except interpreter.Refused:
+        return None
+
+
+def waited_object(machine, action):
+    if "deposits" in action:
+        number = or_null(machine.value, action["deposits"])
+        return {"deposit": None if number is None else interpreter.wide(number), "token": sorted_json(action["of_token"]),
+                "by": sorted_json(action["party"]), "into": sorted_json(action["into_account"])}
+    if "for_choice" in action:
+        choice = action["for_choice"]
+        return {"choose": choice["choice_name"], "of": sorted_json(choice["choice_owner"]),
+                "bounds": [{"from": interpreter.wide(each["from"]), "to": interpreter.wide(each["to"])} for each in action["choose_between"]]}
+    return {"notify": or_null(machine.holds, action["notify_if"])}
 
 
 def step_lines(look, interval, inputs):
@@ -370,13 +502,19 @@ def next_call(calls, reply):
         return None
 
 
-def played(text, explain=False):
-    """The lines of a play whose plans take turns, each whole, on one thread; explained, with what stands behind them and at the end."""
+def in_turn(text):
+    """A play whose plans take turns, each whole, on one thread."""
     play = Play(text)
     run_whole(play, 0, play.setup())
     for place, plan in enumerate(play.scenario["plans"]):
         run_whole(play, place + 1, play.plan(plan, play.intents_told[place]))
-    return play.explained() if explain else play.whole()
+    return play
+
+
+def played(text, explain=False):
+    """The lines of such a play; explained, with what stands behind them and at the end; or as objects, an object a line."""
+    play = in_turn(text)
+    return play.objects() if explain == "json" else play.explained() if explain else play.whole()
 
 
 def run_whole(play, seat, calls):
@@ -566,9 +704,13 @@ def main(words):
         with open(words[1], "rb") as scenario, open(words[2], "rb") as printed:
             print("replayed", replayed(scenario.read(), lines_of(printed.read())), "entries")
         return None
-    explain = words[0] == "--explain"
-    with open(words[explain], "rb") as file:
-        output, refusal, status = wanted(file.read(), explain)
+    face = {"--explain": True, "--json": "json"}.get(words[0], False)
+    if words[0] == "--strict":
+        with open(words[1], "rb") as file:
+            print("well" if in_turn(file.read()).is_well(words[2:]) else "not well")
+        return None
+    with open(words[bool(face)], "rb") as file:
+        output, refusal, status = wanted(file.read(), face)
     sys.stdout.write(output)
     sys.stderr.write(refusal)
     sys.exit(status)
