@@ -603,6 +603,12 @@ def run(program, *words):
     return done.stdout.decode(), done.stderr.decode(), done.returncode
 
 
+def first_line(streams):
+    """Standard error without the lines that explain a refusal."""
+    printed, told, status = streams
+    return printed, "".join(told.splitlines(True)[:1]), status
+
+
 def compare(count, seed, program):
     told = collections.Counter()
     with tempfile.TemporaryDirectory() as folder:
@@ -614,7 +620,7 @@ def compare(count, seed, program):
             want, got = wanted(text), run(program, path, "--one")
             if want != got:
                 differs(seed, number, text, want, got)
-            more, got = wanted(text, True), run(program, path, "--one", "--explain")
+            more, got = wanted(text, True), first_line(run(program, path, "--one", "--explain"))
             if more != got:
                 differs(seed, number, text, more, got)
             many = run(program, path)

@@ -255,6 +255,8 @@ def printed():
                 yield from (("outcome.json", each) for each in answer)
             elif words[:2] == ["marlowe", "next"] and "--json" in words:
                 yield "next.json", answer[0]
+            elif words[:2] == ["marlowe", "play"] and "--json" in words:
+                yield from (("play.json", each) for each in answer)
             elif words[0] == "json" or words[:2] == ["marlowe", "analyse"] and "--json" in words:
                 yield "analysis.json", answer[0]
 
