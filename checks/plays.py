@@ -86,8 +86,8 @@ class Play:
             steps, end = self.chain.spine(start)
             told.append({"thread": thread["name"], "steps": steps, "closed": not end})
         told.append({"entries": len(self.lines)})
-        for plan, each in zip(self.scenario["plans"], self.intents_told):
-            told += [{"plan": plan["name"], "place": place, "intent": self.intent_members(intent), **ending_members(self.ending(each.ended(place)))}
+        for seat, (plan, each) in enumerate(zip(self.scenario["plans"], self.intents_told), 1):
+            told += [{"plan": plan["name"], "seat": seat, "place": place, "intent": self.intent_members(intent), **ending_members(self.ending(each.ended(place)))}
                      for place, intent in enumerate(plan["intents"])]
         told += [{**self.holder_members(holder), "token": ledger.token_json(of), "amount": interpreter.wide(number)} for holder, of, number in self.held()]
         return [json.dumps(each, separators=(",", ":"), ensure_ascii=False) for each in told]

@@ -85,12 +85,12 @@ def told_of_reply(told):
 def read_objects(text):
     """The entries, the threads, and the names of the plans by their seats."""
     objects = [json.loads(line) for line in text.splitlines()]
-    entries = [Entry(each["entry"], each["seat"], told_of_members(each)) for each in objects if "seat" in each]
+    entries = [Entry(each["entry"], each["seat"], told_of_members(each)) for each in objects if "number" in each]
     threads = [(each["thread"], each["steps"], "closed" if each["closed"] else "open") for each in objects if "thread" in each]
     if [each["entries"] for each in objects if "entries" in each] != [len(entries)] or any(entry.number != place for place, entry in enumerate(entries)):
         raise NoPlay("the entries aren't all there")
     tell_setup([entry for entry in entries if entry.seat == 0], [name for name, _, _ in threads])
-    plans = {}
+    plans = {each["seat"]: each["plan"] for each in objects if "plan" in each}
     for each in objects:
         if "left_out" in each:
             entry, fault = entries[each["entry"]], each["fault"].split(" ")[0] if "fault" in each else each["why"]
@@ -99,7 +99,6 @@ def read_objects(text):
             entries[each["entry"]].steps.append(each["step"])
         elif "plan" in each and "entry" in each and is_of(entries[each["entry"]], each):
             entries[each["entry"]].subject = told_of_intent(each["intent"])
-            plans[entries[each["entry"]].seat] = each["plan"]
     return entries, threads, plans
 
 

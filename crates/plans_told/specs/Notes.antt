@@ -78,7 +78,7 @@ put_plan spelling s es taken n (Some plan) left notes =
 -- how each of its intents ended
 abbrev pub plan_told : Spelling → ScenarioRead → List Entry → List Taken → ℕ → Option (Plan ℕ ℕ) → List LeftOut → List ℕ
 plan_told spelling s es taken n None left = []
-plan_told spelling s es taken n (Some plan) left = plan_lines spelling plan.name s.threads s.contracts plan.intents (plan_ended es taken n plan left)
+plan_told spelling s es taken n (Some plan) left = plan_lines spelling (n + 1) plan.name s.threads s.contracts plan.intents (plan_ended es taken n plan left)
 
 -- ---- of all plans, the first of these at place n
 

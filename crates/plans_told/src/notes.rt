@@ -199,13 +199,14 @@ fn put_ended(
     told: &mut Told,
     spelling: Spelling,
     scenario: &Scenario,
+    seat: u64,
     plan: &Plan<usize, usize>,
     ended: &[Ended<'_, '_>],
 ) -> Result<(), Memory>
     ensures notes { OnOk result (map (λ s. string_bytes s) told.new.notes.items
         ≡ texts.put_ended spelling scenario.now.threads plan.now.intents 0 ended.now (map (λ s. string_bytes s) told.old.notes.items)) }
     ensures lines { OnOk result (string_bytes told.new.lines ≡ string_bytes told.old.lines
-        ++ lines.plan_lines spelling plan.now.name scenario.now.threads scenario.now.contracts plan.now.intents ended.now) }
+        ++ lines.plan_lines spelling seat plan.now.name scenario.now.threads scenario.now.contracts plan.now.intents ended.now) }
 {
     let threads = scenario.threads.as_slice();
     let contracts = scenario.contracts.as_slice();
@@ -215,6 +216,7 @@ fn put_ended(
         alloc,
         &mut told.lines,
         spelling,
+        seat,
         &plan.name,
         threads,
         contracts,
@@ -254,10 +256,11 @@ fn put_plan(
         intents,
         left,
     )?;
-    let own = entries_of(alloc, place as u64 + 1, entries)?;
+    let seat = place as u64 + 1;
+    let own = entries_of(alloc, seat, entries)?;
     let lefts = left_intents(alloc, left)?;
     let ended = endings(alloc, intents, &lefts, &own, taken)?;
-    put_ended(alloc, told, spelling, scenario, plan, &ended)
+    put_ended(alloc, told, spelling, scenario, seat, plan, &ended)
 }
 
 // Puts what is told of each plan.

@@ -62,5 +62,10 @@ abbrev pub ending_lines : Spelling → List ℕ → List NamedThread → List Na
 ending_lines spelling plan ts cs xs n [] = []
 ending_lines spelling plan ts cs xs n (e ∷ es) = line_of spelling plan ts cs n (slice_get xs n) e.ending ++ ending_lines spelling plan ts cs xs (n + 1) es
 
-abbrev pub plan_lines : Spelling → List ℕ → List NamedThread → List NamedContract → List (Intent ℕ ℕ) → List EndedAt → List ℕ
-plan_lines spelling name ts cs xs ends = ending_lines spelling (quoted name) ts cs xs 0 ends
+-- the plan's name, as an object also its seat
+abbrev pub plan_text : Spelling → ℕ → List ℕ → List ℕ
+plan_text Lines seat name = quoted name
+plan_text Objects seat name = quoted name ++ (codes ",\"seat\":" ++ decimal seat)
+
+abbrev pub plan_lines : Spelling → ℕ → List ℕ → List NamedThread → List NamedContract → List (Intent ℕ ℕ) → List EndedAt → List ℕ
+plan_lines spelling seat name ts cs xs ends = ending_lines spelling (plan_text spelling seat name) ts cs xs 0 ends

@@ -1,7 +1,7 @@
 //! A line for each intent.
 ghost use Rattle.std.specs.Prelude.{◌≡◌, ◌++◌, IfOk, OnOk, option_copied, slice_get, string_bytes};
 ghost use Rattle.play_endings.specs.EndingLines as told;
-ghost use Rattle.play_endings.specs.EndingLines.{ending_text, at_entry, ending_members, ending_line, ending_object, ending_by, line_of, ending_lines};
+ghost use Rattle.play_endings.specs.EndingLines.{ending_text, at_entry, ending_members, ending_line, ending_object, ending_by, line_of, ending_lines, plan_text};
 
 use crate::ending::{Ended, Ending};
 use collections::{Memory, Text};
@@ -179,12 +179,24 @@ fn put_lines(
     Ok(())
 }
 
-/// Puts a line or an object for each intent of a plan at the end of a text: the plan's name, the intent, which names threads and contracts
-/// by their places in these lists, and how it ended. Answers `Memory` only where a growth was refused.
+// The plan's name, as an object also its seat.
+fn plan_text(alloc: Global, spelling: Spelling, seat: u64, name: &Text) -> Result<String, Memory>
+    ensures { IfOk result (λ text. string_bytes text ≡ plan_text spelling seat name.now) }
+{
+    let name = term_text(alloc, name)?;
+    match spelling {
+        Spelling::Lines => Ok(name),
+        Spelling::Objects => format!(in alloc; "{name},\"seat\":{seat}"),
+    }
+}
+
+/// Puts a line or an object for each intent of a plan with this seat at the end of a text: the plan's name, the intent, which names threads
+/// and contracts by their places in these lists, and how it ended. Answers `Memory` only where a growth was refused.
 pub fn put_endings(
     alloc: Global,
     out: &mut String,
     spelling: Spelling,
+    seat: u64,
     name: &Text,
     threads: &[NamedThread],
     contracts: &[NamedContract],
@@ -192,9 +204,9 @@ pub fn put_endings(
     ended: &[Ended<'_, '_>],
 ) -> Result<(), Memory>
     ensures { OnOk result (string_bytes out.new ≡ string_bytes out.old
-        ++ told.plan_lines spelling name.now threads.now contracts.now intents.now ended.now) }
+        ++ told.plan_lines spelling seat name.now threads.now contracts.now intents.now ended.now) }
 {
-    let plan = term_text(alloc, name)?;
+    let plan = plan_text(alloc, spelling, seat, name)?;
     put_lines(
         alloc,
         out,
