@@ -1,5 +1,5 @@
 -- Pieces of texts, one behind the other.
-use Rattle.std.proofs.Common.{◌≡◌, ◌∙◌, ℕ, List, ◌++◌, ap, append_assoc}
+use Rattle.std.proofs.Common.{◌≡◌, ◌∙◌, ℕ, List, ◌++◌, ap, append_assoc, Result, Ok, Err, is_ok, OnOk, if◌then◌else◌}
 
 -- ---- pieces in place of others
 
@@ -17,6 +17,11 @@ four_pieces h k l m e p p1 q q1 r r1 s s1 text is a b c d =
     ∙ ap (λ (t : List ℕ). h ++ (p1 ++ (k ++ (q1 ++ (l ++ (r1 ++ (m ++ (t ++ e)))))))) d
 
 -- ---- pieces put one after the other
+
+-- a push says what it leaves in either case
+pub pushed : {E : Type 0} (r : Result (Unit {0}) E) (old new text : List ℕ) → new ≡ (if is_ok r then old ++ text else old) → OnOk r (new ≡ old ++ text)
+pushed (Ok done) old new text h = h
+pushed (Err fault) old new text h = tt
 
 pub put_two : (old p q a new : List ℕ) → a ≡ old ++ p → new ≡ a ++ q → new ≡ old ++ (p ++ q)
 put_two old p q a new first second = second ∙ ap (λ (t : List ℕ). t ++ q) first ∙ append_assoc old p q
