@@ -11,7 +11,7 @@ returns c =
     let done = done_members o.payments o.warnings in
     let first =
     c.in_ok-put_done.ensures
-    ∙ ap (λ l. string_bytes c.in_ok-out.out ++ done_members l c.as_slice-2.result.now) c.as_slice.ensures
-    ∙ ap (λ l. string_bytes c.in_ok-out.out ++ done_members o.payments l) c.as_slice-2.ensures
+    ∙ ap (λ l. string_bytes c.in_ok-out.out ++ done_members l c.as_slice.result.now) c.as_slice-payments.ensures
+    ∙ ap (λ l. string_bytes c.in_ok-out.out ++ done_members o.payments l) c.as_slice.ensures
     ∙ ap (λ t. t ++ done) begins in
     put_two c.args.head.now done (waiting_members c.args.interval o.state (cont_tree c.args.table.now o.place.0)) (string_bytes c.put_done.new.out) (string_bytes c.put_waiting.new.out) first c.in_ok-put_waiting.ensures
