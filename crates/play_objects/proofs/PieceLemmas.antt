@@ -1,5 +1,6 @@
 -- Pieces of texts, one behind the other.
-use Rattle.std.proofs.Common.{◌≡◌, ◌∙◌, ℕ, List, ◌++◌, ap, append_assoc, subst, Result, Ok, Err, is_ok, OnOk, if◌then◌else◌}
+use Rattle.std.proofs.lemmas.List.{at_drop_more}
+use Rattle.std.proofs.Common.{◌≡◌, ◌∙◌, ℕ, ◌+◌, ◌<◌, List, ◌∷◌, ◌++◌, length, drop, get_or, ap, sym, append_assoc, subst, Result, Ok, Err, is_ok, OnOk, if◌then◌else◌}
 
 -- ---- pieces in place of others
 
@@ -35,3 +36,14 @@ printed-as r old new text said same printed = subst (λ w. OnOk r (new ≡ old +
 
 pub pushed-as : {E : Type 0} (r : Result (Unit {0}) E) (old new text said : List ℕ) → text ≡ said → new ≡ (if is_ok r then old ++ text else old) → OnOk r (new ≡ old ++ said)
 pushed-as r old new text said same h = printed-as r old new text said same (pushed r old new text h)
+
+-- ---- one item more
+
+pub item_more : {X : Type 0} (g : List X → List ℕ) (f : X → List ℕ) → ((x : X) (xs : List X) → g (x ∷ xs) ≡ f x ++ g xs) → (xs : List X) (i : ℕ) (x : X) (old new all : List ℕ) → i < length xs → x ≡ get_or xs i x → new ≡ old ++ f x →
+    old ++ g (drop i xs) ≡ all → new ++ g (drop (i + 1) xs) ≡ all
+item_more g f step xs i x old new all here is put whole =
+    let rest = g (drop (i + 1) xs) in
+    ap (λ (t : List ℕ). t ++ rest) put
+    ∙ append_assoc old (f x) rest
+    ∙ ap (λ (t : List ℕ). old ++ t) (sym (at_drop_more g xs i x here ∙ ap (λ y. g (y ∷ drop (i + 1) xs)) (sym is) ∙ step x (drop (i + 1) xs)))
+    ∙ whole

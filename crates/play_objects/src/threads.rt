@@ -3,8 +3,8 @@ ghost use Rattle.std.specs.Prelude.{◌≡◌, ◌++◌, length, map, IfOk, OnOk
 ghost use Rattle.play_objects.specs.EntryObjects as told;
 ghost use Rattle.play_objects.specs.EntryObjects.{truth_text, thread_object, thread_objects, joined};
 
+use crate::entries::quoted;
 use collections::Memory;
-use json_write_contracts::term_text;
 use play_lines::ThreadLine;
 use std::alloc::Global;
 use std::fmt::Write;
@@ -18,7 +18,7 @@ fn truth_text(truth: bool) -> &'static str
 fn put_thread(alloc: Global, out: &mut String, thread: &ThreadLine<'_>) -> Result<(), Memory>
     ensures { OnOk result (string_bytes out.new ≡ string_bytes out.old ++ thread_object thread.now) }
 {
-    let name = term_text(alloc, thread.name)?;
+    let name = quoted(alloc, thread.name.as_str())?;
     let steps = thread.steps;
     let closed = truth_text(thread.closed);
     write!(

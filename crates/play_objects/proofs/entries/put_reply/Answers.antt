@@ -1,4 +1,5 @@
 use Rattle.std.proofs.Common.{rules, ◌≡◌, ◌++◌, ◌∙◌, OnOk, ap, sym, codes, decimal, string_bytes}
+use Rattle.std.specs.Fmt.{signed_decimal}
 use Rattle.play_notes.specs.Intents.{quoted}
 use Rattle.play_objects.specs.EntryObjects.{reply_members}
 use Rattle.play_objects.proofs.PieceLemmas.{printed-as, pushed-as}
@@ -42,3 +43,10 @@ returns-in-Ticket c =
     let printed : OnOk c.write-in-Ticket.result (string_bytes c.write-in-Ticket.new.self ≡ string_bytes c.args.out.now ++ (head ++ ticket)) = search rules in
     printed-as c.write-in-Ticket.result (string_bytes c.args.out.now) (string_bytes c.write-in-Ticket.new.self) (head ++ ticket) (reply_members c.args.reply.now)
     (ap (λ r. reply_members r) (sym c.in-Ticket.is)) printed
+
+pub returns-in-Look : goal.returns-in-Look
+returns-in-Look c =
+    let head = codes "\"call\":\"look\",\"reply\":\"shown\",\"tick\":" in
+    let tick = signed_decimal c.in-Look.look.tick in
+    let printed : OnOk c.write.result (string_bytes c.write.new.self ≡ string_bytes c.args.out.now ++ (head ++ tick)) = search rules in
+    printed-as c.write.result (string_bytes c.args.out.now) (string_bytes c.write.new.self) (head ++ tick) (reply_members c.args.reply.now) (ap (λ r. reply_members r) (sym c.in-Look.is)) printed
