@@ -1,6 +1,7 @@
 -- The objects of entries and threads: one each on a line of its own.
-use Rattle.std.specs.Prelude.{ℕ, ◌+◌, Bool, if◌then◌else◌, List, [], ◌∷◌, ◌++◌, codes, decimal}
-use Rattle.std.specs.Fmt.{signed_decimal}
+use Rattle.std.specs.Prelude.{ℕ, ◌+◌, ℤ, Bool, if◌then◌else◌, List, [], ◌∷◌, ◌++◌, codes, decimal}
+use Rattle.serde_json.specs.Written.{compact_text}
+use Rattle.json_write_contracts.specs.WrittenNames.{number_json}
 use Rattle.eutxo_types.specs.declared.fault.TxFault.{TxFault}
 use Rattle.eutxo_types.specs.declared.verdict.Verdict.{Verdict}
 use Rattle.eutxo_types.specs.declared.verdict.Verdict.TheVariants as verdicts
@@ -34,13 +35,16 @@ ticket_objects n (t ∷ ts) = (comma n ++ ticket_object t) ++ ticket_objects (n 
 abbrev pub round_members : List Ticketed → List ℕ
 round_members ts = codes "\"call\":\"round\",\"reply\":\"taken\",\"tickets\":[" ++ (ticket_objects 0 ts ++ codes "]")
 
+abbrev pub shown_members : ℤ → List ℕ
+shown_members tick = codes "\"call\":\"look\",\"reply\":\"shown\",\"tick\":" ++ compact_text (number_json tick)
+
 abbrev pub reply_members : Reply → List ℕ
 reply_members (replies.Published id) = codes "\"call\":\"publish\",\"reply\":\"published\""
 reply_members (replies.NotCompiled fault) = codes "\"call\":\"publish\",\"reply\":\"refused\",\"fault\":" ++ quoted (compile_fault_name fault)
 reply_members replies.IdInUse = codes "\"call\":\"publish\",\"reply\":\"in use\""
 reply_members replies.Advanced = codes "\"call\":\"advance\",\"reply\":\"advanced\""
 reply_members replies.Backward = codes "\"call\":\"advance\",\"reply\":\"backward\",\"why\":\"the tick is later already\""
-reply_members (replies.Look look) = codes "\"call\":\"look\",\"reply\":\"shown\",\"tick\":" ++ signed_decimal look.tick
+reply_members (replies.Look look) = shown_members look.tick
 reply_members (replies.Accepted id) = codes "\"call\":\"submit\",\"reply\":\"accepted\""
 reply_members (replies.Refused fault) = codes "\"call\":\"submit\"," ++ refusal_members fault
 reply_members (replies.Ticket ticket) = codes "\"call\":\"enqueue\",\"reply\":\"pooled\",\"ticket\":" ++ decimal ticket

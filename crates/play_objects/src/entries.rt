@@ -3,7 +3,7 @@ ghost use Rattle.std.specs.Prelude.{◌≡◌, ◌++◌, map, IfOk, OnOk, codes,
 ghost use Rattle.play_notes.specs.Intents as intents;
 ghost use Rattle.step_notes.specs.StepObjects as steps;
 ghost use Rattle.play_objects.specs.EntryObjects as told;
-ghost use Rattle.play_objects.specs.EntryObjects.{refusal_members, verdict_members, ticket_object, ticket_objects, round_members, reply_members, entry_head, entry_object};
+ghost use Rattle.play_objects.specs.EntryObjects.{refusal_members, verdict_members, ticket_object, ticket_objects, round_members, shown_members, reply_members, entry_head, entry_object};
 
 use collections::Memory;
 use eutxo_types::{TxFault, Verdict};
@@ -88,6 +88,13 @@ fn put_refusal(alloc: Global, out: &mut String, fault: &TxFault) -> Result<(), M
     write!(out, "\"call\":\"submit\",{members}")
 }
 
+fn put_shown(alloc: Global, out: &mut String, tick: i64) -> Result<(), Memory>
+    ensures { OnOk result (string_bytes out.new ≡ string_bytes out.old ++ shown_members tick) }
+{
+    let tick = term_text(alloc, &tick)?;
+    write!(out, "\"call\":\"look\",\"reply\":\"shown\",\"tick\":{tick}")
+}
+
 // The call that a reply answers, and the reply.
 fn put_reply(alloc: Global, out: &mut String, reply: &Reply) -> Result<(), Memory>
     ensures { OnOk result (string_bytes out.new ≡ string_bytes out.old ++ reply_members reply.now) }
@@ -105,10 +112,7 @@ fn put_reply(alloc: Global, out: &mut String, reply: &Reply) -> Result<(), Memor
         Reply::Backward => out.push_str(
             "\"call\":\"advance\",\"reply\":\"backward\",\"why\":\"the tick is later already\"",
         ),
-        Reply::Look(look) => {
-            let tick = look.tick;
-            write!(out, "\"call\":\"look\",\"reply\":\"shown\",\"tick\":{tick}")
-        }
+        Reply::Look(look) => put_shown(alloc, out, look.tick),
         Reply::Accepted(_) => out.push_str("\"call\":\"submit\",\"reply\":\"accepted\""),
         Reply::Refused(fault) => put_refusal(alloc, out, fault),
         Reply::Ticket(ticket) => {

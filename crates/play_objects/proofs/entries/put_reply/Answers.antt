@@ -1,7 +1,6 @@
 use Rattle.std.proofs.Common.{rules, ◌≡◌, ◌++◌, ◌∙◌, OnOk, ap, sym, codes, decimal, string_bytes}
-use Rattle.std.specs.Fmt.{signed_decimal}
 use Rattle.play_notes.specs.Intents.{quoted}
-use Rattle.play_objects.specs.EntryObjects.{reply_members}
+use Rattle.play_objects.specs.EntryObjects.{reply_members, shown_members}
 use Rattle.play_objects.proofs.PieceLemmas.{printed-as, pushed-as}
 use Rattle.play_objects.proofs.entries.put_reply.Goals as goal
 
@@ -40,13 +39,10 @@ pub returns-in-Ticket : goal.returns-in-Ticket
 returns-in-Ticket c =
     let head = codes "\"call\":\"enqueue\",\"reply\":\"pooled\",\"ticket\":" in
     let ticket = decimal c.in-Ticket.ticket in
-    let printed : OnOk c.write-in-Ticket.result (string_bytes c.write-in-Ticket.new.self ≡ string_bytes c.args.out.now ++ (head ++ ticket)) = search rules in
-    printed-as c.write-in-Ticket.result (string_bytes c.args.out.now) (string_bytes c.write-in-Ticket.new.self) (head ++ ticket) (reply_members c.args.reply.now)
+    let printed : OnOk c.write.result (string_bytes c.write.new.self ≡ string_bytes c.args.out.now ++ (head ++ ticket)) = search rules in
+    printed-as c.write.result (string_bytes c.args.out.now) (string_bytes c.write.new.self) (head ++ ticket) (reply_members c.args.reply.now)
     (ap (λ r. reply_members r) (sym c.in-Ticket.is)) printed
 
 pub returns-in-Look : goal.returns-in-Look
 returns-in-Look c =
-    let head = codes "\"call\":\"look\",\"reply\":\"shown\",\"tick\":" in
-    let tick = signed_decimal c.in-Look.look.tick in
-    let printed : OnOk c.write.result (string_bytes c.write.new.self ≡ string_bytes c.args.out.now ++ (head ++ tick)) = search rules in
-    printed-as c.write.result (string_bytes c.args.out.now) (string_bytes c.write.new.self) (head ++ tick) (reply_members c.args.reply.now) (ap (λ r. reply_members r) (sym c.in-Look.is)) printed
+    printed-as c.put_shown.result (string_bytes c.args.out.now) (string_bytes c.put_shown.new.out) (shown_members c.in-Look.look.tick) (reply_members c.args.reply.now) (ap (λ r. reply_members r) (sym c.in-Look.is)) c.put_shown.ensures

@@ -15,8 +15,9 @@ returns c =
     let name = string_bytes c.in_ok-name.name in
     let closed = c.truth_text-closed.result.now in
     let printed : OnOk c.write.result (string_bytes c.write.new.self ≡ old ++ (h ++ (name ++ (m ++ (decimal t.steps ++ (k ++ (closed ++ e))))))) = search rules in
+    let is_closed : closed ≡ truth_text t.closed = search rules in
     let is_name : name ≡ quoted t.name = search rules in
     on_ok_weaker c.write.result
     (λ is. is ∙ ap (λ x. old ++ (h ++ (x ++ (m ++ (decimal t.steps ++ (k ++ (closed ++ e))))))) is_name
-    ∙ ap (λ x. old ++ (h ++ (quoted t.name ++ (m ++ (decimal t.steps ++ (k ++ (x ++ e))))))) c.truth_text-closed.ensures)
+    ∙ ap (λ x. old ++ (h ++ (quoted t.name ++ (m ++ (decimal t.steps ++ (k ++ (x ++ e))))))) is_closed)
     printed
