@@ -1,4 +1,6 @@
-use Rattle.std.proofs.Common.{rules, ◌≡◌, ◌++◌, ◌∙◌, OnOk, ap, sym, codes, decimal, string_bytes}
+use Rattle.std.specs.Int.{w64}
+use Rattle.std.proofs.lemmas.Int.{to_z-of_z}
+use Rattle.std.proofs.Common.{FitsSigned, rules, ◌≡◌, ◌++◌, ◌∙◌, OnOk, ap, sym, codes, decimal, string_bytes}
 use Rattle.play_notes.specs.Intents.{quoted}
 use Rattle.play_objects.specs.EntryObjects.{reply_members, shown_members}
 use Rattle.play_objects.proofs.PieceLemmas.{printed-as, pushed-as}
@@ -45,4 +47,6 @@ returns-in-Ticket c =
 
 pub returns-in-Look : goal.returns-in-Look
 returns-in-Look c =
-    printed-as c.put_shown.result (string_bytes c.args.out.now) (string_bytes c.put_shown.new.out) (shown_members c.in-Look.look.tick) (reply_members c.args.reply.now) (ap (λ r. reply_members r) (sym c.in-Look.is)) c.put_shown.ensures
+    let fits : FitsSigned w64 c.in-Look.look.tick = search rules in
+    let told = rw (to_z-of_z w64 c.in-Look.look.tick fits) at c.put_shown.ensures in
+    printed-as c.put_shown.result (string_bytes c.args.out.now) (string_bytes c.put_shown.new.out) (shown_members c.in-Look.look.tick) (reply_members c.args.reply.now) (ap (λ r. reply_members r) (sym c.in-Look.is)) told
