@@ -1,4 +1,3 @@
 pub mod Faults
-pub mod Notes
 pub mod Played
 pub mod PlayedSupport

@@ -1,0 +1,2 @@
+pub mod NotesLemmas
+mod StrictLemmas

@@ -1,0 +1,2 @@
+mod CasesLemmas
+mod WorkedLemmas
