@@ -260,8 +260,6 @@ def answers():
                 yield from (("outcome.json", each) for each in answer)
             elif words[:2] == ["marlowe", "table"]:
                 yield "table.json", answer[0]
-            elif words[:2] == ["marlowe", "play"]:
-                yield "refusal.json", answer[-1]
             elif words[:2] == ["marlowe", "next"] and "--json" in words:
                 yield "next.json", answer[0]
             elif words[:2] == ["marlowe", "play"] and "--json" in words:
