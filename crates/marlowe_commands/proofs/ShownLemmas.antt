@@ -30,7 +30,7 @@ use Rattle.marlowe_play.specs.declared.fault.PlayFault.TheVariants as playing
 use Rattle.marlowe_commands.specs.declared.face.Face.{Face}
 use Rattle.marlowe_commands.specs.declared.face.Face.TheVariants.{Plain, Explained, Json}
 use Rattle.marlowe_commands.specs.declared.printed.Printed.{Printed}
-use Rattle.marlowe_commands.specs.Streams.{Streams, streams_of, Saying, Refusal, refuses, for_people, for_tools, shown, spelling_of, IsShown, IsStatus, IsWell, Shows, IsForPeople, IsForTools, IsFor, ShowsOnStreams, IsHelp, unreadable}
+use Rattle.marlowe_commands.specs.Streams.{Streams, streams_of, Saying, Refusal, refuses, for_people, for_tools, shown, spelling_of, IsShown, IsStatus, IsWell, Shows, IsForPeople, IsForTools, IsFor, IsHelp, unreadable}
 use Rattle.marlowe_commands.specs.Tasks.{AsksFor, AsksForAlarms, IsOfLine, IsTrace, MayAlarm, SaysAnalysis, SaysNext, SaysPlay, analysis_status, face_of, refusal_by, run_said, table_said, trace_said, play_status, play_refusal, well_status}
 use Rattle.marlowe_commands.proofs.TaskLemmas.{asks_alarms, asks_trace, wants_face}
 
@@ -204,7 +204,7 @@ shown_is_for Plain alarms outcomes (inr (text, refusal)) told well = people alar
 shown_is_for Explained alarms outcomes (inr (text, refusal)) told well = people alarms outcomes text refusal told well
 shown_is_for Json alarms outcomes (inr (text, refusal)) told well = tools alarms outcomes text refusal told well
 
-pub on_streams : ShowsOnStreams
+pub on_streams : (face : Face) (alarms outcomes : Type 0) (streams : Streams) → Shows face alarms outcomes streams → IsFor face alarms outcomes streams
 on_streams face alarms outcomes streams it =
     subst (IsFor face alarms outcomes) (sym it.is) (shown_is_for face alarms outcomes it.said it.told it.is_well)
 

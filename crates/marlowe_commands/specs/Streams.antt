@@ -116,10 +116,6 @@ IsFor Plain alarms outcomes streams = IsForPeople alarms outcomes streams
 IsFor Explained alarms outcomes streams = IsForPeople alarms outcomes streams
 IsFor Json alarms outcomes streams = IsForTools alarms streams
 
--- what shows a saying is on these streams
-abbrev pub ShowsOnStreams : Type 1
-ShowsOnStreams = (face : Face) (alarms outcomes : Type 0) (streams : Streams) → Shows face alarms outcomes streams → IsFor face alarms outcomes streams
-
 -- ---- where there is nothing to say
 
 -- the text of the library that reads command lines: help, or what is wrong with one

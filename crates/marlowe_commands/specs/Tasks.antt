@@ -29,7 +29,7 @@ use Rattle.marlowe_cli.specs.declared.task.Task.TheVariants.{Run, Trace, Next, T
 use Rattle.marlowe_cli.specs.Asked.{IsFlag}
 use Rattle.marlowe_commands.specs.declared.face.Face.{Face}
 use Rattle.marlowe_commands.specs.declared.face.Face.TheVariants.{Plain, Explained, Json}
-use Rattle.marlowe_commands.specs.Streams.{Saying, Refusal, Streams, says, refuses, Shows, IsHelp}
+use Rattle.marlowe_commands.specs.Streams.{Saying, Refusal, Streams, says, refuses, IsFor, Shows, IsHelp}
 
 -- a fault: for people its line, with status 1
 abbrev pub refusal_by : Fault → Refusal
@@ -111,6 +111,10 @@ MayAlarm other = ⊥
 abbrev pub IsTrace : Task → Type 0
 IsTrace (Trace task) = Unit {0}
 IsTrace other = ⊥
+
+-- what shows a saying of a task is on these streams
+abbrev pub ShowsOnStreams : Type 0
+ShowsOnStreams = (face : Face) (task : Task) (streams : Streams) → Shows face (MayAlarm task) (IsTrace task) streams → IsFor face (MayAlarm task) (IsTrace task) streams
 
 -- the words of a command line ask for the command of this name
 abbrev pub AsksFor : Text → Option (Text × List Row) → Type 0

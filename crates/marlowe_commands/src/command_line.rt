@@ -2,8 +2,8 @@
 ghost use Rattle.std.specs.Prelude.{◌≡◌, IfOk, codes, map, string_bytes};
 ghost use Rattle.clap.specs.Words.{subcommand_of};
 ghost use Rattle.marlowe_usage.specs.Lines.{command_line};
-ghost use Rattle.marlowe_commands.specs.Streams.{IsHelp, Shows, ShowsOnStreams, streams_of};
-ghost use Rattle.marlowe_commands.specs.Tasks.{AsksForAlarms, IsOfLine, IsTrace, MayAlarm, face_of};
+ghost use Rattle.marlowe_commands.specs.Streams.{IsHelp, Shows, streams_of};
+ghost use Rattle.marlowe_commands.specs.Tasks.{AsksForAlarms, IsOfLine, IsTrace, MayAlarm, ShowsOnStreams, face_of};
 
 use crate::face::Face;
 use crate::printed::Printed;
