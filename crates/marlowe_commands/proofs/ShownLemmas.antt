@@ -1,5 +1,5 @@
 -- From what a command says to what is printed.
-use Rattle.std.proofs.Common.{◌≡◌, ◌⊎◌, ◌∙◌, ℕ, Bool, true, false, Unit, tt, List, [], Option, Some, None, Result, Ok, Err, IfOk, inl, inr, refl, sym, ap, subst, codes}
+use Rattle.std.proofs.Common.{◌≡◌, ◌⊎◌, ◌∙◌, ℕ, Bool, true, false, List, [], Option, Some, None, Result, Ok, Err, IfOk, inl, inr, refl, sym, ap, subst, codes}
 use Rattle.std.specs.Prelude.{◌++◌}
 use Rattle.std.proofs.lemmas.Bool.{true≢false}
 use Rattle.std.proofs.lemmas.List.{append-nil}

@@ -1,5 +1,5 @@
 //! What a command line prints.
-ghost use Rattle.std.specs.Prelude.{◌≡◌, IfOk, codes, map, string_bytes};
+ghost use Rattle.std.specs.Prelude.{◌≡◌, [], IfOk, map, string_bytes};
 ghost use Rattle.clap.specs.Words.{subcommand_of};
 ghost use Rattle.marlowe_usage.specs.Lines.{command_line};
 ghost use Rattle.marlowe_commands.specs.Streams.{IsHelp, Shows, streams_of};

@@ -1,6 +1,6 @@
 //! What is printed for a task, whose files are read first: the contract, the state, and then the transactions in the order of the command
 //! line. Explanations name each text by its path.
-ghost use Rattle.std.specs.Prelude.{◌≡◌, IfOk, Unit};
+ghost use Rattle.std.specs.Prelude.{IfOk};
 ghost use Rattle.marlowe_commands.specs.Streams.{Shows, streams_of};
 
 use crate::face::Face;
