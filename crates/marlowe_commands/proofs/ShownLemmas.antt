@@ -30,7 +30,7 @@ use Rattle.marlowe_play.specs.declared.fault.PlayFault.TheVariants as playing
 use Rattle.marlowe_commands.specs.declared.face.Face.{Face}
 use Rattle.marlowe_commands.specs.declared.face.Face.TheVariants.{Plain, Explained, Json}
 use Rattle.marlowe_commands.specs.declared.printed.Printed.{Printed}
-use Rattle.marlowe_commands.specs.Streams.{Streams, streams_of, Saying, Refusal, refuses, for_people, for_tools, shown, spelling_of, IsShown, IsStatus, IsWell, Shows, IsForPeople, IsForTools, IsFor, IsHelp, unreadable}
+use Rattle.marlowe_commands.specs.Streams.{Streams, streams_of, Saying, Refusal, says, refuses, for_people, for_tools, shown, spelling_of, IsShown, IsStatus, IsWell, Shows, IsForPeople, IsForTools, IsFor, IsHelp, unreadable}
 use Rattle.marlowe_commands.specs.Tasks.{AsksFor, AsksForAlarms, IsOfLine, IsTrace, MayAlarm, SaysAnalysis, SaysNext, SaysPlay, analysis_status, face_of, refusal_by, run_said, table_said, trace_said, play_status, play_refusal, well_status}
 use Rattle.marlowe_commands.proofs.TaskLemmas.{asks_alarms, asks_trace, wants_face}
 
@@ -155,10 +155,10 @@ play_shows face reading wanted Tells streams it = shows face (Unit {0}) ⊥ (Say
 -- ---- where more is allowed
 
 well_widened : (alarms outcomes more other : Type 0) → (alarms → more) → (outcomes → other) → (said : Saying) → IsWell alarms outcomes said → IsWell more other said
-well_widened alarms outcomes more other f g (inl (text, status)) (inl zero) = inl zero
-well_widened alarms outcomes more other f g (inl (text, status)) (inr (alarm, three)) = inr (f alarm, three)
-well_widened alarms outcomes more other f g (inr (text, refusal)) (inl none, status) = (inl none, status)
-well_widened alarms outcomes more other f g (inr (text, refusal)) (inr some, status) = (inr (g some), status)
+well_widened alarms outcomes more other f g (says text status) (inl zero) = inl zero
+well_widened alarms outcomes more other f g (says text status) (inr (alarm, three)) = inr (f alarm, three)
+well_widened alarms outcomes more other f g (refuses text refusal) (inl none, status) = (inl none, status)
+well_widened alarms outcomes more other f g (refuses text refusal) (inr some, status) = (inr (g some), status)
 
 pub widened : (face : Face) (alarms outcomes more other : Type 0) (streams : Streams) → (alarms → more) → (outcomes → other) → Shows face alarms outcomes streams
     → Shows face more other streams
@@ -180,12 +180,12 @@ unreadable_shows face path said streams is (inr same) =
 
 -- ---- on which streams it is
 
-people : (alarms outcomes : Type 0) (text : List ℕ) (refusal : Refusal) (told : List ℕ) → IsWell alarms outcomes (inr (text, refusal))
+people : (alarms outcomes : Type 0) (text : List ℕ) (refusal : Refusal) (told : List ℕ) → IsWell alarms outcomes (refuses text refusal)
     → IsForPeople alarms outcomes (for_people text refusal told)
 people alarms outcomes text ((line, status), tool) told (before, inl (one, tools)) = inr (inl one, before)
 people alarms outcomes text ((line, status), tool) told (before, inr (two, tools)) = inr (inr two, before)
 
-tools : (alarms outcomes : Type 0) (text : List ℕ) (refusal : Refusal) (told : List ℕ) → IsWell alarms outcomes (inr (text, refusal))
+tools : (alarms outcomes : Type 0) (text : List ℕ) (refusal : Refusal) (told : List ℕ) → IsWell alarms outcomes (refuses text refusal)
     → IsForTools alarms (for_tools text refusal told)
 tools alarms outcomes text ((line, people), (members, status)) told (before, inl (one, inl is)) = (refl, inr (inl is))
 tools alarms outcomes text ((line, people), (members, status)) told (before, inl (one, inr is)) = (refl, inr (inr (inr (inl is))))
@@ -197,12 +197,12 @@ text_for_tools alarms status (inl zero) = inl zero
 text_for_tools alarms status (inr three) = inr (inr (inr (inr three)))
 
 shown_is_for : (face : Face) (alarms outcomes : Type 0) (said : Saying) (told : List ℕ) → IsWell alarms outcomes said → IsFor face alarms outcomes (shown face said told)
-shown_is_for Plain alarms outcomes (inl (text, status)) told well = inl (well, refl)
-shown_is_for Explained alarms outcomes (inl (text, status)) told well = inl (well, refl)
-shown_is_for Json alarms outcomes (inl (text, status)) told well = (refl, text_for_tools alarms status well)
-shown_is_for Plain alarms outcomes (inr (text, refusal)) told well = people alarms outcomes text refusal [] well
-shown_is_for Explained alarms outcomes (inr (text, refusal)) told well = people alarms outcomes text refusal told well
-shown_is_for Json alarms outcomes (inr (text, refusal)) told well = tools alarms outcomes text refusal told well
+shown_is_for Plain alarms outcomes (says text status) told well = inl (well, refl)
+shown_is_for Explained alarms outcomes (says text status) told well = inl (well, refl)
+shown_is_for Json alarms outcomes (says text status) told well = (refl, text_for_tools alarms status well)
+shown_is_for Plain alarms outcomes (refuses text refusal) told well = people alarms outcomes text refusal [] well
+shown_is_for Explained alarms outcomes (refuses text refusal) told well = people alarms outcomes text refusal told well
+shown_is_for Json alarms outcomes (refuses text refusal) told well = tools alarms outcomes text refusal told well
 
 pub on_streams : (face : Face) (alarms outcomes : Type 0) (streams : Streams) → Shows face alarms outcomes streams → IsFor face alarms outcomes streams
 on_streams face alarms outcomes streams it =
@@ -230,10 +230,10 @@ tools_alarmed text ((line, people), (members, status)) told (inl (one, inr is)) 
 tools_alarmed text ((line, people), (members, status)) told (inr (two, is)) three = not_three status three (inr (inr (inl is)))
 
 alarmed : (face : Face) (alarms outcomes : Type 0) (said : Saying) (told : List ℕ) → IsWell alarms outcomes said → (shown face said told).2 ≡ 3 → alarms
-alarmed face alarms outcomes (inl (text, status)) told well three = text_alarmed alarms status well three
-alarmed Plain alarms outcomes (inr (text, refusal)) told (before, status) three = people_alarmed text refusal [] status three
-alarmed Explained alarms outcomes (inr (text, refusal)) told (before, status) three = people_alarmed text refusal told status three
-alarmed Json alarms outcomes (inr (text, refusal)) told (before, status) three = tools_alarmed text refusal told status three
+alarmed face alarms outcomes (says text status) told well three = text_alarmed alarms status well three
+alarmed Plain alarms outcomes (refuses text refusal) told (before, status) three = people_alarmed text refusal [] status three
+alarmed Explained alarms outcomes (refuses text refusal) told (before, status) three = people_alarmed text refusal told status three
+alarmed Json alarms outcomes (refuses text refusal) told (before, status) three = tools_alarmed text refusal told status three
 
 three_alarms : (face : Face) (alarms outcomes : Type 0) (streams : Streams) → Shows face alarms outcomes streams → streams.2 ≡ 3 → alarms
 three_alarms face alarms outcomes streams it three =

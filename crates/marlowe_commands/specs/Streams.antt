@@ -28,14 +28,9 @@ abbrev pub Refusal : Type 0
 Refusal = (List ℕ × ℕ) × (List ℕ × ℕ)
 
 -- a text with its status, or a text and the refusal that ends it
-abbrev pub Saying : Type 0
-Saying = (List ℕ × ℕ) ⊎ (List ℕ × Refusal)
-
-abbrev pub says : List ℕ → ℕ → Saying
-says text status = inl (text, status)
-
-abbrev pub refuses : List ℕ → Refusal → Saying
-refuses text refusal = inr (text, refusal)
+pub data Saying : Type 0 where
+  says : List ℕ → ℕ → Saying
+  refuses : List ℕ → Refusal → Saying
 
 abbrev pub refusal_of : Refused → Refusal
 refusal_of r = ((r.line.items, r.status), (r.members.items, r.tool_status))
@@ -62,8 +57,8 @@ refused_shown Json text refusal told = for_tools text refusal told
 
 -- a text alone is on standard output, whoever reads it
 abbrev pub shown : Face → Saying → List ℕ → Streams
-shown face (inl (text, status)) told = (text, [], status)
-shown face (inr (text, refusal)) told = refused_shown face text refusal told
+shown face (says text status) told = (text, [], status)
+shown face (refuses text refusal) told = refused_shown face text refusal told
 
 -- in which spelling a refusal is explained
 abbrev pub spelling_of : Face → Spelling
@@ -87,8 +82,8 @@ IsStatus ((line, status), (members, tool)) = (status ≡ 1) × ((tool ≡ 1) ⊎
 
 -- a text with status 0, or with 3 where there may be alarms; or a refusal, before which is a text only where there may be outcomes
 abbrev pub IsWell : Type 0 → Type 0 → Saying → Type 0
-IsWell alarms outcomes (inl (text, status)) = (status ≡ 0) ⊎ alarms × (status ≡ 3)
-IsWell alarms outcomes (inr (text, refusal)) = ((text ≡ []) ⊎ outcomes) × IsStatus refusal
+IsWell alarms outcomes (says text status) = (status ≡ 0) ⊎ alarms × (status ≡ 3)
+IsWell alarms outcomes (refuses text refusal) = ((text ≡ []) ⊎ outcomes) × IsStatus refusal
 
 -- what is printed shows such a saying
 pub record Shows (face : Face) (alarms outcomes : Type 0) (streams : Streams) : Type 0 where
