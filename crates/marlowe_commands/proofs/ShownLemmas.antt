@@ -43,9 +43,9 @@ pub shown_by : {E : Type 0} (face : Face) (Says : Saying → Type 0) (Tells : Sp
     (result : Result Printed E) → Says said → (told ≡ []) ⊎ Tells (spelling_of face) told
     → IfOk result (λ printed. (streams_of printed ≡ shown face said told) ⊎ (streams_of printed ≡ shown face said []))
     → IfOk result (λ printed. IsShown face Says Tells (streams_of printed))
-shown_by face Says Tells said told (Ok printed) says tells (inl is) = record { said = said; says = says; told = told; tells = tells; is = is }
-shown_by face Says Tells said told (Ok printed) says tells (inr is) = record { said = said; says = says; told = []; tells = inl refl; is = is }
-shown_by face Says Tells said told (Err refused) says tells is = tt {0}
+shown_by face Says Tells said told (Ok printed) so tells (inl is) = record { said = said; is_said = so; told = told; tells = tells; is = is }
+shown_by face Says Tells said told (Ok printed) so tells (inr is) = record { said = said; is_said = so; told = []; tells = inl refl; is = is }
+shown_by face Says Tells said told (Err refused) so tells is = tt {0}
 
 -- ---- sayings are well formed
 
@@ -122,7 +122,7 @@ play_well reading wanted said (inr (f, is)) = subst (IsWell (Unit {0}) ⊥) (sym
 
 shows : (face : Face) (alarms outcomes : Type 0) (Says : Saying → Type 0) (Tells : Spelling → List ℕ → Type 0) (streams : Streams)
     → ((said : Saying) → Says said → IsWell alarms outcomes said) → IsShown face Says Tells streams → Shows face alarms outcomes streams
-shows face alarms outcomes Says Tells streams well it = record { said = it.said; is_well = well it.said it.says; told = it.told; is = it.is }
+shows face alarms outcomes Says Tells streams well it = record { said = it.said; is_well = well it.said it.is_said; told = it.told; is = it.is }
 
 pub run_shows : (face : Face) (r : Result (List ℕ) RunFault) (Tells : Spelling → List ℕ → Type 0) (streams : Streams)
     → IsShown face (λ said. said ≡ run_said r) Tells streams → Shows face ⊥ ⊥ streams

@@ -69,7 +69,7 @@ spelling_of Json = Members
 -- a command says something and shows it so. Where it refuses, this is told of it, or nothing for want of memory
 pub record IsShown (face : Face) (Says : Saying → Type 0) (Tells : Spelling → List ℕ → Type 0) (streams : Streams) : Type 0 where
   pub said : Saying
-  pub says : Says said
+  pub is_said : Says said
   pub told : List ℕ
   pub tells : (told ≡ []) ⊎ Tells (spelling_of face) told
   pub is : streams ≡ shown face said told
