@@ -171,11 +171,11 @@ widened_from_none face more other streams it = widened face ⊥ ⊥ more other s
 
 -- ---- a file that can't be read
 
-pub unreadable_shows : (face : Face) (path : List ℕ) (said : Saying) (streams : Streams) → said ≡ refuses [] (unreadable path)
-    → (streams ≡ shown face said []) ⊎ (streams ≡ shown face said []) → Shows face ⊥ ⊥ streams
-unreadable_shows face path said streams is (inl same) =
-    record { said = said; is_well = subst (IsWell ⊥ ⊥) (sym is) (inl refl, inr (refl, refl)); told = []; is = same }
-unreadable_shows face path said streams is (inr same) =
+pub unreadable_shows : (face : Face) (path : List ℕ) (said : Saying) (told : List ℕ) (streams : Streams) → said ≡ refuses [] (unreadable path)
+    → (streams ≡ shown face said told) ⊎ (streams ≡ shown face said []) → Shows face ⊥ ⊥ streams
+unreadable_shows face path said told streams is (inl same) =
+    record { said = said; is_well = subst (IsWell ⊥ ⊥) (sym is) (inl refl, inr (refl, refl)); told = told; is = same }
+unreadable_shows face path said told streams is (inr same) =
     record { said = said; is_well = subst (IsWell ⊥ ⊥) (sym is) (inl refl, inr (refl, refl)); told = []; is = same }
 
 -- ---- on which streams it is
