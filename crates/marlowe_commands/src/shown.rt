@@ -197,8 +197,8 @@ pub fn play_shown<R: AllocGlobal + Threads + Wait + Sync, W: Watch + Sync>(
     face: Face,
 ) -> Result<Printed, Memory>
     ensures { IfOk result (λ printed. IsShown face
-        (SaysPlay (of_text_within asked.depth reads.scenario scenario.entry.text.now) (wanted asked.face asked.strict (map (λ s. s.now) asked.kept_open.now)))
-        (λ spelling. TellsScenario asked.depth spelling scenario.entry) (streams_of printed)) }
+        (SaysPlay (of_text_within asked.entry.depth reads.scenario scenario.entry.text.now) (wanted asked.entry.face asked.entry.strict (map (λ s. s.now) asked.entry.kept_open.now)))
+        (λ spelling. TellsScenario asked.entry.depth spelling scenario.entry) (streams_of printed)) }
 {
     let alloc = rt.alloc();
     let said = play_said(rt, watch, scenario.text, asked)?;

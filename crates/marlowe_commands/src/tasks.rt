@@ -157,8 +157,8 @@ pub fn play_said<R: AllocGlobal + Threads + Wait + Sync, W: Watch + Sync>(
     scenario: &[u8],
     asked: marlowe_play::Asked<'_>,
 ) -> Result<Said, Memory>
-    ensures { IfOk result (λ said. SaysPlay (of_text_within asked.depth reads.scenario scenario.now)
-        (wanted asked.face asked.strict (map (λ s. s.now) asked.kept_open.now)) (saying_of said)) }
+    ensures { IfOk result (λ said. SaysPlay (of_text_within asked.entry.depth reads.scenario scenario.now)
+        (wanted asked.entry.face asked.entry.strict (map (λ s. s.now) asked.entry.kept_open.now)) (saying_of said)) }
 {
     let alloc = rt.alloc();
     match play_asked(rt, alloc, scenario, asked, watch) {
