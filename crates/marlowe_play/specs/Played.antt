@@ -20,8 +20,8 @@ use Rattle.play_lines.specs.PlayLines.{ThreadLine, played_lines}
 use Rattle.play_holdings.specs.declared.holding.Holding.{Holding}
 use Rattle.chain_holdings.specs.After.{AreHoldings, AreWhatThereWas}
 use Rattle.play_setup.specs.SetUp.{Begun, IsSetUp, course, currencies, key_output, plan_on, start_output}
-use Rattle.plans_told.specs.Notes.{all_told}
-use Rattle.plans_told.specs.Strict.{went_well}
+use Rattle.marlowe_play.specs.Notes.{all_told}
+use Rattle.marlowe_play.specs.Strict.{went_well}
 use Rattle.step_notes.specs.declared.spelling.Spelling.{Spelling}
 use Rattle.step_notes.specs.declared.spelling.Spelling.TheVariants.{Lines}
 use Rattle.step_notes.specs.declared.spelling.Spelling.TheVariants as spelled

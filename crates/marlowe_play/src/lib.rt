@@ -7,11 +7,14 @@
 //! lines.
 #![tactic(auto)]
 
+mod all;
 mod asked;
 mod fault;
 mod lines;
+mod notes;
 mod playing;
 mod refusal_line;
+mod strict;
 mod turns;
 
 pub use asked::{Asked, Face, Played};

@@ -7,18 +7,20 @@ ghost use Rattle.play_setup.specs.SetUp.{key_output};
 ghost use Rattle.marlowe_play.specs.Played.{IsThreadLine, IsTold, TellsAll, leaves_close, wanted, well_by};
 ghost use Rattle.marlowe_play.specs.PlayedSupport.{AreLines};
 
+use crate::all::all_told;
 use crate::asked::{Asked, Face, Played};
+use crate::strict::went_well;
 use chain_holdings::holdings_after;
 use collections::{Memory, Text};
 use eutxo_types::OutputRef;
 use hub::{Chain, StepRecord};
 use parties::LeftOut;
 use plans::{NamedThread, Scenario};
-use plans_told::{Spelling, all_told, went_well};
 use play_lines::{ThreadLine, played_lines};
 use play_setup::{Stage, key_outputs};
 use roles::Published;
 use std::alloc::Global;
+use step_notes::Spelling;
 
 // All that is told of a play, and who holds what.
 fn told_text(

@@ -1,5 +1,5 @@
 -- What is told of an accepted step, as the members of an object for tools.
-use Rattle.std.specs.Prelude.{ℕ, zero, suc, ◌+◌, ℤ, Bool, true, false, List, [], ◌∷◌, ◌++◌, Option, Some, None, Result, Ok, Err, codes}
+use Rattle.std.specs.Prelude.{ℕ, ◌+◌, ◌==◌, ℤ, Bool, true, false, if◌then◌else◌, List, [], ◌∷◌, ◌++◌, Option, Some, None, Result, Ok, Err, codes}
 use Rattle.serde_json.specs.Data.{string}
 use Rattle.serde_json.specs.Written.{compact_text}
 use Rattle.names.specs.declared.party.Party.{Party}
@@ -21,8 +21,7 @@ use Rattle.next_lines.specs.Lines.{party_text}
 
 -- a comma before each item of a list but the first, by its index
 abbrev pub comma : ℕ → List ℕ
-comma zero = []
-comma (suc n) = codes ","
+comma n = if n == 0 then [] else codes ","
 
 abbrev pub number_text : ℤ → List ℕ
 number_text n = compact_text (wide_json n)

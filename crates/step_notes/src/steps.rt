@@ -119,6 +119,7 @@ fn spelled(
 /// each behind a head; or the members of an object that a head begins, to its end and a line feed. The amounts of deposits are those over
 /// the step's tick. Where the table doesn't have the datum's contract, or the transaction function refuses the step, nothing is told.
 /// Answers `Memory` only where a growth was refused.
+#[tactic(auto, using(crate::proofs::CasesLemmas::left_of))]
 pub fn step_text(
     alloc: Global,
     spelling: Spelling,

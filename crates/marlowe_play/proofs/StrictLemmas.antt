@@ -5,8 +5,8 @@ use Rattle.ledger.specs.declared.call.Entry.{Entry}
 use Rattle.plans.specs.declared.scenario.Scenario.{Scenario}
 use Rattle.parties.specs.declared.left_out.LeftOut.{LeftOut}
 use Rattle.play_endings.specs.declared.taken.Taken.{Taken}
-use Rattle.plans_told.specs.Strict.{plan_done, plans_done}
-use Rattle.plans_told.proofs.NotesLemmas.{list_next}
+use Rattle.marlowe_play.specs.Strict.{plan_done, plans_done}
+use Rattle.marlowe_play.proofs.NotesLemmas.{list_next}
 
 done_next : {V : Type 0} (f : V → List LeftOut) (s : Scenario) (es : List Entry) (taken : List Taken) (vs : List V) (i : ℕ) (v : V) → i < length vs → v ≡ get_or vs i v →
     (plan_done es taken i (slice_get s.plans i) (f v) && plans_done s es taken (i + 1) (drop (i + 1) (map f vs))) ≡ plans_done s es taken i (drop i (map f vs))

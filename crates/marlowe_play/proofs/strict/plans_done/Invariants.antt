@@ -1,6 +1,6 @@
 use Rattle.std.proofs.Common.{◌≡◌, drop, map}
-use Rattle.plans_told.specs.Strict.{plans_done}
-use Rattle.plans_told.proofs.strict.plans_done.Given as goal
+use Rattle.marlowe_play.specs.Strict.{plans_done}
+use Rattle.marlowe_play.proofs.strict.plans_done.Given as goal
 
 abbrev pub invariant-loop-place : goal.invariant-loop-place
 invariant-loop-place l =

@@ -1,6 +1,6 @@
 use Rattle.std.proofs.Common.{◌≡◌, drop, map, string_bytes}
-use Rattle.plans_told.specs.Notes.{put_left}
-use Rattle.plans_told.proofs.notes.put_left.Given as goal
+use Rattle.marlowe_play.specs.Notes.{put_left}
+use Rattle.marlowe_play.proofs.notes.put_left.Given as goal
 
 abbrev pub invariant-loop-out : goal.invariant-loop-out
 invariant-loop-out l =

@@ -1,7 +1,7 @@
 //! All that is told of a play.
 ghost use Rattle.std.specs.Prelude.{◌≡◌, length, map, IfOk, string_bytes};
-ghost use Rattle.plans_told.specs.Notes as notes;
-ghost use Rattle.plans_told.specs.Notes.{lines_by, holdings_by};
+ghost use Rattle.marlowe_play.specs.Notes as notes;
+ghost use Rattle.marlowe_play.specs.Notes.{lines_by, holdings_by};
 
 use crate::notes::told_of;
 use collections::Memory;
@@ -48,7 +48,7 @@ fn holdings_by(
 /// All that is told of a scenario's play, in lines for people or as objects, one on a line of its own: each entry and what is told behind it,
 /// the threads and the number of entries, how each intent of each plan ended, and who holds what at the end. `left` has what the party of each
 /// plan left out, in the order of the plans. Answers `Memory` only where a growth was refused.
-pub fn all_told(
+pub(crate) fn all_told(
     alloc: Global,
     spelling: Spelling,
     scenario: &Scenario,

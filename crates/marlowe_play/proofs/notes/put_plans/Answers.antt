@@ -1,8 +1,8 @@
 use Rattle.std.proofs.Common.{◌∙◌, ◌+◌, ◌++◌, ap, append_assoc, drop, map, string_bytes}
 use Rattle.std.specs.Prelude.{slice_get}
-use Rattle.plans_told.specs.Notes.{plan_told, plans_told, put_plan, put_plans}
-use Rattle.plans_told.proofs.NotesLemmas.{plan_next, told_next}
-use Rattle.plans_told.proofs.notes.put_plans.Goals as goal
+use Rattle.marlowe_play.specs.Notes.{plan_told, marlowe_play, put_plan, put_plans}
+use Rattle.marlowe_play.proofs.NotesLemmas.{plan_next, told_next}
+use Rattle.marlowe_play.proofs.notes.put_plans.Goals as goal
 
 -- one plan more
 pub loop-place-preserved : goal.loop-place-preserved
@@ -21,8 +21,8 @@ loop-place-preserved c =
       ap (λ new. put_plans sp s es taken (i + 1) rest new) put
           ∙ plan_next (λ l. l.items) sp s es taken c.args.left.now i v notes c.loop-place-test.true c.index-left-place.is
           ∙ c.loop-place.invariant.0,
-      ap (λ t. t ++ plans_told sp s es taken (i + 1) rest) said
-          ∙ append_assoc lines (plan_told sp s es taken i (slice_get s.plans i) v.items) (plans_told sp s es taken (i + 1) rest)
+      ap (λ t. t ++ marlowe_play sp s es taken (i + 1) rest) said
+          ∙ append_assoc lines (plan_told sp s es taken i (slice_get s.plans i) v.items) (marlowe_play sp s es taken (i + 1) rest)
           ∙ ap (λ t. lines ++ t) (told_next (λ l. l.items) sp s es taken c.args.left.now i v c.loop-place-test.true c.index-left-place.is)
           ∙ c.loop-place.invariant.1,
     )

@@ -2,8 +2,8 @@
 ghost use Rattle.std.specs.Prelude.{◌≡◌, ◌<◌, ◌-◌, ◌^◌, ◌++◌, length, map, slice_get, IfOk, OnOk, option_copied, string_bytes};
 ghost use Rattle.play_endings.specs.EndingLines as lines;
 ghost use Rattle.play_endings.specs.StepTexts as texts;
-ghost use Rattle.plans_told.specs.Notes as notes;
-ghost use Rattle.plans_told.specs.Notes.{left_intent, keys_at, offered_at, unbuilt_by, put_at, put_intent, put_left, plan_told, put_plans, plans_told, notes_by};
+ghost use Rattle.marlowe_play.specs.Notes as notes;
+ghost use Rattle.marlowe_play.specs.Notes.{left_intent, keys_at, offered_at, unbuilt_by, put_at, put_intent, put_left, plan_told, put_plans, marlowe_play, notes_by};
 
 use builder_spec::BuildFault;
 use collections::Memory;
@@ -276,7 +276,7 @@ fn put_plans(
     ensures notes { OnOk result (map (λ s. string_bytes s) told.new.notes.items
         ≡ put_plans spelling scenario.now entries.now taken.now 0 (map (λ l. l.items) left.now) (map (λ s. string_bytes s) told.old.notes.items)) }
     ensures lines { OnOk result (string_bytes told.new.lines ≡ string_bytes told.old.lines
-        ++ plans_told spelling scenario.now entries.now taken.now 0 (map (λ l. l.items) left.now)) }
+        ++ marlowe_play spelling scenario.now entries.now taken.now 0 (map (λ l. l.items) left.now)) }
 {
     for (place, of_plan) in left.iter().enumerate() {
         put_plan(

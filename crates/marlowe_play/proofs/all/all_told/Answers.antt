@@ -1,7 +1,7 @@
 use Rattle.std.proofs.Common.{◌∙◌, ap, length, map, string_bytes, sym}
 use Rattle.std.proofs.lemmas.List.{length-map}
-use Rattle.plans_told.proofs.NotesLemmas.{notes_with_long}
-use Rattle.plans_told.proofs.all.all_told.Goals as goal
+use Rattle.marlowe_play.proofs.NotesLemmas.{notes_with_long}
+use Rattle.marlowe_play.proofs.all.all_told.Goals as goal
 
 -- there is a note for each entry
 pub lines_by-requires : goal.lines_by-requires

@@ -1,6 +1,6 @@
 use Rattle.std.proofs.Common.{◌≡◌, drop, map}
-use Rattle.plans_told.specs.Strict.{closed_but}
-use Rattle.plans_told.proofs.strict.closed_but.Given as goal
+use Rattle.marlowe_play.specs.Strict.{closed_but}
+use Rattle.marlowe_play.proofs.strict.closed_but.Given as goal
 
 abbrev pub invariant-loop-line : goal.invariant-loop-line
 invariant-loop-line l =

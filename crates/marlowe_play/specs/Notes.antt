@@ -87,10 +87,10 @@ put_plans spelling s es taken n [] notes = notes
 put_plans spelling s es taken n (left ∷ lefts) notes =
     put_plans spelling s es taken (n + 1) lefts (put_plan spelling s es taken n (slice_get s.plans n) left notes)
 
-abbrev pub plans_told : Spelling → ScenarioRead → List Entry → List Taken → ℕ → List (List LeftOut) → List ℕ
-plans_told spelling s es taken n [] = []
-plans_told spelling s es taken n (left ∷ lefts) =
-    plan_told spelling s es taken n (slice_get s.plans n) left ++ plans_told spelling s es taken (n + 1) lefts
+abbrev pub marlowe_play : Spelling → ScenarioRead → List Entry → List Taken → ℕ → List (List LeftOut) → List ℕ
+marlowe_play spelling s es taken n [] = []
+marlowe_play spelling s es taken n (left ∷ lefts) =
+    plan_told spelling s es taken n (slice_get s.plans n) left ++ marlowe_play spelling s es taken (n + 1) lefts
 
 -- of entries alone: why something was refused; as objects all of them
 abbrev pub notes_by : Spelling → List Entry → List (List ℕ)
@@ -103,7 +103,7 @@ notes_with spelling s lefts es = put_plans spelling s es (taken_in 0 es) 0 lefts
 
 -- a line for each intent of each plan
 abbrev pub intents_told : Spelling → ScenarioRead → List (List LeftOut) → List Entry → List ℕ
-intents_told spelling s lefts es = plans_told spelling s es (taken_in 0 es) 0 lefts
+intents_told spelling s lefts es = marlowe_play spelling s es (taken_in 0 es) 0 lefts
 
 -- ---- all of a play: the entries with what is told behind each, the threads, how intents ended, and who holds what
 

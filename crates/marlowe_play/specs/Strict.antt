@@ -8,7 +8,7 @@ use Rattle.parties.specs.declared.left_out.LeftOut.{LeftOut}
 use Rattle.play_lines.specs.PlayLines.{ThreadLine}
 use Rattle.play_endings.specs.declared.taken.Taken.{Taken}
 use Rattle.play_endings.specs.Endings.{all_done, taken_in}
-use Rattle.plans_told.specs.Notes.{plan_ended}
+use Rattle.marlowe_play.specs.Notes.{plan_ended}
 
 -- ---- each intent of each plan is done, the first of these plans at place n
 

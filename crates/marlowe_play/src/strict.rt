@@ -1,7 +1,7 @@
 //! Whether all went well.
 ghost use Rattle.std.specs.Prelude.{◌≡◌, ◌<◌, ◌^◌, map, slice_get, IfOk, option_copied};
-ghost use Rattle.plans_told.specs.Strict as strict;
-ghost use Rattle.plans_told.specs.Strict.{is_among, closed_but, plan_done, plans_done, went_well};
+ghost use Rattle.marlowe_play.specs.Strict as strict;
+ghost use Rattle.marlowe_play.specs.Strict.{is_among, closed_but, plan_done, plans_done, went_well};
 
 use crate::notes::{left_intents, plan_at};
 use collections::Memory;
@@ -78,7 +78,7 @@ fn closed_but(kept_open: &[&str], lines: &[ThreadLine<'_>]) -> bool
 /// Whether a play went well: each intent of each plan is done, and each thread is closed, but for those with these names, which may stay
 /// open. A name that no thread has asks for nothing. `left` has what the party of each plan left out, in the order of the plans, and
 /// `lines` what is told of the threads. Answers `Memory` only where a growth was refused.
-pub fn went_well(
+pub(crate) fn went_well(
     alloc: Global,
     scenario: &Scenario,
     left: &[Vec<LeftOut>],

@@ -19,7 +19,7 @@ use Rattle.play_endings.specs.declared.ending.Ending.TheVariants.{Done, NotBuilt
 use Rattle.play_endings.specs.declared.taken.Taken.{Taken}
 use Rattle.play_endings.specs.Endings.{PlacedEntry, EndedAt, taken_in}
 use Rattle.play_endings.specs.StepTexts.{done_text, put_text, put_done, put_ended}
-use Rattle.plans_told.specs.Notes.{offered_at, unbuilt_by, put_at, put_intent, put_left, plan_ended, put_plan, put_plans, plan_told, plans_told, notes_by, notes_with}
+use Rattle.marlowe_play.specs.Notes.{offered_at, unbuilt_by, put_at, put_intent, put_left, plan_ended, put_plan, put_plans, plan_told, marlowe_play, notes_by, notes_with}
 
 -- ---- as many notes as before
 
@@ -108,5 +108,5 @@ pub plan_next : {V : Type 0} (f : V → List LeftOut) (sp : Spelling) (s : Scena
 plan_next f sp s es taken vs i v xs there is = list_next f (λ l. put_plans sp s es taken i l xs) vs i v there is
 
 pub told_next : {V : Type 0} (f : V → List LeftOut) (sp : Spelling) (s : Scenario) (es : List Entry) (taken : List Taken) (vs : List V) (i : ℕ) (v : V) → i < length vs → v ≡ get_or vs i v →
-    plan_told sp s es taken i (slice_get s.plans i) (f v) ++ plans_told sp s es taken (i + 1) (drop (i + 1) (map f vs)) ≡ plans_told sp s es taken i (drop i (map f vs))
-told_next f sp s es taken vs i v there is = list_next f (λ l. plans_told sp s es taken i l) vs i v there is
+    plan_told sp s es taken i (slice_get s.plans i) (f v) ++ marlowe_play sp s es taken (i + 1) (drop (i + 1) (map f vs)) ≡ marlowe_play sp s es taken i (drop i (map f vs))
+told_next f sp s es taken vs i v there is = list_next f (λ l. marlowe_play sp s es taken i l) vs i v there is

@@ -1,2 +1,0 @@
-pub mod NotesLemmas
-mod StrictLemmas
