@@ -14,7 +14,7 @@ use Rattle.marlowe_refusals.specs.declared.table_fault.TableFault.{TableFault}
 use Rattle.marlowe_refusals.specs.declared.table_fault.TableFault.TheVariants as table
 use Rattle.marlowe_refusals.specs.declared.trace_fault.TraceFault.{TraceFault}
 use Rattle.marlowe_refusals.specs.declared.trace_fault.TraceFault.TheVariants as trace
-use Rattle.refusal_objects.specs.Objects.{fault_status, run_status, table_status, trace_status}
+use Rattle.refusal_objects.specs.Objects.{refused_line, fault_status, run_status, table_status, trace_status}
 use Rattle.marlowe_run.specs.declared.readable.Readable.{Readable}
 use Rattle.marlowe_trace.specs.Traced.{Told}
 use Rattle.marlowe_next.specs.declared.asked.Asked.{Asked}
@@ -46,6 +46,16 @@ pub shown_by : {E : Type 0} (face : Face) (Says : Saying → Type 0) (Tells : Sp
 shown_by face Says Tells said told (Ok printed) so tells (inl is) = record { said = said; is_said = so; told = told; tells = tells; is = is }
 shown_by face Says Tells said told (Ok printed) so tells (inr is) = record { said = said; is_said = so; told = []; tells = inl refl; is = is }
 shown_by face Says Tells said told (Err refused) so tells is = tt {0}
+
+-- the line of a refusal behind a text, with what is told of it or without it
+pub line_behind : (text members told line whole : List ℕ) (status : ℕ) (people : List ℕ × ℕ) (slice other : List ℕ) (streams : Streams)
+    → slice ≡ members → other ≡ line → (line ≡ refused_line slice told) ⊎ (line ≡ refused_line slice []) → whole ≡ text ++ other
+    → streams ≡ (whole, [], status)
+    → (streams ≡ for_tools text (people, (members, status)) told) ⊎ (streams ≡ for_tools text (people, (members, status)) [])
+line_behind text members told line whole status people slice other streams same as_line (inl is) behind shown =
+    inl (shown ∙ ap (λ (w : List ℕ). (w, [], status)) (behind ∙ ap (λ l. text ++ l) (as_line ∙ (is ∙ ap (λ m. refused_line m told) same))))
+line_behind text members told line whole status people slice other streams same as_line (inr is) behind shown =
+    inr (shown ∙ ap (λ (w : List ℕ). (w, [], status)) (behind ∙ ap (λ l. text ++ l) (as_line ∙ (is ∙ ap (λ m. refused_line m []) same))))
 
 -- ---- sayings are well formed
 

@@ -1,1 +1,1 @@
-mod Worked
+mod RowLemmas

@@ -1,4 +1,4 @@
-use Rattle.refusal_objects.proofs.Worked.{numbered_refusal}
+use Rattle.refusal_objects.proofs.RowLemmas.{numbered_refusal}
 use Rattle.refusal_objects.proofs.worked.worked_objects.Goals as goal
 
 pub returns-clause-numbered : goal.returns-clause-numbered
