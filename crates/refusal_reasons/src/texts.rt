@@ -4,10 +4,13 @@ ghost use Rattle.refusal_reasons.specs.Reasons.{TellsContract, TellsFlat, TellsS
 
 use crate::source::Source;
 use collections::Memory;
-use explanations::{How, MAX_DEPTH, explained, explained_scenario};
+use explanations::{How, explained, explained_scenario};
 use json_forms::Sort;
 use json_members::Spelling;
 use std::alloc::Global;
+
+// How deep lists and objects may nest in a state or a transaction.
+const FLAT: usize = 127;
 
 /// Why a text isn't read as a state or a transaction.
 pub(crate) fn flat_told(
@@ -19,7 +22,7 @@ pub(crate) fn flat_told(
     ensures { IfOk result (λ written. TellsFlat spelling source.entry sort written.items) }
 {
     let how = How {
-        depth: MAX_DEPTH,
+        depth: FLAT,
         spelling,
     };
     explained(alloc, source.path, source.text, sort, how)
