@@ -45,7 +45,8 @@ fn plans_done(
 {
     for (place, of_plan) in left.iter().enumerate() {
         let plan = plan_at(scenario.plans.as_slice(), place);
-        if !plan_done(alloc, plan, entries, taken, place, of_plan)? {
+        let done = plan_done(alloc, plan, entries, taken, place, of_plan)?;
+        if !done {
             return Ok(false);
         }
     }

@@ -1,5 +1,5 @@
 -- The objects of entries and threads: one each on a line of its own.
-use Rattle.std.specs.Prelude.{ℕ, ◌+◌, if◌then◌else◌, List, [], ◌∷◌, ◌++◌, codes, decimal}
+use Rattle.std.specs.Prelude.{ℕ, ◌+◌, Bool, if◌then◌else◌, List, [], ◌∷◌, ◌++◌, codes, decimal}
 use Rattle.std.specs.Fmt.{signed_decimal}
 use Rattle.eutxo_types.specs.declared.fault.TxFault.{TxFault}
 use Rattle.eutxo_types.specs.declared.verdict.Verdict.{Verdict}
@@ -62,9 +62,12 @@ entry_objects n (e ∷ es) = entry_object n e ∷ entry_objects (n + 1) es
 
 -- ---- threads, and the number of entries
 
+abbrev pub truth_text : Bool → List ℕ
+truth_text truth = if truth then codes "true" else codes "false"
+
 abbrev pub thread_object : ThreadLine → List ℕ
 thread_object t =
-    codes "{\"thread\":" ++ (quoted t.name ++ (codes ",\"steps\":" ++ (decimal t.steps ++ (if t.closed then codes ",\"closed\":true}\n" else codes ",\"closed\":false}\n"))))
+    codes "{\"thread\":" ++ (quoted t.name ++ (codes ",\"steps\":" ++ (decimal t.steps ++ (codes ",\"closed\":" ++ (truth_text t.closed ++ codes "}\n")))))
 
 abbrev pub thread_objects : List ThreadLine → List ℕ
 thread_objects [] = []

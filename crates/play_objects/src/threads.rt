@@ -1,7 +1,7 @@
 //! The objects of threads, and all objects of a history.
 ghost use Rattle.std.specs.Prelude.{◌≡◌, ◌++◌, length, map, IfOk, OnOk, string_bytes};
 ghost use Rattle.play_objects.specs.EntryObjects as told;
-ghost use Rattle.play_objects.specs.EntryObjects.{thread_object, thread_objects, joined};
+ghost use Rattle.play_objects.specs.EntryObjects.{truth_text, thread_object, thread_objects, joined};
 
 use collections::Memory;
 use json_write_contracts::term_text;
@@ -9,12 +9,18 @@ use play_lines::ThreadLine;
 use std::alloc::Global;
 use std::fmt::Write;
 
+fn truth_text(truth: bool) -> &'static str
+    ensures { result.now ≡ truth_text truth }
+{
+    if truth { "true" } else { "false" }
+}
+
 fn put_thread(alloc: Global, out: &mut String, thread: &ThreadLine<'_>) -> Result<(), Memory>
     ensures { OnOk result (string_bytes out.new ≡ string_bytes out.old ++ thread_object thread.now) }
 {
     let name = term_text(alloc, thread.name)?;
     let steps = thread.steps;
-    let closed = if thread.closed { "true" } else { "false" };
+    let closed = truth_text(thread.closed);
     write!(
         out,
         "{{\"thread\":{name},\"steps\":{steps},\"closed\":{closed}}}\n"

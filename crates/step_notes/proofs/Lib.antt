@@ -1,2 +1,3 @@
 mod CasesLemmas
+mod PieceLemmas
 mod WorkedLemmas

@@ -59,8 +59,11 @@ abbrev pub bounds_text : List Bound → List ℕ
 bounds_text [] = []
 bounds_text (b ∷ bs) = bound_text b ++ more_bounds bs
 
+abbrev pub choice_start : ChoiceId → List ℕ
+choice_start id = codes "waits for choose " ++ (compact_text (string id.name) ++ (codes " of " ++ (party_text id.owner ++ codes ": ")))
+
 abbrev pub choice_words : ChoiceId → List Bound → List ℕ
-choice_words id bounds = codes "waits for choose " ++ (compact_text (string id.name) ++ (codes " of " ++ (party_text id.owner ++ (codes ": " ++ bounds_text bounds))))
+choice_words id bounds = choice_start id ++ bounds_text bounds
 
 abbrev pub choice_line : ChoiceId → List Bound → List ℕ
 choice_line id bounds = choice_words id bounds ++ codes "\n"

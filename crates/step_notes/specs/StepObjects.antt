@@ -87,6 +87,8 @@ until_text None = codes "null"
 abbrev pub waiting_members : Interval → StateMaps → ContractTree → List ℕ
 waiting_members i s c = codes "\"waits_for\":[" ++ (case_objects i s 0 (waits_for c) ++ (codes "],\"waits_until\":" ++ (until_text (waits_until c) ++ codes "}\n")))
 
+abbrev pub done_members : List Payment → List Warning → List ℕ
+done_members payments warnings = codes "\"payments\":[" ++ (payment_objects 0 payments ++ (codes "],\"warnings\":[" ++ (warning_objects 0 warnings ++ codes "],")))
+
 abbrev pub outcome_members : List Payment → List Warning → Interval → StateMaps → ContractTree → List ℕ
-outcome_members payments warnings i s c =
-    codes "\"payments\":[" ++ (payment_objects 0 payments ++ (codes "],\"warnings\":[" ++ (warning_objects 0 warnings ++ (codes "]," ++ waiting_members i s c))))
+outcome_members payments warnings i s c = done_members payments warnings ++ waiting_members i s c

@@ -6,7 +6,7 @@ ghost use Rattle.table.specs.Flat.{Has, a_cont, a_value, an_observation, value_t
 ghost use Rattle.evaluation.specs.Parts.{StandsWait};
 ghost use Rattle.next_inputs.specs.Opening.{waits_until};
 ghost use Rattle.step_notes.specs.StepLines as told;
-ghost use Rattle.step_notes.specs.StepLines.{case_line, case_lines, paid_line, leaving_line, deposit_line, notify_line, choice_words, choice_line, last_line, until_line, waiting_lines};
+ghost use Rattle.step_notes.specs.StepLines.{case_line, case_lines, paid_line, leaving_line, deposit_line, notify_line, choice_start, choice_words, choice_line, last_line, until_line, waiting_lines};
 
 use crate::words::{money_text, put_bounds};
 use collections::Memory;
@@ -15,7 +15,6 @@ use evaluation::{Parts, Wait};
 use json_write_contracts::term_text;
 use next_inputs::waits_until;
 use std::alloc::Global;
-use std::fmt::Write;
 use table::{Cont, Table};
 
 fn paid_line(
@@ -71,12 +70,18 @@ fn put_deposit(
     out.push_str(line.as_str())
 }
 
-fn put_words(alloc: Global, out: &mut String, id: &ChoiceId, bounds: &[Bound]) -> Result<(), Memory>
-    ensures { OnOk result (string_bytes out.new ≡ string_bytes out.old ++ choice_words id.now bounds.now) }
+fn choice_start(alloc: Global, id: &ChoiceId) -> Result<String, Memory>
+    ensures { IfOk result (λ text. string_bytes text ≡ choice_start id.now) }
 {
     let name = term_text(alloc, &id.name)?;
     let owner = term_text(alloc, &id.owner)?;
-    let head = format!(in alloc; "waits for choose {name} of {owner}: ")?;
+    format!(in alloc; "waits for choose {name} of {owner}: ")
+}
+
+fn put_words(alloc: Global, out: &mut String, id: &ChoiceId, bounds: &[Bound]) -> Result<(), Memory>
+    ensures { OnOk result (string_bytes out.new ≡ string_bytes out.old ++ choice_words id.now bounds.now) }
+{
+    let head = choice_start(alloc, id)?;
     out.push_str(head.as_str())?;
     put_bounds(out, bounds)
 }
@@ -149,19 +154,19 @@ fn put_cases(
     Ok(())
 }
 
-fn put_last(out: &mut String, last: i128) -> Result<(), Memory>
-    ensures { OnOk result (string_bytes out.new ≡ string_bytes out.old ++ last_line last) }
+fn last_line(alloc: Global, last: i128) -> Result<String, Memory>
+    ensures { IfOk result (λ text. string_bytes text ≡ last_line last) }
 {
-    write!(out, "waits until {last}\n")
+    format!(in alloc; "waits until {last}\n")
 }
 
 // Until when it waits, or that it is closed.
-fn put_until(out: &mut String, until: Option<i128>) -> Result<(), Memory>
-    ensures { OnOk result (string_bytes out.new ≡ string_bytes out.old ++ until_line until) }
+fn until_line(alloc: Global, until: Option<i128>) -> Result<String, Memory>
+    ensures { IfOk result (λ text. string_bytes text ≡ until_line until) }
 {
     match until {
-        Some(last) => put_last(out, last),
-        None => out.push_str("closed\n"),
+        Some(last) => last_line(alloc, last),
+        None => String::from_str(alloc, "closed\n"),
     }
 }
 
@@ -179,5 +184,6 @@ pub(crate) fn put_waiting(
         ++ waiting_lines interval state.now (cont_tree table.now place.0)) }
 {
     put_cases(alloc, out, table, place, state, interval)?;
-    put_until(out, waits_until(table, place))
+    let until = until_line(alloc, waits_until(table, place))?;
+    out.push_str(until.as_str())
 }

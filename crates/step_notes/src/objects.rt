@@ -6,7 +6,7 @@ ghost use Rattle.json_write_outcomes.specs.WrittenOutcome.{payment_json, warning
 ghost use Rattle.serde_json.specs.Written.{compact_text};
 ghost use Rattle.table.specs.Flat.{Has, a_cont, a_value, an_observation, cont_tree, observation_tree, value_tree};
 ghost use Rattle.step_notes.specs.StepObjects as told;
-ghost use Rattle.step_notes.specs.StepObjects.{comma, number_text, payment_objects, warning_objects, amount_text, truth_text, deposit_object, bound_object, bound_objects, choice_head, choice_object, notify_object, case_object, case_objects, until_text, waiting_members};
+ghost use Rattle.step_notes.specs.StepObjects.{comma, number_text, payment_objects, warning_objects, amount_text, truth_text, deposit_object, bound_object, bound_objects, choice_head, choice_object, notify_object, case_object, case_objects, until_text, waiting_members, done_members};
 
 use crate::terms::{OfPayment, OfWarning};
 use collections::Memory;
@@ -243,6 +243,22 @@ fn put_waiting(
     write!(out, "],\"waits_until\":{until}}}\n")
 }
 
+// What it did.
+fn put_done(
+    alloc: Global,
+    out: &mut String,
+    payments: &[Payment],
+    warnings: &[Warning],
+) -> Result<(), Memory>
+    ensures { OnOk result (string_bytes out.new ≡ string_bytes out.old ++ done_members payments.now warnings.now) }
+{
+    out.push_str("\"payments\":[")?;
+    put_payments(alloc, out, payments)?;
+    out.push_str("],\"warnings\":[")?;
+    put_warnings(alloc, out, warnings)?;
+    out.push_str("],")
+}
+
 /// The members of what a step left behind a head that begins the object, to its end and a line feed.
 pub(crate) fn outcome_object(
     alloc: Global,
@@ -256,11 +272,8 @@ pub(crate) fn outcome_object(
         interval outcome.now.state (cont_tree table.now outcome.now.place.0)) }
 {
     let mut out = String::from_str(alloc, head)?;
-    out.push_str("\"payments\":[")?;
-    put_payments(alloc, &mut out, outcome.payments.as_slice())?;
-    out.push_str("],\"warnings\":[")?;
-    put_warnings(alloc, &mut out, outcome.warnings.as_slice())?;
-    out.push_str("],")?;
+    let payments = outcome.payments.as_slice();
+    put_done(alloc, &mut out, payments, outcome.warnings.as_slice())?;
     put_waiting(
         alloc,
         &mut out,
