@@ -263,11 +263,7 @@ def answers():
             elif words[:2] == ["marlowe", "next"] and "--json" in words:
                 yield "next.json", answer[0]
             elif words[:2] == ["marlowe", "play"] and "--json" in words:
-<<<<<<< HEAD
-                yield "table.json", answer[0]
-=======
                 yield from (("play.json", each) for each in answer)
->>>>>>> b_play
             elif words[0] == "json" or words[:2] == ["marlowe", "analyse"] and "--json" in words:
                 yield "analysis.json", answer[0]
 

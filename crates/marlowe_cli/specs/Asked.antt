@@ -91,7 +91,10 @@ AsksAnalysis words task = (first_of (codes "CONTRACT") words ≡ Some task.contr
 abbrev pub AsksPlay : List Row → PlayTask → Type 0
 AsksPlay words task = (first_of (codes "SCENARIO") words ≡ Some task.scenario.now)
     × IsFlag (one_of (codes "one") words) task.one
+    × IsFlag (one_of (codes "strict") words) task.strict
+    × (given_for (codes "expect-open") words ≡ map (λ name. name.now) task.kept_open.items)
     × IsFlag (one_of (codes "json") words) task.json
+    × IsDepth (one_of (codes "depth") words) task.depth
     × IsFlag (one_of (codes "explain") words) task.explain
     × AreApart task.json task.explain
 

@@ -22,6 +22,7 @@ use Rattle.marlowe_next.specs.Question.{Reached}
 use Rattle.marlowe_analyse.specs.declared.analysed.Reader.{Reader}
 use Rattle.json_read_names.specs.Parts.{Reading}
 use Rattle.plans.specs.declared.scenario.Scenario.{Scenario}
+use Rattle.marlowe_play.specs.Played.{Wanted}
 use Rattle.marlowe_cli.specs.declared.task.Task.{Task}
 use Rattle.marlowe_cli.specs.Asked.{IsAsked}
 use Rattle.marlowe_play.specs.declared.fault.PlayFault.{PlayFault}
@@ -30,7 +31,7 @@ use Rattle.marlowe_commands.specs.declared.face.Face.{Face}
 use Rattle.marlowe_commands.specs.declared.face.Face.TheVariants.{Plain, Explained, Json}
 use Rattle.marlowe_commands.specs.declared.printed.Printed.{Printed}
 use Rattle.marlowe_commands.specs.Streams.{Streams, streams_of, Saying, Refusal, says, refuses, for_people, for_tools, shown, spelling_of, IsShown, IsStatus, IsWell, Shows, IsForPeople, IsForTools, IsFor, IsHelp, unreadable}
-use Rattle.marlowe_commands.specs.Tasks.{AsksFor, AsksForAlarms, IsOfLine, IsTrace, MayAlarm, SaysAnalysis, SaysNext, SaysPlay, analysis_status, face_of, refusal_by, run_said, table_said, trace_said, play_status, play_refusal}
+use Rattle.marlowe_commands.specs.Tasks.{AsksFor, AsksForAlarms, IsOfLine, IsTrace, MayAlarm, SaysAnalysis, SaysNext, SaysPlay, analysis_status, face_of, refusal_by, run_said, table_said, trace_said, play_status, play_refusal, well_status}
 use Rattle.marlowe_commands.proofs.TaskLemmas.{asks_alarms, asks_trace, wants_face}
 
 -- nothing behind a text changes nothing
@@ -119,9 +120,13 @@ play_status_is (playing.Scenario f) = inr refl
 play_status_is (playing.Setup line) = inl refl
 play_status_is playing.Memory = inl refl
 
-play_well : (reading : Reading Scenario) (explain : Bool) (face : Face) (said : Saying) → SaysPlay reading explain face said → IsWell ⊥ ⊥ said
-play_well reading explain face said (inl (text, is, played)) = subst (IsWell ⊥ ⊥) (sym is) (inl refl)
-play_well reading explain face said (inr (f, is)) = subst (IsWell ⊥ ⊥) (sym is) (inl refl, inl (refl, play_status_is f))
+well_status_is : (well : Bool) → (well_status well ≡ 0) ⊎ Unit {0} × (well_status well ≡ 3)
+well_status_is true = inl refl
+well_status_is false = inr (tt {0}, refl)
+
+play_well : (reading : Reading Scenario) (wanted : Wanted) (said : Saying) → SaysPlay reading wanted said → IsWell (Unit {0}) ⊥ said
+play_well reading wanted said (inl (well, text, is, answer)) = subst (IsWell (Unit {0}) ⊥) (sym is) (well_status_is well)
+play_well reading wanted said (inr (f, is)) = subst (IsWell (Unit {0}) ⊥) (sym is) (inl refl, inl (refl, play_status_is f))
 
 -- ---- what is shown shows a saying that is well formed
 
@@ -153,9 +158,9 @@ pub analysis_shows : (face : Face) (reader : Reader) (strict : Bool) (readable :
 analysis_shows face reader strict readable contract state Tells streams it =
     shows face (Unit {0}) ⊥ (SaysAnalysis reader strict readable contract state) Tells streams (analysis_well reader strict readable contract state) it
 
-pub play_shows : (face : Face) (reading : Reading Scenario) (explain : Bool) (Tells : Spelling → List ℕ → Type 0) (streams : Streams)
-    → IsShown face (SaysPlay reading explain face) Tells streams → Shows face ⊥ ⊥ streams
-play_shows face reading explain Tells streams it = shows face ⊥ ⊥ (SaysPlay reading explain face) Tells streams (play_well reading explain face) it
+pub play_shows : (face : Face) (reading : Reading Scenario) (wanted : Wanted) (Tells : Spelling → List ℕ → Type 0) (streams : Streams)
+    → IsShown face (SaysPlay reading wanted) Tells streams → Shows face (Unit {0}) ⊥ streams
+play_shows face reading wanted Tells streams it = shows face (Unit {0}) ⊥ (SaysPlay reading wanted) Tells streams (play_well reading wanted) it
 
 -- ---- where more is allowed
 

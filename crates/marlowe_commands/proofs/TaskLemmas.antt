@@ -1,5 +1,5 @@
 -- Which words ask for an analysis or a trace, and what is said for one.
-use Rattle.std.proofs.Common.{◌≡◌, ℕ, Bool, List, Option, Some, None, inl, ap, refl, ◌∙◌, codes}
+use Rattle.std.proofs.Common.{◌≡◌, ℕ, Bool, List, Option, Some, None, inl, inr, ap, refl, ◌∙◌, codes}
 use Rattle.clap.specs.Words.{Row, Text}
 use Rattle.marlowe_cli.specs.declared.task.Task.{Task}
 use Rattle.marlowe_cli.specs.declared.task.Task.TheVariants.{Run, Trace, Next, Table, Analyse, Play}
@@ -14,8 +14,8 @@ use Rattle.marlowe_commands.specs.Tasks.{AsksFor, AsksForAlarms, IsTrace, MayAla
 -- a task that may have status 3 is asked for by its name
 pub asks_alarms : (words : Option (Text × List Row)) (task : Task) → IsAsked words task → MayAlarm task → AsksForAlarms words
 asks_alarms None task asked is = absurd asked
-asks_alarms (Some (name, rows)) (Analyse task) asked is = asked.0
-asks_alarms (Some (name, rows)) (Play task) asked is = absurd is
+asks_alarms (Some (name, rows)) (Analyse task) asked is = inl asked.0
+asks_alarms (Some (name, rows)) (Play task) asked is = inr asked.0
 asks_alarms (Some (name, rows)) (Run task) asked is = absurd is
 asks_alarms (Some (name, rows)) (Trace task) asked is = absurd is
 asks_alarms (Some (name, rows)) (Next task) asked is = absurd is
@@ -44,7 +44,7 @@ wants_face explain (Some (name, rows)) (Table task) (is, (contract, json, depth,
     record { json = task.json; explained = task.explain; json_flag = json; explain_flag = ex; is = refl }
 wants_face explain (Some (name, rows)) (Analyse task) (is, (contract, state, json, runs, strict, depth, texts, ex, apart)) =
     record { json = task.json; explained = task.explain; json_flag = json; explain_flag = ex; is = refl }
-wants_face explain (Some (name, rows)) (Play task) (is, (scenario, one, json, ex, apart)) =
+wants_face explain (Some (name, rows)) (Play task) (is, (scenario, one, strict, kept, json, depth, ex, apart)) =
     record { json = task.json; explained = task.explain; json_flag = json; explain_flag = ex; is = refl }
 
 -- ---- what is said for an analysis

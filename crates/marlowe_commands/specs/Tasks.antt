@@ -20,7 +20,7 @@ use Rattle.marlowe_analyse.specs.Printed.{TellsSo, is_read}
 use Rattle.json_read_names.specs.Parts.{Reading}
 use Rattle.plans.specs.declared.scenario.Scenario.{Scenario}
 use Rattle.marlowe_play.specs.Faults.{play_refusal_text}
-use Rattle.marlowe_play.specs.Played.{IsPlayed}
+use Rattle.marlowe_play.specs.Played.{IsAnswered, Wanted}
 use Rattle.marlowe_play.specs.declared.fault.PlayFault.{PlayFault}
 use Rattle.marlowe_play.specs.declared.fault.PlayFault.TheVariants as playing
 use Rattle.refusal_reasons.specs.declared.source.Over.{Over}
@@ -52,14 +52,14 @@ SaysNext asked reached said =
     ((text : List ℕ) × (said ≡ says text 0) × IsAnswer asked reached text)
     ⊎ ((f : TraceFault) × (answered asked reached ≡ Err f) × (said ≡ refuses [] (refusal_by (fault.Trace f))))
 
--- for tools the lines of a table and of a play are texts of a list, `{"lines":[..]}`
-abbrev pub lines_answer : Face → List ℕ → List ℕ
-lines_answer Plain text = text
-lines_answer Explained text = text
-lines_answer Json text = lines_object text
+-- for tools the lines of a table are texts of a list, `{"lines":[..]}`
+abbrev pub table_answer : Face → List ℕ → List ℕ
+table_answer Plain text = text
+table_answer Explained text = text
+table_answer Json text = lines_object text
 
 abbrev pub table_said : Face → Result (List ℕ) TableFault → Saying
-table_said face (Ok text) = says (lines_answer face text) 0
+table_said face (Ok text) = says (table_answer face text) 0
 table_said face (Err f) = refuses [] (refusal_by (fault.Table f))
 
 -- 3 where there is an alarm, or strictly also where a part is told that no run reaches; else 0
@@ -86,10 +86,14 @@ play_status playing.Memory = 1
 abbrev pub play_refusal : PlayFault → Refusal
 play_refusal f = ((play_refusal_text f, 1), (play_members f, play_status f))
 
--- the lines of a play of the scenario, or why it isn't played
-abbrev pub SaysPlay : Reading Scenario → Bool → Face → Saying → Type 0
-SaysPlay reading explain face said =
-    ((text : List ℕ) × (said ≡ says (lines_answer face text) 0) × IsPlayed reading explain text)
+-- 3 where it is asked whether all went well and not all did; else 0
+abbrev pub well_status : Bool → ℕ
+well_status well = if well then 0 else 3
+
+-- a play of the scenario, with this status, or why it isn't played
+abbrev pub SaysPlay : Reading Scenario → Wanted → Saying → Type 0
+SaysPlay reading wanted said =
+    ((well : Bool) × (text : List ℕ) × (said ≡ says text (well_status well)) × IsAnswered reading wanted text well)
     ⊎ ((f : PlayFault) × (said ≡ refuses [] (play_refusal f)))
 
 -- the interval that is asked about
@@ -98,9 +102,10 @@ over_of asked = record { from = asked.from; to = asked.to }
 
 -- ---- which task it is
 
--- a status of 3 is for an analysis
+-- a status of 3 is for an analysis and for a play
 abbrev pub MayAlarm : Task → Type 0
 MayAlarm (Analyse task) = Unit {0}
+MayAlarm (Play task) = Unit {0}
 MayAlarm other = ⊥
 
 abbrev pub IsTrace : Task → Type 0
@@ -118,7 +123,7 @@ AsksFor name (Some (asked, words)) = asked ≡ name
 
 -- .. for one that may have status 3
 abbrev pub AsksForAlarms : Option (Text × List Row) → Type 0
-AsksForAlarms words = AsksFor (codes "analyse") words
+AsksForAlarms words = AsksFor (codes "analyse") words ⊎ AsksFor (codes "play") words
 
 -- JSON where it is wanted, and else explanations for people, or their line alone
 abbrev pub face_by : Bool → Bool → Face

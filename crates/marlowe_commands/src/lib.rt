@@ -17,7 +17,7 @@ mod told;
 
 pub use command_line::{command, shown_on_streams};
 pub use face::Face;
-pub use marlowe_play::{How, NoWatch, PlayFault, Watch};
+pub use marlowe_play::{NoWatch, PlayFault, Watch};
 pub use printed::Printed;
 pub use shown::{analysis_shown, next_shown, play_shown, run_shown, table_shown, trace_shown};
 pub use texts::Texts;

@@ -3,8 +3,9 @@
 ghost use Rattle.std.specs.Prelude.{◌≡◌, ◌⊎◌, [], Some, IfOk, map, option_map};
 ghost use Rattle.marlowe_run.specs.Run.{run_within};
 ghost use Rattle.marlowe_run.specs.TableText.{table_text_within};
-ghost use Rattle.json_read_names.specs.ReadsText.{of_text};
+ghost use Rattle.json_read_names.specs.ReadsText.{of_text_within};
 ghost use Rattle.json_read_scenarios.specs.ReadsScenario as reads;
+ghost use Rattle.marlowe_play.specs.Played.{wanted};
 ghost use Rattle.marlowe_trace.specs.Traced.{trace_text};
 ghost use Rattle.marlowe_next.specs.Question.{reached};
 ghost use Rattle.refusal_reasons.specs.Reasons.{Tells, TellsOfTable, TellsScenario};
@@ -17,7 +18,7 @@ use crate::printed::Printed;
 use crate::tasks::{analysis_said, next_said, play_said, run_said, table_said, trace_said};
 use collections::Memory;
 use marlowe_analyse::Reader;
-use marlowe_play::{How, Watch};
+use marlowe_play::Watch;
 use marlowe_run::Readable;
 use refusal_reasons::{
     Behind, Over, Source, Sources, reasons, scenario_reasons, table_reasons, text_if,
@@ -192,16 +193,16 @@ pub fn play_shown<R: AllocGlobal + Threads + Wait + Sync, W: Watch + Sync>(
     rt: &R,
     watch: &W,
     scenario: Source<'_>,
-    how: How,
+    asked: marlowe_play::Asked<'_>,
     face: Face,
 ) -> Result<Printed, Memory>
     ensures { IfOk result (λ printed. IsShown face
-        (SaysPlay (of_text reads.scenario scenario.entry.text.now) how.explain face)
-        (λ spelling. TellsScenario 127 spelling scenario.entry) (streams_of printed)) }
+        (SaysPlay (of_text_within asked.entry.depth reads.scenario scenario.entry.text.now) (wanted asked.entry.face asked.entry.strict (map (λ s. s.now) asked.entry.kept_open.now)))
+        (λ spelling. TellsScenario asked.entry.depth spelling scenario.entry) (streams_of printed)) }
 {
     let alloc = rt.alloc();
-    let said = play_said(rt, watch, scenario.text, how, face)?;
-    let told = scenario_if(alloc, said.is_explained(face), scenario, 127, face);
+    let said = play_said(rt, watch, scenario.text, asked)?;
+    let told = scenario_if(alloc, said.is_explained(face), scenario, asked.depth, face);
     said.shown(alloc, face, &told)
 }
 

@@ -4,10 +4,11 @@ ghost use Rattle.marlowe_run.specs.Run.{run_within};
 ghost use Rattle.marlowe_run.specs.TableText.{table_text_within};
 ghost use Rattle.marlowe_trace.specs.Traced.{trace_text};
 ghost use Rattle.marlowe_next.specs.Question.{reached};
-ghost use Rattle.json_read_names.specs.ReadsText.{of_text};
+ghost use Rattle.json_read_names.specs.ReadsText.{of_text_within};
 ghost use Rattle.json_read_scenarios.specs.ReadsScenario as reads;
-ghost use Rattle.marlowe_commands.specs.Streams.{refusal_of, refuses, saying_of};
-ghost use Rattle.marlowe_commands.specs.Tasks.{SaysAnalysis, SaysNext, SaysPlay, analysis_status, play_members, play_refusal, play_status, run_said, lines_answer, table_said, trace_said};
+ghost use Rattle.marlowe_play.specs.Played.{wanted};
+ghost use Rattle.marlowe_commands.specs.Streams.{refusal_of, refuses, saying_of, says};
+ghost use Rattle.marlowe_commands.specs.Tasks.{SaysAnalysis, SaysNext, SaysPlay, analysis_status, play_members, play_refusal, play_status, run_said, table_answer, table_said, trace_said, well_status};
 
 use crate::face::Face;
 use crate::said::{Refusal, Said};
@@ -15,7 +16,7 @@ use collections::Memory;
 use line_objects::lines_object;
 use marlowe_analyse::{Analysed, Reader, analyse_text};
 use marlowe_next::next;
-use marlowe_play::{How, PlayFault, Watch, play_refusal, play_watched};
+use marlowe_play::{PlayFault, Played, Watch, play_asked, play_refusal};
 use marlowe_refusals::{Fault, RunFault, TableFault, TraceFault, json_fault_name};
 use marlowe_run::{Readable, run_within, table_text_within};
 use marlowe_trace::{Traced, trace};
@@ -93,14 +94,14 @@ pub fn table_said(alloc: Global, contract: &[u8], depth: usize, face: Face) -> R
     ensures { IfOk result (λ said. saying_of said ≡ table_said face (table_text_within depth contract.now)) }
 {
     match table_text_within(alloc, contract, depth) {
-        Ok(text) => Ok(Said::Text(lines_answer(alloc, text, face)?, 0)),
+        Ok(text) => Ok(Said::Text(table_answer(alloc, text, face)?, 0)),
         Err(TableFault::Memory) => Err(AllocError),
         Err(fault) => Said::refused(alloc, Vec::new(alloc), &Fault::Table(fault)),
     }
 }
 
-fn lines_answer(alloc: Global, text: Vec<u8>, face: Face) -> Result<Vec<u8>, Memory>
-    ensures { IfOk result (λ answer. answer.items ≡ lines_answer face text.items) }
+fn table_answer(alloc: Global, text: Vec<u8>, face: Face) -> Result<Vec<u8>, Memory>
+    ensures { IfOk result (λ answer. answer.items ≡ table_answer face text.items) }
 {
     match face {
         Face::Plain | Face::Explained => Ok(text),
@@ -148,23 +149,30 @@ fn analysis_status(strict: bool, clear: bool, unreached: bool) -> u8
     }
 }
 
-/// A play, while somebody is told how far it is: its lines, or the object of them for tools, with status 0, or a refusal. `how` says whether
-/// plans are played one after another, and whether the lines are explained.
+/// A play, while somebody is told how far it is: what it tells, with status 0, or with 3 where it is asked whether all went well and not all
+/// did; or a refusal.
 pub fn play_said<R: AllocGlobal + Threads + Wait + Sync, W: Watch + Sync>(
     rt: &R,
     watch: &W,
     scenario: &[u8],
-    how: How,
-    face: Face,
+    asked: marlowe_play::Asked<'_>,
 ) -> Result<Said, Memory>
-    ensures { IfOk result (λ said. SaysPlay (of_text reads.scenario scenario.now) how.explain face (saying_of said)) }
+    ensures { IfOk result (λ said. SaysPlay (of_text_within asked.entry.depth reads.scenario scenario.now)
+        (wanted asked.entry.face asked.entry.strict (map (λ s. s.now) asked.entry.kept_open.now)) (saying_of said)) }
 {
     let alloc = rt.alloc();
-    match play_watched(rt, alloc, scenario, how, watch) {
-        Ok(text) => Ok(Said::Text(lines_answer(alloc, text, face)?, 0)),
+    match play_asked(rt, alloc, scenario, asked, watch) {
+        Ok(played) => Ok(play_text(played)),
         Err(PlayFault::Memory) => Err(AllocError),
         Err(fault) => play_refused(alloc, fault),
     }
+}
+
+fn play_text(played: Played) -> Said
+    ensures { saying_of result ≡ says played.text.items (well_status played.well) }
+{
+    let status = played.status();
+    Said::Text(played.text, status)
 }
 
 fn play_refused(alloc: Global, fault: PlayFault) -> Result<Said, Memory>

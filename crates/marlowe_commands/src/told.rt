@@ -10,7 +10,7 @@ use crate::stops::{Stop, text_if, text_of, texts_of};
 use crate::texts::Texts;
 use marlowe_analyse::Reader;
 use marlowe_cli::{AnalyseTask, NextTask, PlayTask, RunTask, TableTask, TraceTask};
-use marlowe_play::{How, Watch};
+use marlowe_play::Watch;
 use marlowe_run::Readable;
 use refusal_reasons::{Source, Sources};
 use std::alloc::Global;
@@ -164,6 +164,15 @@ fn reader_of(json: bool, no_runs: bool) -> Reader {
     }
 }
 
+// What a play tells, by its flags.
+fn telling(json: bool, explain: bool) -> marlowe_play::Face {
+    match (json, explain) {
+        (true, _) => marlowe_play::Face::Objects,
+        (false, true) => marlowe_play::Face::Explained,
+        (false, false) => marlowe_play::Face::Plain,
+    }
+}
+
 #[tactic(auto, using(crate::proofs::ShownLemmas::play_shows))]
 pub fn play_told<'a, T: Texts, R: AllocGlobal + Threads + Wait + Sync, W: Watch + Sync>(
     rt: &R,
@@ -172,13 +181,16 @@ pub fn play_told<'a, T: Texts, R: AllocGlobal + Threads + Wait + Sync, W: Watch 
     task: PlayTask<'a>,
     face: Face,
 ) -> Result<Printed, Stop<'a>>
-    ensures { IfOk result (λ printed. Shows face ⊥ ⊥ (streams_of printed)) }
+    ensures { IfOk result (λ printed. Shows face (Unit {0}) ⊥ (streams_of printed)) }
 {
     let scenario = text_of(rt.alloc(), texts, task.scenario)?;
-    let how = How {
+    let asked = marlowe_play::Asked {
         one: task.one,
-        explain: task.explain || task.json,
+        face: telling(task.json, task.explain),
+        depth: task.depth,
+        strict: task.strict,
+        kept_open: task.kept_open.as_slice(),
     };
     let scenario = source(task.scenario, &scenario);
-    Ok(play_shown(rt, watch, scenario, how, face)?)
+    Ok(play_shown(rt, watch, scenario, asked, face)?)
 }

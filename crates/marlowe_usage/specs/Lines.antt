@@ -87,9 +87,10 @@ abbrev pub analyse_rules : List Rule
 analyse_rules = given (codes "CONTRACT") ∷ optional (codes "STATE") ∷ json ∷ flag (codes "no-runs") ∷ flag (codes "strict")
     ∷ depth ∷ text_numbers ∷ explain ∷ []
 
--- `play SCENARIO [--one] [--json] [--explain]`
+-- `play SCENARIO [--one] [--strict] [--expect-open NAME].. [--json] [--depth N] [--explain]`
 abbrev pub play_rules : List Rule
-play_rules = given (codes "SCENARIO") ∷ flag (codes "one") ∷ json ∷ flag (codes "explain") ∷ []
+play_rules = given (codes "SCENARIO") ∷ flag (codes "one") ∷ flag (codes "strict") ∷ options (codes "expect-open")
+    ∷ json ∷ depth ∷ flag (codes "explain") ∷ []
 
 -- the program without its commands: it has a version and needs a command
 abbrev pub program : App

@@ -183,15 +183,21 @@ fn play_command<'a>(alloc: Global) -> Draft<'a>
 {
     let about = "Plays a scenario and prints a line for each call that was answered.";
     let after_help =
-        "A scenario says what a ledger begins with, which contracts are published and started on it,\nand what each party means to do there. Its form is described in docs/formats.md.\n\nStatus 0: it was played to its end. 1: the scenario or its setup is refused; with --json 4 for its text.\n2: a file or these words are at fault.\n\nExample:\n  marlowe play scenario.json --one";
+        "A scenario says what a ledger begins with, which contracts are published and started on it,\nand what each party means to do there. Its form is described in docs/formats.md.\n\nStatus 0: it was played to its end. 3: with --strict, not all went well. 1: the scenario or its setup\nis refused; with --json 4 for its text. 2: a file or these words are at fault.\n\nExample:\n  marlowe play scenario.json --one";
     let scenario = "The scenario, as a JSON file";
     let one = "Plays the plans one after another, so that the text is always the same";
     let explain =
-        "Says why calls are refused and why nothing is built, and at the end who holds what";
+        "Says what each step did, what was refused or not built, how each intent ended, and who holds what";
+    let strict = "Status 3 where an intent isn't done, or a thread isn't closed at the end";
+    let open =
+        "With --strict, a thread that may stay open, by its name; as often as there are such";
     Draft::new(alloc, "play", about)
         .after_help(after_help)
         .with(given(alloc, "SCENARIO", scenario))
         .with(flag(alloc, "one", one))
+        .with(flag(alloc, "strict", strict))
+        .with(options(alloc, "expect-open", "NAME", open))
         .with(json(alloc))
+        .with(depth(alloc))
         .with(flag(alloc, "explain", explain))
 }

@@ -1,5 +1,5 @@
 //! How an intent ended.
-ghost use Rattle.std.specs.Prelude.{◌≡◌, slice_get};
+ghost use Rattle.std.specs.Prelude.{◌≡◌, option_copied, slice_get};
 ghost use Rattle.play_endings.specs.Endings as told;
 ghost use Rattle.play_endings.specs.Endings.{EndedAt, settled_ending, settled, taken_ending};
 
@@ -67,7 +67,7 @@ impl<'p, 'e> Model for Ended<'p, 'e> {
 }
 
 fn taken_ending(taken: Option<&Taken>, ticket: u64) -> Ending
-    ensures { result ≡ taken_ending taken ticket }
+    ensures { result ≡ taken_ending (option_copied taken.entry) ticket }
 {
     match taken {
         Some(round) if round.ticket == ticket => {

@@ -161,7 +161,7 @@ fn others(place: usize, left: &[LeftIntent]) -> &[LeftIntent]
 }
 
 fn settled<'p, 'e>(taken: &[Taken], ended: Ended<'p, 'e>) -> Ended<'p, 'e>
-    ensures { result ≡ settled taken.now ended }
+    ensures { result ≡ settled taken.now ended.entry }
 {
     let Ended { ending, turn, rest } = ended;
     Ended {
@@ -169,6 +169,13 @@ fn settled<'p, 'e>(taken: &[Taken], ended: Ended<'p, 'e>) -> Ended<'p, 'e>
         turn,
         rest,
     }
+}
+
+// The entries behind those of an intent.
+fn behind_own<'p, 'e>(ended: &Ended<'p, 'e>) -> &'p [Placed<'e>]
+    ensures { result.now ≡ ended.now.rest }
+{
+    ended.rest
 }
 
 /// How each of a plan's intents ended, in order, by what its party left out, by the entries of its seat and by what rounds took out of
@@ -186,10 +193,11 @@ pub fn endings<'p, 'e>(
     let mut rest = own;
     let mut outs = left;
     for (place, intent) in intents.iter().enumerate() {
-        let one = ending_of(intent, here(place, outs), rest);
+        let one = settled(taken, ending_of(intent, here(place, outs), rest));
+        let next = behind_own(&one);
+        ended.push(one)?;
         outs = others(place, outs);
-        rest = one.rest;
-        ended.push(settled(taken, one))?;
+        rest = next;
     }
     Ok(ended)
 }
