@@ -1,5 +1,5 @@
 -- Whether each intent is done, plan by plan.
-use Rattle.std.proofs.Common.{◌≡◌, ◌∙◌, ℕ, ◌+◌, ◌<◌, Bool, true, false, ◌&&◌, List, ◌∷◌, length, get_or, drop, map, sym, ap}
+use Rattle.std.proofs.Common.{◌≡◌, ◌∙◌, ℕ, ◌+◌, ◌<◌, Bool, true, false, ◌&&◌, List, length, get_or, drop, map, ap}
 use Rattle.std.specs.Prelude.{slice_get}
 use Rattle.ledger.specs.declared.call.Entry.{Entry}
 use Rattle.plans.specs.declared.scenario.Scenario.{Scenario}

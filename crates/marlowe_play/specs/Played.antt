@@ -1,5 +1,5 @@
 -- What is printed of a play that came to its end.
-use Rattle.std.specs.Prelude.{◌≡◌, ℕ, ◌-◌, Bool, true, false, ◌&&◌, if◌then◌else◌, List, [], ◌∷◌, ◌++◌, map, length, slice_get, Option, Some, None, Ok, Err}
+use Rattle.std.specs.Prelude.{◌≡◌, ℕ, ◌-◌, Bool, true, false, ◌&&◌, if◌then◌else◌, List, [], ◌∷◌, map, length, slice_get, Option, Some, None, Ok, Err}
 use Rattle.std.specs.List.{All, AllZip}
 use Rattle.json_read_names.specs.Parts.{Reading}
 use Rattle.plans.specs.declared.plan.Plan.{Plan}

@@ -88,7 +88,7 @@ fn well_by(
     lines: &[ThreadLine<'_>],
     asked: Asked<'_>,
 ) -> Result<bool, Memory>
-    ensures { IfOk result (λ well. well ≡ well_by (wanted asked.face asked.strict (map (λ s. s.now) asked.kept_open.now))
+    ensures { IfOk result (λ well. well ≡ well_by (wanted asked.entry.face asked.entry.strict (map (λ s. s.now) asked.entry.kept_open.now))
         scenario.now (map (λ l. l.items) left.now) chain.now.entries lines.now) }
 {
     if asked.strict {
@@ -119,8 +119,8 @@ pub(crate) fn played_text(
     requires genesis { chain.now.genesis ≡ map key_output scenario.now.genesis }
     requires tick { chain.now.first_tick ≡ scenario.now.tick }
     ensures { IfOk result (λ played. (lines : List Told)
-        × IsTold asked.face scenario.now chain.now stage.now.starts.items (map (λ l. l.items) left.now) lines played.text.items
-        × (played.well ≡ well_by (wanted asked.face asked.strict (map (λ s. s.now) asked.kept_open.now))
+        × IsTold asked.entry.face scenario.now chain.now stage.now.starts.items (map (λ l. l.items) left.now) lines played.text.items
+        × (played.well ≡ well_by (wanted asked.entry.face asked.entry.strict (map (λ s. s.now) asked.entry.kept_open.now))
         scenario.now (map (λ l. l.items) left.now) chain.now.entries lines)
         × AreLines chain.now stage.now.contracts.items scenario.now.threads stage.now.starts.items lines) }
 {

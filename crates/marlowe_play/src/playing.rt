@@ -110,9 +110,9 @@ pub fn play_asked<R: Threads + Wait + Sync, W: Watch + Sync>(
     asked: Asked<'_>,
     watch: &W,
 ) -> Result<Played, PlayFault>
-    ensures unread { IsRefused (of_text_within asked.depth reads.scenario text.now) result }
-    ensures played { IfOk result (λ p. IsAnswered (of_text_within asked.depth reads.scenario text.now)
-        (wanted asked.face asked.strict (map (λ s. s.now) asked.kept_open.now)) p.text.items p.well) }
+    ensures unread { IsRefused (of_text_within asked.entry.depth reads.scenario text.now) result }
+    ensures played { IfOk result (λ p. IsAnswered (of_text_within asked.entry.depth reads.scenario text.now)
+        (wanted asked.entry.face asked.entry.strict (map (λ s. s.now) asked.entry.kept_open.now)) p.text.items p.well) }
 {
     let scenario = match read_scenario_within(alloc, text, asked.depth) {
         Ok(scenario) => scenario,
@@ -132,7 +132,7 @@ fn play_scenario<R: Threads + Wait + Sync, W: Watch + Sync>(
     requires names { NamesWhatItHas scenario.now }
     ensures told { IfErr result (λ fault. IsOfText fault → ⊥) }
     ensures played { IfOk result (λ p. TellsAPlay scenario.now
-        (wanted asked.face asked.strict (map (λ s. s.now) asked.kept_open.now)) p.text.items p.well) }
+        (wanted asked.entry.face asked.entry.strict (map (λ s. s.now) asked.entry.kept_open.now)) p.text.items p.well) }
 {
     let chain = first_chain(alloc, scenario.genesis.as_slice(), scenario.tick)?;
     let opening = Opening::new(chain, scenario.plans.len() as u64 + 1);
@@ -155,7 +155,7 @@ fn play_on<R: Threads + Wait + Sync, J: Session + Send + Sync, W: Watch + Sync>(
     requires names { NamesWhatItHas scenario.now }
     ensures told { IfErr result (λ fault. IsOfText fault → ⊥) }
     ensures played { IfOk result (λ p. TellsAPlay scenario.now
-        (wanted asked.face asked.strict (map (λ s. s.now) asked.kept_open.now)) p.text.items p.well) }
+        (wanted asked.entry.face asked.entry.strict (map (λ s. s.now) asked.entry.kept_open.now)) p.text.items p.well) }
 {
     let (hub, seats) = opening.open::<J>(alloc)?;
     let (stage, seats, left) = play_all(rt, alloc, &hub, seats, scenario, asked.one, watch)?;

@@ -1,5 +1,6 @@
-use Rattle.std.proofs.Common.{false, []}
-use Rattle.marlowe_play.specs.Played.{face_of, wanted}
+use Rattle.std.proofs.Common.{false, [], subst}
+use Rattle.marlowe_play.specs.declared.asked.Face.{Face}
+use Rattle.marlowe_play.specs.Played.{TellsAPlay, face_of, wanted}
 use Rattle.marlowe_play.proofs.PlayingLemmas.{was_told}
 use Rattle.marlowe_play.proofs.playing.play_watched.Goals as goal
 
@@ -7,4 +8,6 @@ use Rattle.marlowe_play.proofs.playing.play_watched.Goals as goal
 pub returns-clause-played : goal.returns-clause-played
 returns-clause-played g c =
     let p = c.in_ok-played.played in
-    (p.well, was_told _ c.in-Ok.scenario (wanted (face_of c.args.how.explain) false []) p.text.items p.well c.in-Ok.ensures.reading c.in_ok-played.ensures.played)
+    let s = c.in-Ok.scenario in
+    let told = subst (λ (f : Face). TellsAPlay s (wanted f false []) p.text.items p.well) c.face.ensures c.in_ok-played.ensures.played in
+    (p.well, was_told _ s (wanted (face_of c.args.how.explain) false []) p.text.items p.well c.in-Ok.ensures.reading told)
