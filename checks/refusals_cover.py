@@ -69,7 +69,7 @@ def call_answers():
 
 def program_answers():
     """What the program itself tells, beside the texts of `clap`."""
-    text = "".join((TOP / "crates" / path).read_text() for path in ("marlowe_commands/src/command_line.rt", "marlowe/src/main.rt"))
+    text = "".join((TOP / "crates" / path).read_text() for path in ("marlowe_commands/src/said.rt", "marlowe/src/main.rt"))
     told = re.findall(r'"((?:unreadable|unwritable|error:)[^"]*?)(?:\\n)?"', text)
     names = ["no text in UTF-8" if "no text in UTF-8" in each else each.split(" ")[0] for each in told]
     return list(dict.fromkeys(names)) + WORDS

@@ -113,9 +113,19 @@ EXACT = "its clause is an equation without \"memory aside\", and its one fault i
 ONE = "it has one value"
 KNOWN = "each If that rows_commands analyses copies what is known"
 TRACED = "each row of `marlowe trace` or `next` calls it"
+COMMANDED = "each row of the command calls it"
+WITHIN = "it is the call with a depth, at 127 levels, which each row of the command calls"
 DERIVED = "derived, and compared by no call"
 LEFT = {
     "fault ReadFault::Memory": MEMORY,
+    "call contract_json::read_contract_within": COMMANDED,
+    "call json_read_scenarios::read_scenario_within": COMMANDED,
+    "call marlowe_analyse::analysis_text": COMMANDED,
+    "call marlowe_play::play_watched": "it is the call that is asked more, asked nothing more, which each row of `marlowe play` calls",
+    "call marlowe_run::printed_table": COMMANDED,
+    "call marlowe_run::run_with_texts": WITHIN,
+    "call marlowe_run::table_text": WITHIN,
+    "== Face": DERIVED,
     "call marlowe_run::outcome_line": TRACED,
     "call marlowe_run::read_start": TRACED,
     "call semantics::apply": TRACED,
