@@ -3,7 +3,7 @@ ghost use Rattle.std.specs.Prelude.{IfOk, Some, codes};
 ghost use Rattle.clap.specs.Words.{found_of, rows_of};
 ghost use Rattle.marlowe_cli.specs.Asked.{IsAsked};
 
-use crate::found::{NoTask, is_given, word};
+use crate::found::{NoTask, depth, is_given, one_spelling, word};
 use crate::task::Task;
 use clap::ArgMatches;
 
@@ -13,7 +13,11 @@ pub struct PlayTask<'a> {
     pub scenario: &'a str,
     /// The plans are played one after another, and else all at once.
     pub one: bool,
-    /// Behind the lines stands who holds what at the end.
+    /// JSON for tools, a refusal too.
+    pub json: bool,
+    /// How deep lists and objects of the scenario may nest: from 127 to 4,000 levels.
+    pub depth: usize,
+    /// Lines say why calls were refused and why nothing was built, and at the end who holds what.
     pub explain: bool,
 }
 
@@ -21,9 +25,14 @@ pub struct PlayTask<'a> {
 pub(crate) fn play_task<'a>(play: &ArgMatches<'a>) -> Result<Task<'a>, NoTask>
     ensures { IfOk result (IsAsked (Some (codes "play", rows_of (found_of play.now)))) }
 {
+    let json = is_given(play, "json");
+    let explain = is_given(play, "explain");
+    one_spelling(json, explain)?;
     Ok(Task::Play(PlayTask {
         scenario: word(play, "SCENARIO")?,
         one: is_given(play, "one"),
-        explain: is_given(play, "explain"),
+        json,
+        depth: depth(play)?,
+        explain,
     }))
 }

@@ -1,21 +1,17 @@
 //! What is printed for a task, whose files are read first: the contract, the state, and then the transactions in the order of the command
 //! line. Explanations name each text by its path.
-ghost use Rattle.std.specs.Prelude.{◌⊎◌, IfOk};
-ghost use Rattle.marlowe_commands.specs.Streams.{streams_of, IsOnOneStream, IsCut, IsTextOr, MayExplain};
+ghost use Rattle.std.specs.Prelude.{◌≡◌, IfOk, Unit};
+ghost use Rattle.marlowe_commands.specs.Streams.{Shows, streams_of};
 
-use crate::explained::{
-    analysis_explained, next_explained, play_explained, run_explained, table_explained,
-    trace_explained,
-};
+use crate::face::Face;
 use crate::printed::Printed;
+use crate::shown::{analysis_shown, next_shown, play_shown, run_shown, table_shown, trace_shown};
 use crate::stops::{Stop, text_if, text_of, texts_of};
-use crate::tasks::{
-    analysis_printed, next_printed, play_printed, run_printed, table_printed, trace_printed,
-};
 use crate::texts::Texts;
 use marlowe_analyse::Reader;
 use marlowe_cli::{AnalyseTask, NextTask, PlayTask, RunTask, TableTask, TraceTask};
 use marlowe_play::{How, Watch};
+use marlowe_run::Readable;
 use refusal_reasons::{Source, Sources};
 use std::alloc::Global;
 use std::sync::Wait;
@@ -37,156 +33,124 @@ fn source_if<'a>(path: Option<&'a str>, text: &'a Option<Vec<u8>>) -> Option<Sou
     }
 }
 
-#[tactic(auto, using(crate::proofs::ExplainedLemmas::may_explain))]
+#[tactic(auto, using(crate::proofs::ShownLemmas::run_shows))]
 pub fn run_told<'a, T: Texts>(
     alloc: Global,
     texts: &T,
     task: RunTask<'a>,
-    explain: bool,
+    face: Face,
 ) -> Result<Printed, Stop<'a>>
-    ensures { IfOk result (λ printed. MayExplain explain (IsTextOr 1) (streams_of printed)) }
+    ensures { IfOk result (λ printed. Shows face ⊥ ⊥ (streams_of printed)) }
 {
     let contract = text_of(alloc, texts, task.contract)?;
     let state = text_of(alloc, texts, task.state)?;
     let transaction = text_of(alloc, texts, task.transaction)?;
-    if explain {
-        let contract = source(task.contract, &contract);
-        let state = source(task.state, &state);
-        let transaction = source(task.transaction, &transaction);
-        let printed = run_explained(alloc, contract, state, transaction, task.text_numbers);
-        return Ok(printed?);
-    }
-    let printed = run_printed(
-        alloc,
-        contract.as_slice(),
-        state.as_slice(),
-        transaction.as_slice(),
-        task.text_numbers,
-    );
+    let readable = Readable {
+        depth: task.depth,
+        text_numbers: task.text_numbers,
+    };
+    let contract = source(task.contract, &contract);
+    let state = source(task.state, &state);
+    let transaction = source(task.transaction, &transaction);
+    let printed = run_shown(alloc, contract, state, transaction, readable, face);
     Ok(printed?)
 }
 
-#[tactic(auto, using(crate::proofs::ExplainedLemmas::may_explain))]
+#[tactic(auto, using(crate::proofs::ShownLemmas::trace_shows))]
 pub fn trace_told<'a, T: Texts>(
     alloc: Global,
     texts: &T,
     task: TraceTask<'a>,
-    explain: bool,
+    face: Face,
 ) -> Result<Printed, Stop<'a>>
-    ensures { IfOk result (λ printed. MayExplain explain (λ plain. IsTextOr 1 plain ⊎ IsCut plain) (streams_of printed)) }
+    ensures { IfOk result (λ printed. Shows face ⊥ (Unit {0}) (streams_of printed)) }
 {
     let contract = text_of(alloc, texts, task.contract)?;
     let state = text_if(alloc, texts, task.state)?;
     let transactions = texts_of(alloc, texts, task.transactions.as_slice())?;
+    let readable = Readable {
+        depth: task.depth,
+        text_numbers: task.text_numbers,
+    };
     let asked = marlowe_trace::Asked {
-        texts: task.text_numbers,
+        readable,
         last: task.last,
     };
-    if explain {
-        let contract = source(task.contract, &contract);
-        let state = source_if(task.state, &state);
-        let transactions = Sources {
-            paths: task.transactions.as_slice(),
-            texts: transactions.as_slice(),
-        };
-        let printed = trace_explained(alloc, contract, state, transactions, asked);
-        return Ok(printed?);
-    }
-    let state = state.as_ref().map(|text| text.as_slice());
-    let printed = trace_printed(
-        alloc,
-        contract.as_slice(),
-        state,
-        transactions.as_slice(),
-        asked,
-    );
+    let contract = source(task.contract, &contract);
+    let state = source_if(task.state, &state);
+    let transactions = Sources {
+        paths: task.transactions.as_slice(),
+        texts: transactions.as_slice(),
+    };
+    let printed = trace_shown(alloc, contract, state, transactions, asked, face);
     Ok(printed?)
 }
 
-#[tactic(auto, using(crate::proofs::ExplainedLemmas::may_explain))]
+#[tactic(auto, using(crate::proofs::ShownLemmas::next_shows))]
 pub fn next_told<'a, T: Texts>(
     alloc: Global,
     texts: &T,
     task: NextTask<'a>,
-    explain: bool,
+    face: Face,
 ) -> Result<Printed, Stop<'a>>
-    ensures { IfOk result (λ printed. MayExplain explain (IsTextOr 1) (streams_of printed)) }
+    ensures { IfOk result (λ printed. Shows face ⊥ ⊥ (streams_of printed)) }
 {
     let contract = text_of(alloc, texts, task.contract)?;
     let state = text_if(alloc, texts, task.state)?;
     let after = texts_of(alloc, texts, task.after.as_slice())?;
+    let readable = Readable {
+        depth: task.depth,
+        text_numbers: task.text_numbers,
+    };
     let asked = marlowe_next::Asked {
         from: task.from,
         to: task.to,
-        texts: task.text_numbers,
+        readable,
         json: task.json,
     };
-    if explain {
-        let contract = source(task.contract, &contract);
-        let state = source_if(task.state, &state);
-        let after = Sources {
-            paths: task.after.as_slice(),
-            texts: after.as_slice(),
-        };
-        let printed = next_explained(alloc, contract, state, after, asked);
-        return Ok(printed?);
-    }
-    let state = state.as_ref().map(|text| text.as_slice());
-    let printed = next_printed(alloc, contract.as_slice(), state, after.as_slice(), asked);
+    let contract = source(task.contract, &contract);
+    let state = source_if(task.state, &state);
+    let after = Sources {
+        paths: task.after.as_slice(),
+        texts: after.as_slice(),
+    };
+    let printed = next_shown(alloc, contract, state, after, asked, face);
     Ok(printed?)
 }
 
-#[tactic(auto, using(crate::proofs::ExplainedLemmas::may_explain))]
+#[tactic(auto, using(crate::proofs::ShownLemmas::table_shows))]
 pub fn table_told<'a, T: Texts>(
     alloc: Global,
     texts: &T,
     task: TableTask<'a>,
-    explain: bool,
+    face: Face,
 ) -> Result<Printed, Stop<'a>>
-    ensures { IfOk result (λ printed. MayExplain explain (IsTextOr 1) (streams_of printed)) }
+    ensures { IfOk result (λ printed. Shows face ⊥ ⊥ (streams_of printed)) }
 {
     let contract = text_of(alloc, texts, task.contract)?;
-    if explain {
-        let contract = source(task.contract, &contract);
-        return Ok(table_explained(alloc, contract)?);
-    }
-    Ok(table_printed(alloc, contract.as_slice())?)
+    let contract = source(task.contract, &contract);
+    Ok(table_shown(alloc, contract, task.depth, face)?)
 }
 
-#[tactic(auto, using(crate::proofs::ExplainedLemmas::may_explain))]
+#[tactic(auto, using(crate::proofs::ShownLemmas::analysis_shows))]
 pub fn analysis_told<'a, T: Texts>(
     alloc: Global,
     texts: &T,
     task: AnalyseTask<'a>,
-    explain: bool,
+    face: Face,
 ) -> Result<Printed, Stop<'a>>
-    ensures { IfOk result (λ printed. MayExplain explain IsOnOneStream (streams_of printed)) }
+    ensures { IfOk result (λ printed. Shows face (Unit {0}) ⊥ (streams_of printed)) }
 {
     let contract = text_of(alloc, texts, task.contract)?;
     let state = text_if(alloc, texts, task.state)?;
     let reader = reader_of(task.json, task.no_runs);
-    if explain {
-        let contract = source(task.contract, &contract);
-        let state = source_if(task.state, &state);
-        let printed = analysis_explained(
-            alloc,
-            contract,
-            state,
-            task.text_numbers,
-            reader,
-            task.strict,
-        );
-        return Ok(printed?);
-    }
-    let state = state.as_ref().map(|text| text.as_slice());
-    let printed = analysis_printed(
-        alloc,
-        contract.as_slice(),
-        state,
-        task.text_numbers,
-        reader,
-        task.strict,
-    );
+    let readable = Readable {
+        depth: task.depth,
+        text_numbers: task.text_numbers,
+    };
+    let contract = source(task.contract, &contract);
+    let state = source_if(task.state, &state);
+    let printed = analysis_shown(alloc, contract, state, readable, reader, task.strict, face);
     Ok(printed?)
 }
 
@@ -200,24 +164,21 @@ fn reader_of(json: bool, no_runs: bool) -> Reader {
     }
 }
 
-#[tactic(auto, using(crate::proofs::ExplainedLemmas::may_explain))]
+#[tactic(auto, using(crate::proofs::ShownLemmas::play_shows))]
 pub fn play_told<'a, T: Texts, R: AllocGlobal + Threads + Wait + Sync, W: Watch + Sync>(
     rt: &R,
     texts: &T,
     watch: &W,
     task: PlayTask<'a>,
-    explain: bool,
+    face: Face,
 ) -> Result<Printed, Stop<'a>>
-    ensures { IfOk result (λ printed. MayExplain explain (IsTextOr 1) (streams_of printed)) }
+    ensures { IfOk result (λ printed. Shows face ⊥ ⊥ (streams_of printed)) }
 {
     let scenario = text_of(rt.alloc(), texts, task.scenario)?;
     let how = How {
         one: task.one,
         explain: task.explain,
     };
-    if explain {
-        let scenario = source(task.scenario, &scenario);
-        return Ok(play_explained(rt, watch, scenario, how)?);
-    }
-    Ok(play_printed(rt, watch, scenario.as_slice(), how)?)
+    let scenario = source(task.scenario, &scenario);
+    Ok(play_shown(rt, watch, scenario, how, task.depth, face)?)
 }
