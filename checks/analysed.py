@@ -19,6 +19,7 @@ warn. The others are those of rows_commands/data/analyses with a few numbers, pa
 - none starts at a part that is told as never reached, goes through it or stops there; such parts stand in order, none below another;
 - in each what a party was paid of a token is never above its `most`, 0 where it has no line, and no less than its `least` once all is closed;
 - alarms stand in the order of the contract, none twice, and no `least` is told where a transaction at the last timeout doesn't close the contract.
+- each run that is told with a bound is accepted, by interpreter.py, and comes to that very bound; of a least and of a loss it closes the contract;
 - from the time on that is told, after each accepted transaction of a run, one without inputs takes all out, by interpreter.py.
 A random run takes choices at the ends of their bounds and elsewhere, intervals about timeouts, deposits as asked, and now and then others.
 """
@@ -549,6 +550,44 @@ def replay(program, contract, state, alarm):
         raise Difference(f"the run to {alarm['kind']} has no transaction")
 
 
+def sums(contract, state, run):
+    """What each party is paid and brings by a run, and whether it leaves nothing in the contract, by interpreter.py."""
+    paid, brought = collections.Counter(), collections.Counter()
+    for tx in run:
+        try:
+            it = interpreter.outcome(contract, state, tx)
+        except interpreter.Refused as fault:
+            raise Difference(f"a run that reaches a bound is refused: {fault}", run)
+        for payment in it["payments"]:
+            if "party" in payment["to"]:
+                paid[party(payment["to"]["party"]), token(payment["token"])] += whole(payment["amount"])
+        for given in tx["tx_inputs"]:
+            if has(given, "that_deposits"):
+                brought[party(given["input_from_party"]), token(given["of_token"])] += max(0, given["that_deposits"])
+        contract, state = it["contract"], it["state"]
+    return paid, brought, contract == "close" and not state["accounts"]
+
+
+def reached(contract, state, told, count):
+    """Plays each run that is told with a bound."""
+    for it in told["ranges"]:
+        for end in ("least", "most"):
+            count[f"bounds, {end}"] += bool(it[end])
+            if it[f"{end}_run"] is not None:
+                count[f"bounds, {end}, by a run"] += 1
+                paid, _, spent = sums(contract, state, it[f"{end}_run"])
+                if paid[party(it["party"]), token(it["token"])] != whole(it[end]) or end == "least" and not spent or not whole(it[end]):
+                    raise Difference(f"the run to the {end} {it[end]} doesn't come to it", it[f"{end}_run"])
+    for it in told["down"] or []:
+        count["bounds, down"] += bool(it["most"])
+        if it["run"] is not None:
+            count["bounds, down, by a run"] += 1
+            paid, brought, spent = sums(contract, state, it["run"])
+            who = party(it["party"]), token(it["token"])
+            if brought[who] - paid[who] != whole(it["most"]) or not spent or not whole(it["most"]):
+                raise Difference(f"the run to a loss of {it['most']} doesn't come to it", it["run"])
+
+
 def play(program, chance, contract, state, told, count):
     """Plays a random run, and looks whether all that comes was said."""
     kinds, alarms, at = {it["kind"] for it in told["alarms"]}, {(it["kind"], tuple(it["place"])) for it in told["alarms"]}, []
@@ -637,6 +676,7 @@ def work(arguments):
                     count[f"alarm of {alarm['kind']}, {'not known' if alarm['run'] is None else 'by a run'}"] += 1
                     if alarm["run"] is not None:
                         replay(program, contract, state, alarm)
+                reached(contract, state, told, count)
                 for _ in range(given.runs):
                     play(program, chance, contract, state, told, count)
                     count["runs"] += 1

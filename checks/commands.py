@@ -38,6 +38,8 @@ ROWS = {
 ANALYSES = {"analyse": "", "alarms": "", "json": " --json"}
 # How a line begins that tells what a party is paid.
 OF_RANGE = ('{"address"', '{"role_token"')
+# And one that tells a transaction of a run.
+OF_RUN = '{"tx_inputs"'
 
 
 class Folder(rows.Given):
@@ -82,9 +84,11 @@ class Folder(rows.Given):
 
 def part_of(word, count, output):
     """The lines of standard output that a row prints."""
-    lines = output.removesuffix("\n").split("\n")
-    lines = lines[-count:] if word == "last" else [line for line in lines if word != "alarms" or not line.startswith(OF_RANGE)]
-    return "\n".join(lines)
+    lines, kept, is_of_bound = output.removesuffix("\n").split("\n"), [], False
+    for line in lines:
+        is_of_bound = word == "alarms" and (line.startswith(OF_RANGE) or is_of_bound and line.startswith(OF_RUN))
+        kept += [] if is_of_bound else [line]
+    return "\n".join(kept[-count:] if word == "last" else kept)
 
 
 def answer(folder, line, streams):

@@ -12,6 +12,7 @@
 
 mod candidates;
 mod closing;
+mod closing_runs;
 mod constants;
 mod ends;
 mod search;
@@ -23,5 +24,6 @@ mod work;
 mod written;
 
 pub use closing::can_close;
+pub use closing_runs::ClosingRuns;
 pub use search::run_to;
 pub use written::is_written;

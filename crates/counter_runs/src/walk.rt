@@ -57,6 +57,26 @@ pub(crate) fn try_run(
     walk.tried(reached)
 }
 
+/// Tries a run from a state to the Close at a place, likewise.
+pub(crate) fn try_closing(
+    alloc: Global,
+    contract: &Contract,
+    place: &[PathStep],
+    way: &Way,
+    state: &State,
+    turns: Turns<'_>,
+    work: &mut u64,
+) -> Result<Try, Memory> {
+    if !spend(work, way.copy().saturating_add(TRY)) {
+        let points = Vec::new(alloc);
+        return Ok(Try { run: None, points });
+    }
+    let mut walk = begun(alloc, state, turns, *work)?;
+    let reached = walk.closes(contract, place, way)?;
+    *work = walk.left;
+    walk.tried(reached)
+}
+
 // A run that is to begin in a state.
 fn begun<'a>(
     alloc: Global,
@@ -167,6 +187,31 @@ impl Walk<'_> {
             }
         }
         Ok(spend(&mut self.left, way.weight(place.len())) && self.alarms(at, kind))
+    }
+
+    // Follows the way, and tells whether the run comes to its end and closes the contract there.
+    fn closes(
+        &mut self,
+        contract: &Contract,
+        place: &[PathStep],
+        way: &Way,
+    ) -> Result<bool, Memory> {
+        let mut at = contract;
+        let now = self.state.min_time();
+        let until = way.until(0);
+        if !is_when(at) && !self.begin(way, now, until)? {
+            return Ok(false);
+        }
+        for index in 0..place.len() {
+            if !spend(&mut self.left, way.weight(index)) {
+                return Ok(false);
+            }
+            match self.step(way, index, at, place[index])? {
+                Some(next) => at = next,
+                None => return Ok(false),
+            }
+        }
+        Ok(matches!(at, Contract::Close))
     }
 
     // Takes a step of the way, by its place: none where the run doesn't go that way.

@@ -1,5 +1,5 @@
 -- What is printed of a contract and a state.
-use Rattle.std.proofs.Common.{◌≡◌, ◌≢◌, ℕ, ℤ, suc, arith, Option, Some, None, Bool, true, false, not, List, [], ◌∷◌, length, map, refl, sym, ap, ◌∙◌, subst}
+use Rattle.std.proofs.Common.{◌≡◌, ◌≢◌, ℕ, ℤ, suc, arith, Option, Some, None, option_map, IfSome, Bool, true, false, not, List, [], ◌∷◌, length, map, refl, sym, ap, ◌∙◌, subst}
 use Rattle.std.specs.Prelude.{Contains, ◌↔◌, ◌==◌, IsTrue}
 use Rattle.std.specs.List.{AllByRecursion}
 use Rattle.std.proofs.lemmas.List.Elements.{All-from_recursion, recursion_from_All, All-contains, All-contains_itself, All-weaker}
@@ -9,10 +9,12 @@ use Rattle.states.specs.States.{StateMaps}
 use Rattle.analysis_spec.specs.declared.kind.AlarmKind.{AlarmKind}
 use Rattle.analysis_spec.specs.declared.kind.AlarmKind.TheVariants.{Leaves128}
 use Rattle.analysis_spec.specs.declared.alarm.Alarm.{Alarm}
-use Rattle.analysis_spec.specs.declared.paid.PaidRange.{PaidRange}
 use Rattle.analysis_spec.specs.Analysed.{IsSilent, NamesWhatComes, NamesWhereItComes, StaysUnlessTold, NamesWhereItLeaves, AreNeverReached}
 use Rattle.analysis_spec.specs.declared.path.PathStep.{PathStep}
 use Rattle.losses.specs.declared.loss.Loss.{Loss}
+use Rattle.bound_runs.specs.declared.shown.ShownRange.{ShownRange}
+use Rattle.bound_runs.specs.declared.shown.ShownLoss.{ShownLoss}
+use Rattle.bound_runs.specs.Told.{AreReached, AreLost, ranges_of, losses_of}
 use Rattle.places.specs.declared.key.Key.{Key}
 use Rattle.places.specs.Places.{path_keys}
 use Rattle.marlowe_analyse.specs.declared.analysed.Reader.{Reader}
@@ -60,10 +62,10 @@ still_lost : (s : StateMaps) (c : ContractTree) (all alarms : List Alarm) (losse
 still_lost s c all alarms None f h = λ z. h (f z)
 still_lost s c all alarms (Some ls) f h = h
 
-pub tells_of_tree : (reader : Reader) (given : Bool) (s : StateMaps) (c : ContractTree) (alarms : List Alarm) (places : List (List PathStep)) (ranges : List PaidRange) (time : Option (Option ℤ)) (losses : Option (List Loss)) (told : List ToldAlarm) (ways : List (List Key)) (clear unreached : Bool) (out : List ℕ)
-    → NamesWhereItComes alarms s c → NamesWhereItLeaves alarms s c → NamesWhatComes alarms s c → StaysUnlessTold alarms s c → AreNeverReached places s c → HoldRanges s c ranges → LeastsCanCome ranges s c → IsOut s c alarms time → AreLosses s c alarms losses → TellsAll s c alarms told → TellPlaces places ways
+pub tells_of_tree : (reader : Reader) (given : Bool) (s : StateMaps) (c : ContractTree) (alarms : List Alarm) (places : List (List PathStep)) (ranges : List ShownRange) (time : Option (Option ℤ)) (losses : Option (List ShownLoss)) (told : List ToldAlarm) (ways : List (List Key)) (clear unreached : Bool) (out : List ℕ)
+    → NamesWhereItComes alarms s c → NamesWhereItLeaves alarms s c → NamesWhatComes alarms s c → StaysUnlessTold alarms s c → AreNeverReached places s c → HoldRanges s c (ranges_of ranges) → LeastsCanCome (ranges_of ranges) s c → AreReached s c ranges → IsOut s c alarms time → AreLosses s c alarms (option_map losses_of losses) → IfSome losses (AreLost s c) → TellsAll s c alarms told → TellPlaces places ways
     → (clear ≡ true ↔ told ≡ []) → (unreached ≡ false ↔ ways ≡ []) → out ≡ printed reader given s.min_time (map line_of told) ways ranges time losses → TellsOfTree reader given s c clear unreached out
-tells_of_tree reader given s c alarms places ranges time losses told ways clear unreached out comes leaves names stays never hold leasts z y t w k l e =
+tells_of_tree reader given s c alarms places ranges time losses told ways clear unreached out comes leaves names stays never hold leasts reach z y lost t w k l e =
     let all = t.all in (
       all,
       w.all,
@@ -83,8 +85,10 @@ tells_of_tree reader given s c alarms places ranges time losses told ways clear 
         unpaid = hold.unpaid;
         leasts = leasts;
         out = still_out s c (without_runs all) alarms time (fewer (λ (a : Alarm). a.kind ≢ Leaves128) (without_runs all) alarms t.has) z;
-        down = still_lost s c (without_runs all) alarms losses (fewer (λ (a : Alarm). a.kind ≢ Leaves128) (without_runs all) alarms t.has) y;
+        down = still_lost s c (without_runs all) alarms (option_map losses_of losses) (fewer (λ (a : Alarm). a.kind ≢ Leaves128) (without_runs all) alarms t.has) y;
       },
+      reach,
+      lost,
       e ∙ (ap (λ (ls : List Line). printed reader given s.min_time ls ways ranges time losses) t.so.lines ∙ ap (λ (ks : List (List Key)). printed reader given s.min_time (map (line_at c) all) ks ranges time losses) w.keys),
       (λ h. same_empty line_of (line_at c) told all t.so.lines (k.0 h), λ h. k.1 (same_empty (line_at c) line_of all told (sym t.so.lines) h)),
       (λ h. none_mapped path_keys w.all (sym w.keys ∙ l.0 h), λ h. l.1 (w.keys ∙ ap (map path_keys) h)),
@@ -92,5 +96,5 @@ tells_of_tree reader given s c alarms places ranges time losses told ways clear 
 
 pub never_alarms : (reader : Reader) (given : Bool) (s : StateMaps) (c : ContractTree) (clear unreached : Bool) (out : List ℕ) → TellsOfTree reader given s c clear unreached out → clear ≡ true → NeverAlarms s c
 never_alarms reader given s c clear unreached out h e =
-    let none : (kind : AlarmKind) → IsSilent (without_runs h.0) kind = λ kind. subst (λ (found : Alarms). IsSilent (without_runs found) kind) (sym (h.7.0 e)) tt in
+    let none : (kind : AlarmKind) → IsSilent (without_runs h.0) kind = λ kind. subst (λ (found : Alarms). IsSilent (without_runs found) kind) (sym (h.9.0 e)) tt in
     (λ kind. h.5.warnings kind (none kind), h.5.numbers (none Leaves128))

@@ -2,7 +2,6 @@
 use Rattle.std.proofs.Common.{◌≡◌, ℕ, ℤ, Bool, true, false, List, [], ◌∷◌, ◌++◌, map, length, refl, sym, ap, ◌∙◌, subst, append_assoc, Option, Some}
 use Rattle.std.specs.Prelude.{flat_map, codes, ◌==◌}
 use Rattle.contract.specs.declared.transaction.Transaction.{Transaction}
-use Rattle.analysis_spec.specs.declared.paid.PaidRange.{PaidRange}
 use Rattle.json.specs.Print.{print}
 use Rattle.json.specs.Written.{Written}
 use Rattle.serde_json.specs.Data.{Data, array, string}
@@ -10,7 +9,8 @@ use Rattle.serde_json.specs.View.{items_of}
 use Rattle.serde_json.specs.Written.{compact_text}
 use Rattle.serde_json.proofs.Texts.{print-outline}
 use Rattle.json_write_contracts.specs.Tokens.{Puts, data_tokens}
-use Rattle.losses.specs.declared.loss.Loss.{Loss}
+use Rattle.bound_runs.specs.declared.shown.ShownRange.{ShownRange}
+use Rattle.bound_runs.specs.declared.shown.ShownLoss.{ShownLoss}
 use Rattle.places.specs.declared.key.Key.{Key}
 use Rattle.marlowe_analyse.specs.declared.told.ToldAlarm.{ToldAlarm}
 use Rattle.marlowe_analyse.specs.ToldLines.{line_of}
@@ -76,10 +76,10 @@ word_put a b w v e h = subst (λ (x : List ℕ). Puts a b (string x)) e h
 pub place_put : (a b : Written) (ks ls : List Key) → ks ≡ ls → Puts a b (place_json ks) → Puts a b (place_json ls)
 place_put a b ks ls e h = subst (λ (x : List Key). Puts a b (place_json x)) e h
 
-pub told_put : (runs : Bool) (first : ℤ) (a b : Written) (ts us : List ToldAlarm) (ps os : List (List Key)) (rs qs : List PaidRange) (time : Option (Option ℤ)) (losses : Option (List Loss)) → ts ≡ us → ps ≡ os → rs ≡ qs
+pub told_put : (runs : Bool) (first : ℤ) (a b : Written) (ts us : List ToldAlarm) (ps os : List (List Key)) (rs qs : List ShownRange) (time : Option (Option ℤ)) (losses : Option (List ShownLoss)) → ts ≡ us → ps ≡ os → rs ≡ qs
     → Puts a b (told_json runs first (map line_of ts) ps rs time losses) → Puts a b (told_json runs first (map line_of us) os qs time losses)
 told_put runs first a b ts us ps os rs qs time losses e g f h =
-    subst (λ (x : List PaidRange). Puts a b (told_json runs first (map line_of us) os x time losses)) f
+    subst (λ (x : List ShownRange). Puts a b (told_json runs first (map line_of us) os x time losses)) f
     (subst (λ (x : List (List Key)). Puts a b (told_json runs first (map line_of us) x rs time losses)) g (subst (λ (x : List ToldAlarm). Puts a b (told_json runs first (map line_of x) ps rs time losses)) e h))
 
 -- the text of a whole value, from a new writer

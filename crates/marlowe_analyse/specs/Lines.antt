@@ -4,10 +4,12 @@ use Rattle.std.specs.Fmt.{signed_decimal}
 use Rattle.std.specs.Ordering.{int_eq}
 use Rattle.serde_json.specs.Written.{compact_text}
 use Rattle.contract.specs.declared.transaction.Transaction.{Transaction}
+use Rattle.names.specs.declared.party.Party.{Party}
+use Rattle.names.specs.declared.token.Token.{Token}
 use Rattle.json_write_contracts.specs.WrittenNames.{party_json, token_json}
 use Rattle.contract_json.specs.WrittenInput.{transaction_json}
-use Rattle.analysis_spec.specs.declared.paid.PaidRange.{PaidRange}
-use Rattle.losses.specs.declared.loss.Loss.{Loss}
+use Rattle.bound_runs.specs.declared.shown.ShownRange.{ShownRange}
+use Rattle.bound_runs.specs.declared.shown.ShownLoss.{ShownLoss}
 use Rattle.places.specs.declared.key.Key.{Key}
 use Rattle.places.specs.Texts.{kind_name, place_text}
 use Rattle.marlowe_analyse.specs.ToldLines.{Line}
@@ -51,11 +53,12 @@ abbrev pub given_text : Bool → List ℕ
 given_text true = codes " from the given state" ++ 10 ∷ []
 given_text false = 10 ∷ []
 
-abbrev pub loss_line : Bool → Loss → List ℕ
-loss_line given l = (compact_text (party_json l.party) ++ (codes " " ++ (compact_text (token_json l.token) ++ (codes " " ++ loss_text l.most)))) ++ given_text given
+abbrev pub loss_line : Bool → ShownLoss → List ℕ
+loss_line given l =
+    (compact_text (party_json l.loss.party) ++ (codes " " ++ (compact_text (token_json l.loss.token) ++ (codes " " ++ loss_text l.loss.most)))) ++ given_text given
 
 -- what each party can lose, where it is told
-abbrev pub losses_lines : Bool → Option (List Loss) → List ℕ
+abbrev pub losses_lines : Bool → Option (List ShownLoss) → List ℕ
 losses_lines given None = []
 losses_lines given (Some losses) = flat_map (loss_line given) losses
 
@@ -71,8 +74,35 @@ bounds_text (Some m) None = codes "at least " ++ signed_decimal m
 bounds_text None (Some n) = codes "at most " ++ signed_decimal n
 bounds_text None None = codes "not known"
 
-abbrev pub range_line : PaidRange → List ℕ
-range_line r = compact_text (party_json r.party) ++ (codes " " ++ (compact_text (token_json r.token) ++ (codes " " ++ (bounds_text r.least r.most ++ 10 ∷ []))))
+abbrev pub range_line : ShownRange → List ℕ
+range_line r =
+    compact_text (party_json r.range.party) ++ (codes " " ++ (compact_text (token_json r.range.token) ++ (codes " " ++ (bounds_text r.range.least r.range.most ++ 10 ∷ []))))
 
-abbrev pub lines_of : Bool → List Line → List (List Key) → List PaidRange → List ℕ
+abbrev pub lines_of : Bool → List Line → List (List Key) → List ShownRange → List ℕ
 lines_of runs lines places ranges = alarms_lines runs lines ++ (flat_map unreached_line places ++ flat_map range_line ranges)
+
+-- ---- runs that reach bounds
+
+-- of whom a line speaks, and of which token
+abbrev pub holder_text : Party → Token → List ℕ
+holder_text p t = compact_text (party_json p) ++ (codes " " ++ (compact_text (token_json t) ++ codes " "))
+
+-- a bound and its run; nothing where none is known
+abbrev pub bound_lines : List ℕ → List ℕ → Option (List Transaction) → List ℕ
+bound_lines holder bound None = []
+bound_lines holder bound (Some ts) = holder ++ (bound ++ run_lines true (Some ts))
+
+abbrev pub range_runs : ShownRange → List ℕ
+range_runs r =
+    let holder = holder_text r.range.party r.range.token in
+    bound_lines holder (bounds_text r.range.least None) r.least_run ++ bound_lines holder (bounds_text None r.range.most) r.most_run
+
+abbrev pub loss_runs : ShownLoss → List ℕ
+loss_runs l = bound_lines (holder_text l.loss.party l.loss.token) (loss_text l.loss.most) l.run
+
+abbrev pub losses_runs : Option (List ShownLoss) → List ℕ
+losses_runs None = []
+losses_runs (Some losses) = flat_map loss_runs losses
+
+abbrev pub reached_lines : List ShownRange → Option (List ShownLoss) → List ℕ
+reached_lines ranges losses = flat_map range_runs ranges ++ losses_runs losses

@@ -4,10 +4,10 @@ use Rattle.serde_json.specs.Data.{Data, string, array, null}
 use Rattle.serde_json.specs.View.{items_of}
 use Rattle.serde_json.specs.Written.{compact_text}
 use Rattle.contract.specs.declared.transaction.Transaction.{Transaction}
-use Rattle.json_write_contracts.specs.WrittenNames.{two, three, four, five, wide_json, party_json, token_json}
+use Rattle.json_write_contracts.specs.WrittenNames.{two, three, four, five, six, wide_json, party_json, token_json}
 use Rattle.contract_json.specs.WrittenInput.{transaction_json}
-use Rattle.analysis_spec.specs.declared.paid.PaidRange.{PaidRange}
-use Rattle.losses.specs.declared.loss.Loss.{Loss}
+use Rattle.bound_runs.specs.declared.shown.ShownRange.{ShownRange}
+use Rattle.bound_runs.specs.declared.shown.ShownLoss.{ShownLoss}
 use Rattle.places.specs.declared.key.Key.{Key}
 use Rattle.places.specs.Texts.{kind_name, place_json}
 use Rattle.marlowe_analyse.specs.ToldLines.{Line}
@@ -25,14 +25,20 @@ abbrev pub bound_json : Option ℤ → Data
 bound_json None = null
 bound_json (Some n) = wide_json n
 
-abbrev pub range_json : PaidRange → Data
-range_json r = four (codes "least") (bound_json r.least) (codes "most") (bound_json r.most) (codes "party") (party_json r.party) (codes "token") (token_json r.token)
+-- a range with the runs that reach its ends, or where runs are left out without their keys
+abbrev pub range_json : Bool → ShownRange → Data
+range_json false r =
+    four (codes "least") (bound_json r.range.least) (codes "most") (bound_json r.range.most) (codes "party") (party_json r.range.party)
+    (codes "token") (token_json r.range.token)
+range_json true r =
+    six (codes "least") (bound_json r.range.least) (codes "least_run") (run_json r.least_run) (codes "most") (bound_json r.range.most)
+    (codes "most_run") (run_json r.most_run) (codes "party") (party_json r.range.party) (codes "token") (token_json r.range.token)
 
 abbrev pub alarms_json : Bool → List Line → Data
 alarms_json runs lines = array (items_of (map (alarm_json runs) lines))
 
-abbrev pub ranges_json : List PaidRange → Data
-ranges_json ranges = array (items_of (map range_json ranges))
+abbrev pub ranges_json : Bool → List ShownRange → Data
+ranges_json runs ranges = array (items_of (map (range_json runs) ranges))
 
 -- a time, which is the minimum time where all can be taken out at once; null where none is told
 abbrev pub out_json : ℤ → Option (Option ℤ) → Data
@@ -40,18 +46,23 @@ out_json first None = null
 out_json first (Some None) = wide_json first
 out_json first (Some (Some t)) = wide_json t
 
+-- what a party can lose, with the run in which it does
+abbrev pub loss_json : Bool → ShownLoss → Data
+loss_json false l = three (codes "most") (bound_json l.loss.most) (codes "party") (party_json l.loss.party) (codes "token") (token_json l.loss.token)
+loss_json true l =
+    four (codes "most") (bound_json l.loss.most) (codes "party") (party_json l.loss.party) (codes "run") (run_json l.run)
+    (codes "token") (token_json l.loss.token)
+
 -- what parties can lose: null where it isn't told
-abbrev pub loss_json : Loss → Data
-loss_json l = three (codes "most") (bound_json l.most) (codes "party") (party_json l.party) (codes "token") (token_json l.token)
+abbrev pub losses_json : Bool → Option (List ShownLoss) → Data
+losses_json runs None = null
+losses_json runs (Some losses) = array (items_of (map (loss_json runs) losses))
 
-abbrev pub losses_json : Option (List Loss) → Data
-losses_json None = null
-losses_json (Some losses) = array (items_of (map loss_json losses))
-
-abbrev pub told_json : Bool → ℤ → List Line → List (List Key) → List PaidRange → Option (Option ℤ) → Option (List Loss) → Data
+abbrev pub told_json : Bool → ℤ → List Line → List (List Key) → List ShownRange → Option (Option ℤ) → Option (List ShownLoss) → Data
 told_json runs first lines places ranges out losses =
-    five (codes "alarms") (alarms_json runs lines) (codes "down") (losses_json losses) (codes "out_from") (out_json first out) (codes "ranges") (ranges_json ranges) (codes "unreached") (array (items_of (map place_json places)))
+    five (codes "alarms") (alarms_json runs lines) (codes "down") (losses_json runs losses) (codes "out_from") (out_json first out)
+    (codes "ranges") (ranges_json runs ranges) (codes "unreached") (array (items_of (map place_json places)))
 
 -- .. as a line
-abbrev pub told_line : Bool → ℤ → List Line → List (List Key) → List PaidRange → Option (Option ℤ) → Option (List Loss) → List ℕ
+abbrev pub told_line : Bool → ℤ → List Line → List (List Key) → List ShownRange → Option (Option ℤ) → Option (List ShownLoss) → List ℕ
 told_line runs first lines places ranges out losses = compact_text (told_json runs first lines places ranges out losses) ++ 10 ∷ []

@@ -1,28 +1,31 @@
 //! The analysis of a contract, from text to text.
-ghost use Rattle.std.specs.Prelude.{◌≡◌, ◌++◌, true, map, All, IfOk};
+ghost use Rattle.std.specs.Prelude.{◌≡◌, ◌++◌, true, map, All, IfOk, IfSome};
 ghost use Rattle.collections.specs.Answers.{AsideBy};
 ghost use Rattle.contract.specs.Tree.{contract_tree};
 ghost use Rattle.marlowe_run.specs.Start.{start_of};
 ghost use Rattle.marlowe_analyse.specs.Told.{text_given};
 ghost use Rattle.marlowe_analyse.specs.ToldLines.{line_of, LineFits};
-ghost use Rattle.marlowe_analyse.specs.Lines.{lines_of, out_line, losses_lines, start_line};
-ghost use Rattle.marlowe_analyse.specs.Printed.{printed, IsClear, TellsOfTree, TellsSo, is_read};
+ghost use Rattle.marlowe_analyse.specs.Lines.{reached_lines};
+ghost use Rattle.marlowe_analyse.specs.Printed.{printed, told_lines, IsClear, TellsOfTree, TellsSo, is_read};
 ghost use Rattle.marlowe_analyse.specs.RunsSupport.{AnalysedFrom, is_started};
+ghost use Rattle.bound_runs.specs.Told.{RangeHasNumbers, LossHasNumbers};
 
 use crate::lines::{put_alarms, put_losses, put_out, put_ranges, put_start, put_unreached};
 use crate::ranges::told_ranges;
-use crate::runs::{told_alarms, work_of};
+use crate::reached::put_reached;
+use crate::runs::{bounds_work_of, told_alarms, work_of};
 use crate::taken::{told_losses, told_out};
 use crate::told::Told;
 use crate::tools::put_told;
 use crate::unreached::told_places;
 use analysis::analyse;
 use analysis_walk::Analysis;
+use bound_runs::{Shown, with_runs};
 use collections::Memory;
 use contract::{Contract, State};
-use contract_json::read_contract;
+use contract_json::read_contract_within;
 use marlowe_refusals::RunFault;
-use marlowe_run::{beside_dropped, read_start};
+use marlowe_run::{Readable, beside_dropped, read_start};
 use std::alloc::Global;
 
 /// Who reads what is printed.
@@ -49,8 +52,8 @@ pub struct Analysed {
 }
 
 /// Analyses a contract from a state, both as JSON texts of at most 1,048,576 bytes; without a state its runs start
-/// without entries, at time 0. With `texts` a number of the state may also be a text of its digits, as outcomes
-/// have it where JSON lacks it. Refused is a text that is no contract or no state. For each alarm it looks for a run
+/// without entries, at time 0. The contract nests no deeper than is readable, and a number of the state may be a text of its
+/// digits, as outcomes have it where JSON lacks it, where that is readable. Refused is a text that is no contract or no state. For each alarm it looks for a run
 /// that ends in it, unless the reader wants none. All searches together do no more work than the length of the texts allows.
 /// Alarms stand in the order of the contract, none twice, and so do the parts that are told to be never reached, none below
 /// another. A least is told only where a run is known that closes the contract. From when on all can be taken out is told
@@ -59,18 +62,18 @@ pub fn analyse_text(
     alloc: Global,
     contract: &[u8],
     state: Option<&[u8]>,
-    texts: bool,
+    readable: Readable,
     reader: Reader,
 ) -> Result<Analysed, RunFault>
     ensures told { IfOk result (λ told.
-        TellsSo reader texts contract.now (text_given state.entry) told.is_clear told.has_unreached told.text.items) }
-    ensures clear { IfOk result (λ told. told.is_clear ≡ true → IsClear texts contract.now (text_given state.entry)) }
-    ensures read { AsideBy RunFault.Memory (λ _. tt) result (is_read texts contract.now (text_given state.entry)) }
+        TellsSo reader readable contract.now (text_given state.entry) told.is_clear told.has_unreached told.text.items) }
+    ensures clear { IfOk result (λ told. told.is_clear ≡ true → IsClear readable contract.now (text_given state.entry)) }
+    ensures read { AsideBy RunFault.Memory (λ _. tt) result (is_read readable contract.now (text_given state.entry)) }
 {
     let length = contract.len().saturating_add(length_of(state));
-    match read_contract(alloc, contract) {
+    match read_contract_within(alloc, contract, readable.depth) {
         Ok(given) => {
-            let told = analysed_from(alloc, &given, state, texts, length, reader);
+            let told = analysed_from(alloc, &given, state, readable.text_numbers, length, reader);
             beside_dropped(given, told)
         }
         Err(fault) => Err(RunFault::of_contract(fault)),
@@ -100,9 +103,9 @@ fn analysed_from(
     }
 }
 
-// What is printed of a contract that starts in a state, which may be given or the one without entries; the texts have so
-// many bytes.
-fn analysis_text(
+/// What is printed of a contract that starts in a state, which may be given or the one without entries: what `analyse_text` prints once
+/// all is read of texts that have so many bytes together.
+pub fn analysis_text(
     alloc: Global,
     contract: &Contract,
     state: &State,
@@ -123,6 +126,12 @@ fn analysis_text(
     let work = if has_runs(reader) { work_of(length) } else { 0 };
     let alarms = told_alarms(alloc, contract, state, alarms.as_slice(), work)?;
     let ranges = told_ranges(alloc, contract, state, ranges)?;
+    let work = if has_runs(reader) {
+        bounds_work_of(length)
+    } else {
+        0
+    };
+    let Shown { ranges, losses } = with_runs(alloc, contract, state, ranges, losses, work)?;
     let unreached = told_places(alloc, unreached.as_slice())?;
     let is_clear = alarms.is_empty();
     let has_unreached = !unreached.is_empty();
@@ -163,23 +172,38 @@ fn printed(
     first: i64,
     reader: Reader,
 ) -> Result<Vec<u8>, Memory>
-    requires { All LineFits told.now.alarms.items }
+    requires alarms { All LineFits told.now.alarms.items }
+    requires ranges { All RangeHasNumbers told.now.ranges }
+    requires losses { IfSome told.now.losses (All LossHasNumbers) }
     ensures { IfOk result (λ text. text.items
         ≡ printed reader given first (map line_of told.now.alarms.items) told.now.unreached told.now.ranges told.now.out told.now.losses) }
 {
     match reader {
-        Reader::People => for_people(alloc, told, given, true),
+        Reader::People => with_reached(alloc, told, given),
         Reader::Tools => put_told(alloc, told, first, true),
         Reader::PeopleWithoutRuns => for_people(alloc, told, given, false),
         Reader::ToolsWithoutRuns => put_told(alloc, told, first, false),
     }
 }
 
+// The lines for people, and behind them the runs that reach bounds.
+fn with_reached(alloc: Global, told: &Told, given: bool) -> Result<Vec<u8>, Memory>
+    requires alarms { All LineFits told.now.alarms.items }
+    requires ranges { All RangeHasNumbers told.now.ranges }
+    requires losses { IfSome told.now.losses (All LossHasNumbers) }
+    ensures { IfOk result (λ text. text.items
+        ≡ told_lines true given (map line_of told.now.alarms.items) told.now.unreached told.now.ranges told.now.out told.now.losses
+        ++ reached_lines told.now.ranges told.now.losses) }
+{
+    let mut out = for_people(alloc, told, given, true)?;
+    put_reached(alloc, &mut out, told.ranges.as_slice(), &told.losses)?;
+    Ok(out)
+}
+
 fn for_people(alloc: Global, told: &Told, given: bool, runs: bool) -> Result<Vec<u8>, Memory>
     requires { All LineFits told.now.alarms.items }
     ensures { IfOk result (λ text. text.items
-        ≡ lines_of runs (map line_of told.now.alarms.items) told.now.unreached told.now.ranges
-        ++ (out_line told.now.out ++ (losses_lines given told.now.losses ++ start_line given))) }
+        ≡ told_lines runs given (map line_of told.now.alarms.items) told.now.unreached told.now.ranges told.now.out told.now.losses) }
 {
     let mut out = Vec::new(alloc);
     put_alarms(alloc, &mut out, &told.alarms, runs)?;

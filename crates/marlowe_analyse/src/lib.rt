@@ -5,10 +5,11 @@ mod analysed;
 mod lines;
 mod order;
 mod ranges;
+mod reached;
 mod runs;
 mod taken;
 mod told;
 mod tools;
 mod unreached;
 
-pub use analysed::{Analysed, Reader, analyse_text};
+pub use analysed::{Analysed, Reader, analyse_text, analysis_text};

@@ -6,13 +6,12 @@ ghost use Rattle.marlowe_analyse.specs.ToldLines.{line_of, LineFits, RunFits};
 ghost use Rattle.marlowe_analyse.specs.Lines.{transaction_line, run_lines, alarm_lines, alarms_lines, unreached_line, bounds_text, range_line, out_line, loss_text, given_text, loss_line, losses_lines, start_line};
 
 use crate::told::ToldAlarm;
-use analysis_spec::PaidRange;
+use bound_runs::{ShownLoss, ShownRange};
 use collections::{Items, Memory};
 use contract::Transaction;
 use contract_json::{PutJson, WriteFault};
 use json::Writer;
 use json_write_contracts::term_text;
-use losses::Loss;
 use places::{Key, kind_name, put_place};
 use std::alloc::{AllocError, Global};
 
@@ -74,7 +73,7 @@ fn put_time(alloc: Global, out: &mut Vec<u8>, time: i64) -> Result<(), Memory>
 pub(crate) fn put_losses(
     alloc: Global,
     out: &mut Vec<u8>,
-    losses: &Option<Items<Loss>>,
+    losses: &Option<Items<ShownLoss>>,
     given: bool,
 ) -> Result<(), Memory>
     ensures { OnOk result (out.new.items ≡ out.old.items ++ losses_lines given losses.now) }
@@ -88,7 +87,7 @@ pub(crate) fn put_losses(
 fn put_each_loss(
     alloc: Global,
     out: &mut Vec<u8>,
-    losses: &[Loss],
+    losses: &[ShownLoss],
     given: bool,
 ) -> Result<(), Memory>
     ensures { OnOk result (out.new.items ≡ out.old.items ++ flat_map (loss_line given) losses.now) }
@@ -99,12 +98,12 @@ fn put_each_loss(
     Ok(())
 }
 
-fn put_loss(alloc: Global, out: &mut Vec<u8>, loss: &Loss, given: bool) -> Result<(), Memory>
+fn put_loss(alloc: Global, out: &mut Vec<u8>, loss: &ShownLoss, given: bool) -> Result<(), Memory>
     ensures { OnOk result (out.new.items ≡ out.old.items ++ loss_line given loss.now) }
 {
-    let party = term_text(alloc, &loss.party)?;
-    let token = term_text(alloc, &loss.token)?;
-    let most = loss_text(alloc, loss.most)?;
+    let party = term_text(alloc, &loss.loss.party)?;
+    let token = term_text(alloc, &loss.loss.token)?;
+    let most = loss_text(alloc, loss.loss.most)?;
     let line = format!(in alloc; "{party} {token} {most}")?;
     put_bytes(out, line.as_bytes())?;
     put_given(out, given)
@@ -121,7 +120,7 @@ fn put_given(out: &mut Vec<u8>, given: bool) -> Result<(), Memory>
     }
 }
 
-fn loss_text(alloc: Global, most: Option<i128>) -> Result<String, Memory>
+pub(crate) fn loss_text(alloc: Global, most: Option<i128>) -> Result<String, Memory>
     ensures { IfOk result (λ text. string_bytes text ≡ loss_text most) }
 {
     match most {
@@ -146,7 +145,7 @@ pub(crate) fn put_start(out: &mut Vec<u8>, given: bool) -> Result<(), Memory>
     put_bytes(out, b"from a start without accounts\n")
 }
 
-fn put_bytes(out: &mut Vec<u8>, bytes: &[u8]) -> Result<(), Memory>
+pub(crate) fn put_bytes(out: &mut Vec<u8>, bytes: &[u8]) -> Result<(), Memory>
     ensures { OnOk result (out.new.items ≡ out.old.items ++ bytes.now) }
 {
     out.extend_from_slice(bytes)?;
@@ -182,7 +181,11 @@ fn put_end(
 }
 
 // The transactions of a run, each on a line, if it is known.
-fn put_run(alloc: Global, out: &mut Vec<u8>, run: &Option<Items<Transaction>>) -> Result<(), Memory>
+pub(crate) fn put_run(
+    alloc: Global,
+    out: &mut Vec<u8>,
+    run: &Option<Items<Transaction>>,
+) -> Result<(), Memory>
     requires { IfSome run.now RunFits }
     ensures { OnOk result (out.new.items ≡ out.old.items ++ run_lines true run.now) }
 {
@@ -257,7 +260,7 @@ fn put_keys(alloc: Global, out: &mut Vec<u8>, keys: &Items<Key>) -> Result<(), M
 pub(crate) fn put_ranges(
     alloc: Global,
     out: &mut Vec<u8>,
-    ranges: &[PaidRange],
+    ranges: &[ShownRange],
 ) -> Result<(), Memory>
     ensures { OnOk result (out.new.items ≡ out.old.items ++ flat_map range_line ranges.now) }
 {
@@ -267,17 +270,21 @@ pub(crate) fn put_ranges(
     Ok(())
 }
 
-fn put_range(alloc: Global, out: &mut Vec<u8>, range: &PaidRange) -> Result<(), Memory>
+fn put_range(alloc: Global, out: &mut Vec<u8>, range: &ShownRange) -> Result<(), Memory>
     ensures { OnOk result (out.new.items ≡ out.old.items ++ range_line range.now) }
 {
-    let party = term_text(alloc, &range.party)?;
-    let token = term_text(alloc, &range.token)?;
-    let bounds = bounds_text(alloc, range.least, range.most)?;
+    let party = term_text(alloc, &range.range.party)?;
+    let token = term_text(alloc, &range.range.token)?;
+    let bounds = bounds_text(alloc, range.range.least, range.range.most)?;
     let line = format!(in alloc; "{party} {token} {bounds}\n")?;
     put_bytes(out, line.as_bytes())
 }
 
-fn bounds_text(alloc: Global, least: Option<i128>, most: Option<i128>) -> Result<String, Memory>
+pub(crate) fn bounds_text(
+    alloc: Global,
+    least: Option<i128>,
+    most: Option<i128>,
+) -> Result<String, Memory>
     ensures { IfOk result (λ text. string_bytes text ≡ bounds_text least most) }
 {
     match (least, most) {

@@ -30,6 +30,16 @@ pub(crate) fn work_of(length: usize) -> u64 {
     WORK.saturating_add((length as u64).saturating_mul(WORK_OF_A_BYTE))
 }
 
+// The work of the search for runs that reach bounds, likewise.
+const BOUNDS_WORK: u64 = 1 << 20;
+
+const BOUNDS_WORK_OF_A_BYTE: u64 = 8;
+
+/// The work that is spent on looking for runs that reach bounds.
+pub(crate) fn bounds_work_of(length: usize) -> u64 {
+    BOUNDS_WORK.saturating_add((length as u64).saturating_mul(BOUNDS_WORK_OF_A_BYTE))
+}
+
 /// The alarms in the order of their places, none twice, each with a run that ends in it if one was found, by no more than
 /// so much work for all of them.
 pub(crate) fn told_alarms(

@@ -1,8 +1,8 @@
 //! What is told of a contract.
-use analysis_spec::{AlarmKind, PaidRange};
+use analysis_spec::AlarmKind;
+use bound_runs::{ShownLoss, ShownRange};
 use collections::Items;
 use contract::Transaction;
-use losses::Loss;
 use places::Key;
 
 /// An alarm, the way to its place in the text, and a run that ends in it: none where that is not known.
@@ -14,12 +14,13 @@ pub(crate) struct ToldAlarm {
 }
 
 /// All alarms, the ways to parts to which no run comes, what parties are paid, and from when on all can be taken out: the last timeout,
-/// or none where it is at once; or nothing, where a number may leave 128 bits. And what parties can lose, or nothing there.
+/// or none where it is at once; or nothing, where a number may leave 128 bits. And what parties can lose, or nothing there. Bounds have
+/// the runs that reach them, where one is known.
 #[derive(Drop)]
 pub(crate) struct Told {
     pub(crate) alarms: Vec<ToldAlarm>,
     pub(crate) unreached: Items<Items<Key>>,
-    pub(crate) ranges: Items<PaidRange>,
+    pub(crate) ranges: Items<ShownRange>,
     pub(crate) out: Option<Option<i64>>,
-    pub(crate) losses: Option<Items<Loss>>,
+    pub(crate) losses: Option<Items<ShownLoss>>,
 }

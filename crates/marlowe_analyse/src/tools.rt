@@ -7,15 +7,15 @@ ghost use Rattle.contract_json.specs.WrittenInput.{transaction_json, transaction
 ghost use Rattle.marlowe_analyse.specs.ToldLines.{line_of, LineFits, RunFits};
 ghost use Rattle.marlowe_analyse.specs.Tools.{run_json, alarm_json, bound_json, range_json, out_json, loss_json, losses_json, told_json, told_line};
 ghost use Rattle.places.specs.Texts.{place_json};
+ghost use Rattle.bound_runs.specs.Told.{HasNumbers, RangeHasNumbers, LossHasNumbers};
 
 use crate::told::{Told, ToldAlarm};
-use analysis_spec::PaidRange;
+use bound_runs::{ShownLoss, ShownRange};
 use collections::{Items, Memory};
 use contract::Transaction;
 use contract_json::{PutJson, WriteFault};
 use json::Writer;
 use json_write_contracts::{put_amount, put_party, put_token, word};
-use losses::Loss;
 use places::{Key, kind_name, put_place_json};
 use std::alloc::{AllocError, Global};
 
@@ -27,7 +27,9 @@ pub(crate) fn put_told(
     first: i64,
     runs: bool,
 ) -> Result<Vec<u8>, Memory>
-    requires { All LineFits told.now.alarms.items }
+    requires alarms { All LineFits told.now.alarms.items }
+    requires ranges { All RangeHasNumbers told.now.ranges }
+    requires losses { IfSome told.now.losses (All LossHasNumbers) }
     ensures { IfOk result (λ text. text.items
         ≡ told_line runs first (map line_of told.now.alarms.items) told.now.unreached told.now.ranges told.now.out told.now.losses) }
 {
@@ -45,7 +47,9 @@ fn put_all(
     first: i64,
     runs: bool,
 ) -> Result<(), Memory>
-    requires { All LineFits told.now.alarms.items }
+    requires alarms { All LineFits told.now.alarms.items }
+    requires ranges { All RangeHasNumbers told.now.ranges }
+    requires losses { IfSome told.now.losses (All LossHasNumbers) }
     ensures { OnOk result (Puts out.old out.new
         (told_json runs first (map line_of told.now.alarms.items) told.now.unreached told.now.ranges told.now.out told.now.losses)) }
 {
@@ -53,11 +57,11 @@ fn put_all(
     out.key("alarms")?;
     put_alarms(alloc, out, &told.alarms, runs)?;
     out.key("down")?;
-    put_losses(alloc, out, &told.losses)?;
+    put_losses(alloc, out, &told.losses, runs)?;
     out.key("out_from")?;
     put_out(alloc, out, told.out, first)?;
     out.key("ranges")?;
-    put_ranges(alloc, out, told.ranges.as_slice())?;
+    put_ranges(alloc, out, told.ranges.as_slice(), runs)?;
     out.key("unreached")?;
     put_places(out, told.unreached.as_slice())?;
     out.end_object()?;
@@ -81,36 +85,76 @@ fn put_out(
 }
 
 // What parties can lose, or null where that isn't told.
-fn put_losses(alloc: Global, out: &mut Writer, losses: &Option<Items<Loss>>) -> Result<(), Memory>
-    ensures { OnOk result (Puts out.old out.new (losses_json losses.now)) }
+fn put_losses(
+    alloc: Global,
+    out: &mut Writer,
+    losses: &Option<Items<ShownLoss>>,
+    runs: bool,
+) -> Result<(), Memory>
+    requires { IfSome losses.now (All LossHasNumbers) }
+    ensures { OnOk result (Puts out.old out.new (losses_json runs losses.now)) }
 {
     match losses {
-        Some(losses) => put_each_loss(alloc, out, losses.as_slice()),
+        Some(losses) => put_each_loss(alloc, out, losses.as_slice(), runs),
         None => put_null(out),
     }
 }
 
-fn put_each_loss(alloc: Global, out: &mut Writer, losses: &[Loss]) -> Result<(), Memory>
-    ensures { OnOk result (Puts out.old out.new (array (items_of (map loss_json losses.now)))) }
+fn put_each_loss(
+    alloc: Global,
+    out: &mut Writer,
+    losses: &[ShownLoss],
+    runs: bool,
+) -> Result<(), Memory>
+    requires { All LossHasNumbers losses.now }
+    ensures { OnOk result (Puts out.old out.new (array (items_of (map (loss_json runs) losses.now)))) }
 {
     out.begin_array()?;
     for loss in losses {
-        put_loss(alloc, out, loss)?;
+        put_loss(alloc, out, loss, runs)?;
     }
     out.end_array()?;
     Ok(())
 }
 
-fn put_loss(alloc: Global, out: &mut Writer, loss: &Loss) -> Result<(), Memory>
-    ensures { OnOk result (Puts out.old out.new (loss_json loss.now)) }
+fn put_loss(alloc: Global, out: &mut Writer, loss: &ShownLoss, runs: bool) -> Result<(), Memory>
+    requires { LossHasNumbers loss.now }
+    ensures { OnOk result (Puts out.old out.new (loss_json runs loss.now)) }
+{
+    if runs {
+        put_loss_with_run(alloc, out, loss)
+    } else {
+        put_loss_alone(alloc, out, loss)
+    }
+}
+
+fn put_loss_alone(alloc: Global, out: &mut Writer, loss: &ShownLoss) -> Result<(), Memory>
+    ensures { OnOk result (Puts out.old out.new (loss_json false loss.now)) }
 {
     out.begin_object()?;
     out.key("most")?;
-    put_bound(alloc, out, loss.most)?;
+    put_bound(alloc, out, loss.loss.most)?;
     out.key("party")?;
-    put_party(out, &loss.party)?;
+    put_party(out, &loss.loss.party)?;
     out.key("token")?;
-    put_token(alloc, out, &loss.token)?;
+    put_token(alloc, out, &loss.loss.token)?;
+    out.end_object()?;
+    Ok(())
+}
+
+fn put_loss_with_run(alloc: Global, out: &mut Writer, loss: &ShownLoss) -> Result<(), Memory>
+    requires { LossHasNumbers loss.now }
+    ensures { OnOk result (Puts out.old out.new (loss_json true loss.now)) }
+{
+    out.begin_object()?;
+    out.key("most")?;
+    put_bound(alloc, out, loss.loss.most)?;
+    out.key("party")?;
+    put_party(out, &loss.loss.party)?;
+    out.key("run")?;
+    put_bound_run(alloc, out, &loss.run)?;
+    out.key("token")?;
+    put_token(alloc, out, &loss.loss.token)?;
     out.end_object()?;
     Ok(())
 }
@@ -230,31 +274,82 @@ fn put_transaction(alloc: Global, out: &mut Writer, transaction: &Transaction) -
     }
 }
 
-fn put_ranges(alloc: Global, out: &mut Writer, ranges: &[PaidRange]) -> Result<(), Memory>
-    ensures { OnOk result (Puts out.old out.new (array (items_of (map range_json ranges.now)))) }
+fn put_ranges(
+    alloc: Global,
+    out: &mut Writer,
+    ranges: &[ShownRange],
+    runs: bool,
+) -> Result<(), Memory>
+    requires { All RangeHasNumbers ranges.now }
+    ensures { OnOk result (Puts out.old out.new (array (items_of (map (range_json runs) ranges.now)))) }
 {
     out.begin_array()?;
     for range in ranges {
-        put_range(alloc, out, range)?;
+        put_range(alloc, out, range, runs)?;
     }
     out.end_array()?;
     Ok(())
 }
 
-fn put_range(alloc: Global, out: &mut Writer, range: &PaidRange) -> Result<(), Memory>
-    ensures { OnOk result (Puts out.old out.new (range_json range.now)) }
+fn put_range(alloc: Global, out: &mut Writer, range: &ShownRange, runs: bool) -> Result<(), Memory>
+    requires { RangeHasNumbers range.now }
+    ensures { OnOk result (Puts out.old out.new (range_json runs range.now)) }
+{
+    if runs {
+        put_range_with_runs(alloc, out, range)
+    } else {
+        put_range_alone(alloc, out, range)
+    }
+}
+
+fn put_range_alone(alloc: Global, out: &mut Writer, range: &ShownRange) -> Result<(), Memory>
+    ensures { OnOk result (Puts out.old out.new (range_json false range.now)) }
 {
     out.begin_object()?;
     out.key("least")?;
-    put_bound(alloc, out, range.least)?;
+    put_bound(alloc, out, range.range.least)?;
     out.key("most")?;
-    put_bound(alloc, out, range.most)?;
+    put_bound(alloc, out, range.range.most)?;
     out.key("party")?;
-    put_party(out, &range.party)?;
+    put_party(out, &range.range.party)?;
     out.key("token")?;
-    put_token(alloc, out, &range.token)?;
+    put_token(alloc, out, &range.range.token)?;
     out.end_object()?;
     Ok(())
+}
+
+fn put_range_with_runs(alloc: Global, out: &mut Writer, range: &ShownRange) -> Result<(), Memory>
+    requires { RangeHasNumbers range.now }
+    ensures { OnOk result (Puts out.old out.new (range_json true range.now)) }
+{
+    out.begin_object()?;
+    out.key("least")?;
+    put_bound(alloc, out, range.range.least)?;
+    out.key("least_run")?;
+    put_bound_run(alloc, out, &range.least_run)?;
+    out.key("most")?;
+    put_bound(alloc, out, range.range.most)?;
+    out.key("most_run")?;
+    put_bound_run(alloc, out, &range.most_run)?;
+    out.key("party")?;
+    put_party(out, &range.range.party)?;
+    out.key("token")?;
+    put_token(alloc, out, &range.range.token)?;
+    out.end_object()?;
+    Ok(())
+}
+
+// A run that reaches a bound, or null where none is known.
+#[tactic(auto, using(crate::proofs::WrittenLemmas::runs_fit))]
+fn put_bound_run(
+    alloc: Global,
+    out: &mut Writer,
+    run: &Option<Items<Transaction>>,
+) -> Result<(), Memory>
+    requires { IfSome run.now HasNumbers }
+    ensures { OnOk result (Puts out.old out.new (run_json run.now)) }
+{
+    put_run(alloc, out, run)
 }
 
 // A number, or null where it is not known.

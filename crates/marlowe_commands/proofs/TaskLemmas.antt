@@ -5,6 +5,7 @@ use Rattle.marlowe_cli.specs.declared.task.Task.{Task}
 use Rattle.marlowe_cli.specs.declared.task.Task.TheVariants.{Run, Trace, Next, Table, Analyse, Play}
 use Rattle.marlowe_cli.specs.Asked.{IsAsked}
 use Rattle.marlowe_analyse.specs.declared.analysed.Reader.{Reader}
+use Rattle.marlowe_run.specs.declared.readable.Readable.{Readable}
 use Rattle.marlowe_analyse.specs.Printed.{TellsSo}
 use Rattle.marlowe_commands.specs.Streams.{Streams, on_output, IsOnStreams}
 use Rattle.marlowe_commands.specs.Tasks.{AsksFor, IsAnalysis, IsTrace, analysis_status, PrintsAnalysis}
@@ -37,8 +38,8 @@ on_streams words task streams asked (inr cut) = inr (asks_trace words task asked
 
 -- ---- what is printed for an analysis
 
-pub status_printed : (reader : Reader) (strict texts : Bool) (contract : List ℕ) (state : Option (List ℕ)) (clear unreached : Bool) (text : List ℕ) (status : ℕ) (streams : Streams)
-    → streams ≡ on_output text status → status ≡ analysis_status strict clear unreached → TellsSo reader texts contract state clear unreached text
-    → PrintsAnalysis reader strict texts contract state streams
-status_printed reader strict texts contract state clear unreached text status streams printed is told =
+pub status_printed : (reader : Reader) (strict : Bool) (readable : Readable) (contract : List ℕ) (state : Option (List ℕ)) (clear unreached : Bool) (text : List ℕ) (status : ℕ) (streams : Streams)
+    → streams ≡ on_output text status → status ≡ analysis_status strict clear unreached → TellsSo reader readable contract state clear unreached text
+    → PrintsAnalysis reader strict readable contract state streams
+status_printed reader strict readable contract state clear unreached text status streams printed is told =
     inl (clear, unreached, text, printed ∙ ap (on_output text) is, told)

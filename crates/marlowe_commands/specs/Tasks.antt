@@ -10,6 +10,7 @@ use Rattle.marlowe_next.specs.declared.asked.Asked.{Asked}
 use Rattle.marlowe_next.specs.Answer.{IsAnswer}
 use Rattle.marlowe_next.specs.Question.{Reached, answered}
 use Rattle.marlowe_analyse.specs.declared.analysed.Reader.{Reader}
+use Rattle.marlowe_run.specs.declared.readable.Readable.{Readable}
 use Rattle.marlowe_analyse.specs.Printed.{TellsSo, is_read}
 use Rattle.refusal_reasons.specs.declared.source.Over.{Over}
 use Rattle.marlowe_cli.specs.declared.task.Task.{Task}
@@ -46,10 +47,10 @@ abbrev pub analysis_status : Bool → Bool → Bool → ℕ
 analysis_status strict clear unreached = if clear && not (strict && unreached) then 0 else 3
 
 -- the analysis, with this status; or the refusal of the first text that isn't read
-abbrev pub PrintsAnalysis : Reader → Bool → Bool → List ℕ → Option (List ℕ) → Streams → Type 0
-PrintsAnalysis reader strict texts contract state streams =
-    ((clear unreached : Bool) × (text : List ℕ) × (streams ≡ on_output text (analysis_status strict clear unreached)) × TellsSo reader texts contract state clear unreached text)
-    ⊎ ((fault : RunFault) × (is_read texts contract state ≡ Err fault) × (streams ≡ refused (run_refusal fault)))
+abbrev pub PrintsAnalysis : Reader → Bool → Readable → List ℕ → Option (List ℕ) → Streams → Type 0
+PrintsAnalysis reader strict readable contract state streams =
+    ((clear unreached : Bool) × (text : List ℕ) × (streams ≡ on_output text (analysis_status strict clear unreached)) × TellsSo reader readable contract state clear unreached text)
+    ⊎ ((fault : RunFault) × (is_read readable contract state ≡ Err fault) × (streams ≡ refused (run_refusal fault)))
 
 -- the interval that is asked about
 abbrev pub over_of : Asked → Over

@@ -1,8 +1,7 @@
 //! The tasks of the program with explanations: behind the line of a refusal stand lines that say where and why, by a second look at the
 //! texts. Paths are the names by which texts are told.
 ghost use Rattle.std.specs.Prelude.{◌≡◌, ◌⊎◌, true, Some, IfOk, map, option_map};
-ghost use Rattle.marlowe_run.specs.Run.{run_by};
-ghost use Rattle.marlowe_run.specs.Start.{state_reading};
+ghost use Rattle.marlowe_run.specs.Run.{run_within};
 ghost use Rattle.marlowe_run.specs.TableText.{table_text};
 ghost use Rattle.marlowe_trace.specs.Traced.{trace_text};
 ghost use Rattle.marlowe_next.specs.Question.{reached};
@@ -18,6 +17,7 @@ use crate::tasks::{
 use collections::Memory;
 use marlowe_analyse::Reader;
 use marlowe_play::{How, Watch};
+use marlowe_run::Readable;
 use refusal_reasons::{
     Behind, Over, Source, Sources, reasons, scenario_reasons, table_reasons, text_if,
 };
@@ -35,19 +35,19 @@ pub fn run_explained(
     contract: Source<'_>,
     state: Source<'_>,
     transaction: Source<'_>,
-    texts: bool,
+    readable: Readable,
 ) -> Result<Printed, Memory>
     ensures told { IfOk result (λ printed. IsExplained
-        (PrintsRun (run_by (state_reading texts) contract.entry.text.now state.entry.text.now transaction.entry.text.now))
-        (Tells contract.entry (Some state.entry) texts (behind.One transaction.entry)) (streams_of printed)) }
+        (PrintsRun (run_within readable contract.entry.text.now state.entry.text.now transaction.entry.text.now))
+        (Tells contract.entry (Some state.entry) readable.text_numbers (behind.One transaction.entry)) (streams_of printed)) }
     ensures stream { IfOk result (λ printed. MayExplain true (IsTextOr 1) (streams_of printed)) }
 {
-    let printed = run_printed(alloc, contract.text, state.text, transaction.text, texts)?;
+    let printed = run_printed(alloc, contract.text, state.text, transaction.text, readable)?;
     if printed.status != REFUSED {
         return Ok(printed);
     }
     let behind = Behind::One(transaction);
-    let lines = reasons(alloc, contract, Some(state), texts, behind);
+    let lines = reasons(alloc, contract, Some(state), readable.text_numbers, behind);
     Ok(printed.explained_by(lines))
 }
 
@@ -63,7 +63,7 @@ pub fn trace_explained(
     ensures told { IfOk result (λ printed. IsExplained
         (PrintsTrace (trace_text asked contract.entry.text.now (option_map (λ source. source.text.now) state.entry)
         (map (λ text. text.items) transactions.entry.texts.now)))
-        (Tells contract.entry state.entry asked.texts (behind.Many transactions.entry)) (streams_of printed)) }
+        (Tells contract.entry state.entry asked.readable.text_numbers (behind.Many transactions.entry)) (streams_of printed)) }
     ensures stream { IfOk result (λ printed. MayExplain true (λ plain. IsTextOr 1 plain ⊎ IsCut plain) (streams_of printed)) }
 {
     let printed = trace_printed(
@@ -77,7 +77,7 @@ pub fn trace_explained(
         return Ok(printed);
     }
     let behind = Behind::Many(transactions);
-    let lines = reasons(alloc, contract, state, asked.texts, behind);
+    let lines = reasons(alloc, contract, state, asked.readable.text_numbers, behind);
     Ok(printed.explained_by(lines))
 }
 
@@ -93,7 +93,7 @@ pub fn next_explained(
     ensures told { IfOk result (λ printed. IsExplained
         (PrintsNext asked (reached asked contract.entry.text.now (option_map (λ source. source.text.now) state.entry)
         (map (λ text. text.items) after.entry.texts.now)))
-        (Tells contract.entry state.entry asked.texts (behind.Next after.entry (over_of asked))) (streams_of printed)) }
+        (Tells contract.entry state.entry asked.readable.text_numbers (behind.Next after.entry (over_of asked))) (streams_of printed)) }
     ensures stream { IfOk result (λ printed. MayExplain true (IsTextOr 1) (streams_of printed)) }
 {
     let printed = next_printed(alloc, contract.text, text_if(state), after.texts, asked)?;
@@ -101,7 +101,7 @@ pub fn next_explained(
         return Ok(printed);
     }
     let behind = Behind::Next(after, over_of(asked));
-    let lines = reasons(alloc, contract, state, asked.texts, behind);
+    let lines = reasons(alloc, contract, state, asked.readable.text_numbers, behind);
     Ok(printed.explained_by(lines))
 }
 
@@ -135,20 +135,33 @@ pub fn analysis_explained(
     alloc: Global,
     contract: Source<'_>,
     state: Option<Source<'_>>,
-    texts: bool,
+    readable: Readable,
     reader: Reader,
     strict: bool,
 ) -> Result<Printed, Memory>
     ensures told { IfOk result (λ printed. IsExplained
-        (PrintsAnalysis reader strict texts contract.entry.text.now (option_map (λ source. source.text.now) state.entry))
-        (Tells contract.entry state.entry texts behind.Nothing) (streams_of printed)) }
+        (PrintsAnalysis reader strict readable contract.entry.text.now (option_map (λ source. source.text.now) state.entry))
+        (Tells contract.entry state.entry readable.text_numbers behind.Nothing) (streams_of printed)) }
     ensures stream { IfOk result (λ printed. MayExplain true IsOnOneStream (streams_of printed)) }
 {
-    let printed = analysis_printed(alloc, contract.text, text_if(state), texts, reader, strict)?;
+    let printed = analysis_printed(
+        alloc,
+        contract.text,
+        text_if(state),
+        readable,
+        reader,
+        strict,
+    )?;
     if printed.status != REFUSED {
         return Ok(printed);
     }
-    let lines = reasons(alloc, contract, state, texts, Behind::Nothing);
+    let lines = reasons(
+        alloc,
+        contract,
+        state,
+        readable.text_numbers,
+        Behind::Nothing,
+    );
     Ok(printed.explained_by(lines))
 }
 

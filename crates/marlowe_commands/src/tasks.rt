@@ -1,7 +1,6 @@
 //! The tasks of the program, from texts to what is printed.
 ghost use Rattle.std.specs.Prelude.{◌≡◌, ◌⊎◌, IfOk, map, option_map};
-ghost use Rattle.marlowe_run.specs.Run.{run_by};
-ghost use Rattle.marlowe_run.specs.Start.{state_reading};
+ghost use Rattle.marlowe_run.specs.Run.{run_within};
 ghost use Rattle.marlowe_run.specs.TableText.{table_text};
 ghost use Rattle.marlowe_trace.specs.Traced.{trace_text};
 ghost use Rattle.marlowe_next.specs.Question.{reached};
@@ -14,30 +13,25 @@ use marlowe_analyse::{Analysed, Reader, analyse_text};
 use marlowe_next::next;
 use marlowe_play::{How, PlayFault, Watch, play_refusal, play_watched};
 use marlowe_refusals::{Fault, RunFault, TableFault, TraceFault, refusal};
-use marlowe_run::{run, run_with_texts, table_text};
+use marlowe_run::{Readable, run_within, table_text};
 use marlowe_trace::{Traced, trace};
 use std::alloc::{AllocError, Global};
 use std::sync::Wait;
 use std::thread::Threads;
 
-/// What is printed for one transaction: its outcome, with status 0, or the line of its refusal. Numbers of the state may be `texts`.
+/// What is printed for one transaction: its outcome, with status 0, or the line of its refusal.
 pub fn run_printed(
     alloc: Global,
     contract: &[u8],
     state: &[u8],
     transaction: &[u8],
-    texts: bool,
+    readable: Readable,
 ) -> Result<Printed, Memory>
     ensures told { IfOk result (λ printed.
-        PrintsRun (run_by (state_reading texts) contract.now state.now transaction.now) (streams_of printed)) }
+        PrintsRun (run_within readable contract.now state.now transaction.now) (streams_of printed)) }
     ensures stream { IfOk result (λ printed. IsTextOr 1 (streams_of printed)) }
 {
-    let text = if texts {
-        run_with_texts(alloc, contract, state, transaction)
-    } else {
-        run(alloc, contract, state, transaction)
-    };
-    match text {
+    match run_within(alloc, contract, state, transaction, readable) {
         Ok(text) => Ok(Printed::on_output(alloc, text, 0)),
         Err(RunFault::Memory) => Err(AllocError),
         Err(fault) => Printed::refusal(alloc, refusal(alloc, &Fault::Run(fault))?),
@@ -115,21 +109,21 @@ pub fn table_printed(alloc: Global, contract: &[u8]) -> Result<Printed, Memory>
 
 /// What is printed for the analysis of a contract from a state: the analysis, with status 0 where the contract never warns and stays
 /// within 128 bits, and 3 where there is an alarm, or with `strict` also where a part is told that no run reaches; or the line of its
-/// refusal. Numbers of the state may be `texts`.
+/// refusal.
 #[tactic(auto, using(crate::proofs::TaskLemmas::status_printed))]
 pub fn analysis_printed(
     alloc: Global,
     contract: &[u8],
     state: Option<&[u8]>,
-    texts: bool,
+    readable: Readable,
     reader: Reader,
     strict: bool,
 ) -> Result<Printed, Memory>
     ensures told { IfOk result (λ printed.
-        PrintsAnalysis reader strict texts contract.now (option_map (λ text. text.now) state.entry) (streams_of printed)) }
+        PrintsAnalysis reader strict readable contract.now (option_map (λ text. text.now) state.entry) (streams_of printed)) }
     ensures stream { IfOk result (λ printed. IsOnOneStream (streams_of printed)) }
 {
-    match analyse_text(alloc, contract, state, texts, reader) {
+    match analyse_text(alloc, contract, state, readable, reader) {
         Ok(
             Analysed {
                 text,

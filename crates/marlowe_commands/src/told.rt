@@ -16,10 +16,19 @@ use crate::texts::Texts;
 use marlowe_analyse::Reader;
 use marlowe_cli::{AnalyseTask, NextTask, PlayTask, RunTask, TableTask, TraceTask};
 use marlowe_play::{How, Watch};
+use marlowe_run::Readable;
 use refusal_reasons::{Source, Sources};
 use std::alloc::Global;
 use std::sync::Wait;
 use std::thread::Threads;
+
+// What is readable: 127 levels, and numbers of the state as texts or not.
+fn readable(text_numbers: bool) -> Readable {
+    Readable {
+        depth: 127,
+        text_numbers,
+    }
+}
 
 // A text and its path.
 fn source<'a>(path: &'a str, text: &'a Vec<u8>) -> Source<'a> {
@@ -53,7 +62,13 @@ pub fn run_told<'a, T: Texts>(
         let contract = source(task.contract, &contract);
         let state = source(task.state, &state);
         let transaction = source(task.transaction, &transaction);
-        let printed = run_explained(alloc, contract, state, transaction, task.text_numbers);
+        let printed = run_explained(
+            alloc,
+            contract,
+            state,
+            transaction,
+            readable(task.text_numbers),
+        );
         return Ok(printed?);
     }
     let printed = run_printed(
@@ -61,7 +76,7 @@ pub fn run_told<'a, T: Texts>(
         contract.as_slice(),
         state.as_slice(),
         transaction.as_slice(),
-        task.text_numbers,
+        readable(task.text_numbers),
     );
     Ok(printed?)
 }
@@ -79,7 +94,7 @@ pub fn trace_told<'a, T: Texts>(
     let state = text_if(alloc, texts, task.state)?;
     let transactions = texts_of(alloc, texts, task.transactions.as_slice())?;
     let asked = marlowe_trace::Asked {
-        texts: task.text_numbers,
+        readable: readable(task.text_numbers),
         last: task.last,
     };
     if explain {
@@ -118,7 +133,7 @@ pub fn next_told<'a, T: Texts>(
     let asked = marlowe_next::Asked {
         from: task.from,
         to: task.to,
-        texts: task.text_numbers,
+        readable: readable(task.text_numbers),
         json: task.json,
     };
     if explain {
@@ -172,7 +187,7 @@ pub fn analysis_told<'a, T: Texts>(
             alloc,
             contract,
             state,
-            task.text_numbers,
+            readable(task.text_numbers),
             reader,
             task.strict,
         );
@@ -183,7 +198,7 @@ pub fn analysis_told<'a, T: Texts>(
         alloc,
         contract.as_slice(),
         state,
-        task.text_numbers,
+        readable(task.text_numbers),
         reader,
         task.strict,
     );

@@ -13,13 +13,14 @@ use Rattle.trace.specs.declared.sequence.Left.{Left}
 use Rattle.explain_transactions.specs.declared.explanation.Explanation.{Explanation}
 use Rattle.explain_transactions.specs.declared.explanation.Explanation.TheVariants as why
 use Rattle.explain_transactions.specs.Explained.{Explains}
+use Rattle.marlowe_run.specs.Run.{within_127}
 use Rattle.marlowe_next.specs.declared.asked.Asked.{Asked}
 use Rattle.marlowe_next.specs.Answer.{IsAnswer}
 use Rattle.marlowe_explain.specs.Lines.{place_of, invalid_line, past_line, ambiguous_line, value_line, sum_line, unmatched_lines, useless_lines}
 
 -- what can be done over an interval is asked, for people
 abbrev pub asks_over : Interval → Asked
-asks_over j = record { from = Some j.from; to = Some j.to; texts = false; json = false }
+asks_over j = record { from = Some j.from; to = Some j.to; readable = within_127 false; json = false }
 
 -- a text tells what the part of a contract takes over an interval that is left at the end of a path
 abbrev pub IsNext : Interval → ContractTree → Left → List ℕ → Type 0

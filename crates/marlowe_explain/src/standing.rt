@@ -10,6 +10,7 @@ use analysis_spec::PathStep;
 use collections::Memory;
 use contract::{Contract, Input, Interval};
 use marlowe_next::{Asked, next_there};
+use marlowe_run::Readable;
 use std::alloc::{AllocError, Global};
 use trace::Left;
 
@@ -34,7 +35,10 @@ fn asks_over(interval: Interval) -> Asked
     Asked {
         from: Some(interval.from),
         to: Some(interval.to),
-        texts: false,
+        readable: Readable {
+            depth: 127,
+            text_numbers: false,
+        },
         json: false,
     }
 }

@@ -8,7 +8,7 @@ use Rattle.marlowe_analyse.proofs.lines.put_loss.Goals as goal
 
 pub returns : goal.returns
 returns c =
-    let l = c.args.loss.now in
+    let l = c.args.loss.now.loss in
     let party = string_bytes c.in_ok-party.party in
     let token = string_bytes c.in_ok-token.token in
     let most = string_bytes c.in_ok-most.most in

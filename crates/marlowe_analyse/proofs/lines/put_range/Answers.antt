@@ -8,7 +8,7 @@ use Rattle.marlowe_analyse.proofs.lines.put_range.Goals as goal
 
 pub returns : goal.returns
 returns c =
-    let r = c.args.range.now in
+    let r = c.args.range.now.range in
     let party = string_bytes c.in_ok-party.party in
     let token = string_bytes c.in_ok-token.token in
     let bounds = string_bytes c.in_ok-bounds.bounds in

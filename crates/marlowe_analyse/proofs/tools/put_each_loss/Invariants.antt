@@ -6,4 +6,4 @@ use Rattle.marlowe_analyse.proofs.tools.put_each_loss.Given as goal
 
 -- the items so far are written
 abbrev pub invariant-loop-loss : goal.invariant-loop-loss
-invariant-loop-loss l = Adds l.initial.out l.out (front (map loss_json (take l.loss-index l.losses)))
+invariant-loop-loss l = Adds l.initial.out l.out (front (map (loss_json l.runs) (take l.loss-index l.losses)))

@@ -6,4 +6,4 @@ use Rattle.marlowe_analyse.proofs.tools.put_ranges.Given as goal
 
 -- the items so far are written
 abbrev pub invariant-loop-range : goal.invariant-loop-range
-invariant-loop-range l = Adds l.initial.out l.out (front (map range_json (take l.range-index l.ranges)))
+invariant-loop-range l = Adds l.initial.out l.out (front (map (range_json l.runs) (take l.range-index l.ranges)))

@@ -1,0 +1,4 @@
+mod SameLemmas
+mod UnreadLemmas
+mod WalkLemmas
+mod TallyLemmas

@@ -1,0 +1,5 @@
+pub mod Reads
+pub mod Notes
+pub mod Parties
+pub mod Laws
+pub mod Rows
