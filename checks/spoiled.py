@@ -83,6 +83,7 @@ OUT = re.compile(r"all can be taken out (?:at once|from (0|-?[1-9][0-9]*) on)")
 DOWN = re.compile(r"(?:at most (?P<most>[1-9]\d*) down|never down|down not known)(?P<given> from the given state)?")
 UNREACHED = "never reached: "
 ALARM = re.compile(r"(\w+) at (\S+)(?:, by this run:|(, not known))")
+OTHERS = re.compile(r"and at (1) more place|and at ([2-9]|[1-9]\d+) more places")
 CASE = r"\.when\[(?:0|[1-9]\d*)\]"
 PLACE = re.compile(rf"(?:\.then|\.else|\.timeout_continuation|{CASE}\.then)*(?:\.(?:pay|if|let|assert)|{CASE}\.case\.(?:deposits|notify_if))")
 RANGE = re.compile(r"at least (?P<least>0|-?[1-9]\d*)(?:, at most (?P<most>0|-?[1-9]\d*))?|at most (?P<only>0|-?[1-9]\d*)|not known")
@@ -290,10 +291,11 @@ def fault_beside(runner, line, answer):
         return f"status {answer.status}, and {other.status} for the other reader"
     try:
         if not refused:
-            told = told_of(answer)
-            see(told == told_of(other), "another analysis for the other reader")
-            see(bool(told[0]) == (answer.status == 3), f"status {answer.status} with {len(told[0])} alarms")
-            see_told(json.loads(text_of(files[0]).decode()), *told)
+            people, tools = (told_of(answer), told_of(other))[:: 1 if "--json" not in line else -1]
+            contract = json.loads(text_of(files[0]).decode())
+            see(people == (told_once(readings.contract(readings.parsed(text_of(files[0]))), tools[0]), *tools[1:]), "another analysis for the other reader")
+            see(bool(tools[0]) == (answer.status == 3), f"status {answer.status} with {len(tools[0])} alarms")
+            see_told(contract, *tools)
         return None
     except (ValueError, LookupError, TypeError, AttributeError, StopIteration) as fault:
         return f"{type(fault).__name__}: {fault}"
@@ -339,7 +341,7 @@ def see(is_so, what):
 
 
 def told_of(answer):
-    """What an analysis says: of each alarm the kind, the place as for people and the run, of each range the party, the token, the least, the most;
+    """What an analysis says: of each alarm the kind, the place as for people and the run, and for people how many others are told with it; of each range the party, the token, the least, the most;
     whether it says from when on all can be taken out; and the parts that no run reaches, as for people."""
     text = answer.out.decode()
     see(text.endswith("\n"), "no line feed at the end")
@@ -365,12 +367,37 @@ def told_of(answer):
         run = None if found[3] else []
         while run is not None and lines and lines[-1].startswith('{"tx_'):
             run.append(compact(lines.pop()))
-        alarms.append((found[1], found[2], run))
+        others = lines and OTHERS.fullmatch(lines[-1])
+        alarms.append((found[1], found[2], run, int(others[1] or others[2]) if others else 0))
+        if others:
+            lines.pop()
     see(alarms or is_clear, "no alarm and not that it never warns")
     unreached = []
     while lines and lines[-1].startswith(UNREACHED):
         unreached.append(lines.pop()[len(UNREACHED):])
     return alarms, [range_of(it) for it in reversed(lines)], is_out, unreached
+
+
+def told_once(contract, alarms):
+    """Of alarms of one kind at equal parts of a contract, as it is read, the first with a run, else the first, and how many others there are."""
+    alike, found = {}, []
+    for alarm in alarms:
+        alike.setdefault((alarm[0], part_at(contract, re.findall(r"\w+", alarm[1]))), []).append(alarm)
+    for several in alike.values():
+        found.append((*next((it for it in several if it[2] is not None), several[0]), len(several) - 1))
+    return [one for alarm in alarms for one in found if one[:2] == alarm[:2]]
+
+
+def part_at(contract, steps):
+    """The text of the part to which the steps but the last lead; of an action that of its case."""
+    it, way = contract, iter(steps[:-1])
+    for step in way:
+        if step == "when":
+            it, step = it["when"][int(next(way))], next(way)
+            if step == "case":
+                break
+        it = it[step]
+    return json.dumps(it, sort_keys=True)
 
 
 def loss_of(line):
@@ -519,7 +546,7 @@ def kinds_of(word, answer):
     if word == "rows":
         return [f"{word}: {it[1]}" for it in map(VERDICT.match, answer.out.decode("utf-8", "replace").split("\n")) if it]
     if word == "analyse" and answer.status != 1:
-        return [f"{word}: {kind} {'not known' if run is None else 'with a run'}" for kind, _, run in told_of(answer)[0]] or [f"{word}: never warns"]
+        return [f"{word}: {kind} {'not known' if run is None else 'with a run'}" for kind, _, run, *_ in told_of(answer)[0]] or [f"{word}: never warns"]
     if answer.status == 0:
         return [f"{word}: an answer"]
     return [f"{word}: {' '.join(filter(NAME.fullmatch, answer.err.decode('utf-8', 'replace').split()))}"]

@@ -1,5 +1,5 @@
 -- Amounts that are moved.
-use Rattle.std.proofs.Common.{◌≡◌, ◌≤◌, ℤ, pos, ◌+ℤ◌, ◌-ℤ◌, ◌≤ℤ◌, ◌<ℤ◌, int_lt, Bool, true, false, cond, refl, sym, ap, ◌∙◌, subst, arith, Option, Some, None, IfSome}
+use Rattle.std.proofs.Common.{◌≡◌, ◌≤◌, ℤ, pos, negsuc, ◌+ℤ◌, ◌-ℤ◌, ◌≤ℤ◌, ◌<ℤ◌, int_lt, Bool, true, false, cond, refl, sym, ap, ◌∙◌, subst, arith, Option, Some, None, IfSome}
 use Rattle.std.proofs.lemmas.Int.{ints}
 use Rattle.std.specs.Int.{int_min, int_max}
 use Rattle.linear.specs.Linear.{Linear, Valuation, number, number_at, IsBelow, IsUpTo}
@@ -8,10 +8,11 @@ use Rattle.linear.specs.Combined.{StandsFor, AreBelow}
 use Rattle.symbols.specs.Symbols.{Symbols, Knows, Gives}
 use Rattle.symbols.specs.Held.{GivesAny, Learns}
 use Rattle.symbols.specs.Either.{IsAtLeast}
-use Rattle.linear.proofs.NumberLaws.{true_lt, false_lt}
+use Rattle.symbols.specs.Cases.{IsNatural}
+use Rattle.linear.proofs.NumberLaws.{true_lt, false_lt, lt_true}
 use Rattle.linear.proofs.LinearLaws.{same_number}
 use Rattle.symbols.proofs.KnownLaws.{terms_more, knows_itself, gives_here}
-use Rattle.analysis_steps.specs.Amounts.{IsNothing, LearnsIf, amount_paid, GivesPaid, GivesAdded, GivesSum, GivesRest, IsFromSum, IsUpToSum}
+use Rattle.analysis_steps.specs.Amounts.{IsAbove, IsNothing, LearnsIf, amount_paid, GivesPaid, GivesAdded, GivesSum, GivesRest, IsFromSum, IsUpToSum}
 
 -- ---- numbers
 
@@ -151,6 +152,21 @@ paid_held b d h k = by_test (int_lt (pos 0) d) refl
 pub at_least_by : (k : Symbols) (l m d : Linear) → StandsFor (λ r. number_at r l -ℤ number_at r m) (AreBelow l m) d → IsShown k.ranges k.facts d → IsAtLeast k l m
 at_least_by k l m d s h r v = gap_back (number_at r l) (number_at r m) (subst (λ z. pos 0 ≤ℤ z) (s.number r) (h r v.ranges v.facts))
 
+pub above_by : (k : Symbols) (l e : Linear) → StandsFor (λ r. number_at r l +ℤ negsuc 0) (λ n. IsBelow n l) e → IsNatural k e → IsAbove k l
+above_by k l e s h r v = one_more (number_at r l) (subst (λ z. pos 0 ≤ℤ z) (s.number r) (h r v))
+  where
+    one_more : (a : ℤ) → pos 0 ≤ℤ (a +ℤ negsuc 0) → pos 0 <ℤ a
+    one_more a h = omega (arith, ints)
+
+pub natural_of : (k : Symbols) (l : Linear) → IsAbove k l → IsNatural k l
+natural_of k l h r v = lt_le (pos 0) (number_at r l) (h r v)
+
+pub natural_shown : (k : Symbols) (l : Linear) → IsShown k.ranges k.facts l → IsNatural k l
+natural_shown k l h r v = h r v.ranges v.facts
+
+pub at_least_natural : (k : Symbols) (l m d : Linear) → StandsFor (λ r. number_at r l -ℤ number_at r m) (AreBelow l m) d → IsNatural k d → IsAtLeast k l m
+at_least_natural k l m d s h r v = gap_back (number_at r l) (number_at r m) (subst (λ z. pos 0 ≤ℤ z) (s.number r) (h r v))
+
 -- ---- what is learned
 
 pub learns_if_none : (asked : Bool) (k : Symbols) (l n : Linear) → LearnsIf asked k k l n
@@ -193,10 +209,10 @@ paid_part k a b c balance due e natural most shown up fresh first second r close
     (second q o.closed o.valued o.below (terms_more k.next b.next o.grows due.terms y)
     (λ f. subst (λ z. number_at q e ≤ℤ z) (sym due_is) (subst (λ z. z ≤ℤ number_at r due) (sym is) (paid_least (number_at r balance) (number_at r due) (shown f r valued.ranges valued.facts)))))
 
-pub paid_all : (k : Symbols) (balance due e : Linear) → IsShown k.ranges k.facts due → IsAtLeast k balance due → e ≡ due → GivesPaid k k balance due e
+pub paid_all : (k : Symbols) (balance due e : Linear) → IsNatural k due → IsAtLeast k balance due → e ≡ due → GivesPaid k k balance due e
 paid_all k balance due e shown covers is r closed valued x y h =
     gives_here k r e (amount_paid (number_at r balance) (number_at r due)) closed valued (subst (λ (l : Linear). IsBelow k.next l) (sym is) y)
-    (paid_whole (number_at r balance) (number_at r due) (shown r valued.ranges valued.facts) (covers r valued) ∙ ap (number_at r) (sym is))
+    (paid_whole (number_at r balance) (number_at r due) (shown r valued) (covers r valued) ∙ ap (number_at r) (sym is))
 
 pub paid_nothing : (k : Symbols) (balance due e : Linear) → IsNothing k due → e ≡ number (pos 0) → GivesPaid k k balance due e
 paid_nothing k balance due e h is r closed valued x y g =
@@ -224,9 +240,9 @@ added_part k a b due e bound most up more fresh learned r closed valued x =
     (learned q g.closed g.valued (terms_more k.next a.next g.grows due.terms x) g.below
     (λ _. subst (λ z. number_at q due ≤ℤ z) (sym is) (subst (λ z. z ≤ℤ n) (sym due_is) (max_right (pos 0) (number_at r due)))))
 
-pub added_all : (k : Symbols) (due e : Linear) → IsShown k.ranges k.facts due → e ≡ due → GivesAdded k k due e
+pub added_all : (k : Symbols) (due e : Linear) → IsNatural k due → e ≡ due → GivesAdded k k due e
 added_all k due e shown is r closed valued x =
-    gives_here k r e (int_max (pos 0) (number_at r due)) closed valued (subst (λ (l : Linear). IsBelow k.next l) (sym is) x) (max_natural (number_at r due) (shown r valued.ranges valued.facts) ∙ ap (number_at r) (sym is))
+    gives_here k r e (int_max (pos 0) (number_at r due)) closed valued (subst (λ (l : Linear). IsBelow k.next l) (sym is) x) (max_natural (number_at r due) (shown r valued) ∙ ap (number_at r) (sym is))
 
 -- ---- sums
 

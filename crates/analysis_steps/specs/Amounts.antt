@@ -2,9 +2,10 @@
 use Rattle.std.specs.Prelude.{◌≡◌, ℤ, pos, ◌+ℤ◌, ◌-ℤ◌, ◌≤ℤ◌, ◌<ℤ◌, int_lt, Bool, true, if◌then◌else◌, Option}
 use Rattle.std.specs.Int.{int_min, int_max}
 use Rattle.linear.specs.Linear.{Linear, Valuation, number_at, IsBelow, IsFrom, IsUpTo}
-use Rattle.linear.specs.Bounded.{IsShown, IsFromAll, IsUpToAll}
+use Rattle.linear.specs.Bounded.{IsFromAll, IsUpToAll}
 use Rattle.symbols.specs.Symbols.{Symbols, IsValued, IsClosed, Knows, Gives}
 use Rattle.symbols.specs.Either.{IsAtLeast}
+use Rattle.symbols.specs.Cases.{IsNatural}
 
 -- an expression is above 0, as far as what is known allows
 abbrev pub IsAbove : Symbols → Linear → Type 0
@@ -20,7 +21,7 @@ LearnsIf asked k m l n = (r : Valuation) → IsClosed k → IsValued r k → IsB
 
 -- what is due is shown to be at least 0, and a balance to have it
 abbrev pub HasAllDue : Symbols → Linear → Linear → Type 0
-HasAllDue k balance due = IsShown k.ranges k.facts due × IsAtLeast k balance due
+HasAllDue k balance due = IsNatural k due × IsAtLeast k balance due
 
 -- what is paid from a balance of an amount that is due: nothing of 0 or less
 abbrev pub amount_paid : ℤ → ℤ → ℤ

@@ -3,8 +3,8 @@ ghost use Rattle.std.specs.Prelude.{◌≡◌, ℤ, pos, ◌+ℤ◌, true, IfOk,
 ghost use Rattle.std.specs.Int.{int_max};
 ghost use Rattle.std.specs.Option.{IfSome};
 ghost use Rattle.linear.specs.Linear.{Linear as Expression, IsUpTo};
-ghost use Rattle.linear.specs.Bounded.{IsShown};
 ghost use Rattle.symbols.specs.Either.{IsAtLeast};
+ghost use Rattle.symbols.specs.Cases.{IsNatural};
 ghost use Rattle.analysis_steps.specs.Amounts.{IsAbove, IsNothing, LearnsIf, HasAllDue, GivesPaid, GivesAdded, GivesSum, GivesRest, IsFromSum, IsUpToSum};
 
 use analysis_values::Known;
@@ -18,6 +18,46 @@ pub(crate) fn is_above(known: &Known, l: &Linear) -> bool
     match known.least(l) {
         Some(bound) => bound > 0,
         None => false,
+    }
+}
+
+// .. also in each of several cases.
+pub(crate) fn is_positive(known: &Known, l: &Linear) -> Result<bool, Memory>
+    ensures { IfOk result (λ yes. yes ≡ true → IsAbove known.now.symbols l.now) }
+{
+    if is_above(known, l) {
+        return Ok(true);
+    }
+    let less = l.raised(-1)?;
+    match less {
+        Some(e) => known.symbols().shows_by_cases(&e),
+        None => Ok(false),
+    }
+}
+
+// Whether an expression is shown to be at least 0, as one that is above 0 is.
+#[tactic(auto, using(crate::proofs::AmountLemmas::natural_of, crate::proofs::AmountLemmas::natural_shown))]
+pub(crate) fn is_natural(known: &Known, l: &Linear, above: bool) -> bool
+    requires { above ≡ true → IsAbove known.now.symbols l.now }
+    ensures { result ≡ true → IsNatural known.now.symbols l.now }
+{
+    if above { true } else { known.shows(l) }
+}
+
+// Whether an expression is shown to be at least another, also in each of several cases.
+pub(crate) fn is_covered(known: &Known, l: &Linear, m: &Linear) -> Result<bool, Memory>
+    ensures { IfOk result (λ yes. yes ≡ true → IsAtLeast known.now.symbols l.now m.now) }
+{
+    let difference = l.minus(m)?;
+    match difference {
+        Some(d) => {
+            if known.shows(&d) {
+                Ok(true)
+            } else {
+                known.symbols().shows_by_cases(&d)
+            }
+        }
+        None => Ok(false),
     }
 }
 
@@ -139,7 +179,7 @@ fn new_added(known: &mut Known, due: &Linear) -> Result<Linear, Memory>
 
 // What a deposit adds: all that is due, where that is shown to be at least 0.
 pub(crate) fn added(known: &mut Known, due: &Linear, natural: bool) -> Result<Linear, Memory>
-    requires { natural ≡ true → IsShown known.old.symbols.ranges known.old.symbols.facts due.now }
+    requires { natural ≡ true → IsNatural known.old.symbols due.now }
     ensures symbols { IfOk result (λ e. GivesAdded known.old.symbols known.new.symbols due.now e) }
     ensures view { known.new.view ≡ known.old.view }
 {

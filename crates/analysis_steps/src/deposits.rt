@@ -7,7 +7,7 @@ ghost use Rattle.analysis_values.specs.Known.{IsDescribed};
 ghost use Rattle.analysis_steps.specs.Earlier.{Tries, PutsIn};
 
 use crate::alarms::{both, put_unless};
-use crate::amounts::{added, is_above};
+use crate::amounts::{added, is_natural, is_positive};
 use crate::earlier::is_deposit_taken;
 use crate::moved::grow;
 use analysis_spec::AlarmKind;
@@ -42,8 +42,8 @@ fn put_in(
 {
     let mut known = known;
     let due = evaluate(&mut known, value)?;
-    let above = is_above(&known, &due.number);
-    let natural = known.shows(&due.number);
+    let above = is_positive(&known, &due.number)?;
+    let natural = is_natural(&known, &due.number, above);
     let more = added(&mut known, &due.number, natural)?;
     let before = known.held(owner, token)?;
     let sum = grow(&mut known, owner, token, &before, &more)?;

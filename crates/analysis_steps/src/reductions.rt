@@ -6,7 +6,7 @@ ghost use Rattle.analysis_walk.specs.Conclusions.{PaysSo, BindsSo, AssertsSo};
 ghost use Rattle.analysis_values.specs.Known.{IsDescribed};
 
 use crate::alarms::{both, put_unless};
-use crate::amounts::{is_above, is_at_least};
+use crate::amounts::{is_covered, is_natural, is_positive};
 use crate::moved::transfer;
 use analysis_spec::AlarmKind;
 use analysis_values::{Known, Observed, either, evaluate, observe};
@@ -32,10 +32,10 @@ pub fn pay(
 {
     let mut known = known;
     let due = evaluate(&mut known, value)?;
-    let above = is_above(&known, &due.number);
+    let above = is_positive(&known, &due.number)?;
     let balance = known.held(from, token)?;
-    let covered = is_at_least(&known, &balance, &due.number)?;
-    let natural = known.shows(&due.number);
+    let covered = is_covered(&known, &balance, &due.number)?;
+    let natural = is_natural(&known, &due.number, above);
     let whole = both(natural, covered);
     let sum = transfer(&mut known, from, to, token, &balance, &due.number, whole)?;
     let fits = both(due.fits, sum);

@@ -7,3 +7,4 @@ mod WrittenLemmas
 mod UnreachedLemmas
 mod AnalysedLemmas
 mod ReadLemmas
+mod OnceLemmas

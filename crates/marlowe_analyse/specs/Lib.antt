@@ -6,3 +6,4 @@ pub mod Tools
 pub mod Printed
 pub mod OrderSupport
 pub mod RunsSupport
+pub mod OnceSupport

@@ -1,6 +1,6 @@
 -- The lines for people.
-use Rattle.std.specs.Prelude.{ℕ, ℤ, pos, Bool, true, false, if◌then◌else◌, List, [], ◌∷◌, ◌++◌, flat_map, Option, Some, None, codes}
-use Rattle.std.specs.Fmt.{signed_decimal}
+use Rattle.std.specs.Prelude.{ℕ, zero, suc, ℤ, pos, Bool, true, false, if◌then◌else◌, List, [], ◌∷◌, ◌++◌, flat_map, Option, Some, None, codes}
+use Rattle.std.specs.Fmt.{decimal, signed_decimal}
 use Rattle.std.specs.Ordering.{int_eq}
 use Rattle.serde_json.specs.Written.{compact_text}
 use Rattle.contract.specs.declared.transaction.Transaction.{Transaction}
@@ -23,8 +23,25 @@ run_lines true (Some ts) = codes ", by this run:" ++ (10 ∷ flat_map transactio
 run_lines false run = 10 ∷ []
 
 -- the kind of an alarm, its place and its run
+abbrev pub whole_lines : Bool → Line → List ℕ
+whole_lines runs l = kind_name l.kind ++ (codes " at " ++ (place_text l.place ++ run_lines runs l.run))
+
+-- how many others are told with one, if there are any
+abbrev pub number_line : ℕ → List ℕ
+number_line n = codes "and at " ++ (decimal n ++ (codes " more places" ++ 10 ∷ []))
+
+abbrev pub others_line : ℕ → List ℕ
+others_line zero = []
+others_line (suc zero) = codes "and at 1 more place" ++ 10 ∷ []
+others_line (suc (suc n)) = number_line (suc (suc n))
+
+-- an alarm that is told itself, and none that is told with another
+abbrev pub head_lines : Bool → Line → Option ℕ → List ℕ
+head_lines runs l None = []
+head_lines runs l (Some n) = whole_lines runs l ++ others_line n
+
 abbrev pub alarm_lines : Bool → Line → List ℕ
-alarm_lines runs l = kind_name l.kind ++ (codes " at " ++ (place_text l.place ++ run_lines runs l.run))
+alarm_lines runs l = head_lines runs l l.head
 
 -- all alarms, or that there is none
 abbrev pub alarms_lines : Bool → List Line → List ℕ

@@ -13,10 +13,11 @@ use Rattle.places.specs.Places.{path_keys}
 use Rattle.marlowe_refusals.specs.declared.fault.RunFault.{RunFault}
 use Rattle.marlowe_refusals.specs.Faults.{read_as, contract_fault, state_fault}
 use Rattle.marlowe_analyse.specs.declared.analysed.Reader.{Reader}
-use Rattle.marlowe_analyse.specs.declared.analysed.Reader.TheVariants.{People, Tools, PeopleWithoutRuns, ToolsWithoutRuns}
+use Rattle.marlowe_analyse.specs.declared.analysed.Reader.TheVariants.{People, Tools, PeopleWithoutRuns, ToolsWithoutRuns, PeopleInFull, PeopleInFullWithoutRuns}
 use Rattle.marlowe_run.specs.Start.{start_of}
-use Rattle.marlowe_analyse.specs.Told.{Alarms, IsSo, NeverAlarms}
-use Rattle.marlowe_analyse.specs.ToldLines.{Line, line_at}
+use Rattle.alike_alarms.specs.Alike.{AreHeads}
+use Rattle.marlowe_analyse.specs.Told.{Alarms, seen_alarm, IsSo, NeverAlarms}
+use Rattle.marlowe_analyse.specs.ToldLines.{Line, line_at, with_heads}
 use Rattle.marlowe_analyse.specs.Lines.{lines_of, out_line, losses_lines, start_line}
 use Rattle.marlowe_analyse.specs.Tools.{told_line}
 
@@ -27,6 +28,14 @@ printed People given first lines places ranges out losses = lines_of true lines 
 printed Tools given first lines places ranges out losses = told_line true first lines places ranges out losses
 printed PeopleWithoutRuns given first lines places ranges out losses = lines_of false lines places ranges ++ (out_line out ++ (losses_lines given losses ++ start_line given))
 printed ToolsWithoutRuns given first lines places ranges out losses = told_line false first lines places ranges out losses
+printed PeopleInFull given first lines places ranges out losses = lines_of true lines places ranges ++ (out_line out ++ (losses_lines given losses ++ start_line given))
+printed PeopleInFullWithoutRuns given first lines places ranges out losses = lines_of false lines places ranges ++ (out_line out ++ (losses_lines given losses ++ start_line given))
+
+-- .. of alarms of one kind at equal parts people are told one, with how many others there are, unless they want each
+abbrev pub AreHeadsFor : Reader → ContractTree → Alarms → List (Option ℕ) → Type 0
+AreHeadsFor People c alarms found = AreHeads c (map seen_alarm alarms) found
+AreHeadsFor PeopleWithoutRuns c alarms found = AreHeads c (map seen_alarm alarms) found
+AreHeadsFor reader c alarms found = found ≡ []
 
 -- the contract is read first, and then the state, whose numbers may be texts where that is said
 abbrev pub what_is_read : Bool → List ℕ → Option (List ℕ) → Result (StateMaps × ContractTree) RunFault
@@ -43,8 +52,8 @@ IsReadAs texts text start s c = what_is_read texts text start ≡ Ok (s, c)
 -- unreached parts where one is told
 abbrev pub TellsOfTree : Reader → Bool → StateMaps → ContractTree → Bool → Bool → List ℕ → Type 0
 TellsOfTree reader given s c clear unreached out =
-    (alarms : Alarms) × (places : List (List PathStep)) × (ranges : List PaidRange) × (time : Option (Option ℤ)) × (losses : Option (List Loss)) × IsSo s c alarms places ranges time losses
-    × (out ≡ printed reader given s.min_time (map (line_at c) alarms) (map path_keys places) ranges time losses)
+    (alarms : Alarms) × (found : List (Option ℕ)) × (places : List (List PathStep)) × (ranges : List PaidRange) × (time : Option (Option ℤ)) × (losses : Option (List Loss)) × IsSo s c alarms places ranges time losses
+    × AreHeadsFor reader c alarms found × (out ≡ printed reader given s.min_time (with_heads (map (line_at c) alarms) found) (map path_keys places) ranges time losses)
     × (clear ≡ true ↔ alarms ≡ []) × (unreached ≡ false ↔ places ≡ [])
 
 -- .. of those that the texts are read as

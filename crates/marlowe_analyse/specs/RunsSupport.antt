@@ -21,13 +21,14 @@ use Rattle.places.specs.declared.key.Key.{Key}
 use Rattle.places.specs.Places.{path_keys}
 use Rattle.marlowe_analyse.specs.Order.{place_key, AreInOrder, StandApart}
 use Rattle.marlowe_analyse.specs.OrderSupport.{IsUpTo}
-use Rattle.marlowe_analyse.specs.Told.{Alarms, without_runs, EndSo}
-use Rattle.marlowe_analyse.specs.ToldLines.{line_at, line_of, LineFits}
+use Rattle.marlowe_analyse.specs.Told.{Alarms, seen_alarm, without_runs, EndSo}
+use Rattle.marlowe_analyse.specs.ToldLines.{line_at, line_of, seen_told, LineFits}
 use Rattle.marlowe_analyse.specs.Printed.{TellsOfTree}
 
 -- what is told of alarms, each of them: with runs that end in them, which JSON has
 pub record AreTold (s : StateMaps) (c : ContractTree) (told : List ToldAlarm) (all : Alarms) : Type 0 where
   pub lines : map line_of told ≡ map (line_at c) all
+  pub seen : map seen_told told ≡ map seen_alarm all
   pub ends : EndSo s c all
   pub fit : All LineFits told
 

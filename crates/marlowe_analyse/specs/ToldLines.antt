@@ -1,5 +1,7 @@
--- What is told of an alarm: its kind, the keys that lead to its place, and its run.
-use Rattle.std.specs.Prelude.{◌≡◌, true, List, Option, IfSome, All}
+-- What is told of an alarm: its kind, the keys that lead to its place, its run, and how many others are told with it: none where it is told
+-- with another.
+use Rattle.std.specs.Prelude.{◌≡◌, ℕ, true, List, [], ◌∷◌, Option, Some, IfSome, is_some, All}
+use Rattle.alike_alarms.specs.Alike.{SeenAlarm}
 use Rattle.contract.specs.Tree.{ContractTree}
 use Rattle.contract.specs.declared.transaction.Transaction.{Transaction}
 use Rattle.contract_json.specs.WrittenInput.{transaction_fits}
@@ -13,12 +15,23 @@ pub record Line : Type 0 where
   pub kind : AlarmKind
   pub place : List Key
   pub run : Option (List Transaction)
+  pub head : Option ℕ
 
+-- .. of one that is told itself, and no other with it
 abbrev pub line_at : ContractTree → Alarm × Option (List Transaction) → Line
-line_at c a = record { kind = a.0.kind; place = keys_of a.0.place c; run = a.1 }
+line_at c a = record { kind = a.0.kind; place = keys_of a.0.place c; run = a.1; head = Some 0 }
+
+-- of each how many others are told with it, or none where it is told with another
+abbrev pub with_heads : List Line → List (Option ℕ) → List Line
+with_heads [] hs = []
+with_heads (l ∷ ls) [] = l ∷ ls
+with_heads (l ∷ ls) (h ∷ hs) = record l { head = h } ∷ with_heads ls hs
 
 abbrev pub line_of : ToldAlarm → Line
-line_of t = record { kind = t.kind; place = t.place.items; run = t.run }
+line_of t = record { kind = t.alarm.kind; place = t.place.items; run = t.run; head = t.head }
+
+abbrev pub seen_told : ToldAlarm → SeenAlarm
+seen_told t = (t.alarm, is_some t.run)
 
 -- JSON has all numbers of a run
 abbrev pub RunFits : List Transaction → Type 0

@@ -10,6 +10,7 @@ ghost use Rattle.marlowe_analyse.specs.Printed.{printed, IsClear, TellsOfTree, T
 ghost use Rattle.marlowe_analyse.specs.RunsSupport.{AnalysedFrom, is_started};
 
 use crate::lines::{put_alarms, put_losses, put_out, put_ranges, put_start, put_unreached};
+use crate::once::told_once;
 use crate::ranges::told_ranges;
 use crate::runs::{told_alarms, work_of};
 use crate::taken::{told_losses, told_out};
@@ -37,6 +38,11 @@ pub enum Reader {
     PeopleWithoutRuns,
     /// JSON for tools, in which alarms have no key `run`: none is looked for.
     ToolsWithoutRuns,
+    /// Lines for people, in which each alarm is told in full: for `People` alarms of one kind at equal parts are told once, with
+    /// how many others there are.
+    PeopleInFull,
+    /// .. of which those of alarms have no run: none is looked for.
+    PeopleInFullWithoutRuns,
 }
 
 /// What is printed of a contract, with a line feed at the end, whether it never warns and stays within 128 bits, and whether
@@ -125,6 +131,7 @@ fn analysis_text(
     let ranges = told_ranges(alloc, contract, state, ranges)?;
     let unreached = told_places(alloc, unreached.as_slice())?;
     let is_clear = alarms.is_empty();
+    let alarms = told_once(alloc, contract, alarms, reader)?;
     let has_unreached = !unreached.is_empty();
     let told = Told {
         alarms,
@@ -144,8 +151,9 @@ fn analysis_text(
 // Whether runs are looked for.
 fn has_runs(reader: Reader) -> bool {
     match reader {
-        Reader::People | Reader::Tools => true,
-        Reader::PeopleWithoutRuns | Reader::ToolsWithoutRuns => false,
+        Reader::People | Reader::Tools | Reader::PeopleInFull => true,
+        Reader::PeopleWithoutRuns | Reader::ToolsWithoutRuns | Reader::PeopleInFullWithoutRuns =>
+            false,
     }
 }
 
@@ -172,6 +180,8 @@ fn printed(
         Reader::Tools => put_told(alloc, told, first, true),
         Reader::PeopleWithoutRuns => for_people(alloc, told, given, false),
         Reader::ToolsWithoutRuns => put_told(alloc, told, first, false),
+        Reader::PeopleInFull => for_people(alloc, told, given, true),
+        Reader::PeopleInFullWithoutRuns => for_people(alloc, told, given, false),
     }
 }
 

@@ -3,6 +3,7 @@
 
 mod analysed;
 mod lines;
+mod once;
 mod order;
 mod ranges;
 mod runs;

@@ -3,7 +3,7 @@ ghost use Rattle.std.specs.Prelude.{◌≡◌, [], ◌∷◌, ◌++◌, true, ma
 ghost use Rattle.serde_json.specs.Written.{compact_text};
 ghost use Rattle.contract_json.specs.WrittenInput.{transaction_json, transaction_fits};
 ghost use Rattle.marlowe_analyse.specs.ToldLines.{line_of, LineFits, RunFits};
-ghost use Rattle.marlowe_analyse.specs.Lines.{transaction_line, run_lines, alarm_lines, alarms_lines, unreached_line, bounds_text, range_line, out_line, loss_text, given_text, loss_line, losses_lines, start_line};
+ghost use Rattle.marlowe_analyse.specs.Lines.{transaction_line, run_lines, whole_lines, others_line, number_line, alarm_lines, alarms_lines, unreached_line, bounds_text, range_line, out_line, loss_text, given_text, loss_line, losses_lines, start_line};
 
 use crate::told::ToldAlarm;
 use analysis_spec::PaidRange;
@@ -153,12 +153,44 @@ fn put_bytes(out: &mut Vec<u8>, bytes: &[u8]) -> Result<(), Memory>
     Ok(())
 }
 
-// The kind of an alarm and its place, and then a line for each transaction of its run.
+// An alarm that is told itself, and how many others are told with it.
 fn put_alarm(alloc: Global, out: &mut Vec<u8>, alarm: &ToldAlarm, runs: bool) -> Result<(), Memory>
     requires { LineFits alarm.now }
     ensures { OnOk result (out.new.items ≡ out.old.items ++ alarm_lines runs (line_of alarm.now)) }
 {
-    put_bytes(out, kind_name(alarm.kind).as_bytes())?;
+    match alarm.head {
+        Some(others) => {
+            put_whole(alloc, out, alarm, runs)?;
+            put_others(alloc, out, others)
+        }
+        None => Ok(()),
+    }
+}
+
+// A line that tells at how many other places there is such an alarm, if there are any.
+fn put_others(alloc: Global, out: &mut Vec<u8>, others: usize) -> Result<(), Memory>
+    ensures { OnOk result (out.new.items ≡ out.old.items ++ others_line others) }
+{
+    match others {
+        0 => Ok(()),
+        1 => put_bytes(out, b"and at 1 more place\n"),
+        _ => put_number_of(alloc, out, others),
+    }
+}
+
+fn put_number_of(alloc: Global, out: &mut Vec<u8>, others: usize) -> Result<(), Memory>
+    ensures { OnOk result (out.new.items ≡ out.old.items ++ number_line others) }
+{
+    let line = format!(in alloc; "and at {others} more places\n")?;
+    put_bytes(out, line.as_bytes())
+}
+
+// The kind of an alarm and its place, and then a line for each transaction of its run.
+fn put_whole(alloc: Global, out: &mut Vec<u8>, alarm: &ToldAlarm, runs: bool) -> Result<(), Memory>
+    requires { LineFits alarm.now }
+    ensures { OnOk result (out.new.items ≡ out.old.items ++ whole_lines runs (line_of alarm.now)) }
+{
+    put_bytes(out, kind_name(alarm.alarm.kind).as_bytes())?;
     put_bytes(out, b" at ")?;
     put_place(alloc, out, &alarm.place)?;
     put_end(alloc, out, &alarm.run, runs)

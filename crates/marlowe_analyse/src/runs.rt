@@ -80,15 +80,28 @@ fn told_alarm(
     left: &mut u64,
 ) -> Result<ToldAlarm, Memory>
     ensures line { IfOk result (λ t. line_of t ≡ line_at (contract_tree contract.now) (alarm.now, t.run)) }
+    ensures seen { IfOk result (λ t. t.alarm ≡ alarm.now) }
     ensures ends { IfOk result (λ t. IfSome t.run (EndsAt alarm.now.kind alarm.now.place state.now (contract_tree contract.now))) }
     ensures fits { IfOk result LineFits }
 {
     let run = written_run(alloc, contract, state, alarm, others, left)?;
     let place = keys_of(alloc, contract, alarm.place.as_slice())?;
+    let alarm = copy_of(alloc, alarm)?;
     Ok(ToldAlarm {
-        kind: alarm.kind,
+        alarm,
         place,
         run,
+        head: Some(0),
+    })
+}
+
+fn copy_of(alloc: Global, alarm: &Alarm) -> Result<Alarm, Memory>
+    ensures { IfOk result (λ copy. copy ≡ alarm.now) }
+{
+    let place = Vec::from_slice(alloc, alarm.place.as_slice())?;
+    Ok(Alarm {
+        kind: alarm.kind,
+        place: Items::from_vec(place),
     })
 }
 

@@ -167,7 +167,7 @@ fn put_without_run(out: &mut Writer, alarm: &ToldAlarm) -> Result<(), Memory>
 {
     out.begin_object()?;
     out.key("kind")?;
-    word(out, kind_name(alarm.kind))?;
+    word(out, kind_name(alarm.alarm.kind))?;
     out.key("place")?;
     put_place_json(out, &alarm.place)?;
     out.end_object()?;
@@ -180,7 +180,7 @@ fn put_with_run(alloc: Global, out: &mut Writer, alarm: &ToldAlarm) -> Result<()
 {
     out.begin_object()?;
     out.key("kind")?;
-    word(out, kind_name(alarm.kind))?;
+    word(out, kind_name(alarm.alarm.kind))?;
     out.key("place")?;
     put_place_json(out, &alarm.place)?;
     out.key("run")?;

@@ -1,20 +1,14 @@
-use Rattle.std.proofs.Common.{List, ℕ, ◌++◌, ap, ◌∙◌}
-use Rattle.std.specs.Prelude.{codes}
+use Rattle.std.proofs.Common.{Option, List, ℕ, ◌++◌, refl, sym, ap, ◌∙◌}
 use Rattle.std.proofs.lemmas.Result.{on_ok_weaker}
-use Rattle.places.specs.declared.key.Key.{Key}
 use Rattle.marlowe_analyse.specs.ToldLines.{line_of}
-use Rattle.places.specs.Texts.{kind_name, place_text}
-use Rattle.marlowe_analyse.specs.Lines.{run_lines}
-use Rattle.marlowe_analyse.proofs.LinesLemmas.{four_pieces}
+use Rattle.marlowe_analyse.specs.Lines.{whole_lines, others_line, head_lines}
+use Rattle.marlowe_analyse.proofs.LinesLemmas.{two_pieces}
 use Rattle.marlowe_analyse.proofs.lines.put_alarm.Goals as goal
 
-pub returns : goal.returns
-returns c =
+pub returns-in-Some : goal.returns-in-Some
+returns-in-Some c =
     let l = line_of c.args.alarm.now in
     let a = c.args.out.now.items in
-    let d = c.put_bytes-2.new.out.items in
-    let kind = c.in_ok-put_bytes.ensures ∙ ap (λ (x : List ℕ). a ++ x) (c.as_bytes.ensures.value ∙ c.kind_name.ensures) in
-    let place = c.in_ok-put_place.ensures ∙ ap (λ (ks : List Key). d ++ place_text ks) c.deref.ensures.value in
-    on_ok_weaker c.put_end.result
-    (λ h. four_pieces a c.put_bytes.new.out.items d c.put_place.new.out.items c.put_end.new.out.items (kind_name l.kind) (codes " at ") (place_text l.place) (run_lines c.args.runs l.run) kind c.in_ok-put_bytes-2.ensures place h)
-    c.put_end.ensures
+    on_ok_weaker c.put_others.result
+    (λ h. two_pieces a c.put_whole.new.out.items c.put_others.new.out.items (whole_lines c.args.runs l) (others_line c.in-Some.others) c.in_ok-put_whole.ensures h ∙ ap (λ (o : Option ℕ). a ++ head_lines c.args.runs l o) (sym c.in-Some.is))
+    c.put_others.ensures

@@ -28,7 +28,7 @@ loop-index-preserved c =
           let at = get_or ss n w.index-standings-index.result in
           let here = get_or_default ss n w.index-standings-index.result at few in
           let one = w.in_ok-one in
-          let more = told_one_more s t ss n told at few here c.requires.keys c.loop-index.invariant one.one (c.is_new.ensures.new w.if-is_new.true) one.ensures.line one.ensures.ends one.ensures.fits in
+          let more = told_one_more s t ss n told at few here c.requires.keys c.loop-index.invariant one.one (c.is_new.ensures.new w.if-is_new.true) one.ensures.line one.ensures.seen one.ensures.ends one.ensures.fits in
           rw w.told-is (subst (λ (ts : List ToldAlarm). TellsOf s t ss (n + 1) ts) (sym w.in_ok-push.ensures.items) more)
       | else-is_new w ↦
           let here = some_at ss n few in
